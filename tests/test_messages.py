@@ -139,8 +139,8 @@ class Mistakes(unittest.TestCase):
             twice = Path(folder) / "twice.def"
             twice.write_text(DEF.read_text().replace("- a2 INV", "- a1 INV", 1))
             lines = twice.read_text().splitlines()
-            number = [at for at, line in enumerate(lines, 1) if line.strip().startswith("- a1 INV")][1]
-            where = f"DEF file {twice}, line {number}: {lines[number - 1]}"
+            first, second = (at for at, line in enumerate(lines, 1) if line.startswith("- a1 INV"))
+            where = f"DEF file {twice}, line {second} (the first is in line {first}): {lines[second - 1]}"
             self.said(["check", str(twice), W_LEF], 1, "lefence: 17 SecondName a1", where)
 
     def test_a_def_text_that_is_cut_off(self) -> None:

@@ -101,17 +101,22 @@ kind_words Def = codes "DEF file "
 abbrev pub file_words : TextFile → List ℕ
 file_words file = kind_words file.kind ++ shown file.path.now
 
--- the number of a line
-abbrev pub number_words : ℕ → List ℕ
-number_words number = codes ", line " ++ decimal number ++ codes ": "
+-- the line of an earlier entry of the same name
+abbrev pub earlier_words : Option ℕ → List ℕ
+earlier_words None = []
+earlier_words (Some number) = codes " (the first is in line " ++ decimal number ++ codes ")"
+
+-- the number of a line, and that of an earlier entry
+abbrev pub number_words : ℕ → Option ℕ → List ℕ
+number_words number earlier = codes ", line " ++ decimal number ++ earlier_words earlier ++ codes ": "
 
 -- the number of the line that a text is refused for, and its first bytes
-abbrev pub line_shown : Option ℕ → List ℕ → List ℕ
-line_shown None bytes = []
-line_shown (Some number) bytes = number_words number ++ shown bytes
+abbrev pub line_shown : Option ℕ → Option ℕ → List ℕ → List ℕ
+line_shown None earlier bytes = []
+line_shown (Some number) earlier bytes = number_words number earlier ++ shown bytes
 
 abbrev pub shown_line : Refusal → List ℕ
-shown_line refusal = line_shown refusal.at refusal.shown.items
+shown_line refusal = line_shown refusal.at refusal.earlier refusal.shown.items
 
 -- the path of the exported text
 abbrev pub export_words : List ℕ → List ℕ
@@ -135,7 +140,8 @@ hint_words Def (Some OtherKind) = codes " (read as DEF: is the DEF text first?)"
 
 -- where a text is refused: nowhere if only memory ran out
 abbrev pub refusal_words : TextFile → Refusal → List ℕ
-refusal_words file refusal = if is_memory refusal.number then [] else codes "lefence: " ++ file_words file ++ hint_words file.kind refusal.hint ++ shown_line refusal ++ 10 ∷ []
+refusal_words file refusal =
+    if is_memory refusal.number then [] else codes "lefence: " ++ file_words file ++ hint_words file.kind refusal.hint ++ shown_line refusal ++ 10 ∷ []
 
 -- the file, the path or the port that is at fault
 abbrev pub subject_words : Fault → List ℕ

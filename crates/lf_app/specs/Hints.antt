@@ -51,3 +51,7 @@ line_of_named text fault = option_and_then (λ name. name_line text fault.number
 -- the line that a fault is about: its own, or the one in which its name stands
 abbrev pub line_told : List ℕ → LoadFault → Option ℕ
 line_told text fault = if is_some fault.line then fault.line else line_of_named text fault
+
+-- the line of the earlier of two entries of one name, if the later one is refused
+abbrev pub earlier_line : List ℕ → LoadFault → Option ℕ
+earlier_line text fault = if is_second fault.number then option_and_then (λ name. nth_line name.now 0 (tokens_of text).tokens) fault.name else None

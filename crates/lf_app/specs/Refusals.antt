@@ -4,7 +4,7 @@ use Rattle.lf_lex.specs.declared.fault.LoadFault.{LoadFault}
 use Rattle.lf_lex.specs.Tokens.{is_line_feed}
 use Rattle.lf_app.specs.declared.faults.TextKind.{TextKind}
 use Rattle.lf_app.specs.declared.refusals.Refusal.{Refusal}
-use Rattle.lf_app.specs.Hints.{hint_of, line_told}
+use Rattle.lf_app.specs.Hints.{earlier_line, hint_of, line_told}
 
 -- what follows a line feed there; no byte if there is none
 abbrev pub behind_feed : List ℕ → Option ℕ → List ℕ
@@ -39,11 +39,12 @@ line_front text None = []
 line_front text (Some number) = take 80 (line_at text number)
 
 -- this is told of the fault of the text that was read as this: its number, line and name; the line that it is about, with its first
--- bytes; and what the text rather seems to be
+-- bytes; that of an earlier entry of its name; and what the text rather seems to be
 pub record Tells (kind : TextKind) (text : List ℕ) (fault : LoadFault) (refusal : Refusal) : Type 0 where
   pub number : refusal.number ≡ fault.number
   pub line : refusal.line ≡ fault.line
   pub name : option_map (λ name. name.items) refusal.name ≡ option_map (λ name. name.now) fault.name
   pub at : refusal.at ≡ line_told text fault
   pub shown : refusal.shown.items ≡ line_front text (line_told text fault)
+  pub earlier : refusal.earlier ≡ earlier_line text fault
   pub hint : refusal.hint ≡ hint_of kind text

@@ -5,7 +5,8 @@ use Rattle.lf_app.specs.declared.surroundings.Surroundings.{Surroundings}
 use Rattle.lf_app.specs.Exits.{Streams, streams}
 
 -- what was read, written and put
-abbrev pub io_of : {T E V R W F : Type 0} → (R → Option (List ℕ)) → (W → Option (List ℕ)) → (E → Option (List Put)) → Surroundings T E V R W F → Surroundings T E V R W F → Streams
+abbrev pub io_of : {T E V R W F : Type 0} → (R → Option (List ℕ)) → (W → Option (List ℕ)) → (E → Option (List Put))
+    → Surroundings T E V R W F → Surroundings T E V R W F → Streams
 io_of remaining contents puts old new =
     streams (remaining old.reader) (remaining new.reader) (contents old.writer) (contents new.writer) (puts old.exports) (puts new.exports)
 

@@ -34,7 +34,8 @@ IsReaderSpent (Stream limit) failed old new = ReadsFail limit failed old new
 IsReaderSpent (Port port connections) failed old new = ⊥
 
 -- who is to blame for a fault of the lines
-abbrev pub BlamesIn : {T E V R W F : Type 0} → (R → Bool) → (R → ℕ) → (W → Bool) → Lines → Surroundings T E V R W F → Surroundings T E V R W F → Fault → Type 0
+abbrev pub BlamesIn : {T E V R W F : Type 0} → (R → Bool) → (R → ℕ) → (W → Bool) → Lines
+    → Surroundings T E V R W F → Surroundings T E V R W F → Fault → Type 0
 BlamesIn read_failed reads write_failed lines old new fault =
     Blames fault (new.writer ≡ old.writer) (IsReaderSpent lines (read_failed new.reader) (reads old.reader) (reads new.reader)) (write_failed new.writer ≡ true)
 

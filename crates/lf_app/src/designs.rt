@@ -14,7 +14,8 @@ ghost use Rattle.lf_def.specs.Document.{Document, Refuses, document_of};
 ghost use Rattle.lf_write.specs.Export.{clause_of};
 ghost use Rattle.lf_app.specs.Designs.{Adds, IsDefRefusal, IsDesignFault, IsDesignIn, IsDesignOf, IsFileDesign, IsFileFault, IsKept};
 ghost use Rattle.lf_app.specs.Exits.{IsOpenedOf};
-ghost use Rattle.lf_app.specs.Designs.{IsLefRefusal, IsLibraryFault, IsLibraryOf, IsLoadRefusal, IsLoadedIn, IsRefused, IsTextDesign, IsTextFault, IsUnread, no_library};
+ghost use Rattle.lf_app.specs.Designs.{IsLefRefusal, IsLibraryFault, IsLibraryOf, IsLoadRefusal, IsLoadedIn, IsRefused};
+ghost use Rattle.lf_app.specs.Designs.{IsTextDesign, IsTextFault, IsUnread, no_library};
 
 use crate::faults::{Fault, TextFile, TextKind, unread_fault};
 use crate::refusals::Refusal;

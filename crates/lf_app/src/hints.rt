@@ -2,7 +2,7 @@
 
 ghost use Rattle.std.specs.Prelude.{◌≡◌};
 ghost use Rattle.lf_lex.specs.Tokens.{tokens_of};
-ghost use Rattle.lf_app.specs.Hints.{has_word, hint_of, is_compressed, is_of_other_kind, is_second, name_line, nth_line, line_told};
+ghost use Rattle.lf_app.specs.Hints.{earlier_line, has_word, hint_of, is_compressed, is_of_other_kind, is_second, name_line, nth_line, line_told};
 
 use crate::faults::TextKind;
 use lf_lex::{FaultNumber, Lexer, LoadFault};
@@ -105,6 +105,19 @@ pub(crate) fn line_told(text: &[u8], fault: &LoadFault<'_>) -> Option<usize>
     }
     match fault.name {
         Some(name) => name_line(text, fault.number, name),
+        None => None,
+    }
+}
+
+/// The line of the earlier of two entries of one name, if the later one is refused.
+pub(crate) fn earlier_line(text: &[u8], fault: &LoadFault<'_>) -> Option<usize>
+    ensures { result ≡ earlier_line text.now fault.now }
+{
+    if !is_second(fault.number) {
+        return None;
+    }
+    match fault.name {
+        Some(name) => nth_line(text, name, 0),
         None => None,
     }
 }

@@ -3,8 +3,8 @@
 ghost use Rattle.std.specs.Prelude.{◌≡◌, ◌<◌, OnErr, OnOk, true};
 ghost use Rattle.std.specs.Io.KnownBytes.{Appends};
 ghost use Rattle.std.specs.Char.{digit_char};
-ghost use Rattle.lf_app.specs.Faults.{complaint_line, complaint_words, export_words, file_words, hint_words, is_memory, number_words, port_words, reason_words, refusal_words, second_line};
-ghost use Rattle.lf_app.specs.Faults.{shown, shown_byte, shown_line, subject_words, unbound_words, unreadable_words};
+ghost use Rattle.lf_app.specs.Faults.{complaint_line, complaint_words, earlier_words, export_words, file_words, hint_words, is_memory, number_words};
+ghost use Rattle.lf_app.specs.Faults.{port_words, reason_words, refusal_words, second_line, shown, shown_byte, shown_line, subject_words, unbound_words, unreadable_words};
 
 use crate::faults::{Fault, TextFile, TextKind};
 use crate::hints::Hint;
@@ -68,14 +68,33 @@ fn put_file<W: Sink>(sink: &mut W, file: &TextFile<'_>) -> Result<(), DeviceFaul
     put_shown(sink, file.path.as_bytes())
 }
 
-/// Writes the number of a line.
-fn put_number<W: Sink>(sink: &mut W, number: usize) -> Result<(), DeviceFault>
-    ensures ok { OnOk result (Appends (W.contents sink.old) (W.contents sink.new) (number_words number)) }
+/// Writes the number of the line of an earlier entry of the same name, if there is one.
+fn put_earlier<W: Sink>(sink: &mut W, earlier: Option<usize>) -> Result<(), DeviceFault>
+    ensures ok { OnOk result (Appends (W.contents sink.old) (W.contents sink.new) (earlier_words earlier)) }
+    ensures failed { OnErr result (W.has_failed sink.new ≡ true) }
+    ensures held { W.holds sink.new ≡ W.holds sink.old }
+{
+    let Some(number) = earlier else {
+        return Ok(());
+    };
+    send(sink, b" (the first is in line ")?;
+    send(sink, Buffer::new().format(number).as_bytes())?;
+    send(sink, b")")
+}
+
+/// Writes the number of a line, and that of an earlier entry.
+fn put_number<W: Sink>(
+    sink: &mut W,
+    number: usize,
+    earlier: Option<usize>,
+) -> Result<(), DeviceFault>
+    ensures ok { OnOk result (Appends (W.contents sink.old) (W.contents sink.new) (number_words number earlier)) }
     ensures failed { OnErr result (W.has_failed sink.new ≡ true) }
     ensures held { W.holds sink.new ≡ W.holds sink.old }
 {
     send(sink, b", line ")?;
     send(sink, Buffer::new().format(number).as_bytes())?;
+    put_earlier(sink, earlier)?;
     send(sink, b": ")
 }
 
@@ -88,7 +107,7 @@ fn put_shown_line<W: Sink>(sink: &mut W, refusal: &Refusal) -> Result<(), Device
     let Some(number) = refusal.at else {
         return Ok(());
     };
-    put_number(sink, number)?;
+    put_number(sink, number, refusal.earlier)?;
     put_shown(sink, refusal.shown.as_slice())
 }
 

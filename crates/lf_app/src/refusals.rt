@@ -8,7 +8,7 @@ ghost use Rattle.lf_lex.specs.Faults.{load_fault_of};
 ghost use Rattle.lf_app.specs.Refusals.{Tells, behind_line, behind_lines, first_line, line_at, line_front};
 
 use crate::faults::TextKind;
-use crate::hints::{Hint, hint_of, line_told};
+use crate::hints::{Hint, earlier_line, hint_of, line_told};
 use lf_lex::{FaultNumber, LoadFault};
 use std::alloc::{AllocError, Global};
 
@@ -27,6 +27,8 @@ pub struct Refusal {
     pub at: Option<usize>,
     /// The first bytes of that line.
     pub shown: Vec<u8>,
+    /// The line of an earlier entry of the same name.
+    pub earlier: Option<usize>,
     /// What the text rather seems to be.
     pub hint: Option<Hint>,
 }
@@ -126,6 +128,7 @@ fn told_of(
         name,
         at,
         shown,
+        earlier: earlier_line(text, fault),
         hint: hint_of(kind, text),
     })
 }
@@ -140,6 +143,7 @@ fn told_of_memory(alloc: Global, kind: TextKind, text: &[u8]) -> Refusal
         name: None,
         at: None,
         shown: Vec::new(alloc),
+        earlier: None,
         hint: hint_of(kind, text),
     }
 }

@@ -62,7 +62,8 @@ fn demo<'a, R: Source, W: Sink>(
 ) -> Result<u8, Fault<'a>>
     requires ready { IsReady R.has_failed R.reads W.has_failed reader.old writer.old }
     ensures ok { IfOk result (λ status. (loaded : Loaded) × IsTextDesign W_DEF.now W_LEF.now loaded × ((floor : FloorState)
-        × IsAnswered most_lines loaded floor (R.remaining reader.old) (R.remaining reader.new) (W.contents writer.old) (W.contents writer.new)) × (status ≡ 0)) }
+        × IsAnswered most_lines loaded floor (R.remaining reader.old) (R.remaining reader.new) (W.contents writer.old) (W.contents writer.new))
+        × (status ≡ 0)) }
     ensures err { IfErr result (λ fault.
         IsJobStop (IsTextFault W_DEF.now W_LEF.now) (IsTextDesign W_DEF.now W_LEF.now)
         (λ loaded fault io. IsLinesFault most_lines loaded fault io.input io.left io.before io.after) fault
@@ -103,7 +104,8 @@ fn outcome<'a, T: Texts, E: Exports, V: Services, R: Source, W: Sink, F>(
 ) -> Result<u8, Fault<'a>>
     requires ready { IsReady R.has_failed R.reads W.has_failed around.old.reader around.old.writer }
     ensures ok { IfOk result (IsOutcome (T.gives around.old.texts) (as_job task.now) (io_of R.remaining W.contents E.puts around.old around.new)) }
-    ensures err { IfErr result (λ fault. IsJobFault (T.gives around.old.texts) (as_job task.now) fault (io_of R.remaining W.contents E.puts around.old around.new)
+    ensures err { IfErr result (λ fault. IsJobFault (T.gives around.old.texts) (as_job task.now) fault
+        (io_of R.remaining W.contents E.puts around.old around.new)
         × Blames fault (around.new.writer ≡ around.old.writer)
         (ReadsFail (reads_of (as_job task.now)) (R.has_failed around.new.reader) (R.reads around.old.reader) (R.reads around.new.reader))
         (W.has_failed around.new.writer ≡ true)) }

@@ -227,7 +227,8 @@ pub(crate) fn answer_over<'a, R: Source, W: Sink>(
 ) -> Result<u8, Fault<'a>>
     requires ready { IsReady R.has_failed R.reads W.has_failed reader.old writer.old }
     ensures ok { IfOk result (λ status. ((floor : FloorState)
-        × IsAnswered most_lines loaded floor (R.remaining reader.old) (R.remaining reader.new) (W.contents writer.old) (W.contents writer.new)) × (status ≡ 0)) }
+        × IsAnswered most_lines loaded floor (R.remaining reader.old) (R.remaining reader.new) (W.contents writer.old) (W.contents writer.new))
+        × (status ≡ 0)) }
     ensures err { IfErr result (λ fault. IsLinesFault most_lines loaded fault
         (R.remaining reader.old) (R.remaining reader.new) (W.contents writer.old) (W.contents writer.new)
         × Blames fault (writer.new ≡ writer.old) (ReadsFail most_lines (R.has_failed reader.new) (R.reads reader.old) (R.reads reader.new))
