@@ -17,7 +17,7 @@ class Mistakes(unittest.TestCase):
     """Each mistake: the status, what standard error says, and nothing on standard output."""
 
     def said(self, words: list[str], status: int, first: str, second: str = "", start: Start = Start()) -> None:
-        """A second line tells where the fault lies, if it is given. Behind a usage fault comes what can be asked."""
+        """A second line tells where the fault lies, if it is given. Behind a usage fault comes what is wrong and what can be asked."""
         with self.subTest(" ".join(words)):
             found, written, said = run(words, "", start)
             if first == USAGE:
@@ -34,6 +34,23 @@ class Mistakes(unittest.TestCase):
         for verb in ("check", "describe", "replay", "serve"):
             self.said([verb], 2, USAGE)
             self.said([verb, W_DEF], 2, USAGE)
+
+    def test_the_wrong_word_and_what_it_may_be_stand_before_the_usage(self) -> None:
+        for words, told in (
+            (["chekc", *DESIGN], ["unrecognized subcommand 'chekc'", "tip: a similar subcommand exists: 'check'"]),
+            (["replay", *DESIGN, "--exprot", "x"], ["unexpected argument '--exprot' found", "tip: a similar argument exists: '--export'"]),
+            (
+                ["serve", *DESIGN, "--port", "99999", "--connections", "1"],
+                ["invalid value '99999' for '--port <port>': 99999 is not in 1..=65535"],
+            ),
+            (["check", W_DEF], ["the following required arguments were not provided:", "<lef>..."]),
+        ):
+            with self.subTest(" ".join(words)):
+                status, written, said = run(words)
+                self.assertEqual((status, written), (2, ""))
+                lines = said.split("\n")
+                self.assertEqual(lines[: len(told) + 1], [USAGE, *(f"lefence: {line}" for line in told)])
+                self.assertTrue(lines[len(told) + 1].startswith("  lefence [demo] "), said)
 
     def test_words_in_the_wrong_order(self) -> None:
         self.said([*DESIGN, "check"], 2, USAGE)
@@ -78,32 +95,53 @@ class Mistakes(unittest.TestCase):
 
     def test_a_missing_file_or_a_folder_in_its_place(self) -> None:
         with tempfile.TemporaryDirectory() as folder:
-            for path in (f"{folder}/missing", folder):
+            for path, why in ((f"{folder}/missing", "there is no such file"), (folder, "it is a folder")):
                 for verb in ("check", "describe", "replay"):
-                    self.said([verb, path, W_LEF], 3, "lefence: File", f"DEF file {path} cannot be read")
-                    self.said([verb, W_DEF, path], 3, "lefence: File", f"LEF file {path} cannot be read")
-                    self.said([verb, W_DEF, W_LEF, path], 3, "lefence: File", f"LEF file {path} cannot be read")
+                    self.said([verb, path, W_LEF], 3, "lefence: File", f"DEF file {path} cannot be read: {why}")
+                    self.said([verb, W_DEF, path], 3, "lefence: File", f"LEF file {path} cannot be read: {why}")
+                    self.said([verb, W_DEF, W_LEF, path], 3, "lefence: File", f"LEF file {path} cannot be read: {why}")
 
     def test_a_path_is_shown_in_bytes_that_can_be_read(self) -> None:
-        self.said(["check", "no\n\u00e9.def", W_LEF], 3, "lefence: File", "DEF file no\\x0a\\xc3\\xa9.def cannot be read")
+        self.said(["check", "no\n\u00e9.def", W_LEF], 3, "lefence: File", "DEF file no\\x0a\\xc3\\xa9.def cannot be read: there is no such file")
 
     def test_a_lef_text_in_place_of_the_def_text(self) -> None:
         line = LEF.read_text().splitlines()[1]
         for verb in ("check", "describe", "replay"):
-            self.said([verb, W_LEF, W_LEF], 1, "lefence: 6 UnknownStatement line 2", f"DEF file {W_LEF}, line 2: {line}")
+            hint = "(read as DEF: is the DEF text first?)"
+            self.said([verb, W_LEF, W_LEF], 1, "lefence: 6 UnknownStatement line 2", f"DEF file {W_LEF} {hint}, line 2: {line}")
 
     def test_the_lef_text_first(self) -> None:
         last = len(DEF.read_text().splitlines()) + 1
         for verb in ("check", "describe", "replay"):
-            self.said([verb, W_LEF, W_DEF], 1, f"lefence: 2 UnexpectedEnd line {last}", f"LEF file {W_DEF}, line {last}: ")
+            hint = "(read as LEF: is the DEF text first?)"
+            self.said([verb, W_LEF, W_DEF], 1, f"lefence: 2 UnexpectedEnd line {last}", f"LEF file {W_DEF} {hint}, line {last}: ")
+
+    def test_a_compressed_text(self) -> None:
+        with tempfile.TemporaryDirectory() as folder:
+            packed = Path(folder) / "w.def.gz"
+            packed.write_bytes(b"\x1f\x8b\x08\x00")
+            where = f"DEF file {packed} (it looks compressed), line 1: \\x1f\\x8b\\x08\\x00"
+            self.said(["check", str(packed), W_LEF], 1, "lefence: 1 BadToken line 1", where)
 
     def test_a_def_text_without_its_lef_texts(self) -> None:
         with tempfile.TemporaryDirectory() as folder:
             empty, site = Path(folder) / "empty.lef", Path(folder) / "site.lef"
             empty.write_text("")
             site.write_text(LEF.read_text().split("MACRO")[0] + "END LIBRARY\n")
-            self.said(["check", W_DEF, str(empty)], 1, "lefence: 8 NoSite core", f"DEF file {W_DEF}")
-            self.said(["check", W_DEF, str(site)], 1, "lefence: 14 NoMacro INV", f"DEF file {W_DEF}")
+            lines = DEF.read_text().splitlines()
+            for lef, first, word in ((empty, "8 NoSite core", "ROW r0"), (site, "14 NoMacro INV", "- a1 INV")):
+                number = next(at for at, line in enumerate(lines, 1) if line.strip().startswith(word))
+                where = f"DEF file {W_DEF}, line {number}: {lines[number - 1]}"
+                self.said(["check", W_DEF, str(lef)], 1, f"lefence: {first}", where)
+
+    def test_a_second_component_of_one_name_is_shown(self) -> None:
+        with tempfile.TemporaryDirectory() as folder:
+            twice = Path(folder) / "twice.def"
+            twice.write_text(DEF.read_text().replace("- a2 INV", "- a1 INV", 1))
+            lines = twice.read_text().splitlines()
+            first, second = (at for at, line in enumerate(lines, 1) if line.startswith("- a1 INV"))
+            where = f"DEF file {twice}, line {second} (the first is in line {first}): {lines[second - 1]}"
+            self.said(["check", str(twice), W_LEF], 1, "lefence: 17 SecondName a1", where)
 
     def test_a_def_text_that_is_cut_off(self) -> None:
         with tempfile.TemporaryDirectory() as folder:

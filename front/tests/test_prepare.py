@@ -122,7 +122,9 @@ class Preparations(FrontCase):
     def test_what_does_not_load_is_written_by_force_alone(self) -> None:
         self.lef.write_text(LEF.replace("MACRO FILL", "MACRO GAP").replace("END FILL", "END GAP"))
         done = self.run_on()
-        told = b"it does not load: 14 NoMacro FILL; the prepared text\n"
+        lines = TEXT.replace("\nTRACKS", f"{ROWS}\nTRACKS").split("\n")
+        line = next(line for line in lines if line.startswith("- x FILL"))
+        told = f"it does not load: 14 NoMacro FILL; the prepared text, line {lines.index(line) + 1}: {line}\n".encode()
         told += b"lefence-prepare: nothing is written; --force writes it even so\n"
         self.assertEqual((done.returncode, self.output.exists()), (1, False))
         self.assertTrue(done.stderr.endswith(told), done.stderr)

@@ -67,11 +67,32 @@ fn show(rt: &HostRuntime, help: Help) -> u8 {
     }
 }
 
-/// What words do that name no task: they ask for help, or are at fault.
-fn answer(rt: &HostRuntime, words: &[&str], fault: UsageFault) -> Result<u8, UsageFault> {
+/// Says which word is wrong, or which is missing, and what it may be: of what the parser of the words says, the lines before its
+/// own usage.
+fn complain(rt: &HostRuntime, words: &[&str]) {
+    let Ok(Some(said)) = lf_app::complaint_of(rt.alloc(), words) else {
+        return;
+    };
+    for line in said.as_str().lines() {
+        if line.starts_with("Usage:") || line.starts_with("For more") {
+            return;
+        }
+        let line = line.trim();
+        let told = line.strip_prefix("error: ").unwrap_or(line);
+        if !told.is_empty() {
+            let _ = eprintln!(rt; "lefence: {told}");
+        }
+    }
+}
+
+/// What words do that name no task: they ask for help, or are at fault, which is told.
+fn answer(rt: &HostRuntime, words: &[&str], fault: UsageFault) -> u8 {
     match lf_app::help_of(words) {
-        Some(help) if matches!(fault, UsageFault::Usage) => Ok(show(rt, help)),
-        _ => Err(fault),
+        Some(help) if matches!(fault, UsageFault::Usage) => show(rt, help),
+        _ => {
+            tell(rt, &fault, words);
+            usage_status(&fault)
+        }
     }
 }
 
@@ -81,7 +102,7 @@ fn run(rt: &HostRuntime) -> Result<u8, UsageFault> {
     let texts = lent(rt.alloc(), words.as_slice())?;
     let task = match lf_app::command_of(rt.alloc(), texts.as_slice()) {
         Ok(task) => task,
-        Err(fault) => return answer(rt, texts.as_slice(), fault),
+        Err(fault) => return Ok(answer(rt, texts.as_slice(), fault)),
     };
     let mut reader = rt.reader();
     let mut writer = io::writer(rt);
@@ -89,10 +110,11 @@ fn run(rt: &HostRuntime) -> Result<u8, UsageFault> {
     Ok(lf_app::perform(rt, &task, &mut reader, &mut writer, &mut faults))
 }
 
-/// Prints a usage fault, and what the program can be asked; a failure to write it is no further fault.
-fn tell(rt: &HostRuntime, fault: &UsageFault) {
+/// Prints a usage fault of these words, and what the program can be asked; a failure to write it is no further fault.
+fn tell(rt: &HostRuntime, fault: &UsageFault, words: &[&str]) {
     let _ = eprintln!(rt; "lefence: {fault}");
     if matches!(fault, UsageFault::Usage) {
+        complain(rt, words);
         let _ = eprint!(rt; "{USAGE}");
     }
 }
@@ -101,7 +123,7 @@ fn main(rt: HostRuntime) -> ExitCode {
     match run(&rt) {
         Ok(status) => ExitCode::from(status),
         Err(fault) => {
-            tell(&rt, &fault);
+            tell(&rt, &fault, &[]);
             ExitCode::from(usage_status(&fault))
         }
     }

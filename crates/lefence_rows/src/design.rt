@@ -14,7 +14,7 @@ use crate::reading::{put_document, put_library};
 use crate::running::put_run;
 use crate::shipped;
 use crate::shipped::RowTexts;
-use lf_app::{Fault, TextFile, TextKind, answer_lines, write_fault};
+use lf_app::{Fault, Refusal, TextFile, TextKind, answer_lines, write_fault};
 use lf_def::{DefDoc, W_DEF, read_def};
 use lf_devices::{FromRead, ToWrite};
 use lf_floor::Floor;
@@ -86,14 +86,13 @@ fn first_lines(alloc: Global, text: &[u8], count: usize) -> Result<Vec<u8>, Allo
 }
 
 /// Writes the line of a refusal.
-fn put_fault<W: Write>(writer: &mut W, refusal: LoadFault<'_>) -> io::Result<()> {
+fn put_fault<W: Write>(alloc: Global, writer: &mut W, refusal: &LoadFault<'_>) -> io::Result<()> {
     let fault = Fault::Refused {
         file: TextFile {
             kind: TextKind::Def,
             path: "row",
         },
-        text: b"",
-        refusal,
+        refusal: Refusal::new(alloc, TextKind::Def, b"", refusal),
     };
     match write_fault(&mut ToWrite::new(writer), &fault) {
         Ok(()) => Ok(()),
@@ -152,7 +151,7 @@ impl Design {
         let mut library = Library::new(self.alloc);
         match read_lef(&mut library, &self.lef) {
             Ok(()) => self.answer_on(&library, asked, writer),
-            Err(fault) => put_fault(writer, fault),
+            Err(fault) => put_fault(self.alloc, writer, &fault),
         }
     }
 
@@ -165,7 +164,7 @@ impl Design {
     ) -> io::Result<()> {
         match read_def(self.alloc, &self.def) {
             Ok(document) => self.answer_over(library, &document, asked, writer),
-            Err(fault) => put_fault(writer, fault),
+            Err(fault) => put_fault(self.alloc, writer, &fault),
         }
     }
 
@@ -188,7 +187,7 @@ impl Design {
                 self.put_shipped(asked, &replies, writer)?;
                 self.compare(library, document, asked, &replies, writer)
             }
-            Err(fault) => put_fault(writer, fault),
+            Err(fault) => put_fault(self.alloc, writer, &fault),
         }
     }
 

@@ -1,7 +1,7 @@
 //! What the program itself answers of a row: the report of `lefence check`, and the replies and the exported text of
 //! `lefence replay`, over texts in memory.
 
-use lf_app::{Offer, Services, Task, Texts, Unread, Unserved, perform_over};
+use lf_app::{Offer, Services, Surroundings, Task, Texts, Unbound, Unread, Unserved, perform_over};
 use lf_devices::{FromRead, Sink, ToWrite};
 use lf_files::{Exports, Pieces, Unwritten};
 use lf_floor::Floor;
@@ -61,7 +61,7 @@ impl Services for NoServices {
         _floor: &mut Floor<IndexSeeker>,
         _writer: &mut W,
     ) -> Result<(), Unserved> {
-        Err(Unserved::Bind)
+        Err(Unserved::Bind(Unbound::Other))
     }
 }
 
@@ -74,27 +74,23 @@ pub struct Shipped {
 
 /// Does the task over these texts and lines; what is told of a fault stands behind what is written.
 fn performed(texts: &RowTexts<'_>, task: &Task<'_>, lines: &[u8]) -> Result<Shipped, AllocError> {
-    let mut exports = KeptExport {
-        text: Vec::new(texts.alloc),
-    };
     let mut reader = lines;
     let mut written = Vec::new(texts.alloc);
     let mut faults = Vec::new(texts.alloc);
-    perform_over(
-        texts.alloc,
-        texts,
-        &mut exports,
-        &mut NoServices,
-        task,
-        &mut FromRead::new(&mut reader),
-        &mut ToWrite::new(&mut written),
-        &mut ToWrite::new(&mut faults),
-    );
+    let mut around = Surroundings {
+        texts: *texts,
+        exports: KeptExport {
+            text: Vec::new(texts.alloc),
+        },
+        services: NoServices,
+        reader: FromRead::new(&mut reader),
+        writer: ToWrite::new(&mut written),
+        faults: ToWrite::new(&mut faults),
+    };
+    perform_over(texts.alloc, &mut around, task);
+    let exported = around.exports.text;
     written.extend_from_slice(&faults)?;
-    Ok(Shipped {
-        written,
-        exported: exports.text,
-    })
+    Ok(Shipped { written, exported })
 }
 
 /// The list of the LEF path alone.

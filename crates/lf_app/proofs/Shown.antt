@@ -5,7 +5,8 @@ use Rattle.std.proofs.Math.Numerals.{suc-eq-add-one}
 use Rattle.std.proofs.Math.Seq.{drop-cons}
 use Rattle.std.specs.Io.KnownBytes.{Appends}
 use Rattle.lf_devices.proofs.Known.{Appends-more}
-use Rattle.lf_app.specs.Faults.{behind_line, behind_lines, shown, shown_byte}
+use Rattle.lf_app.specs.Faults.{shown, shown_byte}
+use Rattle.lf_app.specs.Refusals.{behind_line, behind_lines}
 
 -- bytes that were appended come before those that are if all goes well
 pub before : {T E : Type 0} (r : Result T E) (a b c : Option (List ℕ)) (xs ys : List ℕ) → Appends a b xs → OnOk r (Appends b c ys)

@@ -1,45 +1,43 @@
 -- Tasks over a design that is loaded.
-use Rattle.std.proofs.Common.{◌≡◌, ◌⊎◌, arith, inl, inr, refl, ℕ, Bool, List, Option, Some, None}
+use Rattle.std.proofs.Common.{◌≡◌, ◌⊎◌, arith, inl, inr, refl, ℕ, List, Option, Some, None}
 use Rattle.std.specs.Prelude.{IfErr, IfOk, Result}
 use Rattle.std.proofs.lemmas.Result.{IfErr-weaker, IfOk-weaker}
 use Rattle.lf_floorplan.specs.declared.loaded.Loaded.{Loaded}
 use Rattle.lf_command.specs.declared.command.Task.{Task}
 use Rattle.lf_command.specs.declared.command.Task.TheVariants.{Demo, Replay, Serve, Check, Describe}
 use Rattle.lf_command.specs.Command.{Job, ReadsNone, as_job, check, demo, describe, replay, serve}
-use Rattle.lf_app.specs.declared.faults.Exit.{Exit}
 use Rattle.lf_app.specs.declared.faults.Fault.{Fault}
 use Rattle.lf_app.specs.declared.faults.Fault.TheVariants.{Refused, File, ReadFault, WriteFault, TooManyLines, OutOfMemory, Output, Bind, Accept, Unwritten, NoMemory, NoRoom}
 use Rattle.lf_app.specs.Designs.{Gives}
-use Rattle.lf_app.specs.Exits.{AsksForNoFile, Ends, IsOutcome, Streams}
-use Rattle.lf_app.specs.Faults.{IsDone, IsFailure}
+use Rattle.lf_app.specs.Exits.{AsksForNoFile, IsOutcome, Streams}
+use Rattle.lf_app.specs.Faults.{IsDone, IsFailure, status_of}
 
 -- what follows loading is the outcome of a task over a design
-module _ (IsDesign : Loaded → Type 0) (loaded : Loaded) (design : IsDesign loaded) (r : Result ℕ Exit) where
+module _ (IsDesign : Loaded → Type 0) (loaded : Loaded) (design : IsDesign loaded) (r : Result ℕ Fault) where
   pub comes_of : (Comes : Loaded → ℕ → Type 0) → IfOk r (Comes loaded) → IfOk r (λ status. (l : Loaded) × IsDesign l × Comes l status)
   comes_of Comes = IfOk-weaker r (Comes loaded) (λ status. (l : Loaded) × IsDesign l × Comes l status) (λ status is. (loaded, design, is))
 
   -- and a fault after loading is one of the whole task
-  pub fails : (no_design also : Fault → Type 0) (why : Loaded → Fault → Type 0) (old new : Option (List ℕ)) (failed : Bool)
-      → IfErr r (Ends (λ fault. why loaded fault × also fault) old new failed)
-      → IfErr r (Ends (λ fault. (no_design fault ⊎ ((l : Loaded) × IsDesign l × why l fault)) × also fault) old new failed)
-  fails no_design also why old new failed = IfErr-weaker r (Ends (λ fault. why loaded fault × also fault) old new failed)
-      (Ends (λ fault. (no_design fault ⊎ ((l : Loaded) × IsDesign l × why l fault)) × also fault) old new failed)
-      (λ exit ends. (ends.0, (inr (loaded, design, ends.1.0), ends.1.1), ends.2))
+  pub fails : (no_design also : Fault → Type 0) (why : Loaded → Fault → Type 0) → IfErr r (λ fault. why loaded fault × also fault)
+      → IfErr r (λ fault. (no_design fault ⊎ ((l : Loaded) × IsDesign l × why l fault)) × also fault)
+  fails no_design also why = IfErr-weaker r (λ fault. why loaded fault × also fault)
+      (λ fault. (no_design fault ⊎ ((l : Loaded) × IsDesign l × why l fault)) × also fault)
+      (λ fault both. (inr (loaded, design, both.0), both.1))
 
 -- the status of a fault is one of a task that was not done
-pub failing : (why : Fault → Type 0) (old new : Option (List ℕ)) (failed : Bool) (exit : Exit) → Ends why old new failed exit → IsFailure exit.status
-failing why old new failed exit (Refused file its refusal, is, ends) = inl ends.status
-failing why old new failed exit (File file, is, ends) = inr ends.status
-failing why old new failed exit (ReadFault, is, ends) = inr ends.status
-failing why old new failed exit (WriteFault, is, ends) = inr ends.status
-failing why old new failed exit (TooManyLines, is, ends) = inr ends.status
-failing why old new failed exit (OutOfMemory, is, ends) = inr ends.status
-failing why old new failed exit (Output, is, ends) = inr ends.status
-failing why old new failed exit (Bind port, is, ends) = inr ends.status
-failing why old new failed exit (Accept, is, ends) = inr ends.status
-failing why old new failed exit (Unwritten path, is, ends) = inr ends.status
-failing why old new failed exit (NoMemory, is, ends) = inl ends.status
-failing why old new failed exit (NoRoom, is, ends) = inl ends.status
+pub failing : (fault : Fault) (status : ℕ) → status ≡ status_of fault → IsFailure status
+failing (Refused file refusal) status is = inl is
+failing (File file why) status is = inr is
+failing ReadFault status is = inr is
+failing WriteFault status is = inr is
+failing TooManyLines status is = inr is
+failing OutOfMemory status is = inr is
+failing Output status is = inr is
+failing (Bind port why) status is = inr is
+failing Accept status is = inr is
+failing (Unwritten path) status is = inr is
+failing NoMemory status is = inl is
+failing NoRoom status is = inl is
 
 -- no task is done and not done
 pub not_both : (status : ℕ) → IsDone status → IsFailure status → ⊥

@@ -1,41 +1,33 @@
 -- Work on a design, step by step: what the steps after one give is what the whole gives.
-use Rattle.std.proofs.Common.{◌≡◌, ◌⊎◌, inl, inr, subst, sym, ℕ, Bool, List, [], ◌∷◌, None, Ok, Option, Some}
+use Rattle.std.proofs.Common.{◌≡◌, ◌⊎◌, inl, inr, refl, subst, sym, ℕ, List, [], ◌∷◌, None, Ok, Option, Some}
 use Rattle.std.specs.Prelude.{IfErr, IfOk, Result}
 use Rattle.std.proofs.lemmas.Result.{IfErr-weaker, IfOk-weaker}
 use Rattle.lf_lex.specs.declared.fault.LoadFault.{LoadFault}
 use Rattle.lf_lef.specs.Contents.{Contents}
 use Rattle.lf_def.specs.Document.{Document, Refuses, document_of}
 use Rattle.lf_floorplan.specs.declared.loaded.Loaded.{Loaded}
-use Rattle.lf_app.specs.declared.faults.Exit.{Exit}
 use Rattle.lf_app.specs.declared.faults.Fault.{Fault}
 use Rattle.lf_app.specs.declared.faults.Fault.TheVariants.{Refused, File, ReadFault, WriteFault, TooManyLines, OutOfMemory, Output, Bind, Accept, Unwritten, NoMemory, NoRoom}
 use Rattle.lf_app.specs.declared.faults.TextKind.{TextKind}
 use Rattle.lf_app.specs.declared.faults.TextKind.TheVariants.{Lef, Def}
 use Rattle.lf_app.specs.Designs.{Gives, IsDefRefusal, IsDesignFault, IsDesignIn, IsDesignOf, IsFileDesign, IsFileFault, IsLefRefusal, IsLibraryFault, IsLibraryOf}
 use Rattle.lf_app.specs.Designs.{IsLoadRefusal, IsLoadedIn, IsRefused, IsUnread, no_library}
-use Rattle.lf_app.specs.Exits.{Ends, IsUntouched, Streams}
+use Rattle.lf_app.specs.Exits.{IsUntouched, Streams}
 use Rattle.lf_app.specs.Faults.{Blames, IsEarly, IsExportFault}
 use Rattle.lf_app.specs.Work.{IsDone, IsFault, IsStopped}
 use Rattle.lf_app.specs.declared.work.Lines.{Lines}
+use Rattle.lf_app.specs.declared.work.Lines.TheVariants.{Stream, Port}
 use Rattle.lf_teams.specs.States.{FloorState}
 
 -- what holds of a status gives what is asked of it
-pub weaker_ok : (r : Result ℕ Exit) (P Q : ℕ → Type 0) → IfOk r P → ((status : ℕ) → P status → Q status) → IfOk r Q
+pub weaker_ok : (r : Result ℕ Fault) (P Q : ℕ → Type 0) → IfOk r P → ((status : ℕ) → P status → Q status) → IfOk r Q
 weaker_ok r P Q is gives = IfOk-weaker r P Q gives is
 
 -- a fault of a step is one of the whole
-pub step_fails : (r : Result ℕ Exit) (why all also : Fault → Type 0) (old new : Option (List ℕ)) (failed : Bool)
-    → IfErr r (Ends (λ fault. why fault × also fault) old new failed) → ((fault : Fault) → why fault → all fault)
-    → IfErr r (Ends (λ fault. all fault × also fault) old new failed)
-step_fails r why all also old new failed is gives =
-    IfErr-weaker r (Ends (λ fault. why fault × also fault) old new failed) (Ends (λ fault. all fault × also fault) old new failed)
-    (λ exit ends. (ends.0, (gives ends.0 ends.1.0, ends.1.1), ends.2)) is
-
--- a fault of one kind is told as one of another
-pub ends_as : (why all also : Fault → Type 0) (old new : Option (List ℕ)) (failed : Bool) (exit : Exit)
-    → Ends (λ fault. why fault × also fault) old new failed exit → ((fault : Fault) → why fault → all fault)
-    → Ends (λ fault. all fault × also fault) old new failed exit
-ends_as why all also old new failed exit ends gives = (ends.0, (gives ends.0 ends.1.0, ends.1.1), ends.2)
+pub step_fails : (r : Result ℕ Fault) (why all also : Fault → Type 0) → IfErr r (λ fault. why fault × also fault)
+    → ((fault : Fault) → why fault → all fault) → IfErr r (λ fault. all fault × also fault)
+step_fails r why all also is gives =
+    IfErr-weaker r (λ fault. why fault × also fault) (λ fault. all fault × also fault) (λ fault both. (gives fault both.0, both.1)) is
 
 abbrev IsRoom : Fault → Type 0
 IsRoom NoRoom = Unit {0}
@@ -46,12 +38,10 @@ IsPath (Unwritten path) = Unit {0}
 IsPath _ = ⊥
 
 -- what more is said of the same fault
-pub also_fails : (r : Result ℕ Exit) (why also more : Fault → Type 0) (old new : Option (List ℕ)) (failed : Bool)
-    → IfErr r (Ends (λ fault. why fault × also fault) old new failed) → ((fault : Fault) → also fault → more fault)
-    → IfErr r (Ends (λ fault. why fault × more fault) old new failed)
-also_fails r why also more old new failed is gives =
-    IfErr-weaker r (Ends (λ fault. why fault × also fault) old new failed) (Ends (λ fault. why fault × more fault) old new failed)
-    (λ exit ends. (ends.0, (ends.1.0, gives ends.0 ends.1.1), ends.2)) is
+pub also_fails : (r : Result ℕ Fault) (why also more : Fault → Type 0) → IfErr r (λ fault. why fault × also fault)
+    → ((fault : Fault) → also fault → more fault) → IfErr r (λ fault. why fault × more fault)
+also_fails r why also more is gives =
+    IfErr-weaker r (λ fault. why fault × also fault) (λ fault. why fault × more fault) (λ fault both. (both.0, gives fault both.1)) is
 
 -- where the reader cannot be blamed, a fault of it would say anything
 pub blames_more : (kept reader writer : Type 0) (fault : Fault) → Blames fault kept ⊥ writer → Blames fault kept reader writer
@@ -60,14 +50,14 @@ blames_more kept reader writer fault blames =
 
 -- an early fault blames neither the reader nor the writer
 pub early_blames : (kept reader writer : Type 0) (fault : Fault) → kept → IsEarly fault → Blames fault kept reader writer
-early_blames kept reader writer (Refused file its refusal) keeps early = record { early = λ _. keeps; reading = λ same. absurd (subst IsEarly same tt); writing = λ is. absurd is }
-early_blames kept reader writer (File file) keeps early = record { early = λ _. keeps; reading = λ same. absurd (subst IsEarly same tt); writing = λ is. absurd is }
+early_blames kept reader writer (Refused file its) keeps early = record { early = λ _. keeps; reading = λ same. absurd (subst IsEarly same tt); writing = λ is. absurd is }
+early_blames kept reader writer (File file why) keeps early = record { early = λ _. keeps; reading = λ same. absurd (subst IsEarly same tt); writing = λ is. absurd is }
 early_blames kept reader writer ReadFault keeps early = absurd early
 early_blames kept reader writer WriteFault keeps early = absurd early
 early_blames kept reader writer TooManyLines keeps early = absurd early
 early_blames kept reader writer OutOfMemory keeps early = absurd early
 early_blames kept reader writer Output keeps early = absurd early
-early_blames kept reader writer (Bind port) keeps early = absurd early
+early_blames kept reader writer (Bind port why) keeps early = absurd early
 early_blames kept reader writer Accept keeps early = absurd early
 early_blames kept reader writer (Unwritten path) keeps early = absurd early
 early_blames kept reader writer NoMemory keeps early = record { early = λ _. keeps; reading = λ same. absurd (subst IsEarly same tt); writing = λ is. absurd is }
@@ -79,14 +69,14 @@ export_blames None kept reader writer fault is = absurd is
 export_blames (Some path) kept reader writer fault (inl is) =
     subst (λ (f : Fault). Blames f kept reader writer) (sym is)
     record { early = λ early. absurd early; reading = λ same. absurd (subst IsRoom same tt); writing = λ of. absurd of }
-export_blames (Some path) kept reader writer (Refused file its refusal) (inr is) = absurd is
-export_blames (Some path) kept reader writer (File file) (inr is) = absurd is
+export_blames (Some path) kept reader writer (Refused file its) (inr is) = absurd is
+export_blames (Some path) kept reader writer (File file why) (inr is) = absurd is
 export_blames (Some path) kept reader writer ReadFault (inr is) = absurd is
 export_blames (Some path) kept reader writer WriteFault (inr is) = absurd is
 export_blames (Some path) kept reader writer TooManyLines (inr is) = absurd is
 export_blames (Some path) kept reader writer OutOfMemory (inr is) = absurd is
 export_blames (Some path) kept reader writer Output (inr is) = absurd is
-export_blames (Some path) kept reader writer (Bind port) (inr is) = absurd is
+export_blames (Some path) kept reader writer (Bind port why) (inr is) = absurd is
 export_blames (Some path) kept reader writer Accept (inr is) = absurd is
 export_blames (Some path) kept reader writer (Unwritten its) (inr is) =
     record { early = λ early. absurd early; reading = λ same. absurd (subst IsPath same tt); writing = λ of. absurd of }
@@ -95,14 +85,14 @@ export_blames (Some path) kept reader writer NoRoom (inr is) = absurd is
 
 -- a refusal of a text is early
 pub refused_early : (kind : TextKind) (path text : List ℕ) (why : LoadFault → Type 0) (fault : Fault) → IsRefused kind path text why fault → IsEarly fault
-refused_early kind path text why (Refused file its refusal) is = tt
-refused_early kind path text why (File file) is = absurd is
+refused_early kind path text why (Refused file its) is = tt
+refused_early kind path text why (File file cause) is = absurd is
 refused_early kind path text why ReadFault is = absurd is
 refused_early kind path text why WriteFault is = absurd is
 refused_early kind path text why TooManyLines is = absurd is
 refused_early kind path text why OutOfMemory is = absurd is
 refused_early kind path text why Output is = absurd is
-refused_early kind path text why (Bind port) is = absurd is
+refused_early kind path text why (Bind port cause) is = absurd is
 refused_early kind path text why Accept is = absurd is
 refused_early kind path text why (Unwritten its_path) is = absurd is
 refused_early kind path text why NoMemory is = absurd is
@@ -110,14 +100,14 @@ refused_early kind path text why NoRoom is = absurd is
 
 -- so is a text that was not read
 pub unread_early : (gives : Gives) (kind : TextKind) (path : List ℕ) (fault : Fault) → IsUnread gives kind path fault → IsEarly fault
-unread_early gives kind path (Refused file its refusal) is = absurd is
-unread_early gives kind path (File file) is = tt
+unread_early gives kind path (Refused file its) is = absurd is
+unread_early gives kind path (File file why) is = tt
 unread_early gives kind path ReadFault is = absurd is
 unread_early gives kind path WriteFault is = absurd is
 unread_early gives kind path TooManyLines is = absurd is
 unread_early gives kind path OutOfMemory is = absurd is
 unread_early gives kind path Output is = absurd is
-unread_early gives kind path (Bind port) is = absurd is
+unread_early gives kind path (Bind port why) is = absurd is
 unread_early gives kind path Accept is = absurd is
 unread_early gives kind path (Unwritten its_path) is = absurd is
 unread_early gives kind path NoMemory is = tt
@@ -141,23 +131,22 @@ design_early gives path lefs fault (inl library) = library_early gives no_librar
 design_early gives path lefs fault (inr file) = file_early gives Def path (IsDefRefusal file.0) fault file.2
 
 -- a fault before anything is written is one of the whole
-pub first_fails : (why all : Fault → Type 0) (kept reader writer : Type 0) (old new : Option (List ℕ)) (failed : Bool) (exit : Exit) → kept
-    → Ends why old new failed exit → ((fault : Fault) → why fault → IsEarly fault) → ((fault : Fault) → why fault → all fault)
-    → Ends (λ fault. all fault × Blames fault kept reader writer) old new failed exit
-first_fails why all kept reader writer old new failed exit keeps ends early gives =
-    (ends.0, (gives ends.0 ends.1, early_blames kept reader writer ends.0 keeps (early ends.0 ends.1)), ends.2)
+pub first_fails : (why all : Fault → Type 0) (kept reader writer : Type 0) (fault : Fault) → kept → why fault
+    → ((fault : Fault) → why fault → IsEarly fault) → ((fault : Fault) → why fault → all fault) → all fault × Blames fault kept reader writer
+first_fails why all kept reader writer fault keeps is early gives =
+    (gives fault is, early_blames kept reader writer fault keeps (early fault is))
 
 -- a refusal of one kind is one of another that takes them all in
 pub refused_as : (kind : TextKind) (path text : List ℕ) (P Q : LoadFault → Type 0) (fault : Fault) → IsRefused kind path text P fault
     → ((refusal : LoadFault) → P refusal → Q refusal) → IsRefused kind path text Q fault
-refused_as kind path text P Q (Refused file its refusal) is gives = (is.0, is.1, gives refusal is.2)
-refused_as kind path text P Q (File file) is gives = absurd is
+refused_as kind path text P Q (Refused file its) is gives = (is.0, (is.1.0, gives is.1.0 is.1.1, is.1.2))
+refused_as kind path text P Q (File file why) is gives = absurd is
 refused_as kind path text P Q ReadFault is gives = absurd is
 refused_as kind path text P Q WriteFault is gives = absurd is
 refused_as kind path text P Q TooManyLines is gives = absurd is
 refused_as kind path text P Q OutOfMemory is gives = absurd is
 refused_as kind path text P Q Output is gives = absurd is
-refused_as kind path text P Q (Bind port) is gives = absurd is
+refused_as kind path text P Q (Bind port why) is gives = absurd is
 refused_as kind path text P Q Accept is gives = absurd is
 refused_as kind path text P Q (Unwritten its_path) is gives = absurd is
 refused_as kind path text P Q NoMemory is gives = absurd is
@@ -222,15 +211,22 @@ untouched_stopped None lines loaded io fault is untouched = absurd is
 untouched_stopped (Some path) lines loaded io fault is untouched = inr (is, inl untouched)
 
 -- a fault of the export, if the lines are done, stops the work on a design
-pub export_ends : (export : Option (List ℕ)) (lines : Lines) (loaded : Loaded) (floor : FloorState) (io : Streams) (kept reader writer : Type 0)
-    (old new : Option (List ℕ)) (failed : Bool) (exit : Exit) → IsDone lines loaded floor io → Ends (IsExportFault export) old new failed exit
-    → Ends (λ fault. IsStopped export lines loaded fault io × Blames fault kept reader writer) old new failed exit
-export_ends export lines loaded floor io kept reader writer old new failed exit done ends =
-    (ends.0, (export_stopped export lines loaded floor io ends.0 ends.1 done, export_blames export kept reader writer ends.0 ends.1), ends.2)
+pub export_ends : (export : Option (List ℕ)) (lines : Lines) (loaded : Loaded) (floor : FloorState) (io : Streams) (kept reader writer : Type 0) (fault : Fault)
+    → IsDone lines loaded floor io → IsExportFault export fault → IsStopped export lines loaded fault io × Blames fault kept reader writer
+export_ends export lines loaded floor io kept reader writer fault done is =
+    (export_stopped export lines loaded floor io fault is done, export_blames export kept reader writer fault is)
 
 -- and a fault of the export before anything is done
-pub untouched_ends : (export : Option (List ℕ)) (lines : Lines) (loaded : Loaded) (io : Streams) (kept reader writer : Type 0)
-    (old new : Option (List ℕ)) (failed : Bool) (exit : Exit) → IsUntouched io → Ends (IsExportFault export) old new failed exit
-    → Ends (λ fault. IsStopped export lines loaded fault io × Blames fault kept reader writer) old new failed exit
-untouched_ends export lines loaded io kept reader writer old new failed exit untouched ends =
-    (ends.0, (untouched_stopped export lines loaded io ends.0 ends.1 untouched, export_blames export kept reader writer ends.0 ends.1), ends.2)
+pub untouched_ends : (export : Option (List ℕ)) (lines : Lines) (loaded : Loaded) (io : Streams) (kept reader writer : Type 0) (fault : Fault)
+    → IsUntouched io → IsExportFault export fault → IsStopped export lines loaded fault io × Blames fault kept reader writer
+untouched_ends export lines loaded io kept reader writer fault untouched is =
+    (untouched_stopped export lines loaded io fault is untouched, export_blames export kept reader writer fault is)
+
+-- nor is an allocation before the first line any of the writer's or the reader's
+pub memory_blames : (kept reader writer : Type 0) → kept → Blames NoMemory kept reader writer
+memory_blames kept reader writer keeps = early_blames kept reader writer NoMemory keeps tt
+
+-- an allocation that fails before the lines stops them
+pub memory_stopped : (export : Option (List ℕ)) (lines : Lines) (loaded : Loaded) (io : Streams) → IsStopped export lines loaded NoMemory io
+memory_stopped export (Stream limit) loaded io = lines_stopped export (Stream limit) loaded io NoMemory (inl refl)
+memory_stopped export (Port port connections) loaded io = lines_stopped export (Port port connections) loaded io NoMemory (inl refl)

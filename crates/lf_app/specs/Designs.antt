@@ -17,6 +17,7 @@ use Rattle.lf_app.specs.declared.faults.Fault.TheVariants.{Refused, File, NoMemo
 use Rattle.lf_app.specs.declared.faults.TextKind.{TextKind}
 use Rattle.lf_app.specs.declared.faults.TextKind.TheVariants.{Lef, Def}
 use Rattle.lf_app.specs.Faults.{IsFile}
+use Rattle.lf_app.specs.Refusals.{Tells}
 
 -- what reading the file of a path may return: its text, or None if it cannot be read
 abbrev pub Gives : Type 1
@@ -93,15 +94,15 @@ abbrev pub IsDefRefusal : Contents → List ℕ → LoadFault → Type 0
 IsDefRefusal library text refusal =
     def.Refuses refusal (def.document_of text) ⊎ ((document : def.Document) × (def.document_of text ≡ Ok document) × IsFaultIn library document refusal)
 
--- the fault is a refusal of this kind of the text, read as this from the file of the path
+-- the fault tells a refusal of this kind of the text, read as this from the file of the path
 abbrev pub IsRefused : TextKind → List ℕ → List ℕ → (LoadFault → Type 0) → Fault → Type 0
-IsRefused kind path text why (Refused file its refusal) = IsFile kind path file × (its.now ≡ text) × why refusal
+IsRefused kind path text why (Refused file its) = IsFile kind path file × ((refusal : LoadFault) × why refusal × Tells kind text refusal its)
 IsRefused kind path text why _ = ⊥
 
 -- why the text of a file was not read: an allocation fails, or the file cannot be read
 abbrev pub IsUnread : Gives → TextKind → List ℕ → Fault → Type 0
 IsUnread gives kind path NoMemory = Unit {0}
-IsUnread gives kind path (File file) = IsFile kind path file × gives path None
+IsUnread gives kind path (File file why) = IsFile kind path file × gives path None
 IsUnread gives kind path _ = ⊥
 
 -- why a file cannot be used: its text was not read, or is refused for this reason

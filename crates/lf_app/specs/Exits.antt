@@ -1,5 +1,5 @@
 -- How tasks end.
-use Rattle.std.specs.Prelude.{◌≡◌, ◌⊎◌, ◌++◌, ℕ, Bool, true, false, List, [], ◌∷◌, Option, Some, None, IsTrue, Ok, codes}
+use Rattle.std.specs.Prelude.{◌≡◌, ◌⊎◌, ◌++◌, ℕ, Bool, true, false, List, [], ◌∷◌, Option, Some, None, IsTrue, Ok, codes, map}
 use Rattle.std.specs.Io.KnownBytes.{Appends}
 use Rattle.lf_floorplan.specs.declared.loaded.Loaded.{Loaded}
 use Rattle.lf_floorplan.specs.declared.place.Place.{Place}
@@ -8,7 +8,7 @@ use Rattle.lf_lef.specs.Contents.{Contents}
 use Rattle.lf_lef.specs.declared.sample.TheConstants.{W_LEF}
 use Rattle.lf_def.specs.declared.sample.TheConstants.{W_DEF}
 use Rattle.lf_def.specs.Document.{Document, document_of}
-use Rattle.lf_write.specs.Export.{exported}
+use Rattle.lf_write.specs.Export.{clause_of, exported}
 use Rattle.lf_files.specs.Shelf.{Put, Puts}
 use Rattle.lf_describe.specs.Description.{description}
 use Rattle.lf_teams.specs.States.{FloorState}
@@ -17,6 +17,7 @@ use Rattle.lf_teams.specs.Places.{AreCommittedPlaces}
 use Rattle.lf_server.specs.Connections.{Connects}
 use Rattle.lf_server.specs.declared.serving.Ending.{Ending}
 use Rattle.lf_command.specs.Command.{Job, demo, replay, serve, check, describe}
+use Rattle.lf_app.specs.declared.designs.Opened.{Opened}
 use Rattle.lf_app.specs.declared.faults.Fault.{Fault}
 use Rattle.lf_app.specs.declared.faults.Fault.TheVariants.{NoMemory}
 use Rattle.lf_app.specs.declared.faults.Exit.{Exit}
@@ -81,6 +82,12 @@ pub record IsOpened (gives : Gives) (def : List ℕ) (lefs : List (List ℕ)) (t
   pub given : gives def (Some text)
   pub read : document_of text ≡ Ok document
   pub loads : IsLoadedIn library document loaded
+
+-- the design of a DEF file over LEF files is opened, and its text is kept with the clauses of its components
+abbrev pub IsOpenedOf : Gives → List ℕ → List (List ℕ) → Opened → Type 0
+IsOpenedOf gives def lefs opened =
+    (document : Document) × IsOpened gives def lefs opened.original.text.items document opened.loaded
+    × (opened.original.clauses ≡ map (clause_of opened.original.text.items) document.components)
 
 -- this work led to the state of the floor, and the exported text of the document was written if one was asked for
 pub record IsFinished (Work : FloorState → Streams → Type 0) (export : Option (List ℕ)) (text : List ℕ) (document : Document) (io : Streams) : Type 0 where

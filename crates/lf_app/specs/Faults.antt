@@ -1,11 +1,9 @@
 -- The message and the exit status of a task that was not done.
-use Rattle.std.specs.Prelude.{◌≡◌, ◌⊎◌, ◌&&◌, ◌-◌, ◌/◌, ◌%◌, ℕ, Bool, true, false, List, [], ◌∷◌, ◌++◌, Option, Some, None, flat_map, option_map, codes, decimal, if◌then◌else◌}
-use Rattle.std.specs.Prelude.{◌+◌, zero, suc, drop, nat_le, position, take}
+use Rattle.std.specs.Prelude.{◌≡◌, ◌⊎◌, ◌&&◌, ◌/◌, ◌%◌, ℕ, Bool, true, false, List, [], ◌∷◌, ◌++◌, Option, Some, None, flat_map, option_map, codes, decimal, if◌then◌else◌}
+use Rattle.std.specs.Prelude.{nat_le}
 use Rattle.std.specs.Char.{digit_char}
 use Rattle.lf_lex.specs.declared.fault.FaultNumber.{FaultNumber}
 use Rattle.lf_lex.specs.declared.fault.FaultNumber.TheVariants as number
-use Rattle.lf_lex.specs.declared.fault.LoadFault.{LoadFault}
-use Rattle.lf_lex.specs.Tokens.{is_line_feed}
 use Rattle.lf_server.specs.declared.serving.Ending.{Ending}
 use Rattle.lf_server.specs.declared.serving.Ending.TheVariants as ending
 use Rattle.lf_app.specs.declared.faults.Fault.{Fault}
@@ -13,8 +11,15 @@ use Rattle.lf_app.specs.declared.faults.Fault.TheVariants.{Refused, File, ReadFa
 use Rattle.lf_app.specs.declared.faults.TextFile.{TextFile}
 use Rattle.lf_app.specs.declared.faults.TextKind.{TextKind}
 use Rattle.lf_app.specs.declared.faults.TextKind.TheVariants.{Lef, Def}
+use Rattle.lf_app.specs.declared.hints.Hint.{Hint}
+use Rattle.lf_app.specs.declared.hints.Hint.TheVariants.{Compressed, OtherKind}
+use Rattle.lf_app.specs.declared.refusals.Refusal.{Refusal}
+use Rattle.lf_app.specs.declared.services.Unbound.{Unbound}
+use Rattle.lf_app.specs.declared.services.Unbound.TheVariants as unbound
 use Rattle.lf_app.specs.declared.services.Unserved.{Unserved}
 use Rattle.lf_app.specs.declared.services.Unserved.TheVariants as unserved
+use Rattle.lf_app.specs.declared.texts.Unreadable.{Unreadable}
+use Rattle.lf_app.specs.declared.texts.Unreadable.TheVariants as unreadable
 use Rattle.lf_app.specs.declared.texts.Unread.{Unread}
 use Rattle.lf_app.specs.declared.texts.Unread.TheVariants as unread
 
@@ -56,19 +61,19 @@ name_words None = []
 name_words (Some name) = codes " " ++ name
 
 -- the text of a refusal: its number, its name, and what it is about
-abbrev pub refusal_text : LoadFault → List ℕ
-refusal_text fault = numbered fault.number ++ line_words fault.line ++ name_words (option_map (λ name. name.now) fault.name)
+abbrev pub refusal_text : Refusal → List ℕ
+refusal_text refusal = numbered refusal.number ++ line_words refusal.line ++ name_words (option_map (λ name. name.items) refusal.name)
 
 -- the text of a fault: a refusal's own, or one word
 abbrev pub fault_text : Fault → List ℕ
-fault_text (Refused file text refusal) = refusal_text refusal
-fault_text (File file) = codes "File"
+fault_text (Refused file refusal) = refusal_text refusal
+fault_text (File file why) = codes "File"
 fault_text ReadFault = codes "ReadFault"
 fault_text WriteFault = codes "WriteFault"
 fault_text TooManyLines = codes "TooManyLines"
 fault_text OutOfMemory = codes "OutOfMemory"
 fault_text Output = codes "Output"
-fault_text (Bind port) = codes "Bind"
+fault_text (Bind port why) = codes "Bind"
 fault_text Accept = codes "Accept"
 fault_text (Unwritten path) = codes "File"
 fault_text NoMemory = codes "24 OutOfMemory"
@@ -88,33 +93,6 @@ shown_byte byte =
 abbrev pub shown : List ℕ → List ℕ
 shown bytes = flat_map shown_byte bytes
 
--- what follows a line feed there; no byte if there is none
-abbrev pub behind_feed : List ℕ → Option ℕ → List ℕ
-behind_feed bytes None = []
-behind_feed bytes (Some at) = drop (at + 1) bytes
-
--- what follows the first line
-abbrev pub behind_line : List ℕ → List ℕ
-behind_line bytes = behind_feed bytes (position is_line_feed bytes)
-
--- what follows that many lines
-abbrev pub behind_lines : ℕ → List ℕ → List ℕ
-behind_lines zero bytes = bytes
-behind_lines (suc lines) bytes = behind_lines lines (behind_line bytes)
-
--- what comes before a line feed there
-abbrev pub before_feed : List ℕ → Option ℕ → List ℕ
-before_feed bytes None = bytes
-before_feed bytes (Some at) = take at bytes
-
--- the first line, without its line feed
-abbrev pub first_line : List ℕ → List ℕ
-first_line bytes = before_feed bytes (position is_line_feed bytes)
-
--- the line of that number of a text, the first of which is 1; no byte if there is no such line
-abbrev pub line_at : List ℕ → ℕ → List ℕ
-line_at text number = first_line (behind_lines (number - 1) text)
-
 abbrev pub kind_words : TextKind → List ℕ
 kind_words Lef = codes "LEF file "
 kind_words Def = codes "DEF file "
@@ -123,14 +101,22 @@ kind_words Def = codes "DEF file "
 abbrev pub file_words : TextFile → List ℕ
 file_words file = kind_words file.kind ++ shown file.path.now
 
--- the number of a line
-abbrev pub number_words : ℕ → List ℕ
-number_words number = codes ", line " ++ decimal number ++ codes ": "
+-- the line of an earlier entry of the same name
+abbrev pub earlier_words : Option ℕ → List ℕ
+earlier_words None = []
+earlier_words (Some number) = codes " (the first is in line " ++ decimal number ++ codes ")"
 
--- the number of the line, and its first 80 bytes
-abbrev pub shown_line : List ℕ → Option ℕ → List ℕ
-shown_line text None = []
-shown_line text (Some number) = number_words number ++ shown (take 80 (line_at text number))
+-- the number of a line, and that of an earlier entry
+abbrev pub number_words : ℕ → Option ℕ → List ℕ
+number_words number earlier = codes ", line " ++ decimal number ++ earlier_words earlier ++ codes ": "
+
+-- the number of the line that a text is refused for, and its first bytes
+abbrev pub line_shown : Option ℕ → Option ℕ → List ℕ → List ℕ
+line_shown None earlier bytes = []
+line_shown (Some number) earlier bytes = number_words number earlier ++ shown bytes
+
+abbrev pub shown_line : Refusal → List ℕ
+shown_line refusal = line_shown refusal.at refusal.earlier refusal.shown.items
 
 -- the path of the exported text
 abbrev pub export_words : List ℕ → List ℕ
@@ -145,34 +131,61 @@ abbrev pub is_memory : FaultNumber → Bool
 is_memory number.OutOfMemory = true
 is_memory _ = false
 
+-- what a refused text that was read as this rather seems to be
+abbrev pub hint_words : TextKind → Option Hint → List ℕ
+hint_words kind None = []
+hint_words kind (Some Compressed) = codes " (it looks compressed)"
+hint_words Lef (Some OtherKind) = codes " (read as LEF: is the DEF text first?)"
+hint_words Def (Some OtherKind) = codes " (read as DEF: is the DEF text first?)"
+
 -- where a text is refused: nowhere if only memory ran out
-abbrev pub refusal_words : TextFile → List ℕ → LoadFault → List ℕ
-refusal_words file text refusal = if is_memory refusal.number then [] else codes "lefence: " ++ file_words file ++ shown_line text refusal.line ++ 10 ∷ []
+abbrev pub refusal_words : TextFile → Refusal → List ℕ
+refusal_words file refusal =
+    if is_memory refusal.number then [] else codes "lefence: " ++ file_words file ++ hint_words file.kind refusal.hint ++ shown_line refusal ++ 10 ∷ []
 
 -- the file, the path or the port that is at fault
 abbrev pub subject_words : Fault → List ℕ
-subject_words (File file) = file_words file
+subject_words (File file why) = file_words file
 subject_words (Unwritten path) = export_words path.now
-subject_words (Bind port) = port_words port
+subject_words (Bind port why) = port_words port
 subject_words _ = []
 
 -- what is wrong with it
 abbrev pub complaint_words : Fault → List ℕ
-complaint_words (File file) = codes " cannot be read"
+complaint_words (File file why) = codes " cannot be read"
 complaint_words (Unwritten path) = codes " cannot be written"
-complaint_words (Bind port) = codes " cannot be listened on"
+complaint_words (Bind port why) = codes " cannot be listened on"
 complaint_words _ = []
+
+-- why a file cannot be read
+abbrev pub unreadable_words : Unreadable → List ℕ
+unreadable_words unreadable.Missing = codes ": there is no such file"
+unreadable_words unreadable.Folder = codes ": it is a folder"
+unreadable_words unreadable.Denied = codes ": permission denied"
+unreadable_words unreadable.Other = []
+
+-- why a port cannot be listened on
+abbrev pub unbound_words : Unbound → List ℕ
+unbound_words unbound.InUse = codes ": it is in use"
+unbound_words unbound.Denied = codes ": permission denied"
+unbound_words unbound.Other = []
+
+-- why that is so, where the system says it
+abbrev pub reason_words : Fault → List ℕ
+reason_words (File file why) = unreadable_words why
+reason_words (Bind port why) = unbound_words why
+reason_words _ = []
 
 -- the line that says so
 abbrev pub complaint_line : Fault → List ℕ
-complaint_line fault = codes "lefence: " ++ subject_words fault ++ complaint_words fault ++ 10 ∷ []
+complaint_line fault = codes "lefence: " ++ subject_words fault ++ complaint_words fault ++ reason_words fault ++ 10 ∷ []
 
 -- the second line on standard error: the line of a text, or the file, the path or the port that is at fault; none for other faults
 abbrev pub second_line : Fault → List ℕ
-second_line (Refused file text refusal) = refusal_words file text.now refusal
-second_line (File file) = complaint_line (File file)
+second_line (Refused file refusal) = refusal_words file refusal
+second_line (File file why) = complaint_line (File file why)
 second_line (Unwritten path) = complaint_line (Unwritten path)
-second_line (Bind port) = complaint_line (Bind port)
+second_line (Bind port why) = complaint_line (Bind port why)
 second_line _ = []
 
 -- all that is told of a fault
@@ -183,7 +196,7 @@ told_text fault = fault_line fault ++ second_line fault
 
 -- the exit status of a fault
 abbrev pub status_of : Fault → ℕ
-status_of (Refused file text refusal) = 1
+status_of (Refused file refusal) = 1
 status_of NoMemory = 1
 status_of NoRoom = 1
 status_of _ = 3
@@ -207,7 +220,7 @@ IsDone status = (status ≡ 0) ⊎ (status ≡ 4)
 
 -- the fault of a file whose text was not read
 abbrev pub unread_fault : TextFile → Unread → Fault
-unread_fault file unread.File = File file
+unread_fault file (unread.File why) = File file why
 unread_fault file unread.OutOfMemory = NoMemory
 
 -- the file is read as this, and has this path
@@ -235,20 +248,20 @@ IsExportFault (Some path) fault = (fault ≡ NoRoom) ⊎ IsUnwritten path fault
 
 -- the fault of a service that ended early
 abbrev pub unserved_fault : ℕ → Unserved → Fault
-unserved_fault port unserved.Bind = Bind port
+unserved_fault port (unserved.Bind why) = Bind port why
 unserved_fault port unserved.Output = Output
 unserved_fault port unserved.Accept = Accept
 
 -- why a service ends early: the port cannot be listened on, the line of that cannot be written, or no connection is accepted
 abbrev pub IsServiceFault : ℕ → Fault → Type 0
-IsServiceFault port fault = (fault ≡ Bind port) ⊎ ((fault ≡ Output) ⊎ (fault ≡ Accept))
+IsServiceFault port fault = ((why : Unbound) × (fault ≡ Bind port why)) ⊎ ((fault ≡ Output) ⊎ (fault ≡ Accept))
 
 -- ---- who is to blame
 
 -- the faults before anything is written
 abbrev pub IsEarly : Fault → Type 0
-IsEarly (Refused file text refusal) = Unit {0}
-IsEarly (File file) = Unit {0}
+IsEarly (Refused file refusal) = Unit {0}
+IsEarly (File file why) = Unit {0}
 IsEarly NoMemory = Unit {0}
 IsEarly _ = ⊥
 

@@ -2,7 +2,11 @@ pub mod Checks
 pub mod Designs
 pub mod Exits
 pub mod Faults
+pub mod Hints
 pub mod Lines
+pub mod Refusals
 pub mod Reporting
 pub mod Services
+pub mod Surroundings
+pub mod Texts
 pub mod Work

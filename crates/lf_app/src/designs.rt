@@ -1,23 +1,29 @@
 //! The design of files: their texts are read, and the design is loaded.
+//!
+//! No function owns more than one of a library, a text, a document and a design: what it drops at each of its ends is proved end
+//! by end.
 
 ghost use Rattle.std.specs.Prelude.{◌≡◌, ◌⊎◌, Ok, Some, map, IfErr, IfOk, OnOk};
 ghost use Rattle.lf_app.specs.declared.faults.TextKind.TheVariants.{Lef, Def};
+ghost use Rattle.lf_lex.specs.declared.fault.ReadError.TheVariants.{Memory};
+ghost use Rattle.lf_lex.specs.Faults.{load_fault_of};
 ghost use Rattle.lf_lef.specs.Contents.{Contents};
 ghost use Rattle.lf_lef.specs.Library.{library_after};
 ghost use Rattle.lf_def.specs.Contents.{contents};
 ghost use Rattle.lf_def.specs.Document.{Document, Refuses, document_of};
 ghost use Rattle.lf_write.specs.Export.{clause_of};
 ghost use Rattle.lf_app.specs.Designs.{Adds, IsDefRefusal, IsDesignFault, IsDesignIn, IsDesignOf, IsFileDesign, IsFileFault, IsKept};
-ghost use Rattle.lf_app.specs.Designs.{IsLefRefusal, IsLibraryFault, IsLibraryOf, IsLoadRefusal, IsLoadedIn, IsRefused, IsTextDesign, IsTextFault, IsUnread, no_library};
-ghost use Rattle.lf_app.specs.Exits.{Ends};
+ghost use Rattle.lf_app.specs.Exits.{IsOpenedOf};
+ghost use Rattle.lf_app.specs.Designs.{IsLefRefusal, IsLibraryFault, IsLibraryOf, IsLoadRefusal, IsLoadedIn, IsRefused};
+ghost use Rattle.lf_app.specs.Designs.{IsTextDesign, IsTextFault, IsUnread, no_library};
 
-use crate::faults::{Exit, Fault, TextFile, TextKind, tell, unread_fault};
+use crate::faults::{Fault, TextFile, TextKind, unread_fault};
+use crate::refusals::Refusal;
 use crate::texts::Texts;
 use lf_def::{DefDoc, read_def};
-use lf_devices::Sink;
 use lf_frame::{Limits, Loaded, load};
 use lf_lef::{Library, read_lef};
-use lf_lex::ReadError;
+use lf_lex::{LoadFault, ReadError};
 use lf_write::{Clauses, clauses_of};
 use std::alloc::Global;
 
@@ -25,19 +31,13 @@ use std::alloc::Global;
 pub(crate) const BUILT_IN: &str = "(built in)";
 
 /// The text of a file.
-pub(crate) fn read_text<T: Texts, F: Sink>(
-    texts: &T,
-    file: TextFile<'_>,
-    faults: &mut F,
-) -> Result<Vec<u8>, Exit>
+pub(crate) fn read_text<'a, T: Texts>(texts: &T, file: TextFile<'a>) -> Result<Vec<u8>, Fault<'a>>
     ensures ok { IfOk result (λ text. T.gives texts.now file.entry.path.now (Some text.items)) }
-    ensures kept { OnOk result (faults.new ≡ faults.old) }
-    ensures err { IfErr result (Ends (IsUnread (T.gives texts.now) file.entry.kind file.entry.path.now) (F.contents faults.old) (F.contents faults.new) (F.has_failed faults.new)) }
-    ensures faults_held { F.holds faults.new ≡ F.holds faults.old }
+    ensures err { IfErr result (IsUnread (T.gives texts.now) file.entry.kind file.entry.path.now) }
 {
     match texts.text(file.path) {
         Ok(text) => Ok(text),
-        Err(unread) => Err(tell(faults, &unread_fault(file, unread))),
+        Err(unread) => Err(unread_fault(file, unread)),
     }
 }
 
@@ -63,299 +63,280 @@ pub(crate) fn def_file(path: &str) -> TextFile<'_>
     }
 }
 
+/// The fault of a text that is refused so: want of memory, if there is none to say more.
+fn refused<'a>(alloc: Global, file: TextFile<'a>, text: &[u8], fault: &LoadFault<'_>) -> Fault<'a>
+    ensures { IsRefused file.entry.kind file.entry.path.now text.now (λ told. (told ≡ fault.now) ⊎ (told ≡ load_fault_of Memory)) result }
+{
+    Fault::Refused {
+        file,
+        refusal: Refusal::new(alloc, file.kind, text, fault),
+    }
+}
+
 /// Reads one more LEF text, that of the path, into the library.
-fn add_text<F: Sink>(
+fn add_text<'a>(
+    alloc: Global,
     library: &mut Library,
-    path: &str,
+    path: &'a str,
     text: &[u8],
-    faults: &mut F,
-) -> Result<(), Exit>
+) -> Result<(), Fault<'a>>
     ensures ok { OnOk result (library_after library.old text.now ≡ Ok library.new) }
-    ensures kept { OnOk result (faults.new ≡ faults.old) }
-    ensures err { IfErr result (Ends (IsRefused Lef path.now text.now (IsLefRefusal library.old text.now)) (F.contents faults.old) (F.contents faults.new) (F.has_failed faults.new)) }
-    ensures faults_held { F.holds faults.new ≡ F.holds faults.old }
+    ensures err { IfErr result (IsRefused Lef path.now text.now (IsLefRefusal library.old text.now)) }
 {
     match read_lef(library, text) {
         Ok(()) => Ok(()),
-        Err(refusal) => {
-            let file = lef_file(path);
-            Err(tell(
-                faults,
-                &Fault::Refused {
-                    file,
-                    text,
-                    refusal,
-                },
-            ))
-        }
+        Err(fault) => Err(refused(alloc, lef_file(path), text, &fault)),
     }
 }
 
 /// Reads the LEF text of a file into the library.
-fn add_file<T: Texts, F: Sink>(
+fn add_file<'a, T: Texts>(
+    alloc: Global,
     texts: &T,
     library: &mut Library,
-    path: &str,
-    faults: &mut F,
-) -> Result<(), Exit>
+    path: &'a str,
+) -> Result<(), Fault<'a>>
     ensures ok { OnOk result (Adds (T.gives texts.now) path.now library.old library.new) }
-    ensures kept { OnOk result (faults.new ≡ faults.old) }
-    ensures err { IfErr result (Ends (IsFileFault (T.gives texts.now) Lef path.now (IsLefRefusal library.old)) (F.contents faults.old) (F.contents faults.new) (F.has_failed faults.new)) }
-    ensures faults_held { F.holds faults.new ≡ F.holds faults.old }
+    ensures err { IfErr result (IsFileFault (T.gives texts.now) Lef path.now (IsLefRefusal library.old)) }
 {
-    let text = read_text(texts, lef_file(path), faults)?;
-    add_text(library, path, &text, faults)
+    let text = read_text(texts, lef_file(path))?;
+    add_text(alloc, library, path, &text)
 }
 
 /// Reads the LEF texts of the files in order, each whole before the next file is opened.
-fn add_files<T: Texts, F: Sink>(
+fn add_files<'a, T: Texts>(
+    alloc: Global,
     texts: &T,
     library: &mut Library,
-    paths: &[&str],
-    faults: &mut F,
-) -> Result<(), Exit>
+    paths: &[&'a str],
+) -> Result<(), Fault<'a>>
     ensures ok { OnOk result (IsLibraryOf (T.gives texts.now) library.old (map (λ path. path.now) paths.now) library.new) }
-    ensures kept { OnOk result (faults.new ≡ faults.old) }
-    ensures err { IfErr result (Ends (IsLibraryFault (T.gives texts.now) library.old (map (λ path. path.now) paths.now))
-        (F.contents faults.old) (F.contents faults.new) (F.has_failed faults.new)) }
-    ensures faults_held { F.holds faults.new ≡ F.holds faults.old }
+    ensures err { IfErr result (IsLibraryFault (T.gives texts.now) library.old (map (λ path. path.now) paths.now)) }
 {
     for path in paths {
-        add_file(texts, library, path, faults)?;
+        add_file(alloc, texts, library, *path)?;
     }
     Ok(())
 }
 
 /// The library of LEF files, given by their paths.
-pub(crate) fn library_of<T: Texts, F: Sink>(
+pub(crate) fn library_of<'a, T: Texts>(
     alloc: Global,
     texts: &T,
-    lefs: &[&str],
-    faults: &mut F,
-) -> Result<Library, Exit>
+    lefs: &[&'a str],
+) -> Result<Library, Fault<'a>>
     ensures ok { IfOk result (λ library. IsLibraryOf (T.gives texts.now) no_library (map (λ lef. lef.now) lefs.now) library) }
-    ensures kept { OnOk result (faults.new ≡ faults.old) }
-    ensures err { IfErr result (Ends (IsLibraryFault (T.gives texts.now) no_library (map (λ lef. lef.now) lefs.now))
-        (F.contents faults.old) (F.contents faults.new) (F.has_failed faults.new)) }
-    ensures faults_held { F.holds faults.new ≡ F.holds faults.old }
+    ensures err { IfErr result (IsLibraryFault (T.gives texts.now) no_library (map (λ lef. lef.now) lefs.now)) }
 {
     let mut library = Library::new(alloc);
-    match add_files(texts, &mut library, lefs, faults) {
-        Ok(()) => Ok(library),
-        Err(exit) => Err(exit),
+    add_files(alloc, texts, &mut library, lefs)?;
+    Ok(library)
+}
+
+/// What a DEF text, that of the path, says.
+pub(crate) fn read_document<'t, 'a>(
+    alloc: Global,
+    path: &'a str,
+    text: &'t [u8],
+) -> Result<DefDoc<'t>, Fault<'a>>
+    ensures text { IfOk result (λ document. document.text.now ≡ text.now) }
+    ensures ok { IfOk result (λ document. document_of text.now ≡ Ok (contents document)) }
+    ensures err { IfErr result (IsRefused Def path.now text.now (λ refusal. Refuses refusal (document_of text.now))) }
+{
+    match read_def(alloc, text) {
+        Ok(document) => Ok(document),
+        Err(fault) => Err(refused(alloc, def_file(path), text, &fault)),
     }
 }
 
 /// The design of a document, that of the text of the path, over the library.
-pub(crate) fn load_document<F: Sink>(
+pub(crate) fn load_document<'a>(
     alloc: Global,
     library: &Library,
-    path: &str,
+    path: &'a str,
     text: &[u8],
     document: &DefDoc,
-    faults: &mut F,
-) -> Result<Loaded, Exit>
+) -> Result<Loaded, Fault<'a>>
     ensures ok { IfOk result (IsLoadedIn library.now (contents document.now)) }
-    ensures kept { OnOk result (faults.new ≡ faults.old) }
-    ensures err { IfErr result (Ends (IsRefused Def path.now text.now (IsLoadRefusal library.now (contents document.now)))
-        (F.contents faults.old) (F.contents faults.new) (F.has_failed faults.new)) }
-    ensures faults_held { F.holds faults.new ≡ F.holds faults.old }
+    ensures err { IfErr result (IsRefused Def path.now text.now (IsLoadRefusal library.now (contents document.now))) }
 {
     match load(alloc, library, document, Limits::standard()) {
         Ok(loaded) => Ok(loaded),
-        Err(refusal) => {
-            let file = def_file(path);
-            Err(tell(
-                faults,
-                &Fault::Refused {
-                    file,
-                    text,
-                    refusal,
-                },
-            ))
-        }
-    }
-}
-
-/// What a DEF text, that of the path, says.
-pub(crate) fn read_document<'t, F: Sink>(
-    alloc: Global,
-    path: &str,
-    text: &'t [u8],
-    faults: &mut F,
-) -> Result<DefDoc<'t>, Exit>
-    ensures text { IfOk result (λ document. document.text.now ≡ text.now) }
-    ensures ok { IfOk result (λ document. document_of text.now ≡ Ok (contents document)) }
-    ensures kept { OnOk result (faults.new ≡ faults.old) }
-    ensures err { IfErr result (Ends (IsRefused Def path.now text.now (λ refusal. Refuses refusal (document_of text.now))) (F.contents faults.old) (F.contents faults.new) (F.has_failed faults.new)) }
-    ensures faults_held { F.holds faults.new ≡ F.holds faults.old }
-{
-    match read_def(alloc, text) {
-        Ok(document) => Ok(document),
-        Err(refusal) => {
-            let file = def_file(path);
-            Err(tell(
-                faults,
-                &Fault::Refused {
-                    file,
-                    text,
-                    refusal,
-                },
-            ))
-        }
+        Err(fault) => Err(refused(alloc, def_file(path), text, &fault)),
     }
 }
 
 /// The design of a DEF text, that of the path, over the library.
-fn load_text<F: Sink>(
+fn load_text<'a>(
     alloc: Global,
     library: &Library,
-    path: &str,
+    path: &'a str,
     text: &[u8],
-    faults: &mut F,
-) -> Result<Loaded, Exit>
+) -> Result<Loaded, Fault<'a>>
     ensures ok { IfOk result (IsDesignIn library.now text.now) }
-    ensures kept { OnOk result (faults.new ≡ faults.old) }
-    ensures err { IfErr result (Ends (IsRefused Def path.now text.now (IsDefRefusal library.now text.now)) (F.contents faults.old) (F.contents faults.new) (F.has_failed faults.new)) }
-    ensures faults_held { F.holds faults.new ≡ F.holds faults.old }
+    ensures err { IfErr result (IsRefused Def path.now text.now (IsDefRefusal library.now text.now)) }
 {
-    match read_document(alloc, path, text, faults) {
-        Ok(document) => load_document(alloc, library, path, text, &document, faults),
-        Err(exit) => Err(exit),
-    }
+    let document = read_document(alloc, path, text)?;
+    load_document(alloc, library, path, text, &document)
 }
 
-/// What is kept of a DEF text besides its bytes, once its document is gone.
+/// The design of the DEF text of a file over the library.
+fn load_file<'a, T: Texts>(
+    alloc: Global,
+    texts: &T,
+    library: &Library,
+    path: &'a str,
+) -> Result<Loaded, Fault<'a>>
+    ensures ok { IfOk result (IsFileDesign (T.gives texts.now) path.now library.now) }
+    ensures err { IfErr result (IsFileFault (T.gives texts.now) Def path.now (IsDefRefusal library.now)) }
+{
+    let text = read_text(texts, def_file(path))?;
+    load_text(alloc, library, path, &text)
+}
+
+/// The design of a DEF file over LEF files, given by their paths.
+pub(crate) fn design_of_files<'a, T: Texts>(
+    alloc: Global,
+    texts: &T,
+    def: &'a str,
+    lefs: &[&'a str],
+) -> Result<Loaded, Fault<'a>>
+    ensures ok { IfOk result (IsDesignOf (T.gives texts.now) def.now (map (λ lef. lef.now) lefs.now)) }
+    ensures err { IfErr result (IsDesignFault (T.gives texts.now) def.now (map (λ lef. lef.now) lefs.now)) }
+{
+    let library = library_of(alloc, texts, lefs)?;
+    load_file(alloc, texts, &library, def)
+}
+
+/// The design of a DEF text over a LEF text, both built in.
+pub(crate) fn design_of_texts<'a>(
+    alloc: Global,
+    def: &[u8],
+    lef: &[u8],
+) -> Result<Loaded, Fault<'a>>
+    ensures ok { IfOk result (IsTextDesign def.now lef.now) }
+    ensures err { IfErr result (IsTextFault def.now lef.now) }
+{
+    let mut library = Library::new(alloc);
+    add_text(alloc, &mut library, BUILT_IN, lef)?;
+    load_text(alloc, &library, BUILT_IN, def)
+}
+
+/// What is kept of a document: its design, and where the placement clauses of its components are.
 #[derive(Drop)]
-pub(crate) struct Opened {
-    pub(crate) loaded: Loaded,
-    /// Where the placement clauses of its components are.
-    pub(crate) clauses: Clauses,
+struct Kept {
+    loaded: Loaded,
+    clauses: Clauses,
 }
 
 /// What is kept of the document, that of the text of the path, beside the design.
-fn with_clauses<F: Sink>(
+fn with_clauses<'a>(
     alloc: Global,
-    path: &str,
+    path: &'a str,
     text: &[u8],
     document: &DefDoc,
     loaded: Loaded,
-    faults: &mut F,
-) -> Result<Opened, Exit>
-    ensures design { IfOk result (λ opened. opened.loaded ≡ loaded) }
-    ensures clauses { IfOk result (λ opened. opened.clauses ≡ map (clause_of document.now.text.now) document.now.components) }
-    ensures kept { OnOk result (faults.new ≡ faults.old) }
-    ensures err { (library : Contents) → IfErr result (Ends (IsRefused Def path.now text.now (IsLoadRefusal library (contents document.now)))
-        (F.contents faults.old) (F.contents faults.new) (F.has_failed faults.new)) }
-    ensures faults_held { F.holds faults.new ≡ F.holds faults.old }
+) -> Result<Kept, Fault<'a>>
+    ensures design { IfOk result (λ kept. kept.loaded ≡ loaded) }
+    ensures clauses { IfOk result (λ kept. kept.clauses ≡ map (clause_of document.now.text.now) document.now.components) }
+    ensures err { (library : Contents) → IfErr result (IsRefused Def path.now text.now (IsLoadRefusal library (contents document.now))) }
 {
     match clauses_of(alloc, document) {
-        Ok(clauses) => Ok(Opened { loaded, clauses }),
+        Ok(clauses) => Ok(Kept { loaded, clauses }),
         Err(_) => {
-            let file = def_file(path);
-            let refusal = ReadError::Memory.into_load_fault();
-            Err(tell(
-                faults,
-                &Fault::Refused {
-                    file,
-                    text,
-                    refusal,
-                },
-            ))
+            let fault = ReadError::Memory.into_load_fault();
+            Err(refused(alloc, def_file(path), text, &fault))
         }
     }
 }
 
-/// The design of a document, that of the text of the path, over the library, and what is kept of the document.
-fn open_document<F: Sink>(
+/// What is kept of a document, that of the text of the path, over the library.
+fn open_document<'a>(
     alloc: Global,
     library: &Library,
-    path: &str,
+    path: &'a str,
     text: &[u8],
     document: &DefDoc,
-    faults: &mut F,
-) -> Result<Opened, Exit>
-    ensures design { IfOk result (λ opened. IsLoadedIn library.now (contents document.now) opened.loaded) }
-    ensures clauses { IfOk result (λ opened. opened.clauses ≡ map (clause_of document.now.text.now) document.now.components) }
-    ensures kept { OnOk result (faults.new ≡ faults.old) }
-    ensures err { IfErr result (Ends (IsRefused Def path.now text.now (IsLoadRefusal library.now (contents document.now)))
-        (F.contents faults.old) (F.contents faults.new) (F.has_failed faults.new)) }
-    ensures faults_held { F.holds faults.new ≡ F.holds faults.old }
+) -> Result<Kept, Fault<'a>>
+    ensures design { IfOk result (λ kept. IsLoadedIn library.now (contents document.now) kept.loaded) }
+    ensures clauses { IfOk result (λ kept. kept.clauses ≡ map (clause_of document.now.text.now) document.now.components) }
+    ensures err { IfErr result (IsRefused Def path.now text.now (IsLoadRefusal library.now (contents document.now))) }
 {
-    match load_document(alloc, library, path, text, document, faults) {
-        Ok(loaded) => with_clauses(alloc, path, text, document, loaded, faults),
-        Err(exit) => Err(exit),
-    }
+    let loaded = load_document(alloc, library, path, text, document)?;
+    with_clauses(alloc, path, text, document, loaded)
 }
 
-/// The design of a DEF text, that of the path, over the library, and what is kept of its document, which is then dropped.
-pub(crate) fn open_text<F: Sink>(
+/// What is kept of the document of a DEF text, that of the path, over the library.
+fn open_text<'a>(
     alloc: Global,
     library: &Library,
-    path: &str,
+    path: &'a str,
     text: &[u8],
-    faults: &mut F,
-) -> Result<Opened, Exit>
-    ensures ok { IfOk result (λ opened. (document : Document) × IsKept text.now library.now document opened.clauses opened.loaded) }
-    ensures kept { OnOk result (faults.new ≡ faults.old) }
-    ensures err { IfErr result (Ends (IsRefused Def path.now text.now (IsDefRefusal library.now text.now)) (F.contents faults.old) (F.contents faults.new) (F.has_failed faults.new)) }
-    ensures faults_held { F.holds faults.new ≡ F.holds faults.old }
+) -> Result<Kept, Fault<'a>>
+    ensures ok { IfOk result (λ kept. (document : Document) × IsKept text.now library.now document kept.clauses kept.loaded) }
+    ensures err { IfErr result (IsRefused Def path.now text.now (IsDefRefusal library.now text.now)) }
 {
-    match read_document(alloc, path, text, faults) {
-        Ok(document) => open_document(alloc, library, path, text, &document, faults),
-        Err(exit) => Err(exit),
-    }
+    let document = read_document(alloc, path, text)?;
+    open_document(alloc, library, path, text, &document)
 }
 
-/// The design of the DEF text of a file over the library.
-fn load_file<T: Texts, F: Sink>(
+/// A DEF text, of which its committed places make an exported text.
+#[derive(Drop)]
+pub(crate) struct Original {
+    pub(crate) text: Vec<u8>,
+    /// Where the placement clauses of its components are.
+    pub(crate) clauses: Clauses,
+}
+
+/// The design of a DEF text, and the text.
+#[derive(Drop)]
+pub(crate) struct Opened {
+    pub(crate) loaded: Loaded,
+    pub(crate) original: Original,
+}
+
+/// The text of a DEF file, that of the path, and its design over the library.
+fn open_kept<'a>(
+    alloc: Global,
+    library: &Library,
+    path: &'a str,
+    text: Vec<u8>,
+) -> Result<Opened, Fault<'a>>
+    ensures text { IfOk result (λ opened. opened.original.text.items ≡ text.items) }
+    ensures ok { IfOk result (λ opened. (document : Document) × IsKept text.items library.now document opened.original.clauses opened.loaded) }
+    ensures err { IfErr result (IsRefused Def path.now text.items (IsDefRefusal library.now text.items)) }
+{
+    let Kept { loaded, clauses } = open_text(alloc, library, path, &text)?;
+    let original = Original { text, clauses };
+    Ok(Opened { loaded, original })
+}
+
+/// The design of a DEF file over the library, and the text of the file.
+fn open_file<'a, T: Texts>(
     alloc: Global,
     texts: &T,
     library: &Library,
-    path: &str,
-    faults: &mut F,
-) -> Result<Loaded, Exit>
-    ensures ok { IfOk result (IsFileDesign (T.gives texts.now) path.now library.now) }
-    ensures kept { OnOk result (faults.new ≡ faults.old) }
-    ensures err { IfErr result (Ends (IsFileFault (T.gives texts.now) Def path.now (IsDefRefusal library.now)) (F.contents faults.old) (F.contents faults.new) (F.has_failed faults.new)) }
-    ensures faults_held { F.holds faults.new ≡ F.holds faults.old }
+    path: &'a str,
+) -> Result<Opened, Fault<'a>>
+    ensures given { IfOk result (λ opened. T.gives texts.now path.now (Some opened.original.text.items)) }
+    ensures ok { IfOk result (λ opened. (document : Document)
+        × IsKept opened.original.text.items library.now document opened.original.clauses opened.loaded) }
+    ensures err { IfErr result (IsFileFault (T.gives texts.now) Def path.now (IsDefRefusal library.now)) }
 {
-    let text = read_text(texts, def_file(path), faults)?;
-    load_text(alloc, library, path, &text, faults)
+    let text = read_text(texts, def_file(path))?;
+    open_kept(alloc, library, path, text)
 }
 
-/// The design of a DEF file over LEF files, given by their paths.
-pub(crate) fn design_of_files<T: Texts, F: Sink>(
+/// The design of a DEF file over LEF files, given by their paths, and the text of the DEF file.
+pub(crate) fn open_files<'a, T: Texts>(
     alloc: Global,
     texts: &T,
-    def: &str,
-    lefs: &[&str],
-    faults: &mut F,
-) -> Result<Loaded, Exit>
-    ensures ok { IfOk result (IsDesignOf (T.gives texts.now) def.now (map (λ lef. lef.now) lefs.now)) }
-    ensures kept { OnOk result (faults.new ≡ faults.old) }
-    ensures err { IfErr result (Ends (IsDesignFault (T.gives texts.now) def.now (map (λ lef. lef.now) lefs.now))
-        (F.contents faults.old) (F.contents faults.new) (F.has_failed faults.new)) }
-    ensures faults_held { F.holds faults.new ≡ F.holds faults.old }
+    def: &'a str,
+    lefs: &[&'a str],
+) -> Result<Opened, Fault<'a>>
+    ensures ok { IfOk result (IsOpenedOf (T.gives texts.now) def.now (map (λ lef. lef.now) lefs.now)) }
+    ensures err { IfErr result (IsDesignFault (T.gives texts.now) def.now (map (λ lef. lef.now) lefs.now)) }
 {
-    let mut library = Library::new(alloc);
-    add_files(texts, &mut library, lefs, faults)?;
-    load_file(alloc, texts, &library, def, faults)
-}
-
-/// The design of a DEF text over a LEF text, both built in.
-pub(crate) fn design_of_texts<F: Sink>(
-    alloc: Global,
-    def: &[u8],
-    lef: &[u8],
-    faults: &mut F,
-) -> Result<Loaded, Exit>
-    ensures ok { IfOk result (IsTextDesign def.now lef.now) }
-    ensures kept { OnOk result (faults.new ≡ faults.old) }
-    ensures err { IfErr result (Ends (IsTextFault def.now lef.now) (F.contents faults.old) (F.contents faults.new) (F.has_failed faults.new)) }
-    ensures faults_held { F.holds faults.new ≡ F.holds faults.old }
-{
-    let mut library = Library::new(alloc);
-    add_text(&mut library, BUILT_IN, lef, faults)?;
-    load_text(alloc, &library, BUILT_IN, def, faults)
+    let library = library_of(alloc, texts, lefs)?;
+    open_file(alloc, texts, &library, def)
 }

@@ -1,15 +1,20 @@
 //! The text that is exported: that of the design, with the committed places of a floor in it.
 
-ghost use Rattle.std.specs.Prelude.{◌≡◌, ℕ, List, Option};
+ghost use Rattle.std.specs.Prelude.{◌≡◌, ℕ, List, None, Option, Some, IfErr, OnErr, OnOk, map, option_map};
+ghost use Rattle.lf_def.specs.Document.{Document};
 ghost use Rattle.lf_floorplan.specs.declared.place.Place.{Place};
 ghost use Rattle.lf_teams.specs.Places.{AreCommittedPlaces};
-ghost use Rattle.lf_write.specs.Export.{CanBeRenewed, renewed};
+ghost use Rattle.lf_write.specs.Export.{CanBeRenewed, clause_of, renewed};
+ghost use Rattle.lf_app.specs.Exits.{IsExported};
+ghost use Rattle.lf_app.specs.Faults.{IsExportFault};
 
-use lf_files::Pieces;
+use crate::designs::Original;
+use crate::faults::Fault;
+use lf_files::{Exports, Pieces, Unwritten};
 use lf_floor::{CommittedPlaces, Floor};
 use lf_floorplan::Place;
 use lf_legalize::IndexSeeker;
-use lf_write::{Clauses, Given, write_export};
+use lf_write::{Clauses, Given, clauses_serve, write_export};
 use std::io;
 use std::io::Write;
 use std::marker::Model;
@@ -18,7 +23,7 @@ use std::marker::Model;
 ///
 /// Contracts see what it was read from, its clauses and the places.
 #[derive(Drop)]
-pub(crate) struct ExportedText<'a> {
+struct ExportedText<'a> {
     text: &'a [u8],
     clauses: &'a Clauses,
     places: CommittedPlaces<'a>,
@@ -57,7 +62,7 @@ impl<'a> Pieces for ExportedText<'a> {
 }
 
 /// The text with these clauses, and the committed places of the floor in it.
-pub(crate) fn exported_text<'a>(
+fn exported_text<'a>(
     floor: &'a Floor<IndexSeeker>,
     text: &'a [u8],
     clauses: &'a Clauses,
@@ -70,5 +75,58 @@ pub(crate) fn exported_text<'a>(
         text,
         clauses,
         places: floor.committed(),
+    }
+}
+
+/// The fault of a text that is not put into its file.
+fn export_fault<'f>(path: &'f str, unwritten: Unwritten) -> Fault<'f>
+    ensures { IsExportFault (Some path.now) result }
+{
+    match unwritten {
+        Unwritten::File => Fault::Unwritten(path),
+        Unwritten::OutOfMemory => Fault::NoRoom,
+    }
+}
+
+/// Makes sure, as far as that shows beforehand, that a text can be written to the file of that path, if one is given.
+pub(crate) fn try_export<'a, E: Exports>(
+    path: Option<&'a str>,
+    exports: &E,
+) -> Result<(), Fault<'a>>
+    ensures err { IfErr result (IsExportFault (option_map (λ path. path.now) path.entry)) }
+{
+    match path {
+        None => Ok(()),
+        Some(path) => match exports.try_path(path) {
+            Ok(()) => Ok(()),
+            Err(unwritten) => Err(export_fault(path, unwritten)),
+        },
+    }
+}
+
+/// Writes the exported text to the file of that path, if one is given.
+pub(crate) fn export_to<'a, E: Exports>(
+    floor: &Floor<IndexSeeker>,
+    original: &Original,
+    path: Option<&'a str>,
+    exports: &mut E,
+) -> Result<(), Fault<'a>>
+    requires fits { (places : List (ℕ × Option Place)) → AreCommittedPlaces floor.now places
+        → CanBeRenewed original.now.text.items original.now.clauses places }
+    ensures ok { (document : Document) → original.now.clauses ≡ map (clause_of original.now.text.items) document.components
+        → OnOk result (IsExported (option_map (λ path. path.now) path.entry) original.now.text.items document floor.now
+        (E.puts exports.old) (E.puts exports.new)) }
+    ensures err { IfErr result (IsExportFault (option_map (λ path. path.now) path.entry)) }
+    ensures unput { OnErr result (E.puts exports.new ≡ E.puts exports.old) }
+    ensures unasked { option_map (λ path. path.now) path.entry ≡ None → exports.new ≡ exports.old }
+{
+    clauses_serve();
+    let Some(path) = path else {
+        return Ok(());
+    };
+    let exported = exported_text(floor, &original.text, &original.clauses);
+    match exports.put(path, &exported) {
+        Ok(()) => Ok(()),
+        Err(unwritten) => Err(export_fault(path, unwritten)),
     }
 }

@@ -4,13 +4,17 @@ ghost use Rattle.std.specs.Prelude.{◌≡◌, true, IsTrue, OnErr, OnOk, option
 ghost use Rattle.std.specs.Io.KnownBytes.{Appends};
 ghost use Rattle.lf_app.specs.Exits.{EndsWith};
 ghost use Rattle.lf_app.specs.Faults.{ending_fault, fault_line, fault_text, line_words, name_words, numbered, refusal_text, status_of, told_text, unread_fault};
+ghost use Rattle.lf_app.specs.declared.faults.Fault.TheVariants.{NoMemory};
 
 use crate::origins::put_second;
-use crate::texts::Unread;
+use crate::refusals::Refusal;
+use crate::services::Unbound;
+use crate::texts::{Unread, Unreadable};
 use itoa::Buffer;
 use lf_devices::{DeviceFault, Sink, send};
-use lf_lex::{FaultNumber, LoadFault};
+use lf_lex::FaultNumber;
 use lf_server::Ending;
+use std::alloc::AllocError;
 
 /// What a file is read as.
 #[derive(Clone, Copy, Debug, PartialEq, Eq)]
@@ -29,17 +33,16 @@ pub struct TextFile<'a> {
     pub path: &'a str,
 }
 
-/// Why a task was not done.
-#[derive(Clone, Copy, Debug, PartialEq, Eq)]
+/// Why a task was not done, with all that is told of it.
+#[derive(Drop)]
 pub enum Fault<'a> {
     /// The text of this file, or the design that it makes with the LEF texts, was refused, or an allocation for it failed.
     Refused {
         file: TextFile<'a>,
-        text: &'a [u8],
-        refusal: LoadFault<'a>,
+        refusal: Refusal,
     },
     /// A file could not be read.
-    File(TextFile<'a>),
+    File(TextFile<'a>, Unreadable),
     /// Standard input could not be read.
     ReadFault,
     /// A reply could not be written.
@@ -51,7 +54,7 @@ pub enum Fault<'a> {
     /// A report, or the line that the port is listened on, could not be written.
     Output,
     /// This port could not be listened on.
-    Bind(u16),
+    Bind(u16, Unbound),
     /// A connection could not be accepted.
     Accept,
     /// The file of that path could not be written; it was to get the exported text.
@@ -60,6 +63,14 @@ pub enum Fault<'a> {
     NoMemory,
     /// An allocation for the exported text, or for a line of a description, failed.
     NoRoom,
+}
+
+impl<'a> From<AllocError> for Fault<'a> {
+    ghost from_gives = { λ _ fault. fault ≡ NoMemory };
+
+    fn from(_error: AllocError) -> Fault<'a> {
+        Fault::NoMemory
+    }
 }
 
 /// How a task ended.
@@ -117,8 +128,8 @@ fn put_line<W: Sink>(sink: &mut W, line: Option<usize>) -> Result<(), DeviceFaul
 }
 
 /// Writes the name that a refusal is about.
-fn put_name<W: Sink>(sink: &mut W, name: Option<&[u8]>) -> Result<(), DeviceFault>
-    ensures ok { OnOk result (Appends (W.contents sink.old) (W.contents sink.new) (name_words (option_map (λ bytes. bytes.now) name.entry))) }
+fn put_name<W: Sink>(sink: &mut W, name: &Option<Vec<u8>>) -> Result<(), DeviceFault>
+    ensures ok { OnOk result (Appends (W.contents sink.old) (W.contents sink.new) (name_words (option_map (λ bytes. bytes.items) name.now))) }
     ensures failed { OnErr result (W.has_failed sink.new ≡ true) }
     ensures held { W.holds sink.new ≡ W.holds sink.old }
 {
@@ -130,14 +141,14 @@ fn put_name<W: Sink>(sink: &mut W, name: Option<&[u8]>) -> Result<(), DeviceFaul
 }
 
 /// Writes the text of a refusal.
-fn put_refusal<W: Sink>(sink: &mut W, fault: &LoadFault<'_>) -> Result<(), DeviceFault>
-    ensures ok { OnOk result (Appends (W.contents sink.old) (W.contents sink.new) (refusal_text fault.now)) }
+fn put_refusal<W: Sink>(sink: &mut W, refusal: &Refusal) -> Result<(), DeviceFault>
+    ensures ok { OnOk result (Appends (W.contents sink.old) (W.contents sink.new) (refusal_text refusal.now)) }
     ensures failed { OnErr result (W.has_failed sink.new ≡ true) }
     ensures held { W.holds sink.new ≡ W.holds sink.old }
 {
-    send(sink, numbered(fault.number))?;
-    put_line(sink, fault.line)?;
-    put_name(sink, fault.name)
+    send(sink, numbered(refusal.number))?;
+    put_line(sink, refusal.line)?;
+    put_name(sink, &refusal.name)
 }
 
 /// Writes the text of a fault.
@@ -148,13 +159,13 @@ fn put_fault<W: Sink>(sink: &mut W, fault: &Fault<'_>) -> Result<(), DeviceFault
 {
     match fault {
         Fault::Refused { refusal, .. } => put_refusal(sink, refusal),
-        Fault::File(_) => send(sink, b"File"),
+        Fault::File(_, _) => send(sink, b"File"),
         Fault::ReadFault => send(sink, b"ReadFault"),
         Fault::WriteFault => send(sink, b"WriteFault"),
         Fault::TooManyLines => send(sink, b"TooManyLines"),
         Fault::OutOfMemory => send(sink, b"OutOfMemory"),
         Fault::Output => send(sink, b"Output"),
-        Fault::Bind(_) => send(sink, b"Bind"),
+        Fault::Bind(_, _) => send(sink, b"Bind"),
         Fault::Accept => send(sink, b"Accept"),
         Fault::Unwritten(_) => send(sink, b"File"),
         Fault::NoMemory => send(sink, b"24 OutOfMemory"),
@@ -223,7 +234,7 @@ pub(crate) fn unread_fault<'a>(file: TextFile<'a>, unread: Unread) -> Fault<'a>
     ensures { result ≡ unread_fault file.entry unread }
 {
     match unread {
-        Unread::File => Fault::File(file),
+        Unread::File(why) => Fault::File(file, why),
         Unread::OutOfMemory => Fault::NoMemory,
     }
 }

@@ -1,19 +1,19 @@
 //! Where a fault lies: the file, the line of it with its text, or the port.
 
-ghost use Rattle.std.specs.Prelude.{◌≡◌, ◌<◌, IfSome, OnErr, OnOk, length, position, take, true};
+ghost use Rattle.std.specs.Prelude.{◌≡◌, ◌<◌, OnErr, OnOk, true};
 ghost use Rattle.std.specs.Io.KnownBytes.{Appends};
 ghost use Rattle.std.specs.Char.{digit_char};
-ghost use Rattle.lf_lex.specs.Tokens.{is_line_feed};
-ghost use Rattle.lf_app.specs.Faults.{behind_line, behind_lines, complaint_line, complaint_words, export_words, file_words, first_line, is_memory, line_at, number_words, port_words, refusal_words, second_line, subject_words};
-ghost use Rattle.lf_app.specs.Faults.{shown, shown_byte, shown_line};
+ghost use Rattle.lf_app.specs.Faults.{complaint_line, complaint_words, earlier_words, export_words, file_words, hint_words, is_memory, number_words};
+ghost use Rattle.lf_app.specs.Faults.{port_words, reason_words, refusal_words, second_line, shown, shown_byte, shown_line, subject_words, unbound_words, unreadable_words};
 
 use crate::faults::{Fault, TextFile, TextKind};
+use crate::hints::Hint;
+use crate::refusals::Refusal;
+use crate::services::Unbound;
+use crate::texts::Unreadable;
 use itoa::Buffer;
 use lf_devices::{DeviceFault, Sink, send};
-use lf_lex::{FaultNumber, LoadFault};
-
-/// How many bytes of a line are shown.
-const SHOWN: usize = 80;
+use lf_lex::FaultNumber;
 
 /// The hex digit of a number below 16.
 fn digit_of(number: u8) -> u8
@@ -55,52 +55,6 @@ fn put_shown<W: Sink>(sink: &mut W, bytes: &[u8]) -> Result<(), DeviceFault>
     Ok(())
 }
 
-/// Where the first line feed is.
-fn feed_in(bytes: &[u8]) -> Option<usize>
-    ensures found { result ≡ position is_line_feed bytes.now }
-    ensures within { IfSome result (λ at. at < length bytes.now) }
-{
-    bytes.iter().position(|byte| *byte == b'\n')
-}
-
-/// What follows the first line; no byte if there is only one.
-fn behind_line(bytes: &[u8]) -> &[u8]
-    ensures { result.now ≡ behind_line bytes.now }
-{
-    match feed_in(bytes) {
-        Some(at) => &bytes[at + 1..],
-        None => b"",
-    }
-}
-
-/// What follows that many lines.
-fn behind_lines(text: &[u8], lines: usize) -> &[u8]
-    ensures { result.now ≡ behind_lines lines text.now }
-{
-    let mut rest = text;
-    for _passed in 0..lines {
-        rest = behind_line(rest);
-    }
-    rest
-}
-
-/// The first line, without its line feed.
-fn first_line(bytes: &[u8]) -> &[u8]
-    ensures { result.now ≡ first_line bytes.now }
-{
-    match feed_in(bytes) {
-        Some(at) => &bytes[..at],
-        None => bytes,
-    }
-}
-
-/// The line of that number of a text, the first of which is 1; no byte if there is no such line.
-fn line_at(text: &[u8], number: usize) -> &[u8]
-    ensures { result.now ≡ line_at text.now number }
-{
-    first_line(behind_lines(text, number.saturating_sub(1)))
-}
-
 /// Writes what a file is read as, and its path.
 fn put_file<W: Sink>(sink: &mut W, file: &TextFile<'_>) -> Result<(), DeviceFault>
     ensures ok { OnOk result (Appends (W.contents sink.old) (W.contents sink.new) (file_words file.now)) }
@@ -114,43 +68,59 @@ fn put_file<W: Sink>(sink: &mut W, file: &TextFile<'_>) -> Result<(), DeviceFaul
     put_shown(sink, file.path.as_bytes())
 }
 
-/// The first bytes of a line, as many as are shown.
-fn front_of(line: &[u8]) -> &[u8]
-    ensures { result.now ≡ take 80 line.now }
+/// Writes the number of the line of an earlier entry of the same name, if there is one.
+fn put_earlier<W: Sink>(sink: &mut W, earlier: Option<usize>) -> Result<(), DeviceFault>
+    ensures ok { OnOk result (Appends (W.contents sink.old) (W.contents sink.new) (earlier_words earlier)) }
+    ensures failed { OnErr result (W.has_failed sink.new ≡ true) }
+    ensures held { W.holds sink.new ≡ W.holds sink.old }
 {
-    if line.len() <= SHOWN {
-        line
-    } else {
-        &line[..SHOWN]
-    }
+    let Some(number) = earlier else {
+        return Ok(());
+    };
+    send(sink, b" (the first is in line ")?;
+    send(sink, Buffer::new().format(number).as_bytes())?;
+    send(sink, b")")
 }
 
-/// Writes the number of a line.
-fn put_number<W: Sink>(sink: &mut W, number: usize) -> Result<(), DeviceFault>
-    ensures ok { OnOk result (Appends (W.contents sink.old) (W.contents sink.new) (number_words number)) }
+/// Writes the number of a line, and that of an earlier entry.
+fn put_number<W: Sink>(
+    sink: &mut W,
+    number: usize,
+    earlier: Option<usize>,
+) -> Result<(), DeviceFault>
+    ensures ok { OnOk result (Appends (W.contents sink.old) (W.contents sink.new) (number_words number earlier)) }
     ensures failed { OnErr result (W.has_failed sink.new ≡ true) }
     ensures held { W.holds sink.new ≡ W.holds sink.old }
 {
     send(sink, b", line ")?;
     send(sink, Buffer::new().format(number).as_bytes())?;
+    put_earlier(sink, earlier)?;
     send(sink, b": ")
 }
 
-/// Writes the number of the line, and its first bytes.
-fn put_shown_line<W: Sink>(
-    sink: &mut W,
-    text: &[u8],
-    line: Option<usize>,
-) -> Result<(), DeviceFault>
-    ensures ok { OnOk result (Appends (W.contents sink.old) (W.contents sink.new) (shown_line text.now line)) }
+/// Writes the number of the line that a text is refused for, and its first bytes.
+fn put_shown_line<W: Sink>(sink: &mut W, refusal: &Refusal) -> Result<(), DeviceFault>
+    ensures ok { OnOk result (Appends (W.contents sink.old) (W.contents sink.new) (shown_line refusal.now)) }
     ensures failed { OnErr result (W.has_failed sink.new ≡ true) }
     ensures held { W.holds sink.new ≡ W.holds sink.old }
 {
-    let Some(number) = line else {
+    let Some(number) = refusal.at else {
         return Ok(());
     };
-    put_number(sink, number)?;
-    put_shown(sink, front_of(line_at(text, number)))
+    put_number(sink, number, refusal.earlier)?;
+    put_shown(sink, refusal.shown.as_slice())
+}
+
+/// What a refused text that was read as this rather seems to be.
+fn hint_words(kind: TextKind, hint: Option<Hint>) -> &'static [u8]
+    ensures { result.now ≡ hint_words kind hint }
+{
+    match (hint, kind) {
+        (None, _) => b"",
+        (Some(Hint::Compressed), _) => b" (it looks compressed)",
+        (Some(Hint::OtherKind), TextKind::Lef) => b" (read as LEF: is the DEF text first?)",
+        (Some(Hint::OtherKind), TextKind::Def) => b" (read as DEF: is the DEF text first?)",
+    }
 }
 
 /// Whether the refusal is a failed allocation.
@@ -164,10 +134,9 @@ fn is_memory(number: FaultNumber) -> bool
 fn put_refused<W: Sink>(
     sink: &mut W,
     file: &TextFile<'_>,
-    text: &[u8],
-    refusal: &LoadFault<'_>,
+    refusal: &Refusal,
 ) -> Result<(), DeviceFault>
-    ensures ok { OnOk result (Appends (W.contents sink.old) (W.contents sink.new) (refusal_words file.now text.now refusal.now)) }
+    ensures ok { OnOk result (Appends (W.contents sink.old) (W.contents sink.new) (refusal_words file.now refusal.now)) }
     ensures failed { OnErr result (W.has_failed sink.new ≡ true) }
     ensures held { W.holds sink.new ≡ W.holds sink.old }
 {
@@ -176,7 +145,8 @@ fn put_refused<W: Sink>(
     }
     send(sink, b"lefence: ")?;
     put_file(sink, file)?;
-    put_shown_line(sink, text, refusal.line)?;
+    send(sink, hint_words(file.kind, refusal.hint))?;
+    put_shown_line(sink, refusal)?;
     send(sink, b"\n")
 }
 
@@ -208,9 +178,9 @@ fn put_subject<W: Sink>(sink: &mut W, fault: &Fault<'_>) -> Result<(), DeviceFau
     ensures held { W.holds sink.new ≡ W.holds sink.old }
 {
     match fault {
-        Fault::File(file) => put_file(sink, file),
+        Fault::File(file, _) => put_file(sink, file),
         Fault::Unwritten(path) => put_export_path(sink, path),
-        Fault::Bind(port) => put_port(sink, *port),
+        Fault::Bind(port, _) => put_port(sink, *port),
         _ => Ok(()),
     }
 }
@@ -220,9 +190,43 @@ fn complaint_of(fault: &Fault<'_>) -> &'static [u8]
     ensures { result.now ≡ complaint_words fault.now }
 {
     match fault {
-        Fault::File(_) => b" cannot be read",
+        Fault::File(_, _) => b" cannot be read",
         Fault::Unwritten(_) => b" cannot be written",
-        Fault::Bind(_) => b" cannot be listened on",
+        Fault::Bind(_, _) => b" cannot be listened on",
+        _ => b"",
+    }
+}
+
+/// Why a file cannot be read.
+fn unreadable_words(why: Unreadable) -> &'static [u8]
+    ensures { result.now ≡ unreadable_words why }
+{
+    match why {
+        Unreadable::Missing => b": there is no such file",
+        Unreadable::Folder => b": it is a folder",
+        Unreadable::Denied => b": permission denied",
+        Unreadable::Other => b"",
+    }
+}
+
+/// Why a port cannot be listened on.
+fn unbound_words(why: Unbound) -> &'static [u8]
+    ensures { result.now ≡ unbound_words why }
+{
+    match why {
+        Unbound::InUse => b": it is in use",
+        Unbound::Denied => b": permission denied",
+        Unbound::Other => b"",
+    }
+}
+
+/// Why that is so, where the system says it.
+fn reason_of(fault: &Fault<'_>) -> &'static [u8]
+    ensures { result.now ≡ reason_words fault.now }
+{
+    match fault {
+        Fault::File(_, why) => unreadable_words(*why),
+        Fault::Bind(_, why) => unbound_words(*why),
         _ => b"",
     }
 }
@@ -236,6 +240,7 @@ fn put_complaint<W: Sink>(sink: &mut W, fault: &Fault<'_>) -> Result<(), DeviceF
     send(sink, b"lefence: ")?;
     put_subject(sink, fault)?;
     send(sink, complaint_of(fault))?;
+    send(sink, reason_of(fault))?;
     send(sink, b"\n")
 }
 
@@ -246,14 +251,10 @@ pub(crate) fn put_second<W: Sink>(sink: &mut W, fault: &Fault<'_>) -> Result<(),
     ensures held { W.holds sink.new ≡ W.holds sink.old }
 {
     match fault {
-        Fault::Refused {
-            file,
-            text,
-            refusal,
-        } => put_refused(sink, file, text, refusal),
-        Fault::File(_) => put_complaint(sink, fault),
+        Fault::Refused { file, refusal } => put_refused(sink, file, refusal),
+        Fault::File(_, _) => put_complaint(sink, fault),
         Fault::Unwritten(_) => put_complaint(sink, fault),
-        Fault::Bind(_) => put_complaint(sink, fault),
+        Fault::Bind(_, _) => put_complaint(sink, fault),
         _ => Ok(()),
     }
 }

@@ -11,6 +11,8 @@ use lf_devices::{Sink, send};
 use lf_floor::Floor;
 use lf_legalize::IndexSeeker;
 use lf_server::{ServeLimits, serve_tcp};
+use std::io;
+use std::io::ErrorKind;
 use std::net::{Ipv4Addr, Net, SocketAddr};
 
 /// A service: where it listens, how many connections it serves, and within which limits.
@@ -25,11 +27,22 @@ pub struct Offer {
     pub limits: ServeLimits,
 }
 
+/// Why a port cannot be listened on, where the system says it.
+#[derive(Clone, Copy, Debug, PartialEq, Eq)]
+pub enum Unbound {
+    /// Another program listens on it.
+    InUse,
+    /// This user may not listen on it.
+    Denied,
+    /// Another reason.
+    Other,
+}
+
 /// Why a service ended before its last connection.
 #[derive(Clone, Copy, Debug, PartialEq, Eq)]
 pub enum Unserved {
     /// The port could not be listened on.
-    Bind,
+    Bind(Unbound),
     /// The line that says that it is listened on could not be written.
     Output,
     /// A connection could not be accepted.
@@ -83,6 +96,15 @@ impl<'a, T> NetServices<'a, T> {
     }
 }
 
+/// Why a port was not listened on, by what the system says.
+fn unbound_of(error: &io::Error) -> Unbound {
+    match error.kind() {
+        ErrorKind::AddrInUse => Unbound::InUse,
+        ErrorKind::PermissionDenied => Unbound::Denied,
+        _ => Unbound::Other,
+    }
+}
+
 impl<'a, T: Net + AllocGlobal> Services for NetServices<'a, T> {
     fn offer<W: Sink>(
         &mut self,
@@ -90,8 +112,9 @@ impl<'a, T: Net + AllocGlobal> Services for NetServices<'a, T> {
         floor: &mut Floor<IndexSeeker>,
         writer: &mut W,
     ) -> Result<(), Unserved> {
-        let Ok(listener) = self.net.bind(SocketAddr::from((offer.ip, offer.port))) else {
-            return Err(Unserved::Bind);
+        let listener = match self.net.bind(SocketAddr::from((offer.ip, offer.port))) {
+            Ok(listener) => listener,
+            Err(error) => return Err(Unserved::Bind(unbound_of(&error))),
         };
         if send(writer, b"listening\n").is_err() {
             return Err(Unserved::Output);

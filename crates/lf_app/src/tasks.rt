@@ -10,14 +10,16 @@ ghost use Rattle.lf_app.specs.Exits.{AsksForNoFile, Ends, IsAnswered, IsJobFault
 ghost use Rattle.lf_app.specs.Faults.{Blames, IsDone, IsEarly, IsFailure, IsReportFault};
 ghost use Rattle.lf_app.specs.Lines.{ReadsFail, most_lines};
 ghost use Rattle.lf_app.specs.Services.{IsOfferOf};
+ghost use Rattle.lf_app.specs.Surroundings.{IsReady, Keeps, io_of};
 
 use crate::descriptions::describe_files;
 use crate::designs::{design_of_files, design_of_texts};
-use crate::faults::{Exit, done, tell};
+use crate::faults::{Exit, Fault, done, tell};
 use crate::reports::report_design;
 use crate::services::{NetServices, Services};
+use crate::surroundings::Surroundings;
 use crate::texts::{FileTexts, Texts};
-use crate::work::{Lines, answer_over, work_on_files};
+use crate::work::{Lines, answer_over, work};
 use lf_command::Task;
 use lf_def::W_DEF;
 use lf_devices::{FromRead, Sink, Source, ToWrite};
@@ -36,162 +38,131 @@ pub(crate) const DONE: u8 = 0;
 pub(crate) const ILLEGAL: u8 = 4;
 
 /// Writes the report of the design, and returns the exit status.
-fn check_design<W: Sink, F: Sink>(
+fn check_design<'a, W: Sink>(
     alloc: Global,
     loaded: &Loaded,
     writer: &mut W,
-    faults: &mut F,
-) -> Result<u8, Exit>
+) -> Result<u8, Fault<'a>>
     ensures ok { IfOk result (IsReported loaded.now (W.contents writer.old) (W.contents writer.new)) }
-    ensures kept { OnOk result (faults.new ≡ faults.old) }
-    ensures err { IfErr result (Ends (λ fault. IsReportFault fault × Blames fault (writer.new ≡ writer.old) ⊥ (W.has_failed writer.new ≡ true))
-        (F.contents faults.old) (F.contents faults.new) (F.has_failed faults.new)) }
-    ensures writer_held { W.holds writer.new ≡ W.holds writer.old }
-    ensures faults_held { F.holds faults.new ≡ F.holds faults.old }
+    ensures err { IfErr result (λ fault. IsReportFault fault × Blames fault (writer.new ≡ writer.old) ⊥ (W.has_failed writer.new ≡ true)) }
+    ensures held { W.holds writer.new ≡ W.holds writer.old }
 {
     match report_design(alloc, loaded, writer) {
         Ok(true) => Ok(DONE),
         Ok(false) => Ok(ILLEGAL),
-        Err(fault) => Err(tell(faults, &fault)),
+        Err(fault) => Err(fault),
     }
 }
 
 /// Answers the lines of the reader over the design that the program holds.
-fn demo<R: Source, W: Sink, F: Sink>(
+fn demo<'a, R: Source, W: Sink>(
     alloc: Global,
     reader: &mut R,
     writer: &mut W,
-    faults: &mut F,
-) -> Result<u8, Exit>
-    requires readable { R.has_failed reader.old ≡ false }
-    requires fresh { R.reads reader.old ≡ 0 }
-    requires writable { W.has_failed writer.old ≡ false }
+) -> Result<u8, Fault<'a>>
+    requires ready { IsReady R.has_failed R.reads W.has_failed reader.old writer.old }
     ensures ok { IfOk result (λ status. (loaded : Loaded) × IsTextDesign W_DEF.now W_LEF.now loaded × ((floor : FloorState)
-        × IsAnswered most_lines loaded floor (R.remaining reader.old) (R.remaining reader.new) (W.contents writer.old) (W.contents writer.new)) × (status ≡ 0)) }
-    ensures kept { OnOk result (faults.new ≡ faults.old) }
-    ensures err { IfErr result (Ends (λ fault.
+        × IsAnswered most_lines loaded floor (R.remaining reader.old) (R.remaining reader.new) (W.contents writer.old) (W.contents writer.new))
+        × (status ≡ 0)) }
+    ensures err { IfErr result (λ fault.
         IsJobStop (IsTextFault W_DEF.now W_LEF.now) (IsTextDesign W_DEF.now W_LEF.now)
         (λ loaded fault io. IsLinesFault most_lines loaded fault io.input io.left io.before io.after) fault
         (streams (R.remaining reader.old) (R.remaining reader.new) (W.contents writer.old) (W.contents writer.new) None None)
         × Blames fault (writer.new ≡ writer.old) (ReadsFail most_lines (R.has_failed reader.new) (R.reads reader.old) (R.reads reader.new))
-        (W.has_failed writer.new ≡ true)) (F.contents faults.old) (F.contents faults.new) (F.has_failed faults.new)) }
+        (W.has_failed writer.new ≡ true)) }
     ensures reader_held { R.holds reader.new ≡ R.holds reader.old }
     ensures writer_held { W.holds writer.new ≡ W.holds writer.old }
-    ensures faults_held { F.holds faults.new ≡ F.holds faults.old }
 {
-    let loaded = design_of_texts(alloc, W_DEF, W_LEF, faults)?;
-    answer_over(alloc, loaded, reader, writer, faults)
+    let loaded = design_of_texts(alloc, W_DEF, W_LEF)?;
+    answer_over(alloc, loaded, reader, writer)
 }
 
 /// Writes the report of the design of these files.
-fn check<T: Texts, W: Sink, F: Sink>(
+fn check<'a, T: Texts, W: Sink>(
     alloc: Global,
     texts: &T,
-    def: &str,
-    lefs: &[&str],
+    def: &'a str,
+    lefs: &[&'a str],
     writer: &mut W,
-    faults: &mut F,
-) -> Result<u8, Exit>
+) -> Result<u8, Fault<'a>>
     ensures ok { IfOk result (λ status. (loaded : Loaded) × IsDesignOf (T.gives texts.now) def.now (map (λ lef. lef.now) lefs.now) loaded
         × IsReported loaded (W.contents writer.old) (W.contents writer.new) status) }
-    ensures kept { OnOk result (faults.new ≡ faults.old) }
-    ensures err { IfErr result (Ends (λ fault. (IsDesignFault (T.gives texts.now) def.now (map (λ lef. lef.now) lefs.now) fault
+    ensures err { IfErr result (λ fault. (IsDesignFault (T.gives texts.now) def.now (map (λ lef. lef.now) lefs.now) fault
         ⊎ ((loaded : Loaded) × IsDesignOf (T.gives texts.now) def.now (map (λ lef. lef.now) lefs.now) loaded × IsReportFault fault))
-        × Blames fault (writer.new ≡ writer.old) ⊥ (W.has_failed writer.new ≡ true)) (F.contents faults.old) (F.contents faults.new) (F.has_failed faults.new)) }
-    ensures writer_held { W.holds writer.new ≡ W.holds writer.old }
-    ensures faults_held { F.holds faults.new ≡ F.holds faults.old }
+        × Blames fault (writer.new ≡ writer.old) ⊥ (W.has_failed writer.new ≡ true)) }
+    ensures held { W.holds writer.new ≡ W.holds writer.old }
 {
-    match design_of_files(alloc, texts, def, lefs, faults) {
-        Ok(loaded) => check_design(alloc, &loaded, writer, faults),
-        Err(exit) => Err(exit),
-    }
+    let loaded = design_of_files(alloc, texts, def, lefs)?;
+    check_design(alloc, &loaded, writer)
 }
 
 /// Does the task, and returns its exit status.
-fn outcome<T: Texts, E: Exports, V: Services, R: Source, W: Sink, F: Sink>(
+fn outcome<'a, T: Texts, E: Exports, V: Services, R: Source, W: Sink, F>(
     alloc: Global,
-    texts: &T,
-    exports: &mut E,
-    services: &mut V,
-    task: &Task<'_>,
-    reader: &mut R,
-    writer: &mut W,
-    faults: &mut F,
-) -> Result<u8, Exit>
-    requires readable { R.has_failed reader.old ≡ false }
-    requires fresh { R.reads reader.old ≡ 0 }
-    requires writable { W.has_failed writer.old ≡ false }
-    ensures ok { IfOk result (IsOutcome (T.gives texts.now) (as_job task.now)
-        (streams (R.remaining reader.old) (R.remaining reader.new) (W.contents writer.old) (W.contents writer.new) (E.puts exports.old) (E.puts exports.new))) }
-    ensures kept { OnOk result (faults.new ≡ faults.old) }
-    ensures err { IfErr result (Ends (λ fault. IsJobFault (T.gives texts.now) (as_job task.now) fault
-        (streams (R.remaining reader.old) (R.remaining reader.new) (W.contents writer.old) (W.contents writer.new) (E.puts exports.old) (E.puts exports.new))
-        × Blames fault (writer.new ≡ writer.old) (ReadsFail (reads_of (as_job task.now)) (R.has_failed reader.new) (R.reads reader.old) (R.reads reader.new))
-        (W.has_failed writer.new ≡ true))
-        (F.contents faults.old) (F.contents faults.new) (F.has_failed faults.new)) }
-    ensures unread { ReadsNone task.now → reader.new ≡ reader.old }
-    ensures unput { OnErr result (E.puts exports.new ≡ E.puts exports.old) }
-    ensures unasked { AsksForNoFile (as_job task.now) → exports.new ≡ exports.old }
-    ensures offered { OnOk result (IsOfferOf (as_job task.now) (V.offers services.old) (V.offers services.new)) }
-    ensures unoffered { (V.offers services.new ≡ V.offers services.old) ⊎ IsOfferOf (as_job task.now) (V.offers services.old) (V.offers services.new) }
-    ensures reader_held { R.holds reader.new ≡ R.holds reader.old }
-    ensures writer_held { W.holds writer.new ≡ W.holds writer.old }
-    ensures faults_held { F.holds faults.new ≡ F.holds faults.old }
+    around: &mut Surroundings<T, E, V, R, W, F>,
+    task: &'a Task<'_>,
+) -> Result<u8, Fault<'a>>
+    requires ready { IsReady R.has_failed R.reads W.has_failed around.old.reader around.old.writer }
+    ensures ok { IfOk result (IsOutcome (T.gives around.old.texts) (as_job task.now) (io_of R.remaining W.contents E.puts around.old around.new)) }
+    ensures err { IfErr result (λ fault. IsJobFault (T.gives around.old.texts) (as_job task.now) fault
+        (io_of R.remaining W.contents E.puts around.old around.new)
+        × Blames fault (around.new.writer ≡ around.old.writer)
+        (ReadsFail (reads_of (as_job task.now)) (R.has_failed around.new.reader) (R.reads around.old.reader) (R.reads around.new.reader))
+        (W.has_failed around.new.writer ≡ true)) }
+    ensures unread { ReadsNone task.now → around.new.reader ≡ around.old.reader }
+    ensures unput { OnErr result (E.puts around.new.exports ≡ E.puts around.old.exports) }
+    ensures unasked { AsksForNoFile (as_job task.now) → around.new.exports ≡ around.old.exports }
+    ensures offered { OnOk result (IsOfferOf (as_job task.now) (V.offers around.old.services) (V.offers around.new.services)) }
+    ensures unoffered { (V.offers around.new.services ≡ V.offers around.old.services)
+        ⊎ IsOfferOf (as_job task.now) (V.offers around.old.services) (V.offers around.new.services) }
+    ensures keeps { Keeps R.holds W.holds around.old around.new }
 {
     match task {
-        Task::Demo => demo(alloc, reader, writer, faults),
+        Task::Demo => demo(alloc, &mut around.reader, &mut around.writer),
         Task::Replay {
             def,
             lefs,
             lines,
             export,
-        } => work_on_files(
-            alloc,
-            texts,
-            def,
-            lefs.as_slice(),
-            Lines::Stream { most: *lines },
-            *export,
-            exports,
-            services,
-            reader,
-            writer,
-            faults,
-        ),
+        } => {
+            let lines = Lines::Stream { most: *lines };
+            work(alloc, around, def, lefs.as_slice(), lines, *export)
+        }
         Task::Serve {
             def,
             lefs,
             port,
             connections,
             export,
-        } => work_on_files(
-            alloc,
-            texts,
-            def,
-            lefs.as_slice(),
-            Lines::Port {
+        } => {
+            let lines = Lines::Port {
                 port: *port,
                 connections: *connections,
-            },
-            *export,
-            exports,
-            services,
-            reader,
-            writer,
-            faults,
-        ),
-        Task::Check { def, lefs } => check(alloc, texts, def, lefs.as_slice(), writer, faults),
-        Task::Describe { def, lefs } => {
-            describe_files(alloc, texts, def, lefs.as_slice(), writer, faults)
+            };
+            work(alloc, around, def, lefs.as_slice(), lines, *export)
         }
+        Task::Check { def, lefs } => check(
+            alloc,
+            &around.texts,
+            def,
+            lefs.as_slice(),
+            &mut around.writer,
+        ),
+        Task::Describe { def, lefs } => describe_files(
+            alloc,
+            &around.texts,
+            def,
+            lefs.as_slice(),
+            &mut around.writer,
+        ),
     }
 }
 
 /// Does the task and returns how it ended: with status 0 if it is done, 1 if a text or the design was refused, or an
 /// allocation failed before the first line, for the report or for the exported text, 3 if a file, the reader, the writer, the
 /// port or a connection failed, too many lines came, or an allocation for the lines failed; 4 if a check or a description is
-/// done and the design is not fully legal. A fault is written to `faults` as a line of its own, and then a second line names
-/// the file and its line, the path or the port that is at fault.
+/// done and the design is not fully legal. A fault is told once, here: in a line of its own, and then in a second line that
+/// names the file and its line, the path or the port that is at fault, and why, where that is known.
 ///
 /// The LEF files are read in the order of the words, then the DEF file, then the design is loaded, then the exported text's
 /// path is tried, then the port is listened on, up to the first fault; only then is the first line read, or the report made.
@@ -199,42 +170,38 @@ fn outcome<T: Texts, E: Exports, V: Services, R: Source, W: Sink, F: Sink>(
 /// `exports`: no other text ever is. What is served is the port of this machine that is asked for, and nothing else.
 pub fn perform_over<T: Texts, E: Exports, V: Services, R: Source, W: Sink, F: Sink>(
     alloc: Global,
-    texts: &T,
-    exports: &mut E,
-    services: &mut V,
+    around: &mut Surroundings<T, E, V, R, W, F>,
     task: &Task<'_>,
-    reader: &mut R,
-    writer: &mut W,
-    faults: &mut F,
 ) -> Exit
-    requires readable { R.has_failed reader.old ≡ false }
-    requires fresh { R.reads reader.old ≡ 0 }
-    requires writable { W.has_failed writer.old ≡ false }
+    requires readable { R.has_failed around.old.reader ≡ false }
+    requires fresh { R.reads around.old.reader ≡ 0 }
+    requires writable { W.has_failed around.old.writer ≡ false }
     ensures status { IsDone result.status ⊎ IsFailure result.status }
-    ensures outcome { IsDone result.status → IsOutcome (T.gives texts.now) (as_job task.now)
-        (streams (R.remaining reader.old) (R.remaining reader.new) (W.contents writer.old) (W.contents writer.new) (E.puts exports.old) (E.puts exports.new)) result.status }
-    ensures done { IsDone result.status → faults.new ≡ faults.old }
+    ensures outcome { IsDone result.status → IsOutcome (T.gives around.old.texts) (as_job task.now)
+        (io_of R.remaining W.contents E.puts around.old around.new) result.status }
+    ensures done { IsDone result.status → around.new.faults ≡ around.old.faults }
     ensures told { IsDone result.status → IsTrue result.is_told }
-    ensures fault { IsFailure result.status → Ends (λ fault. IsJobFault (T.gives texts.now) (as_job task.now) fault
-        (streams (R.remaining reader.old) (R.remaining reader.new) (W.contents writer.old) (W.contents writer.new) (E.puts exports.old) (E.puts exports.new))
-        × Blames fault (writer.new ≡ writer.old) (ReadsFail (reads_of (as_job task.now)) (R.has_failed reader.new) (R.reads reader.old) (R.reads reader.new))
-        (W.has_failed writer.new ≡ true))
-        (F.contents faults.old) (F.contents faults.new) (F.has_failed faults.new) result }
+    ensures fault { IsFailure result.status → Ends (λ fault. IsJobFault (T.gives around.old.texts) (as_job task.now) fault
+        (io_of R.remaining W.contents E.puts around.old around.new)
+        × Blames fault (around.new.writer ≡ around.old.writer)
+        (ReadsFail (reads_of (as_job task.now)) (R.has_failed around.new.reader) (R.reads around.old.reader) (R.reads around.new.reader))
+        (W.has_failed around.new.writer ≡ true))
+        (F.contents around.old.faults) (F.contents around.new.faults) (F.has_failed around.new.faults) result }
     ensures checked { result.status ≡ 4 → ReadsNone task.now }
-    ensures unread { ReadsNone task.now → reader.new ≡ reader.old }
-    ensures unput { IsFailure result.status → E.puts exports.new ≡ E.puts exports.old }
-    ensures unasked { AsksForNoFile (as_job task.now) → exports.new ≡ exports.old }
-    ensures offered { IsDone result.status → IsOfferOf (as_job task.now) (V.offers services.old) (V.offers services.new) }
-    ensures unoffered { (V.offers services.new ≡ V.offers services.old) ⊎ IsOfferOf (as_job task.now) (V.offers services.old) (V.offers services.new) }
-    ensures reader_held { R.holds reader.new ≡ R.holds reader.old }
-    ensures writer_held { W.holds writer.new ≡ W.holds writer.old }
-    ensures faults_held { F.holds faults.new ≡ F.holds faults.old }
+    ensures unread { ReadsNone task.now → around.new.reader ≡ around.old.reader }
+    ensures unput { IsFailure result.status → E.puts around.new.exports ≡ E.puts around.old.exports }
+    ensures unasked { AsksForNoFile (as_job task.now) → around.new.exports ≡ around.old.exports }
+    ensures offered { IsDone result.status → IsOfferOf (as_job task.now) (V.offers around.old.services) (V.offers around.new.services) }
+    ensures unoffered { (V.offers around.new.services ≡ V.offers around.old.services)
+        ⊎ IsOfferOf (as_job task.now) (V.offers around.old.services) (V.offers around.new.services) }
+    ensures texts { around.new.texts ≡ around.old.texts }
+    ensures reader_held { R.holds around.new.reader ≡ R.holds around.old.reader }
+    ensures writer_held { W.holds around.new.writer ≡ W.holds around.old.writer }
+    ensures faults_held { F.holds around.new.faults ≡ F.holds around.old.faults }
 {
-    match outcome(
-        alloc, texts, exports, services, task, reader, writer, faults,
-    ) {
+    match outcome(alloc, around, task) {
         Ok(status) => done(status),
-        Err(exit) => exit,
+        Err(fault) => tell(&mut around.faults, &fault),
     }
 }
 
@@ -258,21 +225,17 @@ pub fn perform<T: Files + Net + AllocGlobal, R: Read, W: Write, F: Write>(
     ensures checked { result ≡ 4 → ReadsNone task.now }
     ensures unread { ReadsNone task.now → reader.new ≡ reader.old }
 {
-    let texts = FileTexts::new(rt);
-    let mut exports = FileExports::new(rt);
-    let mut services = NetServices::new(rt);
-    let mut source = FromRead::new(reader);
-    let mut sink = ToWrite::new(writer);
-    let mut told = ToWrite::new(faults);
-    let exit = perform_over(
-        rt.alloc(),
-        &texts,
-        &mut exports,
-        &mut services,
-        task,
-        &mut source,
-        &mut sink,
-        &mut told,
-    );
+    let source = FromRead::new(reader);
+    let sink = ToWrite::new(writer);
+    let told = ToWrite::new(faults);
+    let mut around = Surroundings {
+        texts: FileTexts::new(rt),
+        exports: FileExports::new(rt),
+        services: NetServices::new(rt),
+        reader: source,
+        writer: sink,
+        faults: told,
+    };
+    let exit = perform_over(rt.alloc(), &mut around, task);
     exit.status
 }

@@ -5,24 +5,39 @@ ghost use Rattle.std.specs.Prelude.{◌≡◌, ℕ, List, Option, Some, None, �
 use std::rt::Files;
 use std::{fs, io};
 
+/// Why a file cannot be read, where the system says it.
+#[derive(Clone, Copy, Debug, PartialEq, Eq)]
+pub enum Unreadable {
+    /// No file has that path.
+    Missing,
+    /// A folder has it.
+    Folder,
+    /// This user may not read the file.
+    Denied,
+    /// Another reason.
+    Other,
+}
+
 /// Why the text of a file was not read.
 #[derive(Clone, Copy, Debug, PartialEq, Eq)]
 pub enum Unread {
     /// The file cannot be read.
-    File,
+    File(Unreadable),
     /// An allocation failed.
     OutOfMemory,
 }
 
 /// Where texts are read from, by the paths of their files.
 pub trait Texts {
+    ghost use Rattle.lf_app.specs.Texts.{IsOfFile};
+
     // What reading the file of a path may return: its text, or None if it cannot be read.
     ghost gives: { Self → List ℕ → Option (List ℕ) → Type 0 } = { λ _ _ _. ⊤ };
 
     /// The whole text of the file of that path.
     fn text(&self, path: &str) -> Result<Vec<u8>, Unread>
         ensures ok { IfOk result (λ text. gives self.now path.now (Some text.items)) }
-        ensures err { IfErr result (λ unread. unread ≡ Unread.File → gives self.now path.now None) };
+        ensures err { IfErr result (λ unread. IsOfFile unread → gives self.now path.now None) };
 }
 
 /// The files of a runtime. Contracts know nothing of what they hold.
@@ -38,12 +53,15 @@ impl<'a, T> FileTexts<'a, T> {
     }
 }
 
-/// Why a file was not read: a folder is no file that can be read.
+/// Why a file was not read, by what the system says.
 fn unread_of(error: &io::Error) -> Unread {
-    if error.kind() == io::ErrorKind::OutOfMemory {
-        return Unread::OutOfMemory;
+    match error.kind() {
+        io::ErrorKind::OutOfMemory => Unread::OutOfMemory,
+        io::ErrorKind::NotFound => Unread::File(Unreadable::Missing),
+        io::ErrorKind::IsADirectory => Unread::File(Unreadable::Folder),
+        io::ErrorKind::PermissionDenied => Unread::File(Unreadable::Denied),
+        _ => Unread::File(Unreadable::Other),
     }
-    Unread::File
 }
 
 impl<'a, T: Files + AllocGlobal> Texts for FileTexts<'a, T> {

@@ -418,3 +418,22 @@ pub fn command_of<'a>(alloc: Global, words: &'a [&'a str]) -> Result<Task<'a>, U
         Err(_) => Err(UsageFault::Usage),
     }
 }
+
+/// The text of the error, unless it is the help or the version that was asked for.
+fn said_by(alloc: Global, error: &clap::Error) -> Result<Option<String>, AllocError> {
+    if !error.use_stderr() {
+        return Ok(None);
+    }
+    let text = format!(in alloc; "{error}")?;
+    Ok(Some(text))
+}
+
+/// What `clap` says of words that it does not take: which of them is wrong, or which is missing, and what it may be. None of
+/// words that it takes, or that ask for help or the version. Contracts know nothing of the text.
+pub fn complaint_of<'a>(alloc: Global, words: &'a [&'a str]) -> Result<Option<String>, AllocError> {
+    let command = command(alloc)?;
+    match command.try_get_matches_from(words) {
+        Ok(_matches) => Ok(None),
+        Err(error) => said_by(alloc, &error),
+    }
+}

@@ -14,5 +14,5 @@ mod command;
 mod help;
 mod words;
 
-pub use command::{Task, UsageFault, command_of};
+pub use command::{Task, UsageFault, command_of, complaint_of};
 pub use help::{Help, help_of};

@@ -2,7 +2,8 @@
 
 use crate::shelf::Shelf;
 use lf_app::{
-    Exit, FileTexts, NetServices, Offer, Services, Task, Unserved, perform, perform_over,
+    Exit, FileTexts, NetServices, Offer, Services, Surroundings, Task, Unbound, Unserved, perform,
+    perform_over,
 };
 use lf_def::W_DEF;
 use lf_devices::{FromRead, Sink, ToWrite};
@@ -91,7 +92,40 @@ impl Services for Noted {
         _writer: &mut W,
     ) -> Result<(), Unserved> {
         self.offer = Some(*offer);
-        Err(Unserved::Bind)
+        Err(Unserved::Bind(Unbound::InUse))
+    }
+}
+
+/// Exported texts that are kept elsewhere.
+#[derive(Drop)]
+struct KeptThere<'a, 'b> {
+    kept: &'a mut Kept<'b>,
+}
+
+impl<'a, 'b> Exports for KeptThere<'a, 'b> {
+    fn try_path(&self, path: &str) -> Result<(), Unwritten> {
+        self.kept.try_path(path)
+    }
+
+    fn put<P: Pieces>(&mut self, path: &str, text: &P) -> Result<(), Unwritten> {
+        self.kept.put(path, text)
+    }
+}
+
+/// Services that are offered elsewhere.
+#[derive(Drop)]
+struct OfferedThere<'a, V> {
+    services: &'a mut V,
+}
+
+impl<'a, V: Services> Services for OfferedThere<'a, V> {
+    fn offer<W: Sink>(
+        &mut self,
+        offer: &Offer,
+        floor: &mut Floor<IndexSeeker>,
+        writer: &mut W,
+    ) -> Result<(), Unserved> {
+        self.services.offer(offer, floor, writer)
     }
 }
 
@@ -268,23 +302,18 @@ fn with_devices<V: Services, R: Read, W: Write, F: Write>(
         alloc: rt.alloc(),
         files,
     };
-    let texts = FileTexts::new(&shelf);
-    let mut source = FromRead::new(reader);
-    let mut sink = ToWrite::new(writer);
-    let mut told = ToWrite::new(faults);
-    let exit = perform_over(
-        rt.alloc(),
-        &texts,
-        exports,
-        services,
-        task,
-        &mut source,
-        &mut sink,
-        &mut told,
-    );
+    let mut around = Surroundings {
+        texts: FileTexts::new(&shelf),
+        exports: KeptThere { kept: exports },
+        services: OfferedThere { services },
+        reader: FromRead::new(reader),
+        writer: ToWrite::new(writer),
+        faults: ToWrite::new(faults),
+    };
+    let exit = perform_over(rt.alloc(), &mut around, task);
     End {
         exit,
-        asked: exports.asked,
+        asked: around.exports.kept.asked,
     }
 }
 
@@ -439,7 +468,8 @@ fn a_replay_answers_as_many_lines_as_it_says(rt: HostRuntime) -> Result<(), Fail
 fn fences_that_overlap_are_refused(rt: HostRuntime) -> Result<(), Fail> {
     let fence = b"- B ( 3999 0 ) ( 10000 8000 ) + TYPE FENCE ;";
     let def = with_line(rt.alloc(), W_DEF, 12, fence)?;
-    let fault = "lefence: 21 FencesOverlap B\nlefence: DEF file w.def\n";
+    let fault = "lefence: 21 FencesOverlap B\n\
+        lefence: DEF file w.def, line 12: - B ( 3999 0 ) ( 10000 8000 ) + TYPE FENCE ;\n";
     assert!(rt; ends(&rt, &files_of(&def), LEFS, 1, fault)?);
     assert!(rt; checks(&rt, &files_of(&def), 1, "", fault)?);
     Ok(())
@@ -474,7 +504,8 @@ fn lef_files_are_read_in_order_up_to_the_first_fault(rt: HostRuntime) -> Result<
 #[test]
 fn a_replay_reads_its_own_lef_files_alone(rt: HostRuntime) -> Result<(), Fail> {
     let files = [("x.lef", Some(b"".as_slice())), ("w.def", Some(W_DEF))];
-    let fault = "lefence: 8 NoSite core\nlefence: DEF file w.def\n";
+    let fault = "lefence: 8 NoSite core\n\
+        lefence: DEF file w.def, line 6: ROW r0 core 0 0 N DO 50 BY 1 STEP 200 0 ;\n";
     assert!(rt; ends(&rt, files.as_slice(), ["x.lef"].as_slice(), 1, fault)?);
     Ok(())
 }
@@ -482,9 +513,9 @@ fn a_replay_reads_its_own_lef_files_alone(rt: HostRuntime) -> Result<(), Fail> {
 #[test]
 fn a_file_that_cannot_be_read_is_a_fault(rt: HostRuntime) -> Result<(), Fail> {
     let files = [("w.lef", Some(W_LEF)), ("folder", None)];
-    let fault = "lefence: File\nlefence: DEF file w.def cannot be read\n";
+    let fault = "lefence: File\nlefence: DEF file w.def cannot be read: there is no such file\n";
     assert!(rt; ends(&rt, files.as_slice(), LEFS, 3, fault)?);
-    let fault = "lefence: File\nlefence: LEF file x.lef cannot be read\n";
+    let fault = "lefence: File\nlefence: LEF file x.lef cannot be read: there is no such file\n";
     assert!(rt; ends(&rt, files.as_slice(), ["x.lef"].as_slice(), 3, fault)?);
     let fault = "lefence: File\nlefence: LEF file folder cannot be read\n";
     assert!(rt; ends(&rt, files.as_slice(), ["folder"].as_slice(), 3, fault)?);
@@ -560,7 +591,7 @@ fn a_design_is_described(rt: HostRuntime) -> Result<(), Fail> {
 #[test]
 fn a_check_without_its_file_is_a_fault(rt: HostRuntime) -> Result<(), Fail> {
     let files = [("w.lef", Some(W_LEF))];
-    let fault = "lefence: File\nlefence: DEF file w.def cannot be read\n";
+    let fault = "lefence: File\nlefence: DEF file w.def cannot be read: there is no such file\n";
     assert!(rt; checks(&rt, files.as_slice(), 3, "", fault)?);
     Ok(())
 }
@@ -794,7 +825,8 @@ fn offered(rt: &HostRuntime) -> Result<Option<Offer>, AllocError> {
         &task,
         &mut reader,
     );
-    let faults = "lefence: Bind\nlefence: port 5800 of 127.0.0.1 cannot be listened on\n";
+    let faults =
+        "lefence: Bind\nlefence: port 5800 of 127.0.0.1 cannot be listened on: it is in use\n";
     if !run.is(3, "", faults) {
         return Ok(None);
     }

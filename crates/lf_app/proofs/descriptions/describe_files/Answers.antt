@@ -4,24 +4,19 @@ use Rattle.lf_app.specs.Designs.{no_library}
 use Rattle.lf_app.proofs.WorkSteps.{files_fail, first_fails, library_early, step_fails, weaker_ok}
 use Rattle.lf_app.proofs.descriptions.describe_files.Goals as goal
 
-pub returns-in-Ok-clause-ok : goal.returns-in-Ok-clause-ok
-returns-in-Ok-clause-ok g c = λ input left old_puts new_puts.
+pub returns-clause-ok : goal.returns-clause-ok
+returns-clause-ok g c = λ input left old_puts new_puts.
     weaker_ok c.describe_file.result _ _ c.describe_file.ensures.ok
     (λ status is. record {
       text = is.0;
       document = is.2.0;
       loaded = is.2.2.0;
-      opened = record { library = c.in-Ok.library; lefs_are = c.in-Ok.ensures.ok; given = is.1; read = is.2.1; loads = is.2.2.1 };
+      opened = record { library = c.in_ok-library.library; lefs_are = c.in_ok-library.ensures.ok; given = is.1; read = is.2.1; loads = is.2.2.1 };
       described = is.2.2.2;
     })
 
-pub returns-in-Ok-clause-err : goal.returns-in-Ok-clause-err
-returns-in-Ok-clause-err g c =
-    step_fails c.describe_file.result _ _ _ _ _ _ (rw c.in-Ok.ensures.kept at c.describe_file.ensures.err)
-    (λ fault why. files_fail (g.T.Texts.gives c.args.texts.now) c.args.def.now (map (λ lef. lef.now) c.args.lefs.now) c.in-Ok.library
-    (λ loaded. IsDescriptionFault fault) fault c.in-Ok.ensures.ok why)
-
-pub returns-in-Err-clause-err : goal.returns-in-Err-clause-err
-returns-in-Err-clause-err g c =
-    first_fails _ _ (c.args.writer.now ≡ c.args.writer.now) _ _ _ _ _ c.in-Err.exit refl c.in-Err.ensures.err
-    (library_early (g.T.Texts.gives c.args.texts.now) no_library (map (λ lef. lef.now) c.args.lefs.now)) (λ fault why. inl (inl why))
+pub returns-clause-err : goal.returns-clause-err
+returns-clause-err g c =
+    step_fails c.describe_file.result _ _ _ c.describe_file.ensures.err
+    (λ fault why. files_fail (g.T.Texts.gives c.args.texts.now) c.args.def.now (map (λ lef. lef.now) c.args.lefs.now) c.in_ok-library.library
+    (λ loaded. IsDescriptionFault fault) fault c.in_ok-library.ensures.ok why)

@@ -1,8 +1,8 @@
-use Rattle.std.proofs.Common.{refl}
+use Rattle.std.proofs.Common.{inl, refl}
 use Rattle.lf_def.specs.Contents.{contents}
-use Rattle.lf_app.specs.declared.faults.Fault.TheVariants.{Refused}
-use Rattle.lf_app.specs.Designs.{AreStandard}
-use Rattle.lf_app.proofs.DesignSteps.{loading}
+use Rattle.lf_app.specs.declared.faults.TextKind.TheVariants.{Def}
+use Rattle.lf_app.specs.Designs.{AreStandard, IsLoadRefusal}
+use Rattle.lf_app.proofs.DesignSteps.{loading, told_as}
 use Rattle.lf_app.proofs.designs.load_document.Goals as goal
 
 pub returns-in-Err-clause-err : goal.returns-in-Err-clause-err
@@ -15,12 +15,7 @@ returns-in-Err-clause-err g c =
       sessions = limits.sessions;
       undo = limits.undo;
       revisions = limits.revisions;
-    } in (
-      Refused c.def_file-file.result c.args.text c.in-Err.refusal,
-      (
-        record { kind_is = c.def_file-file.ensures.kind; path_is = c.def_file-file.ensures.path },
-        refl,
-        loading c.args.library.now (contents c.args.document.now) c.standard.result c.in-Err.refusal standard c.in-Err.ensures.err,
-      ),
-      c.tell.ensures.ends,
-    )
+    } in
+    told_as Def c.args.path.now c.args.text.now (IsLoadRefusal c.args.library.now (contents c.args.document.now)) c.in-Err.fault c.refused.result
+    (rw (c.def_file.ensures.kind, c.def_file.ensures.path) at c.refused.ensures)
+    (loading c.args.library.now (contents c.args.document.now) c.standard.result c.in-Err.fault standard c.in-Err.ensures.err) (inl refl)

@@ -1,16 +1,15 @@
 use Rattle.std.proofs.Common.{ℕ, inl, inr, subst, sym}
 use Rattle.lf_command.specs.Command.{as_job}
-use Rattle.lf_app.specs.Exits.{IsOutcome, streams}
+use Rattle.lf_app.specs.Exits.{IsOutcome}
 use Rattle.lf_app.specs.Faults.{IsDone, IsFailure}
+use Rattle.lf_app.specs.Surroundings.{io_of}
 use Rattle.lf_app.proofs.TaskSteps.{checked, failing, not_both, succeeds}
 use Rattle.lf_app.proofs.tasks.perform_over.Goals as goal
 
 pub returns-in-Ok : goal.returns-in-Ok
 returns-in-Ok g c =
-    let gives = g.T.Texts.gives c.args.texts.now in
-    let io = streams (g.R.Source.remaining c.args.reader.now) (g.R.Source.remaining c.outcome.new.reader)
-    (g.W.Sink.contents c.args.writer.now) (g.W.Sink.contents c.outcome.new.writer)
-    (g.E.Exports.puts c.args.exports.now) (g.E.Exports.puts c.outcome.new.exports) in
+    let gives = g.T.Texts.gives c.args.around.now.texts in
+    let io = io_of g.R.Source.remaining g.W.Sink.contents g.E.Exports.puts c.args.around.now c.outcome.new.around in
     let status = c.done.result.status in
     let is : IsOutcome gives (as_job c.args.task.now) io status =
     subst (λ (n : ℕ). IsOutcome gives (as_job c.args.task.now) io n) (sym c.done.ensures.status) c.in-Ok.ensures.ok in
@@ -18,7 +17,7 @@ returns-in-Ok g c =
     record {
       status = inl succeeded;
       outcome = λ _. is;
-      done = λ _. c.in-Ok.ensures.kept;
+      done = λ _. c.in-Ok.ensures.keeps.untold;
       told = λ _. c.done.ensures.told;
       fault = λ failed. absurd (not_both status succeeded failed);
       checked = checked gives c.args.task.now io status is;
@@ -27,28 +26,30 @@ returns-in-Ok g c =
       unasked = c.in-Ok.ensures.unasked;
       offered = λ _. c.in-Ok.ensures.offered;
       unoffered = c.in-Ok.ensures.unoffered;
-      reader_held = c.in-Ok.ensures.reader_held;
-      writer_held = c.in-Ok.ensures.writer_held;
-      faults_held = c.in-Ok.ensures.faults_held;
+      texts = c.in-Ok.ensures.keeps.texts;
+      reader_held = c.in-Ok.ensures.keeps.reader_held;
+      writer_held = c.in-Ok.ensures.keeps.writer_held;
+      faults_held = cc c.in-Ok.ensures.keeps.untold;
     }
 
 pub returns-in-Err : goal.returns-in-Err
 returns-in-Err g c =
-    let status = c.in-Err.exit.status in
-    let failed : IsFailure status = failing _ _ _ _ c.in-Err.exit c.in-Err.ensures.err in
+    let status = c.tell.result.status in
+    let failed : IsFailure status = failing c.in-Err.fault status c.tell.ensures.ends.status in
     record {
       status = inr failed;
       outcome = λ succeeded. absurd (not_both status succeeded failed);
       done = λ succeeded. absurd (not_both status succeeded failed);
       told = λ succeeded. absurd (not_both status succeeded failed);
-      fault = λ _. c.in-Err.ensures.err;
+      fault = λ _. (c.in-Err.fault, c.in-Err.ensures.err, (rw c.in-Err.ensures.keeps.untold at c.tell.ensures.ends));
       checked = λ four. absurd (not_both status (inr four) failed);
       unread = c.in-Err.ensures.unread;
       unput = λ _. c.in-Err.ensures.unput;
       unasked = c.in-Err.ensures.unasked;
       offered = λ succeeded. absurd (not_both status succeeded failed);
       unoffered = c.in-Err.ensures.unoffered;
-      reader_held = c.in-Err.ensures.reader_held;
-      writer_held = c.in-Err.ensures.writer_held;
-      faults_held = c.in-Err.ensures.faults_held;
+      texts = c.in-Err.ensures.keeps.texts;
+      reader_held = c.in-Err.ensures.keeps.reader_held;
+      writer_held = c.in-Err.ensures.keeps.writer_held;
+      faults_held = cc (c.in-Err.ensures.keeps.untold, c.tell.ensures.faults_held);
     }

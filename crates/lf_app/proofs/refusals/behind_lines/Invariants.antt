@@ -1,6 +1,6 @@
 use Rattle.std.proofs.Common.{◌≡◌, ◌-◌}
-use Rattle.lf_app.specs.Faults.{behind_lines}
-use Rattle.lf_app.proofs.origins.behind_lines.Given as goal
+use Rattle.lf_app.specs.Refusals.{behind_lines}
+use Rattle.lf_app.proofs.refusals.behind_lines.Given as goal
 
 abbrev pub invariant-loop-passed : goal.invariant-loop-passed
 invariant-loop-passed l = record {

@@ -1,5 +1,5 @@
 use Rattle.lf_app.proofs.Shown.{passed}
-use Rattle.lf_app.proofs.origins.behind_lines.Goals as goal
+use Rattle.lf_app.proofs.refusals.behind_lines.Goals as goal
 
 pub loop-passed-preserved : goal.loop-passed-preserved
 loop-passed-preserved c = record {

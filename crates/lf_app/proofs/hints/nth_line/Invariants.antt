@@ -1,0 +1,13 @@
+use Rattle.std.proofs.Common.{◌≡◌, length}
+use Rattle.lf_lex.specs.Tokens.{tokens_of}
+use Rattle.lf_app.specs.Hints.{nth_line}
+use Rattle.lf_app.proofs.hints.nth_line.Given as goal
+
+-- the word is still looked for among the tokens that are left
+abbrev pub invariant-loop : goal.invariant-loop
+invariant-loop l = record {
+  looked_for : nth_line l.word l.left l.lexer.tokens ≡ nth_line l.word l.passed (tokens_of l.text).tokens;
+}
+
+abbrev pub decreases-loop : goal.decreases-loop
+decreases-loop l = length l.lexer.tokens

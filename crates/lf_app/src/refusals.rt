@@ -1,0 +1,161 @@
+//! What is told of a refused text: it is taken from the text, which may then go.
+
+ghost use Rattle.std.specs.Prelude.{◌≡◌, ◌⊎◌, ◌<◌, IfOk, IfSome, length, option_map, position, take};
+ghost use Rattle.lf_lex.specs.Tokens.{is_line_feed};
+ghost use Rattle.lf_lex.specs.declared.fault.LoadFault.{LoadFault};
+ghost use Rattle.lf_lex.specs.declared.fault.ReadError.TheVariants.{Memory};
+ghost use Rattle.lf_lex.specs.Faults.{load_fault_of};
+ghost use Rattle.lf_app.specs.Refusals.{Tells, behind_line, behind_lines, first_line, line_at, line_front};
+
+use crate::faults::TextKind;
+use crate::hints::{Hint, earlier_line, hint_of, line_told};
+use lf_lex::{FaultNumber, LoadFault};
+use std::alloc::{AllocError, Global};
+
+/// How many bytes of a line are shown.
+const SHOWN: usize = 80;
+
+/// What is told of a refused text.
+#[derive(Drop)]
+pub struct Refusal {
+    pub number: FaultNumber,
+    /// The line that a reader gives.
+    pub line: Option<usize>,
+    /// The name that loading gives.
+    pub name: Option<Vec<u8>>,
+    /// The line that is shown: the reader's, or the one in which the name stands.
+    pub at: Option<usize>,
+    /// The first bytes of that line.
+    pub shown: Vec<u8>,
+    /// The line of an earlier entry of the same name.
+    pub earlier: Option<usize>,
+    /// What the text rather seems to be.
+    pub hint: Option<Hint>,
+}
+
+/// Where the first line feed is.
+fn feed_in(bytes: &[u8]) -> Option<usize>
+    ensures found { result ≡ position is_line_feed bytes.now }
+    ensures within { IfSome result (λ at. at < length bytes.now) }
+{
+    bytes.iter().position(|byte| *byte == b'\n')
+}
+
+/// What follows the first line; no byte if there is only one.
+fn behind_line(bytes: &[u8]) -> &[u8]
+    ensures { result.now ≡ behind_line bytes.now }
+{
+    match feed_in(bytes) {
+        Some(at) => &bytes[at + 1..],
+        None => b"",
+    }
+}
+
+/// What follows that many lines.
+fn behind_lines(text: &[u8], lines: usize) -> &[u8]
+    ensures { result.now ≡ behind_lines lines text.now }
+{
+    let mut rest = text;
+    for _passed in 0..lines {
+        rest = behind_line(rest);
+    }
+    rest
+}
+
+/// The first line, without its line feed.
+fn first_line(bytes: &[u8]) -> &[u8]
+    ensures { result.now ≡ first_line bytes.now }
+{
+    match feed_in(bytes) {
+        Some(at) => &bytes[..at],
+        None => bytes,
+    }
+}
+
+/// The line of that number of a text, the first of which is 1; no byte if there is no such line.
+fn line_at(text: &[u8], number: usize) -> &[u8]
+    ensures { result.now ≡ line_at text.now number }
+{
+    first_line(behind_lines(text, number.saturating_sub(1)))
+}
+
+/// The first bytes of a line, as many as are shown.
+fn front_of(line: &[u8]) -> &[u8]
+    ensures { result.now ≡ take 80 line.now }
+{
+    if line.len() <= SHOWN {
+        line
+    } else {
+        &line[..SHOWN]
+    }
+}
+
+/// The first bytes of the line of that number; no byte without a number.
+fn line_front(text: &[u8], line: Option<usize>) -> &[u8]
+    ensures { result.now ≡ line_front text.now line }
+{
+    match line {
+        Some(number) => front_of(line_at(text, number)),
+        None => b"",
+    }
+}
+
+/// A copy of the name, if there is one.
+fn copied(alloc: Global, name: Option<&[u8]>) -> Result<Option<Vec<u8>>, AllocError>
+    ensures { IfOk result (λ copy. option_map (λ bytes. bytes.items) copy ≡ option_map (λ bytes. bytes.now) name.entry) }
+{
+    match name {
+        Some(name) => Ok(Some(Vec::from_slice(alloc, name)?)),
+        None => Ok(None),
+    }
+}
+
+/// What is told of the text that is refused so.
+fn told_of(
+    alloc: Global,
+    kind: TextKind,
+    text: &[u8],
+    fault: &LoadFault<'_>,
+) -> Result<Refusal, AllocError>
+    ensures { IfOk result (Tells kind text.now fault.now) }
+{
+    let name = copied(alloc, fault.name)?;
+    let at = line_told(text, fault);
+    let shown = Vec::from_slice(alloc, line_front(text, at))?;
+    Ok(Refusal {
+        number: fault.number,
+        line: fault.line,
+        name,
+        at,
+        shown,
+        earlier: earlier_line(text, fault),
+        hint: hint_of(kind, text),
+    })
+}
+
+/// What is told of a failed allocation.
+fn told_of_memory(alloc: Global, kind: TextKind, text: &[u8]) -> Refusal
+    ensures { Tells kind text.now (load_fault_of Memory) result }
+{
+    Refusal {
+        number: FaultNumber::OutOfMemory,
+        line: None,
+        name: None,
+        at: None,
+        shown: Vec::new(alloc),
+        earlier: None,
+        hint: hint_of(kind, text),
+    }
+}
+
+impl Refusal {
+    /// What is told of the text, read as this, that is refused so: that an allocation failed, if there is no memory to tell more.
+    pub fn new(alloc: Global, kind: TextKind, text: &[u8], fault: &LoadFault<'_>) -> Refusal
+        ensures { (told : LoadFault) × ((told ≡ fault.now) ⊎ (told ≡ load_fault_of Memory)) × Tells kind text.now told result }
+    {
+        match told_of(alloc, kind, text, fault) {
+            Ok(refusal) => refusal,
+            Err(_) => told_of_memory(alloc, kind, text),
+        }
+    }
+}
