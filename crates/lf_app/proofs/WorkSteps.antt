@@ -5,6 +5,7 @@ use Rattle.std.proofs.lemmas.Result.{IfErr-weaker, IfOk-weaker}
 use Rattle.lf_lex.specs.declared.fault.LoadFault.{LoadFault}
 use Rattle.lf_lef.specs.Contents.{Contents}
 use Rattle.lf_def.specs.Document.{Document, Refuses, document_of}
+use Rattle.lf_files.specs.Shelf.{Put}
 use Rattle.lf_floorplan.specs.declared.loaded.Loaded.{Loaded}
 use Rattle.lf_app.specs.declared.faults.Fault.{Fault}
 use Rattle.lf_app.specs.declared.faults.Fault.TheVariants.{Refused, File, ReadFault, WriteFault, TooManyLines, OutOfMemory, Output, Bind, Accept, Unwritten, NoMemory, NoRoom}
@@ -12,7 +13,7 @@ use Rattle.lf_app.specs.declared.faults.TextKind.{TextKind}
 use Rattle.lf_app.specs.declared.faults.TextKind.TheVariants.{Lef, Def}
 use Rattle.lf_app.specs.Designs.{Gives, IsDefRefusal, IsDesignFault, IsDesignIn, IsDesignOf, IsFileDesign, IsFileFault, IsLefRefusal, IsLibraryFault, IsLibraryOf}
 use Rattle.lf_app.specs.Designs.{IsLoadRefusal, IsLoadedIn, IsRefused, IsUnread, no_library}
-use Rattle.lf_app.specs.Exits.{IsUntouched, Streams}
+use Rattle.lf_app.specs.Exits.{IsUntouched, Streams, streams}
 use Rattle.lf_app.specs.Faults.{Blames, IsEarly, IsExportFault}
 use Rattle.lf_app.specs.Work.{IsDone, IsFault, IsStopped}
 use Rattle.lf_app.specs.declared.work.Lines.{Lines}
@@ -192,7 +193,14 @@ pub files_fail : (gives : Gives) (path : List ℕ) (lefs : List (List ℕ)) (lib
 files_fail gives path lefs library why fault is (inl file) = inl (inr (library, is, file))
 files_fail gives path lefs library why fault is (inr work) = inr (work.0, (library, is, work.1), work.2)
 
--- so does what stops its lines
+-- lines are done whatever is put into files beside them
+pub done_beside : (lines : Lines) (loaded : Loaded) (floor : FloorState) (input left before after : Option (List ℕ))
+    (old_puts new_puts other_old other_new : Option (List Put)) → IsDone lines loaded floor (streams input left before after old_puts new_puts)
+    → IsDone lines loaded floor (streams input left before after other_old other_new)
+done_beside (Stream limit) loaded floor input left before after old_puts new_puts other_old other_new is = is
+done_beside (Port port connections) loaded floor input left before after old_puts new_puts other_old other_new is = is
+
+-- what stops its lines stops the work
 pub lines_stopped : (export : Option (List ℕ)) (lines : Lines) (loaded : Loaded) (io : Streams) (fault : Fault) → IsFault lines loaded fault io
     → IsStopped export lines loaded fault io
 lines_stopped None lines loaded io fault is = is

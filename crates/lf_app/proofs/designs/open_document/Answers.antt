@@ -6,10 +6,10 @@ use Rattle.lf_app.specs.Designs.{IsLoadedIn}
 use Rattle.lf_app.proofs.designs.open_document.Goals as goal
 
 pub returns-clause-design : goal.returns-clause-design
-returns-clause-design g c =
+returns-clause-design c =
     IfOk-weaker c.with_clauses.result _ _
     (λ kept same. subst (λ (l : Loaded). IsLoadedIn c.args.library.now (contents c.args.document.now) l) (sym same) c.in_ok-loaded.ensures.ok)
     c.with_clauses.ensures.design
 
 pub returns-clause-err : goal.returns-clause-err
-returns-clause-err g c = c.with_clauses.ensures.err c.args.library.now
+returns-clause-err c = c.with_clauses.ensures.err c.args.library.now
