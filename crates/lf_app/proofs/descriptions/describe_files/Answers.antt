@@ -1,7 +1,8 @@
-use Rattle.std.proofs.Common.{◌≡◌, inl, map, refl}
+use Rattle.std.proofs.Common.{◌≡◌, ◌⊎◌, inl, map, refl}
 use Rattle.std.proofs.lemmas.Result.{err_from_is_err_and}
 use Rattle.lf_app.specs.Faults.{IsDescriptionFault}
-use Rattle.lf_app.specs.Designs.{no_library}
+use Rattle.lf_floorplan.specs.declared.loaded.Loaded.{Loaded}
+use Rattle.lf_app.specs.Designs.{IsDesignFault, IsDesignOf, IsLibraryFault, no_library}
 use Rattle.lf_app.proofs.WorkSteps.{files_fail, first_fails, library_early, step_fails, weaker_ok}
 use Rattle.lf_app.proofs.descriptions.describe_files.Goals as goal
 
@@ -25,5 +26,8 @@ returns-clause-err g c =
 pub returns-in_err-library-clause-err : goal.returns-in_err-library-clause-err
 returns-in_err-library-clause-err g c =
     let p = err_from_is_err_and c.from_residual.result c.from_residual.ensures.1 in
-    rw (p.1, p.2) (first_fails _ _ (c.args.writer.now ≡ c.args.writer.now) _ _ _ refl c.in_err-library.ensures.err
-    (library_early (g.T.Texts.gives c.args.texts.now) no_library (map (λ lef. lef.now) c.args.lefs.now)) (λ fault why. inl (inl why)))
+    let gives = g.T.Texts.gives c.args.texts.now in
+    let lefs = map (λ lef. lef.now) c.args.lefs.now in
+    rw (p.1, p.2) (first_fails (IsLibraryFault gives no_library lefs)
+    (λ fault. IsDesignFault gives c.args.def.now lefs fault ⊎ ((loaded : Loaded) × IsDesignOf gives c.args.def.now lefs loaded × IsDescriptionFault fault))
+    (c.args.writer.now ≡ c.args.writer.now) _ _ _ refl c.in_err-library.ensures.err (library_early gives no_library lefs) (λ fault why. inl (inl why)))

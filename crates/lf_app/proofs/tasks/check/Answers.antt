@@ -1,5 +1,6 @@
-use Rattle.std.proofs.Common.{◌≡◌, inl, map, refl}
+use Rattle.std.proofs.Common.{◌≡◌, ◌⊎◌, inl, map, refl}
 use Rattle.std.proofs.lemmas.Result.{err_from_is_err_and}
+use Rattle.lf_floorplan.specs.declared.loaded.Loaded.{Loaded}
 use Rattle.lf_app.specs.Designs.{IsDesignFault, IsDesignOf}
 use Rattle.lf_app.specs.Exits.{IsReported}
 use Rattle.lf_app.specs.Faults.{IsReportFault}
@@ -22,5 +23,8 @@ returns-clause-err g c =
 pub returns-in_err-loaded-clause-err : goal.returns-in_err-loaded-clause-err
 returns-in_err-loaded-clause-err g c =
     let p = err_from_is_err_and c.from_residual.result c.from_residual.ensures.1 in
-    rw (p.1, p.2) (first_fails _ _ (c.args.writer.now ≡ c.args.writer.now) _ _ _ refl c.in_err-loaded.ensures.err
-    (design_early (g.T.Texts.gives c.args.texts.now) c.args.def.now (map (λ lef. lef.now) c.args.lefs.now)) (λ fault why. inl why))
+    let gives = g.T.Texts.gives c.args.texts.now in
+    let lefs = map (λ lef. lef.now) c.args.lefs.now in
+    rw (p.1, p.2) (first_fails (IsDesignFault gives c.args.def.now lefs)
+    (λ fault. IsDesignFault gives c.args.def.now lefs fault ⊎ ((loaded : Loaded) × IsDesignOf gives c.args.def.now lefs loaded × IsReportFault fault))
+    (c.args.writer.now ≡ c.args.writer.now) _ _ _ refl c.in_err-loaded.ensures.err (design_early gives c.args.def.now lefs) (λ fault why. inl why))

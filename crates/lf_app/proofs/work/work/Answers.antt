@@ -1,5 +1,10 @@
 use Rattle.std.proofs.Common.{◌≡◌, inl, inr, map, refl}
 use Rattle.std.proofs.lemmas.Result.{err_from_is_err_and}
+use Rattle.std.specs.Prelude.{option_map}
+use Rattle.lf_app.specs.Designs.{IsDesignFault, IsDesignOf}
+use Rattle.lf_app.specs.Exits.{IsJobStop}
+use Rattle.lf_app.specs.Surroundings.{io_of}
+use Rattle.lf_app.specs.Work.{IsStopped}
 use Rattle.lf_app.proofs.WorkSteps.{design_early, first_fails, step_fails, weaker_ok}
 use Rattle.lf_app.proofs.work.work.Goals as goal
 
@@ -33,5 +38,10 @@ returns-clause-err g c =
 pub returns-in_err-opened-clause-err : goal.returns-in_err-opened-clause-err
 returns-in_err-opened-clause-err g c =
     let p = err_from_is_err_and c.from_residual.result c.from_residual.ensures.1 in
-    rw (p.1, p.2) (first_fails _ _ (c.args.around.now.writer ≡ c.args.around.now.writer) _ _ _ refl c.in_err-opened.ensures.err
-    (design_early (g.T.Texts.gives c.args.around.now.texts) c.args.def.now (map (λ lef. lef.now) c.args.lefs.now)) (λ fault why. inl why))
+    let gives = g.T.Texts.gives c.args.around.now.texts in
+    let lefs = map (λ lef. lef.now) c.args.lefs.now in
+    rw (p.1, p.2) (first_fails (IsDesignFault gives c.args.def.now lefs)
+    (λ fault. IsJobStop (IsDesignFault gives c.args.def.now lefs) (IsDesignOf gives c.args.def.now lefs)
+    (IsStopped (option_map (λ path. path.now) c.args.path) c.args.lines) fault
+    (io_of g.R.Source.remaining g.W.Sink.contents g.E.Exports.puts c.args.around.now c.args.around.now))
+    (c.args.around.now.writer ≡ c.args.around.now.writer) _ _ _ refl c.in_err-opened.ensures.err (design_early gives c.args.def.now lefs) (λ fault why. inl why))
