@@ -1,12 +1,14 @@
 //! The program: its commands, its messages of faults, and the loop that answers lines.
 #![tactic(auto)]
 
+mod checks;
 mod descriptions;
 mod designs;
 mod exported;
 mod faults;
 mod hints;
 mod lines;
+mod opened;
 mod origins;
 mod refusals;
 mod reports;

@@ -1,6 +1,6 @@
 use Rattle.lf_def.specs.Contents.{contents}
 use Rattle.lf_app.proofs.Opening.{both_ok}
-use Rattle.lf_app.proofs.designs.open_text.Goals as goal
+use Rattle.lf_app.proofs.opened.open_text.Goals as goal
 
 pub returns-clause-ok : goal.returns-clause-ok
 returns-clause-ok c =

@@ -6,7 +6,7 @@ use Rattle.lf_app.specs.Exits.{IsReported}
 use Rattle.lf_app.specs.Faults.{IsReportFault}
 use Rattle.lf_app.proofs.TaskSteps.{comes_of, fails}
 use Rattle.lf_app.proofs.WorkSteps.{design_early, first_fails}
-use Rattle.lf_app.proofs.tasks.check.Goals as goal
+use Rattle.lf_app.proofs.checks.check.Goals as goal
 
 pub returns-clause-ok : goal.returns-clause-ok
 returns-clause-ok g c =
