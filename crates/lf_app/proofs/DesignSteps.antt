@@ -12,7 +12,8 @@ use Rattle.lf_floorplan.specs.declared.limits.Limits.{Limits}
 use Rattle.lf_refusals.specs.Findings.{IsFault}
 use Rattle.lf_app.specs.declared.faults.Fault.{Fault}
 use Rattle.lf_app.specs.declared.faults.TextKind.{TextKind}
-use Rattle.lf_app.specs.Designs.{Adds, AreStandard, Gives, IsFaultIn, IsLibraryFault, IsLibraryOf, IsRefused}
+use Rattle.lf_app.specs.declared.faults.TextKind.TheVariants.{Lef}
+use Rattle.lf_app.specs.Designs.{Adds, AreStandard, Gives, IsFaultIn, IsFileFault, IsLefRefusal, IsLibraryFault, IsLibraryOf, IsRefused}
 use Rattle.lf_app.proofs.WorkSteps.{refused_as}
 
 -- what loading answers within the standard limits
@@ -60,3 +61,12 @@ one_more gives first now next paths i d lt on adds =
       library = λ new rest. here.library new (next, adds, rest);
       fault = λ fault rest. here.fault fault (inr (next, adds, rest));
     }
+
+-- a fault of the next file is one of all
+pub fails_here : (gives : Gives) (first now : Contents) (paths : List Path) (i : ℕ) (d : Path) (fault : Fault) → i < length paths
+    → GoesOn gives first now (written paths) (written (drop i paths)) → IsFileFault gives Lef (slice_index_or paths i d).now (IsLefRefusal now) fault
+    → IsLibraryFault gives first (written paths) fault
+fails_here gives first now paths i d fault lt on is =
+    let here : GoesOn gives first now (written paths) ((slice_index_or paths i d).now ∷ written (drop (i + 1) paths)) =
+    subst (λ (left : List (List ℕ)). GoesOn gives first now (written paths) left) (ahead paths i d lt) on in
+    here.fault fault (inl is)

@@ -1,10 +1,11 @@
 -- Work on a design, step by step: what the steps after one give is what the whole gives.
-use Rattle.std.proofs.Common.{◌≡◌, ◌⊎◌, inl, inr, refl, subst, sym, ℕ, List, [], ◌∷◌, None, Ok, Option, Some}
+use Rattle.std.proofs.Common.{◌≡◌, ◌⊎◌, inl, inr, subst, sym, ℕ, List, [], ◌∷◌, None, Ok, Option, Some}
 use Rattle.std.specs.Prelude.{IfErr, IfOk, Result}
 use Rattle.std.proofs.lemmas.Result.{IfErr-weaker, IfOk-weaker}
 use Rattle.lf_lex.specs.declared.fault.LoadFault.{LoadFault}
 use Rattle.lf_lef.specs.Contents.{Contents}
-use Rattle.lf_def.specs.Document.{Document, Refuses, document_of}
+use Rattle.lf_def.specs.Document.{Document, document_of}
+use Rattle.lf_files.specs.Shelf.{Put}
 use Rattle.lf_floorplan.specs.declared.loaded.Loaded.{Loaded}
 use Rattle.lf_app.specs.declared.faults.Fault.{Fault}
 use Rattle.lf_app.specs.declared.faults.Fault.TheVariants.{Refused, File, ReadFault, WriteFault, TooManyLines, OutOfMemory, Output, Bind, Accept, Unwritten, NoMemory, NoRoom}
@@ -12,9 +13,9 @@ use Rattle.lf_app.specs.declared.faults.TextKind.{TextKind}
 use Rattle.lf_app.specs.declared.faults.TextKind.TheVariants.{Lef, Def}
 use Rattle.lf_app.specs.Designs.{Gives, IsDefRefusal, IsDesignFault, IsDesignIn, IsDesignOf, IsFileDesign, IsFileFault, IsLefRefusal, IsLibraryFault, IsLibraryOf}
 use Rattle.lf_app.specs.Designs.{IsLoadRefusal, IsLoadedIn, IsRefused, IsUnread, no_library}
-use Rattle.lf_app.specs.Exits.{IsUntouched, Streams}
+use Rattle.lf_app.specs.Exits.{Streams, streams}
 use Rattle.lf_app.specs.Faults.{Blames, IsEarly, IsExportFault}
-use Rattle.lf_app.specs.Work.{IsDone, IsFault, IsStopped}
+use Rattle.lf_app.specs.Work.{IsDone, IsStopped}
 use Rattle.lf_app.specs.declared.work.Lines.{Lines}
 use Rattle.lf_app.specs.declared.work.Lines.TheVariants.{Stream, Port}
 use Rattle.lf_teams.specs.States.{FloorState}
@@ -164,12 +165,6 @@ text_refused library path text document fault is refused =
     refused_as Def path text (IsLoadRefusal library document) (IsDefRefusal library text) fault refused
     (λ refusal why. load_refused library text document refusal is why)
 
--- and one of reading the text is too
-pub text_unread : (library : Contents) (path text : List ℕ) (fault : Fault) → IsRefused Def path text (λ refusal. Refuses refusal (document_of text)) fault
-    → IsRefused Def path text (IsDefRefusal library text) fault
-text_unread library path text fault refused =
-    refused_as Def path text (λ refusal. Refuses refusal (document_of text)) (IsDefRefusal library text) fault refused (λ refusal why. inl why)
-
 -- why the design of a text is not worked on to its end is why that of its document is not
 pub text_fails : (library : Contents) (path text : List ℕ) (document : Document) (why : Loaded → Type 0) (fault : Fault) → document_of text ≡ Ok document
     → IsRefused Def path text (IsLoadRefusal library document) fault ⊎ ((loaded : Loaded) × IsLoadedIn library document loaded × why loaded)
@@ -192,11 +187,12 @@ pub files_fail : (gives : Gives) (path : List ℕ) (lefs : List (List ℕ)) (lib
 files_fail gives path lefs library why fault is (inl file) = inl (inr (library, is, file))
 files_fail gives path lefs library why fault is (inr work) = inr (work.0, (library, is, work.1), work.2)
 
--- so does what stops its lines
-pub lines_stopped : (export : Option (List ℕ)) (lines : Lines) (loaded : Loaded) (io : Streams) (fault : Fault) → IsFault lines loaded fault io
-    → IsStopped export lines loaded fault io
-lines_stopped None lines loaded io fault is = is
-lines_stopped (Some path) lines loaded io fault is = inl is
+-- lines are done whatever is put into files beside them
+pub done_beside : (lines : Lines) (loaded : Loaded) (floor : FloorState) (input left before after : Option (List ℕ))
+    (old_puts new_puts other_old other_new : Option (List Put)) → IsDone lines loaded floor (streams input left before after old_puts new_puts)
+    → IsDone lines loaded floor (streams input left before after other_old other_new)
+done_beside (Stream limit) loaded floor input left before after old_puts new_puts other_old other_new is = is
+done_beside (Port port connections) loaded floor input left before after old_puts new_puts other_old other_new is = is
 
 -- and a fault of the export that was asked for, if the lines are done
 pub export_stopped : (export : Option (List ℕ)) (lines : Lines) (loaded : Loaded) (floor : FloorState) (io : Streams) (fault : Fault)
@@ -204,29 +200,8 @@ pub export_stopped : (export : Option (List ℕ)) (lines : Lines) (loaded : Load
 export_stopped None lines loaded floor io fault is done = absurd is
 export_stopped (Some path) lines loaded floor io fault is done = inr (is, inr (floor, done))
 
--- and one that is told before anything is done
-untouched_stopped : (export : Option (List ℕ)) (lines : Lines) (loaded : Loaded) (io : Streams) (fault : Fault)
-    → IsExportFault export fault → IsUntouched io → IsStopped export lines loaded fault io
-untouched_stopped None lines loaded io fault is untouched = absurd is
-untouched_stopped (Some path) lines loaded io fault is untouched = inr (is, inl untouched)
-
 -- a fault of the export, if the lines are done, stops the work on a design
 pub export_ends : (export : Option (List ℕ)) (lines : Lines) (loaded : Loaded) (floor : FloorState) (io : Streams) (kept reader writer : Type 0) (fault : Fault)
     → IsDone lines loaded floor io → IsExportFault export fault → IsStopped export lines loaded fault io × Blames fault kept reader writer
 export_ends export lines loaded floor io kept reader writer fault done is =
     (export_stopped export lines loaded floor io fault is done, export_blames export kept reader writer fault is)
-
--- and a fault of the export before anything is done
-pub untouched_ends : (export : Option (List ℕ)) (lines : Lines) (loaded : Loaded) (io : Streams) (kept reader writer : Type 0) (fault : Fault)
-    → IsUntouched io → IsExportFault export fault → IsStopped export lines loaded fault io × Blames fault kept reader writer
-untouched_ends export lines loaded io kept reader writer fault untouched is =
-    (untouched_stopped export lines loaded io fault is untouched, export_blames export kept reader writer fault is)
-
--- nor is an allocation before the first line any of the writer's or the reader's
-pub memory_blames : (kept reader writer : Type 0) → kept → Blames NoMemory kept reader writer
-memory_blames kept reader writer keeps = early_blames kept reader writer NoMemory keeps tt
-
--- an allocation that fails before the lines stops them
-pub memory_stopped : (export : Option (List ℕ)) (lines : Lines) (loaded : Loaded) (io : Streams) → IsStopped export lines loaded NoMemory io
-memory_stopped export (Stream limit) loaded io = lines_stopped export (Stream limit) loaded io NoMemory (inl refl)
-memory_stopped export (Port port connections) loaded io = lines_stopped export (Port port connections) loaded io NoMemory (inl refl)

@@ -17,7 +17,7 @@ use Rattle.lf_teams.specs.Places.{AreCommittedPlaces}
 use Rattle.lf_server.specs.Connections.{Connects}
 use Rattle.lf_server.specs.declared.serving.Ending.{Ending}
 use Rattle.lf_command.specs.Command.{Job, demo, replay, serve, check, describe}
-use Rattle.lf_app.specs.declared.designs.Opened.{Opened}
+use Rattle.lf_app.specs.declared.opened.Opened.{Opened}
 use Rattle.lf_app.specs.declared.faults.Fault.{Fault}
 use Rattle.lf_app.specs.declared.faults.Fault.TheVariants.{NoMemory}
 use Rattle.lf_app.specs.declared.faults.Exit.{Exit}

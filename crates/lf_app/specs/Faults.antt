@@ -102,9 +102,12 @@ abbrev pub file_words : TextFile → List ℕ
 file_words file = kind_words file.kind ++ shown file.path.now
 
 -- the line of an earlier entry of the same name
+abbrev pub first_words : ℕ → List ℕ
+first_words number = codes " (the first is in line " ++ decimal number ++ codes ")"
+
 abbrev pub earlier_words : Option ℕ → List ℕ
 earlier_words None = []
-earlier_words (Some number) = codes " (the first is in line " ++ decimal number ++ codes ")"
+earlier_words (Some number) = first_words number
 
 -- the number of a line, and that of an earlier entry
 abbrev pub number_words : ℕ → Option ℕ → List ℕ

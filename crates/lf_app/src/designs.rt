@@ -7,13 +7,10 @@ ghost use Rattle.std.specs.Prelude.{◌≡◌, ◌⊎◌, Ok, Some, map, IfErr, 
 ghost use Rattle.lf_app.specs.declared.faults.TextKind.TheVariants.{Lef, Def};
 ghost use Rattle.lf_lex.specs.declared.fault.ReadError.TheVariants.{Memory};
 ghost use Rattle.lf_lex.specs.Faults.{load_fault_of};
-ghost use Rattle.lf_lef.specs.Contents.{Contents};
 ghost use Rattle.lf_lef.specs.Library.{library_after};
 ghost use Rattle.lf_def.specs.Contents.{contents};
-ghost use Rattle.lf_def.specs.Document.{Document, Refuses, document_of};
-ghost use Rattle.lf_write.specs.Export.{clause_of};
-ghost use Rattle.lf_app.specs.Designs.{Adds, IsDefRefusal, IsDesignFault, IsDesignIn, IsDesignOf, IsFileDesign, IsFileFault, IsKept};
-ghost use Rattle.lf_app.specs.Exits.{IsOpenedOf};
+ghost use Rattle.lf_def.specs.Document.{Refuses, document_of};
+ghost use Rattle.lf_app.specs.Designs.{Adds, IsDefRefusal, IsDesignFault, IsDesignIn, IsDesignOf, IsFileDesign, IsFileFault};
 ghost use Rattle.lf_app.specs.Designs.{IsLefRefusal, IsLibraryFault, IsLibraryOf, IsLoadRefusal, IsLoadedIn, IsRefused};
 ghost use Rattle.lf_app.specs.Designs.{IsTextDesign, IsTextFault, IsUnread, no_library};
 
@@ -23,8 +20,7 @@ use crate::texts::Texts;
 use lf_def::{DefDoc, read_def};
 use lf_frame::{Limits, Loaded, load};
 use lf_lef::{Library, read_lef};
-use lf_lex::{LoadFault, ReadError};
-use lf_write::{Clauses, clauses_of};
+use lf_lex::LoadFault;
 use std::alloc::Global;
 
 /// What the built-in texts are called in place of a path.
@@ -64,7 +60,12 @@ pub(crate) fn def_file(path: &str) -> TextFile<'_>
 }
 
 /// The fault of a text that is refused so: want of memory, if there is none to say more.
-fn refused<'a>(alloc: Global, file: TextFile<'a>, text: &[u8], fault: &LoadFault<'_>) -> Fault<'a>
+pub(crate) fn refused<'a>(
+    alloc: Global,
+    file: TextFile<'a>,
+    text: &[u8],
+    fault: &LoadFault<'_>,
+) -> Fault<'a>
     ensures { IsRefused file.entry.kind file.entry.path.now text.now (λ told. (told ≡ fault.now) ⊎ (told ≡ load_fault_of Memory)) result }
 {
     Fault::Refused {
@@ -220,123 +221,4 @@ pub(crate) fn design_of_texts<'a>(
     let mut library = Library::new(alloc);
     add_text(alloc, &mut library, BUILT_IN, lef)?;
     load_text(alloc, &library, BUILT_IN, def)
-}
-
-/// What is kept of a document: its design, and where the placement clauses of its components are.
-#[derive(Drop)]
-struct Kept {
-    loaded: Loaded,
-    clauses: Clauses,
-}
-
-/// What is kept of the document, that of the text of the path, beside the design.
-fn with_clauses<'a>(
-    alloc: Global,
-    path: &'a str,
-    text: &[u8],
-    document: &DefDoc,
-    loaded: Loaded,
-) -> Result<Kept, Fault<'a>>
-    ensures design { IfOk result (λ kept. kept.loaded ≡ loaded) }
-    ensures clauses { IfOk result (λ kept. kept.clauses ≡ map (clause_of document.now.text.now) document.now.components) }
-    ensures err { (library : Contents) → IfErr result (IsRefused Def path.now text.now (IsLoadRefusal library (contents document.now))) }
-{
-    match clauses_of(alloc, document) {
-        Ok(clauses) => Ok(Kept { loaded, clauses }),
-        Err(_) => {
-            let fault = ReadError::Memory.into_load_fault();
-            Err(refused(alloc, def_file(path), text, &fault))
-        }
-    }
-}
-
-/// What is kept of a document, that of the text of the path, over the library.
-fn open_document<'a>(
-    alloc: Global,
-    library: &Library,
-    path: &'a str,
-    text: &[u8],
-    document: &DefDoc,
-) -> Result<Kept, Fault<'a>>
-    ensures design { IfOk result (λ kept. IsLoadedIn library.now (contents document.now) kept.loaded) }
-    ensures clauses { IfOk result (λ kept. kept.clauses ≡ map (clause_of document.now.text.now) document.now.components) }
-    ensures err { IfErr result (IsRefused Def path.now text.now (IsLoadRefusal library.now (contents document.now))) }
-{
-    let loaded = load_document(alloc, library, path, text, document)?;
-    with_clauses(alloc, path, text, document, loaded)
-}
-
-/// What is kept of the document of a DEF text, that of the path, over the library.
-fn open_text<'a>(
-    alloc: Global,
-    library: &Library,
-    path: &'a str,
-    text: &[u8],
-) -> Result<Kept, Fault<'a>>
-    ensures ok { IfOk result (λ kept. (document : Document) × IsKept text.now library.now document kept.clauses kept.loaded) }
-    ensures err { IfErr result (IsRefused Def path.now text.now (IsDefRefusal library.now text.now)) }
-{
-    let document = read_document(alloc, path, text)?;
-    open_document(alloc, library, path, text, &document)
-}
-
-/// A DEF text, of which its committed places make an exported text.
-#[derive(Drop)]
-pub(crate) struct Original {
-    pub(crate) text: Vec<u8>,
-    /// Where the placement clauses of its components are.
-    pub(crate) clauses: Clauses,
-}
-
-/// The design of a DEF text, and the text.
-#[derive(Drop)]
-pub(crate) struct Opened {
-    pub(crate) loaded: Loaded,
-    pub(crate) original: Original,
-}
-
-/// The text of a DEF file, that of the path, and its design over the library.
-fn open_kept<'a>(
-    alloc: Global,
-    library: &Library,
-    path: &'a str,
-    text: Vec<u8>,
-) -> Result<Opened, Fault<'a>>
-    ensures text { IfOk result (λ opened. opened.original.text.items ≡ text.items) }
-    ensures ok { IfOk result (λ opened. (document : Document) × IsKept text.items library.now document opened.original.clauses opened.loaded) }
-    ensures err { IfErr result (IsRefused Def path.now text.items (IsDefRefusal library.now text.items)) }
-{
-    let Kept { loaded, clauses } = open_text(alloc, library, path, &text)?;
-    let original = Original { text, clauses };
-    Ok(Opened { loaded, original })
-}
-
-/// The design of a DEF file over the library, and the text of the file.
-fn open_file<'a, T: Texts>(
-    alloc: Global,
-    texts: &T,
-    library: &Library,
-    path: &'a str,
-) -> Result<Opened, Fault<'a>>
-    ensures given { IfOk result (λ opened. T.gives texts.now path.now (Some opened.original.text.items)) }
-    ensures ok { IfOk result (λ opened. (document : Document)
-        × IsKept opened.original.text.items library.now document opened.original.clauses opened.loaded) }
-    ensures err { IfErr result (IsFileFault (T.gives texts.now) Def path.now (IsDefRefusal library.now)) }
-{
-    let text = read_text(texts, def_file(path))?;
-    open_kept(alloc, library, path, text)
-}
-
-/// The design of a DEF file over LEF files, given by their paths, and the text of the DEF file.
-pub(crate) fn open_files<'a, T: Texts>(
-    alloc: Global,
-    texts: &T,
-    def: &'a str,
-    lefs: &[&'a str],
-) -> Result<Opened, Fault<'a>>
-    ensures ok { IfOk result (IsOpenedOf (T.gives texts.now) def.now (map (λ lef. lef.now) lefs.now)) }
-    ensures err { IfErr result (IsDesignFault (T.gives texts.now) def.now (map (λ lef. lef.now) lefs.now)) }
-{
-    let library = library_of(alloc, texts, lefs)?;
-    open_file(alloc, texts, &library, def)
 }

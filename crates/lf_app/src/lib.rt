@@ -25,12 +25,14 @@
 //! ```
 #![tactic(auto)]
 
+mod checks;
 mod descriptions;
 mod designs;
 mod exported;
 mod faults;
 mod hints;
 mod lines;
+mod opened;
 mod origins;
 mod refusals;
 mod reports;

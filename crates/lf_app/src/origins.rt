@@ -3,7 +3,7 @@
 ghost use Rattle.std.specs.Prelude.{◌≡◌, ◌<◌, OnErr, OnOk, true};
 ghost use Rattle.std.specs.Io.KnownBytes.{Appends};
 ghost use Rattle.std.specs.Char.{digit_char};
-ghost use Rattle.lf_app.specs.Faults.{complaint_line, complaint_words, earlier_words, export_words, file_words, hint_words, is_memory, number_words};
+ghost use Rattle.lf_app.specs.Faults.{complaint_line, complaint_words, earlier_words, export_words, file_words, first_words, hint_words, is_memory, number_words};
 ghost use Rattle.lf_app.specs.Faults.{port_words, reason_words, refusal_words, second_line, shown, shown_byte, shown_line, subject_words, unbound_words, unreadable_words};
 
 use crate::faults::{Fault, TextFile, TextKind};
@@ -68,18 +68,27 @@ fn put_file<W: Sink>(sink: &mut W, file: &TextFile<'_>) -> Result<(), DeviceFaul
     put_shown(sink, file.path.as_bytes())
 }
 
+/// Writes the number of the line of the earlier entry.
+fn put_first<W: Sink>(sink: &mut W, number: usize) -> Result<(), DeviceFault>
+    ensures ok { OnOk result (Appends (W.contents sink.old) (W.contents sink.new) (first_words number)) }
+    ensures failed { OnErr result (W.has_failed sink.new ≡ true) }
+    ensures held { W.holds sink.new ≡ W.holds sink.old }
+{
+    send(sink, b" (the first is in line ")?;
+    send(sink, Buffer::new().format(number).as_bytes())?;
+    send(sink, b")")
+}
+
 /// Writes the number of the line of an earlier entry of the same name, if there is one.
 fn put_earlier<W: Sink>(sink: &mut W, earlier: Option<usize>) -> Result<(), DeviceFault>
     ensures ok { OnOk result (Appends (W.contents sink.old) (W.contents sink.new) (earlier_words earlier)) }
     ensures failed { OnErr result (W.has_failed sink.new ≡ true) }
     ensures held { W.holds sink.new ≡ W.holds sink.old }
 {
-    let Some(number) = earlier else {
-        return Ok(());
-    };
-    send(sink, b" (the first is in line ")?;
-    send(sink, Buffer::new().format(number).as_bytes())?;
-    send(sink, b")")
+    match earlier {
+        Some(number) => put_first(sink, number),
+        None => Ok(()),
+    }
 }
 
 /// Writes the number of a line, and that of an earlier entry.

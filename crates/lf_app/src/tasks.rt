@@ -1,21 +1,21 @@
 //! What the program does for a task.
 
-ghost use Rattle.std.specs.Prelude.{◌≡◌, ◌⊎◌, Bool, None, false, map, true, ⊤, IfErr, IfOk, IsTrue, OnErr, OnOk};
+ghost use Rattle.std.specs.Prelude.{◌≡◌, ◌⊎◌, Bool, None, false, true, ⊤, IfErr, IfOk, IsTrue, OnErr, OnOk};
 ghost use Rattle.lf_command.specs.Command.{ReadsNone, as_job};
 ghost use Rattle.lf_floorplan.specs.declared.loaded.Loaded.{Loaded};
 ghost use Rattle.lf_teams.specs.States.{FloorState};
-ghost use Rattle.lf_app.specs.Designs.{IsDesignFault, IsDesignOf, IsTextDesign, IsTextFault};
+ghost use Rattle.lf_app.specs.Designs.{IsTextDesign, IsTextFault};
 ghost use Rattle.lf_app.specs.declared.faults.Exit.{Exit};
-ghost use Rattle.lf_app.specs.Exits.{AsksForNoFile, Ends, IsAnswered, IsJobFault, IsJobStop, IsLinesFault, IsOutcome, IsReported, reads_of, streams};
-ghost use Rattle.lf_app.specs.Faults.{Blames, IsDone, IsEarly, IsFailure, IsReportFault};
+ghost use Rattle.lf_app.specs.Exits.{AsksForNoFile, Ends, IsAnswered, IsJobFault, IsJobStop, IsLinesFault, IsOutcome, reads_of, streams};
+ghost use Rattle.lf_app.specs.Faults.{Blames, IsDone, IsEarly, IsFailure};
 ghost use Rattle.lf_app.specs.Lines.{ReadsFail, most_lines};
 ghost use Rattle.lf_app.specs.Services.{IsOfferOf};
 ghost use Rattle.lf_app.specs.Surroundings.{IsReady, Keeps, io_of};
 
+use crate::checks::check;
 use crate::descriptions::describe_files;
-use crate::designs::{design_of_files, design_of_texts};
+use crate::designs::design_of_texts;
 use crate::faults::{Exit, Fault, done, tell};
-use crate::reports::report_design;
 use crate::services::{NetServices, Services};
 use crate::surroundings::Surroundings;
 use crate::texts::{FileTexts, Texts};
@@ -24,7 +24,6 @@ use lf_command::Task;
 use lf_def::W_DEF;
 use lf_devices::{FromRead, Sink, Source, ToWrite};
 use lf_files::{Exports, FileExports};
-use lf_frame::Loaded;
 use lf_lef::W_LEF;
 use std::alloc::Global;
 use std::io::{Read, Write};
@@ -36,23 +35,6 @@ pub(crate) const DONE: u8 = 0;
 
 /// The exit status of a check or a description that was done and found the design not fully legal.
 pub(crate) const ILLEGAL: u8 = 4;
-
-/// Writes the report of the design, and returns the exit status.
-fn check_design<'a, W: Sink>(
-    alloc: Global,
-    loaded: &Loaded,
-    writer: &mut W,
-) -> Result<u8, Fault<'a>>
-    ensures ok { IfOk result (IsReported loaded.now (W.contents writer.old) (W.contents writer.new)) }
-    ensures err { IfErr result (λ fault. IsReportFault fault × Blames fault (writer.new ≡ writer.old) ⊥ (W.has_failed writer.new ≡ true)) }
-    ensures held { W.holds writer.new ≡ W.holds writer.old }
-{
-    match report_design(alloc, loaded, writer) {
-        Ok(true) => Ok(DONE),
-        Ok(false) => Ok(ILLEGAL),
-        Err(fault) => Err(fault),
-    }
-}
 
 /// Answers the lines of the reader over the design that the program holds.
 fn demo<'a, R: Source, W: Sink>(
@@ -75,25 +57,6 @@ fn demo<'a, R: Source, W: Sink>(
 {
     let loaded = design_of_texts(alloc, W_DEF, W_LEF)?;
     answer_over(alloc, loaded, reader, writer)
-}
-
-/// Writes the report of the design of these files.
-fn check<'a, T: Texts, W: Sink>(
-    alloc: Global,
-    texts: &T,
-    def: &'a str,
-    lefs: &[&'a str],
-    writer: &mut W,
-) -> Result<u8, Fault<'a>>
-    ensures ok { IfOk result (λ status. (loaded : Loaded) × IsDesignOf (T.gives texts.now) def.now (map (λ lef. lef.now) lefs.now) loaded
-        × IsReported loaded (W.contents writer.old) (W.contents writer.new) status) }
-    ensures err { IfErr result (λ fault. (IsDesignFault (T.gives texts.now) def.now (map (λ lef. lef.now) lefs.now) fault
-        ⊎ ((loaded : Loaded) × IsDesignOf (T.gives texts.now) def.now (map (λ lef. lef.now) lefs.now) loaded × IsReportFault fault))
-        × Blames fault (writer.new ≡ writer.old) ⊥ (W.has_failed writer.new ≡ true)) }
-    ensures held { W.holds writer.new ≡ W.holds writer.old }
-{
-    let loaded = design_of_files(alloc, texts, def, lefs)?;
-    check_design(alloc, &loaded, writer)
 }
 
 /// Does the task, and returns its exit status.

@@ -1,6 +1,6 @@
 //! Where the texts of a design are read from.
 
-ghost use Rattle.std.specs.Prelude.{◌≡◌, ℕ, List, Option, Some, None, ⊤, IfOk, IfErr};
+ghost use Rattle.std.specs.Prelude.{ℕ, List, Option, Some, None, ⊤, IfOk, IfErr};
 
 use std::rt::Files;
 use std::{fs, io};

@@ -18,10 +18,10 @@ ghost use Rattle.lf_app.specs.Services.{OffersLocal};
 ghost use Rattle.lf_app.specs.Surroundings.{IsReady, Keeps, io_of};
 ghost use Rattle.lf_app.specs.Work.{BlamesIn, IsDone, IsFault, IsOfferFor, IsStopped, Leaves};
 
-use crate::designs::{Opened, Original, open_files};
 use crate::exported::{export_to, try_export};
 use crate::faults::{Fault, ending_fault};
 use crate::lines::{MOST_LINES, answer_lines};
+use crate::opened::{Opened, Original, open_files};
 use crate::services::{Services, Unserved, local_offer};
 use crate::surroundings::Surroundings;
 use crate::texts::Texts;

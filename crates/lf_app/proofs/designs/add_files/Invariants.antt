@@ -1,4 +1,4 @@
-use Rattle.std.proofs.Common.{◌≡◌, drop, map}
+use Rattle.std.proofs.Common.{drop, map}
 use Rattle.lf_app.proofs.DesignSteps.{GoesOn}
 use Rattle.lf_app.proofs.designs.add_files.Given as goal
 

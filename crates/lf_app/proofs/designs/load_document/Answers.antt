@@ -6,7 +6,7 @@ use Rattle.lf_app.proofs.DesignSteps.{loading, told_as}
 use Rattle.lf_app.proofs.designs.load_document.Goals as goal
 
 pub returns-in-Err-clause-err : goal.returns-in-Err-clause-err
-returns-in-Err-clause-err g c =
+returns-in-Err-clause-err c =
     let limits = c.standard.ensures in
     let standard : AreStandard c.standard.result = record {
       rows = limits.rows;

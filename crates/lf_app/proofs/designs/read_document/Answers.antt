@@ -5,6 +5,6 @@ use Rattle.lf_app.proofs.DesignSteps.{told_as}
 use Rattle.lf_app.proofs.designs.read_document.Goals as goal
 
 pub returns-in-Err-clause-err : goal.returns-in-Err-clause-err
-returns-in-Err-clause-err g c =
+returns-in-Err-clause-err c =
     told_as Def c.args.path.now c.args.text.now (λ refusal. Refuses refusal (document_of c.args.text.now)) c.in-Err.fault c.refused.result
     (rw (c.def_file.ensures.kind, c.def_file.ensures.path) at c.refused.ensures) c.in-Err.ensures.fault (inl refl)

@@ -4,10 +4,10 @@ use Rattle.lf_app.specs.Hints.{nth_line}
 use Rattle.lf_app.proofs.hints.nth_line.Given as goal
 
 -- the word is still looked for among the tokens that are left
-abbrev pub invariant-loop : goal.invariant-loop
-invariant-loop l = record {
+abbrev pub invariant-loop-token : goal.invariant-loop-token
+invariant-loop-token l = record {
   looked_for : nth_line l.word l.left l.lexer.tokens ≡ nth_line l.word l.passed (tokens_of l.text).tokens;
 }
 
-abbrev pub decreases-loop : goal.decreases-loop
-decreases-loop l = length l.lexer.tokens
+abbrev pub decreases-loop-token : goal.decreases-loop-token
+decreases-loop-token l = length l.lexer.tokens

@@ -15,3 +15,6 @@ work_on_floor-requires g c =
           (c.loaded_cells_can_be_given.ensures _ c.args.opened.loaded places kept.loads.2
           (c.places_follow_design.ensures c.args.opened.loaded s places (same ∙ ap (λ (f : FloorState). f.components) c.in_ok-floor.ensures) are)));
     }
+
+pub returns-clause-ok : goal.returns-clause-ok
+returns-clause-ok g c = λ document kept. c.work_on_floor.ensures.ok document c.args.opened.loaded kept c.in_ok-floor.ensures

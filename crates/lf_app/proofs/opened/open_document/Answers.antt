@@ -3,9 +3,9 @@ use Rattle.lf_def.specs.Contents.{contents}
 use Rattle.lf_app.specs.declared.faults.TextKind.TheVariants.{Def}
 use Rattle.lf_app.specs.Designs.{IsLoadRefusal}
 use Rattle.lf_app.proofs.DesignSteps.{told_as}
-use Rattle.lf_app.proofs.designs.with_clauses.Goals as goal
+use Rattle.lf_app.proofs.opened.open_document.Goals as goal
 
 pub returns-in-Err-clause-err : goal.returns-in-Err-clause-err
-returns-in-Err-clause-err g c = λ library.
-    told_as Def c.args.path.now c.args.text.now (IsLoadRefusal library (contents c.args.document.now)) c.into_load_fault-fault.result c.refused.result
+returns-in-Err-clause-err c =
+    told_as Def c.args.path.now c.args.text.now (IsLoadRefusal c.args.library.now (contents c.args.document.now)) c.into_load_fault-fault.result c.refused.result
     (rw (c.def_file.ensures.kind, c.def_file.ensures.path) at c.refused.ensures) (inl c.into_load_fault-fault.ensures) (inl refl)

@@ -1,7 +1,7 @@
-use Rattle.std.proofs.Common.{inr, sym}
+use Rattle.std.proofs.Common.{inr}
 use Rattle.std.proofs.lemmas.Result.{IfErr-weaker, IfOk-weaker}
 use Rattle.lf_app.proofs.Opening.{both_ok}
-use Rattle.lf_app.proofs.designs.open_file.Goals as goal
+use Rattle.lf_app.proofs.opened.open_file.Goals as goal
 
 pub returns-clause-given : goal.returns-clause-given
 returns-clause-given g c =

@@ -1,5 +1,5 @@
 use Rattle.lf_app.proofs.Opening.{both_ok}
-use Rattle.lf_app.proofs.designs.open_files.Goals as goal
+use Rattle.lf_app.proofs.opened.open_files.Goals as goal
 
 pub returns-clause-ok : goal.returns-clause-ok
 returns-clause-ok g c =
