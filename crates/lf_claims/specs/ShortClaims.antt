@@ -1,5 +1,5 @@
 -- A claim in 32 bits.
-use Rattle.std.specs.Prelude.{◌≡◌, ℕ, zero, suc, refl}
+use Rattle.std.specs.Prelude.{◌≡◌, ℕ, zero, suc, ◌+◌, ◌<◌, ◌^◌, refl}
 use Rattle.std.proofs.Common.{ap}
 use Rattle.lf_claims.specs.declared.claims.Claim.{Claim}
 use Rattle.lf_claims.specs.declared.claims.Claim.TheVariants.{Unclaimed, ByOne, ByTwo}
@@ -10,6 +10,11 @@ abbrev pub claim_of_code : ℕ → Claim
 claim_of_code zero = Unclaimed
 claim_of_code (suc zero) = ByTwo
 claim_of_code (suc (suc fence)) = ByOne fence
+
+-- the code of the claim takes no more than 32 bits
+abbrev pub IsShort : Claim → Type 0
+IsShort (ByOne fence) = fence + 2 < 2 ^ 32
+IsShort _ = Unit {0}
 
 -- the code of a claim
 abbrev pub code_of : Claim → ℕ

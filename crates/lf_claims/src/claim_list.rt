@@ -1,7 +1,8 @@
 //! The claims of fences on each name of a list.
 
-ghost use Rattle.std.specs.Prelude.{◌≡◌, ◌<◌, ℕ, IfOk, IfSome, OnErr, OnOk, length, replicate, slice_set};
+ghost use Rattle.std.specs.Prelude.{◌≡◌, ◌<◌, ℕ, IfOk, OnErr, OnOk, SomeIff, length, replicate, slice_set};
 ghost use Rattle.lf_claims.specs.declared.claims.Claim.{Claim as ClaimSeen};
+ghost use Rattle.lf_claims.specs.ShortClaims.{IsShort};
 ghost use Rattle.lf_claims.specs.Claims.{merged as merged_claim, Tells, IsMatched};
 ghost use Rattle.lf_claims.specs.ClaimTables.{claim_at};
 
@@ -74,7 +75,7 @@ impl ShortClaim {
 
 /// The claim of this fence alone in 32 bits; none if it takes more.
 fn short_by_one(fence: usize) -> Option<ShortClaim>
-    ensures { IfSome result (λ short. short ≡ ClaimSeen.ByOne fence) }
+    ensures { SomeIff result (IsShort (ClaimSeen.ByOne fence)) (ClaimSeen.ByOne fence) }
 {
     let code = fence.checked_add(2)?;
     match u32::try_from(code) {
@@ -85,7 +86,7 @@ fn short_by_one(fence: usize) -> Option<ShortClaim>
 
 /// The claim in 32 bits; none if it takes more.
 fn short_claim(claim: Claim) -> Option<ShortClaim>
-    ensures { IfSome result (λ short. short ≡ claim) }
+    ensures { SomeIff result (IsShort claim) claim }
 {
     match claim {
         Claim::Unclaimed => Some(ShortClaim { code: 0 }),
@@ -176,7 +177,12 @@ impl Claims {
 
     /// Adds these fences to the claim at the number, if there is one. `Err`, which leaves all claims unchanged, if an allocation
     /// fails.
-    pub(crate) fn merge(&mut self, alloc: Global, number: usize, more: Claim) -> Result<(), AllocError>
+    pub(crate) fn merge(
+        &mut self,
+        alloc: Global,
+        number: usize,
+        more: Claim,
+    ) -> Result<(), AllocError>
         ensures ok { OnOk result (self.new ≡ slice_set self.old number (merged_claim (claim_at self.old number) more)) }
         ensures err { OnErr result (self.new ≡ self.old) }
     {

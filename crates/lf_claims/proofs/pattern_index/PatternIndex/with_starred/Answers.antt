@@ -1,4 +1,4 @@
-use Rattle.std.proofs.Common.{◌≡◌, ◌⊎◌, ◌∙◌, length, ap, subst, sym, arith}
+use Rattle.std.proofs.Common.{◌⊎◌, ◌∙◌, length, ap, subst, sym, arith}
 use Rattle.std.proofs.lemmas.List.{length-set}
 use Rattle.lf_claims.specs.Claims.{ClaimsBy, Labels, Tells, merged}
 use Rattle.lf_claims.specs.ClaimTables.{claim_at}

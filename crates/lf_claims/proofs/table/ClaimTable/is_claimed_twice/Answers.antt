@@ -1,4 +1,4 @@
-use Rattle.std.proofs.Common.{◌≡◌, ◌∙◌, sym, ap}
+use Rattle.std.proofs.Common.{◌∙◌, sym, ap}
 use Rattle.lf_claims.specs.declared.claims.Claim.TheVariants.{Unclaimed, ByOne, ByTwo}
 use Rattle.lf_claims.specs.ClaimTables.{Told}
 use Rattle.lf_claims.proofs.Claimants.{unclaimed_once, claimed_once}
