@@ -1,7 +1,6 @@
 //! The claims of fences on each name of a list.
 
 ghost use Rattle.std.specs.Prelude.{◌≡◌, ◌<◌, ℕ, IfOk, OnErr, OnOk, SomeIff, length, replicate, slice_set};
-ghost use Rattle.lf_claims.specs.declared.claims.Claim.{Claim as ClaimSeen};
 ghost use Rattle.lf_claims.specs.ShortClaims.{IsShort};
 ghost use Rattle.lf_claims.specs.Claims.{merged as merged_claim, Tells, IsMatched};
 ghost use Rattle.lf_claims.specs.ClaimTables.{claim_at};
@@ -75,7 +74,7 @@ impl ShortClaim {
 
 /// The claim of this fence alone in 32 bits; none if it takes more.
 fn short_by_one(fence: usize) -> Option<ShortClaim>
-    ensures { SomeIff result (IsShort (ClaimSeen.ByOne fence)) (ClaimSeen.ByOne fence) }
+    ensures { SomeIff result (IsShort (Claim.ByOne fence)) (Claim.ByOne fence) }
 {
     let code = fence.checked_add(2)?;
     match u32::try_from(code) {
@@ -138,7 +137,7 @@ fn widened(alloc: Global, claims: &[ShortClaim]) -> Result<Vec<Claim>, AllocErro
 impl Claims {
     /// This many names without a claim.
     pub(crate) fn unclaimed(alloc: Global, count: usize) -> Result<Self, AllocError>
-        ensures { IfOk result (λ claims. claims ≡ replicate count ClaimSeen.Unclaimed) }
+        ensures { IfOk result (λ claims. claims ≡ replicate count Claim.Unclaimed) }
     {
         let short = vec![in alloc; ShortClaim { code: 0 }; count]?;
         Ok(Claims {
