@@ -1,7 +1,7 @@
 -- The claims of all components, by their numbers.
-use Rattle.std.proofs.Common.{◌≡◌, ◌≢◌, ℕ, zero, suc, ◌+◌, ◌<◌, ◌⊎◌, inl, inr, Bool, true, false, eqb, Result, Ok, Err, Some, refl, sym, ◌∙◌, ap, subst, arith}
+use Rattle.std.proofs.Common.{◌≡◌, ◌≢◌, ℕ, zero, suc, ◌+◌, ◌<◌, ◌≤◌, ◌⊎◌, inl, inr, Bool, true, false, eqb, Some, refl, sym, ◌∙◌, ap, subst, arith}
 use Rattle.std.proofs.Common.{List, [], ◌∷◌, ◌++◌, length, take, get_or, set, slice_get}
-use Rattle.std.specs.Prelude.{unwrap_or, replicate, IfOk}
+use Rattle.std.specs.Prelude.{unwrap_or, replicate}
 use Rattle.std.proofs.lemmas.Bool.{eqb-true, eqb-false}
 use Rattle.std.proofs.lemmas.Grind.{common_steps}
 use Rattle.std.proofs.lemmas.List.{get_or_default}
@@ -19,7 +19,7 @@ use Rattle.lf_claims.specs.declared.pattern_index.PatternIndex.{PatternIndex}
 use Rattle.lf_claims.specs.Tables.{numbered_names}
 use Rattle.lf_claims.specs.Claims.{joined, Tells, ClaimsBy, Labels, IsMatched, all_bounds, Holds, AreTold}
 use Rattle.lf_claims.specs.ClaimTables.{IsClaimOf, claim_at, AreClaimsOf}
-use Rattle.lf_claims.proofs.MapLemmas.{get_push, get_last, get_set, get_set_other}
+use Rattle.lf_claims.proofs.MapLemmas.{get_set, get_set_other}
 use Rattle.lf_claims.proofs.Numbered.{numbered_has, numbered_is}
 use Rattle.lf_claims.proofs.Tellings.{tells_joined, tells_same}
 use Rattle.lf_claims.proofs.Claimants.{claim_says}
@@ -91,19 +91,30 @@ told_by_matches components literals matches claims are told k d within =
 abbrev pub ToldBelow : (List ℕ → ℕ → Type 0) → List Component → List Claim → ℕ → Type 0
 ToldBelow claims components told n = (k : ℕ) (d : Component) → k < n → Tells (claims (get_or components k d).name) (claim_at told k)
 
-pub told_more : (claims : List ℕ → ℕ → Type 0) (components : List Component) (told : List Claim) (n : ℕ) (c : Component) (claim : Claim) → length told ≡ n →
+-- the component at n has a new claim, and the others keep theirs
+pub told_put : (claims : List ℕ → ℕ → Type 0) (components : List Component) (told : List Claim) (n : ℕ) (c : Component) (claim : Claim) → n < length told →
     n < length components → c ≡ get_or components n c → Tells (claims c.name) claim →
-    ToldBelow claims components told n → ToldBelow claims components (told ++ claim ∷ []) (n + 1)
-told_more claims components told n c claim long within is one before k d below = by (grind arith)
+    ToldBelow claims components told n → ToldBelow claims components (set told n claim) (n + 1)
+told_put claims components told n c claim there within is one before k d below = by (grind arith)
   where
-    by : (k < n) ⊎ (k ≡ n) → Tells (claims (get_or components k d).name) (claim_at (told ++ claim ∷ []) k)
+    by : (k < n) ⊎ (k ≡ n) → Tells (claims (get_or components k d).name) (claim_at (set told n claim) k)
     by (inl less) =
-        let same : claim_at (told ++ claim ∷ []) k ≡ claim_at told k = ap (λ o. unwrap_or o Unclaimed) (get_push told claim k (omega arith)) in
+        let other : k ≢ n = λ e. omega (arith, less, e) in
+        let same : claim_at (set told n claim) k ≡ claim_at told k = ap (λ o. unwrap_or o Unclaimed) (get_set_other told n k claim other) in
         rw same (before k d less)
     by (inr last) =
         let item : get_or components k d ≡ c = ap (λ i. get_or components i d) last ∙ sym (is ∙ get_or_default components n c d within) in
-        let here : claim_at (told ++ claim ∷ []) k ≡ claim = ap (λ o. unwrap_or o Unclaimed) (ap (slice_get (told ++ claim ∷ [])) (last ∙ sym long) ∙ get_last told claim) in
+        let here : claim_at (set told n claim) k ≡ claim = ap (claim_at (set told n claim)) last ∙ ap (λ o. unwrap_or o Unclaimed) (get_set told n claim there) in
         rw (here, item) one
+
+-- from n on, each component has the claim that it had
+abbrev pub SameFrom : ℕ → List Claim → List Claim → Type 0
+SameFrom n old new = (k : ℕ) → n ≤ k → claim_at new k ≡ claim_at old k
+
+pub same_from_put : (old new : List Claim) (n : ℕ) (claim : Claim) → SameFrom n old new → SameFrom (n + 1) old (set new n claim)
+same_from_put old new n claim same k from =
+    let other : k ≢ n = λ e. omega (arith, from, e) in
+    ap (λ o. unwrap_or o Unclaimed) (get_set_other new n k claim other) ∙ same k (omega arith)
 
 -- with no pattern that is tried, nothing is added
 pub told_without_starred : (told : List ℕ → ℕ → Type 0) (starred : List Bound) (components : List Component) (claims : List Claim) → starred ≡ [] →
@@ -148,13 +159,8 @@ pub claim_is : (regions : List Region) (groups : List Group) (name : List ℕ) (
     IsClaimOf regions groups name claim
 claim_is regions groups name old claim same is = subst (λ c. IsClaimOf regions groups name c) same is
 
-all_unclaimed : (count number : ℕ) → claim_at (replicate count Unclaimed) number ≡ Unclaimed
+-- of a list of no claims, each claims nothing
+pub all_unclaimed : (count number : ℕ) → claim_at (replicate count Unclaimed) number ≡ Unclaimed
 all_unclaimed zero number = refl
 all_unclaimed (suc count) zero = refl
 all_unclaimed (suc count) (suc number) = all_unclaimed count number
-
--- of a list of no claims, each claims nothing
-pub none_claimed : {V E : Type 0} {P : V → Type 0} (items : V → List Claim) (count : ℕ) (made : Result V E) → ((v : V) → P v) →
-    IfOk made (λ v. P v → items v ≡ replicate count Unclaimed) → IfOk made (λ v. (number : ℕ) → claim_at (items v) number ≡ Unclaimed)
-none_claimed items count (Ok v) p is = λ number. ap (λ claims. claim_at claims number) (is (p v)) ∙ all_unclaimed count number
-none_claimed items count (Err e) p is = tt

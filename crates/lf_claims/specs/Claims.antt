@@ -137,6 +137,6 @@ abbrev pub AreTold : (List ℕ → ℕ → Type 0) → List Component → List C
 AreTold claims components told = (k : ℕ) (d : Component) → k < length components → Tells (claims (slice_index_or components k d).name) (claim_at told k)
 
 -- if the components' names all differ, each component has its claim; there are no claims only if two have one name
-abbrev pub AreClaimsWhereDistinct : (List ℕ → ℕ → Type 0) → List Component → Option (Vec Claim Global) → Type 0
-AreClaimsWhereDistinct claims components (Some told) = NoneBreaks BearsEarlierName components × AreTold claims components told.items
+abbrev pub AreClaimsWhereDistinct : (List ℕ → ℕ → Type 0) → List Component → Option (List Claim) → Type 0
+AreClaimsWhereDistinct claims components (Some told) = NoneBreaks BearsEarlierName components × AreTold claims components told
 AreClaimsWhereDistinct claims components None = NoneBreaks BearsEarlierName components → ⊥

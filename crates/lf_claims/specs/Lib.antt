@@ -3,6 +3,8 @@ pub mod Teams
 pub mod Refusals
 pub mod NameMaps
 pub mod Tables
+pub mod ShortClaims
+pub mod ClaimLists
 pub mod ClaimTables
 pub mod Ends
 pub mod Claims

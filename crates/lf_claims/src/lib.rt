@@ -15,6 +15,7 @@
 //! ```
 #![tactic(auto)]
 
+mod claim_list;
 mod claims;
 mod component_names;
 mod ends;

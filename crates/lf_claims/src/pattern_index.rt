@@ -1,6 +1,6 @@
 //! The patterns of groups, bound to the fences of the groups.
 
-ghost use Rattle.std.specs.Prelude.{◌≡◌, ◌↔◌, ◌⊎◌, ℕ, [], ◌∷◌, List, Some, IfOk, OnOk};
+ghost use Rattle.std.specs.Prelude.{◌≡◌, ◌↔◌, ◌⊎◌, ℕ, [], ◌∷◌, List, Some, IfOk, IfSome, OnOk, length};
 ghost use Rattle.std.specs.Option.{option_and_then};
 ghost use Rattle.lf_names.specs.Labels.{Labelled};
 ghost use Rattle.lf_names.specs.Pattern.{Matches};
@@ -10,7 +10,7 @@ ghost use Rattle.lf_claims.specs.NameMaps.{value_of};
 ghost use Rattle.lf_claims.specs.declared.starred.Bound.{Bound};
 ghost use Rattle.lf_claims.specs.Claims.{Tells, ClaimsBy, bound_to, all_bounds, Labels, Holds, Extends, Numbers, AreTold, AreClaimsWhereDistinct, HasStarred};
 
-use crate::claims::{Claim, claim_of, claims_by_match, merged};
+use crate::claim_list::{Claims, claims_by_match};
 use crate::component_names::parts_of_components;
 use crate::name_map::NameMap;
 use crate::starred::StarredPatterns;
@@ -99,8 +99,9 @@ impl PatternIndex {
         &self,
         alloc: Global,
         components: &[Component],
-    ) -> Result<Option<Vec<Claim>>, AllocError>
-        ensures { IfOk result (AreClaimsWhereDistinct (Labels self.now.literals) components.now) }
+    ) -> Result<Option<Claims>, AllocError>
+        ensures long { IfOk result (λ claims. IfSome claims (λ all. length all ≡ length components.now)) }
+        ensures told { IfOk result (AreClaimsWhereDistinct (Labels self.now.literals) components.now) }
     {
         let names = parts_of_components(alloc, components)?;
         let Some(matches) = names.matches(alloc, &self.literals)? else {
@@ -117,14 +118,14 @@ impl PatternIndex {
         &self,
         alloc: Global,
         components: &[Component],
-        claims: &[Claim],
-    ) -> Result<Vec<Claim>, AllocError>
-        ensures { (literals : List Labelled) (starred : List Bound) → HasStarred self.now.starred starred → AreTold (Labels literals) components.now claims.now → IfOk result (λ all. AreTold (λ name fence. Labels literals name fence ⊎ ClaimsBy starred name fence) components.now all.items) }
+        claims: Claims,
+    ) -> Result<Claims, AllocError>
+        ensures { (literals : List Labelled) (starred : List Bound) → HasStarred self.now.starred starred → length claims ≡ length components.now → AreTold (Labels literals) components.now claims → IfOk result (λ all. AreTold (λ name fence. Labels literals name fence ⊎ ClaimsBy starred name fence) components.now all) }
     {
-        let mut all = Vec::with_capacity(alloc, components.len())?;
+        let mut all = claims;
         for (number, component) in components.iter().enumerate() {
             let tried = self.starred.claim_on(component.name());
-            all.push(merged(claim_of(claims, number), tried))?;
+            all.merge(alloc, number, tried)?;
         }
         Ok(all)
     }
@@ -134,14 +135,14 @@ impl PatternIndex {
         &self,
         alloc: Global,
         components: &[Component],
-        claims: Vec<Claim>,
-    ) -> Result<Vec<Claim>, AllocError>
-        ensures { (literals : List Labelled) (starred : List Bound) → HasStarred self.now.starred starred → AreTold (Labels literals) components.now claims.items → IfOk result (λ all. AreTold (λ name fence. Labels literals name fence ⊎ ClaimsBy starred name fence) components.now all.items) }
+        claims: Claims,
+    ) -> Result<Claims, AllocError>
+        ensures { (literals : List Labelled) (starred : List Bound) → HasStarred self.now.starred starred → length claims ≡ length components.now → AreTold (Labels literals) components.now claims → IfOk result (λ all. AreTold (λ name fence. Labels literals name fence ⊎ ClaimsBy starred name fence) components.now all) }
     {
         if self.starred.is_empty() {
             return Ok(claims);
         }
-        self.with_starred(alloc, components, &claims)
+        self.with_starred(alloc, components, claims)
     }
 
     /// The claims of all patterns on each component; none if two components have one name.
@@ -149,7 +150,7 @@ impl PatternIndex {
         &self,
         alloc: Global,
         components: &[Component],
-    ) -> Result<Option<Vec<Claim>>, AllocError>
+    ) -> Result<Option<Claims>, AllocError>
         ensures { (bounds : List Bound) → Holds self.now bounds → IfOk result (AreClaimsWhereDistinct (ClaimsBy bounds) components.now) }
     {
         let Some(claims) = self.literal_claims(alloc, components)? else {

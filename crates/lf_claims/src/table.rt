@@ -10,7 +10,8 @@ ghost use Rattle.lf_claims.specs.NameMaps.{IsWhole};
 ghost use Rattle.lf_claims.specs.ClaimTables.{IsClaimOf, IsTableOf, TellsSecondName, TellsTeam, claim_at};
 ghost use Rattle.lf_claims.specs.Claims.{Numbers, NumbersOneMore};
 
-use crate::claims::{Claim, claim_of};
+use crate::claim_list::Claims;
+use crate::claims::Claim;
 use crate::component_names::first_second_name;
 use crate::name_map::NameMap;
 use crate::pattern_index::index_of;
@@ -24,7 +25,7 @@ use std::marker::Model;
 #[derive(Drop)]
 pub struct ClaimTable {
     second: Option<usize>,
-    claims: Vec<Claim>,
+    claims: Claims,
     ground: usize,
 }
 
@@ -33,7 +34,7 @@ impl Model for ClaimTable {
 
     ghost Value = { Told };
 
-    ghost view = { λ t. record { second = t.second; claims = t.claims.items; ground = t.ground } };
+    ghost view = { λ t. record { second = t.second; claims = t.claims; ground = t.ground } };
 }
 
 /// Adds the fence's number under its name, unless an earlier fence has the name.
@@ -85,7 +86,7 @@ pub fn claim_table(
     }
     Ok(ClaimTable {
         second: first_second_name(alloc, components)?,
-        claims: Vec::new(alloc),
+        claims: Claims::unclaimed(alloc, 0)?,
         ground,
     })
 }
@@ -103,7 +104,7 @@ impl ClaimTable {
     pub fn team_at(&self, number: usize) -> usize
         ensures { TellsTeam self.now number result }
     {
-        match claim_of(&self.claims, number) {
+        match self.claims.at(number) {
             Claim::ByOne(team) => team,
             Claim::Unclaimed => self.ground,
             Claim::ByTwo => self.ground,
@@ -114,7 +115,7 @@ impl ClaimTable {
     fn is_claimed_twice(&self, number: usize, component: &Component) -> bool
         ensures { (regions : List Region) (groups : List Group) → IsClaimOf regions groups component.now.name (claim_at self.now.claims number) → (IsTrue result ↔ IsClaimedTwice regions groups [] component.now) }
     {
-        match claim_of(&self.claims, number) {
+        match self.claims.at(number) {
             Claim::ByTwo => is_movable(component),
             Claim::ByOne(_) => false,
             Claim::Unclaimed => false,
