@@ -1,0 +1,49 @@
+-- What the inputs of a slice have of those of the whole, so that the two load as designs that are alike (LEF MACRO; DEF ROW,
+-- REGIONS, BLOCKAGES, GROUPS and COMPONENTS).
+use Rattle.std.specs.Prelude.{◌≡◌, ℕ, Bool, List, All, Decides, Some, filter, map}
+use Rattle.std.specs.List.{AllZip}
+use Rattle.lf_def.specs.declared.components.Component.{Component}
+use Rattle.lf_def.specs.Kinds.{is_movable}
+use Rattle.lf_claims.specs.Teams.{fences, IsTeamOf}
+use Rattle.lf_floorplan.specs.declared.loaded.Loaded.{Loaded}
+use Rattle.lf_refusals.specs.Loading.{macro_named}
+use Rattle.lf_refusals.specs.Findings.{Inputs, core_in}
+use Rattle.lf_frame.specs.Loads.{header_in, frame_team, location, obstacles_in, soft_in, IsLoadedFrom}
+use Rattle.lf_teams.specs.Teams.{team_number}
+use Rattle.lf_slices.specs.Alike.{AreSameRects, AreDesignsAlike}
+
+-- the component of that name is the team's of that number
+abbrev pub IsOwn : Inputs → ℕ → Component → Type 0
+IsOwn i number c = IsTeamOf i.document.regions i.document.groups c.name number
+
+-- two components have the same name and location, and name the same macro
+pub record AreSameComponents (i j : Inputs) (c d : Component) : Type 0 where
+  pub name : c.name ≡ d.name
+  pub location_is : location c ≡ location d
+  pub same_macro : macro_named i.library c.mac ≡ macro_named j.library d.mac
+
+-- of the whole's components those of the team are kept, in their order, and the slice has no others
+pub record KeepsOwn (i j : Inputs) (number : ℕ) (whole slice : List Component) : Type 0 where
+  pub own : Component → Bool
+  pub tells : All (λ c. Decides (own c) (IsOwn i number c)) whole
+  pub kept : AllZip (AreSameComponents i j) (filter own whole) slice
+  pub no_others : All (IsOwn j number) slice
+
+-- the inputs of a slice for the team of that number: header, core site, rows, fences and limits are those of the whole, and so are
+-- obstacles and soft blockages, in any order; of the movable components those of the team are kept
+pub record IsCutFrom (number : ℕ) (whole slice : Inputs) : Type 0 where
+  pub header : header_in whole ≡ header_in slice
+  pub core : core_in whole ≡ core_in slice
+  pub rows : whole.document.rows ≡ slice.document.rows
+  pub fences_are : map frame_team (fences whole.document.regions) ≡ map frame_team (fences slice.document.regions)
+  pub limits : whole.limits ≡ slice.limits
+  pub obstacles : AreSameRects (obstacles_in whole) (obstacles_in slice)
+  pub soft : AreSameRects (soft_in whole) (soft_in slice)
+  pub cells : KeepsOwn whole slice number (filter is_movable whole.document.components) (filter is_movable slice.document.components)
+
+-- the whole and its slice load as designs that are alike for the team
+abbrev pub SlicesLoadAlike : Type 0
+SlicesLoadAlike =
+    (team : List ℕ) (number : ℕ) (whole slice : Inputs) (a b : Loaded)
+    → IsCutFrom number whole slice → IsLoadedFrom whole a → IsLoadedFrom slice b → team_number a.frame team ≡ Some number
+    → AreDesignsAlike team a b

@@ -1,0 +1,11 @@
+pub mod Zips
+pub mod Rules
+pub mod Places
+pub mod Members
+pub mod Tidying
+pub mod Cells
+pub mod Looks
+pub mod Verbs
+pub mod Runs
+pub mod Slices
+pub mod EitherWay
