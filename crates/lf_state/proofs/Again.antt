@@ -129,7 +129,7 @@ rows-again limits named t rest of words =
       slots_read,
       each-again cell_at cell_line (λ name c. IsSpottedCell c) cell_line-again named.cells t.cells entries (both_long IsSpottedCell named.cells t.cells of.cells words.cells),
       many-again (entry_at (length named.cells)) entry_lines (λ ms. AllByRecursion (λ m. m.own < length named.cells) ms × IsSpottedEntry ms) (entry_lines-again (length named.cells) few)
-      t.entries rest (both_all (λ (ms : List Move). AllByRecursion (λ m. m.own < length named.cells) ms) IsSpottedEntry t.entries of.own words.entries),
+          t.entries rest (both_all (λ (ms : List Move). AllByRecursion (λ m. m.own < length named.cells) ms) IsSpottedEntry t.entries of.own words.entries),
     ) refl
 
 team_lines-again : (limits : Limits) (named : NamedTeam) (t : SavedTeam) (rest : List ℕ) → IsTeamOf limits named t × HasWords t
@@ -145,6 +145,7 @@ team_lines-again limits named t rest fits =
   where
     regroup : (a b c d e : List ℕ) → (a ++ (b ++ (c ++ d))) ++ e ≡ a ++ (b ++ (c ++ (d ++ e)))
     regroup a b c d e = simp append_assoc
+
     numbers_written : (name : List ℕ) (t : SavedTeam) (rest : List ℕ) → head_line name t ++ rest ≡ codes "team" ++ (32 ∷ (name ++ (32 ∷ numbers_text t rest)))
     numbers_written name t rest =
         line-rest (codes "team") (name ∷ decimal t.revision ∷ decimal t.padding ∷ decimal (length t.slots) ∷ decimal (length t.cells) ∷ decimal (length t.entries) ∷ []) rest

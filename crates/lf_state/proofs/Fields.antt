@@ -66,7 +66,7 @@ behind-front due rest =
 -- what is left of bytes without those that are due
 pub strip_is : (due bytes : List ℕ) (r : Option (Bor (List ℕ)))
     → MatchOption r (bytes_eq (take (length due) bytes) due ≡ false)
-      (λ x. (bytes_eq (take (length due) bytes) due ≡ true) × (x.now ≡ drop (length due) bytes) × (length x.now + length due ≡ length bytes))
+    (λ x. (bytes_eq (take (length due) bytes) due ≡ true) × (x.now ≡ drop (length due) bytes) × (length x.now + length due ≡ length bytes))
     → option_map (λ rest. rest.now) r ≡ behind due bytes
 unfolding behind
 strip_is due bytes None none = rw none refl

@@ -178,10 +178,7 @@ fn all_at<D: Design>(alloc: Global, design: &D, text: &[u8]) -> Result<Vec<TeamR
 }
 
 /// What was read, where a fault has its line in the text.
-fn with_line(
-    text: &[u8],
-    read: Result<Vec<TeamRow>, ReadError>,
-) -> Result<Vec<TeamRow>, StateError>
+fn with_line(text: &[u8], read: Result<Vec<TeamRow>, ReadError>) -> Result<Vec<TeamRow>, StateError>
     ensures { (found : Result (List SavedTeam) Fault) → Gives (λ rows. team_views rows.items) read found → Tells (λ rows. team_views rows.items) result (with_line text.now found) }
 {
     match read {

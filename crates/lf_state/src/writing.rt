@@ -176,13 +176,7 @@ fn put_head<O: Output>(out: &mut O, name: &[u8], team: &TeamRow)
 }
 
 /// Puts the lines of the team of that number and name.
-fn put_team<O: Output, D: Design>(
-    out: &mut O,
-    design: &D,
-    team: usize,
-    name: &[u8],
-    row: &TeamRow,
-)
+fn put_team<O: Output, D: Design>(out: &mut O, design: &D, team: usize, name: &[u8], row: &TeamRow)
     ensures { Puts O.took out.old out.new (team_lines (record { name = name.now; cells = (team_of (D.named design.now) team).cells }) (team_view row.now)) }
 {
     put_head(out, name, row);
