@@ -56,7 +56,7 @@ pub fn changes_again(
     let mut left = changes;
     while !left.is_empty() {
         let Some(change) = left.pop() else {
-            return Err(AllocError);
+            unreachable!();
         };
         change_again(alloc, placement, undo, team, change)?;
     }

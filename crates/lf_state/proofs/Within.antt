@@ -35,11 +35,11 @@ steps (Err e) f y is = absurd cc
 
 -- a test that went well
 pub record Passed {A : Type 0} (test : Bool) (x y : A) : Type 0 where
-  pub yes : test ≡ true
+  pub holds : test ≡ true
   pub same : x ≡ y
 
 passed : {A : Type 0} (test : Bool) (x y : A) (f : Fault) → cond test (Ok x) (Err f) ≡ Ok y → Passed test x y
-passed true x y f is = record { yes = refl; same = same_ok is }
+passed true x y f is = record { holds = refl; same = same_ok is }
 passed false x y f is = absurd cc
 
 -- ---- lists
@@ -71,16 +71,16 @@ both-long P (a ∷ firsts) (b ∷ seconds) both = ap suc (both-long P firsts sec
 
 -- ---- words and lines
 
-below-within : (limit byte : ℕ) (bytes : List ℕ) (r : ℕ × List ℕ) → below_at limit byte bytes ≡ Ok r → r.0 < limit
+pub below-within : (limit byte : ℕ) (bytes : List ℕ) (r : ℕ × List ℕ) → below_at limit byte bytes ≡ Ok r → r.0 < limit
 unfolding below_at
 below-within limit byte bytes r is =
     let n = steps (number_at byte bytes) _ r is in
     let test = passed (nat_lt n.first.0 limit) n.first r _ n.rest in
-    subst (λ (x : ℕ × List ℕ). x.0 < limit) test.same (ltb-true n.first.0 limit test.yes)
+    subst (λ (x : ℕ × List ℕ). x.0 < limit) test.same (ltb-true n.first.0 limit test.holds)
 
 seen-is : (revision : ℕ) (o : Option ℕ) → is_seen_by revision o ≡ true → IfSome o (λ seen. seen ≤ revision)
-seen-is revision None yes = tt
-seen-is revision (Some seen) yes = leb-true seen revision yes
+seen-is revision None holds = tt
+seen-is revision (Some seen) holds = leb-true seen revision holds
 
 slot-within : (revision : ℕ) (bytes : List ℕ) (r : Option ℕ × List ℕ) → slot_at revision bytes ≡ Ok r → IfSome r.0 (λ seen. seen ≤ revision)
 unfolding slot_at
@@ -88,7 +88,7 @@ slot-within revision bytes r is =
     let word = steps (word_at 10 bytes) _ r is in
     let slot = steps (or_fault BadNumber bytes (slot_on word.first.0)) _ r word.rest in
     let test = passed (is_seen_by revision slot.first) (slot.first, word.first.1) r _ slot.rest in
-    subst (λ (x : Option ℕ × List ℕ). IfSome x.0 (λ seen. seen ≤ revision)) test.same (seen-is revision slot.first test.yes)
+    subst (λ (x : Option ℕ × List ℕ). IfSome x.0 (λ seen. seen ≤ revision)) test.same (seen-is revision slot.first test.holds)
 
 move-within : (cells : ℕ) (bytes : List ℕ) (r : Move × List ℕ) → move_at cells bytes ≡ Ok r → r.0.own < cells
 unfolding move_at

@@ -17,5 +17,5 @@ loop-own-preserved g c = λ start before had.
 pub returns : goal.returns
 returns g c = λ start before had.
     subst (g.O.Output.took start c.loop-own.out)
-    (all_lines cell_line before (team_of (g.D.Design.named c.args.design.now) c.args.team).cells c.args.cells.now c.loop-own.own (omega (arith, c.loop-own-test.false, c.len-own-end.ensures)))
+    (all_lines cell_line before (team_of (g.D.Design.named c.args.design.now) c.args.team).cells c.args.cells.now c.loop-own.own (omega (arith, c.loop-own-test.false)))
     (c.loop-own.invariant start before had)

@@ -17,5 +17,5 @@ loop-team-preserved g c = λ start before had.
 pub returns : goal.returns
 returns g c = λ start before had.
     subst (g.O.Output.took start c.loop-team.out)
-    (all_lines team_lines before (g.D.Design.named c.args.design.now).teams (team_views c.args.rows.now) c.loop-team.team (omega (arith, c.loop-team-test.false, c.len-team-end.ensures, length-map c.args.rows.now team_view)))
+    (all_lines team_lines before (g.D.Design.named c.args.design.now).teams (team_views c.args.rows.now) c.loop-team.team (omega (arith, c.loop-team-test.false, length-map c.args.rows.now team_view)))
     (c.loop-team.invariant start before had)
