@@ -1,18 +1,17 @@
 -- What is read is within the design's limits.
-use Rattle.std.proofs.Common.{◌≡◌, ℕ, zero, suc, ◌+◌, ◌<◌, ◌≤◌, Bool, true, false, ◌==◌, cond, nat_lt, List, [], ◌∷◌, length, Option, None, Some, Result, Ok, Err, refl, sym, ap, subst, ◌∙◌, arith}
+use Rattle.std.proofs.Common.{◌≡◌, ℕ, zero, suc, ◌+◌, ◌<◌, ◌≤◌, Bool, true, false, ◌==◌, cond, nat_lt, List, [], ◌∷◌, length, Option, None, Some, Result, Ok, Err, refl, ap, subst, arith}
 use Rattle.std.specs.Prelude.{IfOk, IfSome, codes}
 use Rattle.std.specs.List.{AllByRecursion}
 use Rattle.std.proofs.lemmas.Bool.{leb-true, ltb-true}
 use Rattle.lf_floorplan.specs.declared.limits.Limits.{Limits}
 use Rattle.lf_undo.specs.declared.moves.Move.{Move}
 use Rattle.lf_state.specs.declared.fault.Fault.{Fault}
-use Rattle.lf_state.specs.declared.fault.FaultNumber.TheVariants.{Unexpected, BadNumber, OtherDesign, OutOfRange}
+use Rattle.lf_state.specs.declared.fault.FaultNumber.TheVariants.{Unexpected, BadNumber}
 use Rattle.lf_state.specs.declared.fault.StateError.{StateError}
-use Rattle.lf_state.specs.declared.rows.SavedCell.{SavedCell}
 use Rattle.lf_state.specs.Designs.{NamedDesign, NamedTeam}
 use Rattle.lf_state.specs.Words.{slot_on}
 use Rattle.lf_state.specs.Saved.{SavedTeam, AreOf, Both, IsTeamOf}
-use Rattle.lf_state.specs.Reading.{◌>>=◌, Numbers, Tells, fault, or_fault, is_seen_by, word_at, due_at, number_at, below_at, count_at, spot_at, slot_at, cell_at, move_at, entry_at, named_at, numbers_at, rows_at, team_at, opening_at, all_at, state_of, many_at, each_at, with_line}
+use Rattle.lf_state.specs.Reading.{◌>>=◌, Numbers, Tells, or_fault, is_seen_by, word_at, due_at, number_at, below_at, count_at, spot_at, slot_at, cell_at, move_at, entry_at, named_at, numbers_at, rows_at, team_at, opening_at, all_at, state_of, many_at, each_at, with_line}
 
 -- ---- what was read one after the other
 

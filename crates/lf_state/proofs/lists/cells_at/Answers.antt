@@ -1,4 +1,4 @@
-use Rattle.std.proofs.Common.{◌≡◌, ◌<◌, ◌≤◌, ◌++◌, ◌∷◌, [], List, ℕ, Ok, length, get_or, subst, arith}
+use Rattle.std.proofs.Common.{◌≡◌, ◌<◌, ◌≤◌, ◌++◌, ◌∷◌, [], List, ℕ, Ok, length, subst, arith}
 use Rattle.lf_state.specs.Designs.{team_of}
 use Rattle.lf_state.specs.Reading.{Fails, cell_at, each_at}
 use Rattle.lf_state.proofs.Loop.{each_goes_on, each_ends, each_is_done}
