@@ -72,10 +72,6 @@ unfolding behind
 strip_is due bytes None none = rw none refl
 strip_is due bytes (Some x) (has, is, count) = rw (has, is) refl
 
-pub word-again : (byte : ℕ) (w rest : List ℕ) → lacks byte w ≡ true → word_at byte (w ++ (byte ∷ rest)) ≡ Ok (w, rest)
-unfolding word_at
-word-again byte w rest without = rw (cut-word byte w rest without) refl
-
 -- ---- numbers
 
 decimal_digits : (n : ℕ) → n < 10 ^ 10 → Digits (decimal n)

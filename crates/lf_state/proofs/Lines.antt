@@ -37,10 +37,6 @@ pub put_all : {X : Type 0} (g : X → List ℕ) (old a : List ℕ) (xs : List X)
     → a ≡ old ++ flat_map g xs
 put_all g old a xs i past so_far = so_far ∙ ap (λ ys. old ++ flat_map g ys) (take_all i xs past)
 
-pub flat_map_map : {X Y : Type 0} (g : Y → List ℕ) (f : X → Y) (xs : List X) → flat_map g (map f xs) ≡ flat_map (λ x. g (f x)) xs
-flat_map_map g f [] = refl
-flat_map_map g f (x ∷ xs) = ap (λ (l : List ℕ). g (f x) ++ l) (flat_map_map g f xs)
-
 -- ---- lines by two lists
 
 module _ {A B : Type 0} (line : A → B → List ℕ) where
