@@ -3,7 +3,7 @@
 ghost use Rattle.std.specs.Prelude.{◌≡◌, ◌<◌, ◌+◌, ◌∷◌, ◌≤◌, OnOk, length, reverse, slice_set, take};
 ghost use Rattle.lf_undo.specs.Stacks.{HasRoomFor, stack_of};
 ghost use Rattle.lf_state.specs.Replay.{changed, replayed};
-ghost use Rattle.lf_restore.specs.Stands.{EntriesFit, stand_of};
+ghost use Rattle.lf_restore.specs.Stands.{EntriesFit, OthersStay, stand_of};
 
 use lf_placement::{Placement, fits_last};
 use lf_undo::{Moves, UndoStore};
@@ -23,6 +23,7 @@ pub fn change_again(
     requires below { length (stack_of undo.old team) < undo.old.limit }
     ensures stand { OnOk result (stand_of placement.new undo.new team ≡ changed change (stand_of placement.old undo.old team)) }
     ensures fit { OnOk result (EntriesFit placement.old undo.old team → EntriesFit placement.new undo.new team) }
+    ensures others { OnOk result (OthersStay team placement.old placement.new undo.old undo.new) }
     ensures depth { OnOk result (length (stack_of undo.new team) ≡ length (stack_of undo.old team) + 1) }
     ensures teams { length undo.new.lists ≡ length undo.old.lists }
     ensures limit { undo.new.limit ≡ undo.old.limit }
@@ -51,6 +52,7 @@ pub fn changes_again(
     requires few { length (stack_of undo.old team) + length changes.items ≤ undo.old.limit }
     ensures stand { OnOk result (stand_of placement.new undo.new team ≡ replayed (reverse changes.items) (stand_of placement.old undo.old team)) }
     ensures fit { OnOk result (EntriesFit placement.old undo.old team → EntriesFit placement.new undo.new team) }
+    ensures others { OnOk result (OthersStay team placement.old placement.new undo.old undo.new) }
     ensures limit { undo.new.limit ≡ undo.old.limit }
 {
     let mut left = changes;

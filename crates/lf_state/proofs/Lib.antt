@@ -5,3 +5,4 @@ pub mod Again
 pub mod Within
 pub mod Replay
 pub mod Turning
+pub mod Walking

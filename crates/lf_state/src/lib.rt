@@ -4,8 +4,8 @@
 //! and its undo entries. The names are the design's (`Design`): they are compared, byte by byte, and not kept. What is told is so
 //! within the design's limits (`AreOf`). Contracts see the rows of teams as saved teams (`SavedTeam`), whose text is `state_text`.
 //!
-//! `rewind` takes an undo entry back on a list of places, and leaves in its moves the places that they led to: so the oldest places of
-//! a team and the changes since are found, and made again (`changes_come_back`).
+//! `rewind_all` takes the undo entries of a team back on a list of its places, and leaves in their moves the places that they led to: so
+//! the oldest places of a team and the changes since are found, and made again (`changes_come_back`).
 //!
 //! ```
 //! let rows = read_state(alloc, &design, text)?; // or the first fault and its line
@@ -29,6 +29,6 @@ pub use design::Design;
 pub use fault::{FaultNumber, StateError, StateFault};
 pub use laws::{changes_come_back, saved_reads_back};
 pub use reading::read_state;
-pub use rewinding::rewind;
+pub use rewinding::{rewind, rewind_all};
 pub use rows::{SavedCell, TeamRow};
 pub use writing::put_state;
