@@ -37,9 +37,9 @@ abbrev pub FailsAt : {Y : Type 0} → StateError → Result Y StateFault → Typ
 FailsAt states.Memory read = Unit {0}
 FailsAt (states.Fault f) read = read ≡ Err f
 
-abbrev pub Tells : {X Y : Type 0} → (X → Y) → Result X StateError → Result Y StateFault → Type 0
-Tells view (Ok x) read = read ≡ Ok (view x)
-Tells view (Err e) read = FailsAt e read
+abbrev pub GivesAt : {X Y : Type 0} → (X → Y) → Result X StateError → Result Y StateFault → Type 0
+GivesAt view (Ok x) read = read ≡ Ok (view x)
+GivesAt view (Err e) read = FailsAt e read
 
 -- ---- faults
 

@@ -54,7 +54,8 @@ entry_lines moves = line_of (codes "undo" ∷ decimal (length moves) ∷ []) ++ 
 -- team NAME REVISION PADDING SLOTS CELLS ENTRIES
 abbrev pub head_line : List ℕ → SavedTeam → List ℕ
 head_line name t =
-    line_of (codes "team" ∷ name ∷ decimal t.revision ∷ decimal t.padding ∷ decimal (length t.slots) ∷ decimal (length t.cells) ∷ decimal (length t.entries) ∷ [])
+    line_of
+    (codes "team" ∷ name ∷ decimal t.revision ∷ decimal t.padding ∷ decimal (length t.slots) ∷ decimal (length t.cells) ∷ decimal (length t.entries) ∷ [])
 
 -- and its slots, its cells and its undo entries
 abbrev pub team_lines : NamedTeam → SavedTeam → List ℕ

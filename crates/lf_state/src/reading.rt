@@ -4,7 +4,7 @@ ghost use Rattle.std.specs.Prelude.{◌≡◌, ◌<◌, IfOk, List, Ok, Result, 
 ghost use Rattle.lf_state.specs.declared.fault.Fault.{Fault};
 ghost use Rattle.lf_state.specs.Designs.{team_of};
 ghost use Rattle.lf_state.specs.Saved.{AreOf, AreSaved, SavedTeam, state_text, team_view, team_views};
-ghost use Rattle.lf_state.specs.Reading.{Gives, Tells, all_at, each_at, named_at, numbers_at, opening_at, rows_at, state_of, team_at, title_at, with_line};
+ghost use Rattle.lf_state.specs.Reading.{Gives, GivesAt, all_at, each_at, named_at, numbers_at, opening_at, rows_at, state_of, team_at, title_at, with_line};
 ghost use Rattle.lf_state.specs.Writing.{numbers_view};
 
 use crate::design::{Design, name_of_team};
@@ -79,7 +79,8 @@ fn rows_at<'a, D: Design>(
     numbers: Numbers,
     bytes: &'a [u8],
 ) -> Result<(TeamRow, &'a [u8]), ReadError>
-    ensures { Gives (λ x. (team_view x.0, x.1.now)) result (rows_at (D.named design.now).limits (team_of (D.named design.now) team) (numbers_view numbers) bytes.now) }
+    ensures { Gives (λ x. (team_view x.0, x.1.now)) result
+        (rows_at (D.named design.now).limits (team_of (D.named design.now) team) (numbers_view numbers) bytes.now) }
 {
     let cells = design.cell_count(team);
     let (slots, rest) = slots_at(alloc, numbers.revision, design.limits().sessions, bytes)?;
@@ -179,7 +180,8 @@ fn all_at<D: Design>(alloc: Global, design: &D, text: &[u8]) -> Result<Vec<TeamR
 
 /// What was read, where a fault has its line in the text.
 fn with_line(text: &[u8], read: Result<Vec<TeamRow>, ReadError>) -> Result<Vec<TeamRow>, StateError>
-    ensures { (found : Result (List SavedTeam) Fault) → Gives (λ rows. team_views rows.items) read found → Tells (λ rows. team_views rows.items) result (with_line text.now found) }
+    ensures { (found : Result (List SavedTeam) Fault) → Gives (λ rows. team_views rows.items) read found
+        → GivesAt (λ rows. team_views rows.items) result (with_line text.now found) }
 {
     match read {
         Ok(rows) => Ok(rows),
@@ -197,12 +199,12 @@ pub fn read_state<D: Design>(
     text: &[u8],
 ) -> Result<Vec<TeamRow>, StateError>
     // Which teams they are, or which fault it is.
-    ensures exact { Tells (λ rows. team_views rows.items) result (state_of (D.named design.now) text.now) }
+    ensures exact { GivesAt (λ rows. team_views rows.items) result (state_of (D.named design.now) text.now) }
     // What is read is within the design's limits.
     ensures fits { IfOk result (λ rows. AreOf (D.named design.now) (team_views rows.items)) }
     // What was written is read, unless memory runs out.
     ensures again { (teams : List SavedTeam) → AreSaved (D.named design.now) teams → text.now ≡ state_text (D.named design.now) teams
-        → Tells (λ rows. team_views rows.items) result (Ok teams) }
+        → GivesAt (λ rows. team_views rows.items) result (Ok teams) }
 {
     let read = all_at(alloc, design, text);
     with_line(text, read)

@@ -76,8 +76,9 @@ impl Output for Kept {
 }
 
 /// The text of a state of the design.
-const TEXT: &[u8] =
-    b"lefence-state 1\nteams 1\nteam A 2 0 8 1 1\n2\n-\n-\n-\n-\n-\n-\n-\na -400,0,FN -\nundo 1\n0 0,7,S\n";
+fn state() -> &'static [u8] {
+    b"lefence-state 1\nteams 1\nteam A 2 0 8 1 1\n2\n-\n-\n-\n-\n-\n-\n-\na -400,0,FN -\nundo 1\n0 0,7,S\n"
+}
 
 /// The state of that text.
 fn rows(alloc: Global) -> Result<Vec<TeamRow>, AllocError> {
@@ -118,7 +119,7 @@ fn is_put_as_it_is_told(rt: HostRuntime) -> Result<(), Fail> {
         limits: Limits::standard(),
     };
     let rows = rows(rt.alloc())?;
-    assert!(rt; put(rt.alloc(), &design, &rows).as_slice() == TEXT);
+    assert!(rt; put(rt.alloc(), &design, &rows).as_slice() == state());
     Ok(())
 }
 
@@ -127,10 +128,10 @@ fn is_read_as_it_was_put(rt: HostRuntime) -> Result<(), Fail> {
     let design = One {
         limits: Limits::standard(),
     };
-    let read = read_state(rt.alloc(), &design, TEXT);
+    let read = read_state(rt.alloc(), &design, state());
     assert!(rt;
         match &read {
-            Ok(rows) => put(rt.alloc(), &design, rows).as_slice() == TEXT,
+            Ok(rows) => put(rt.alloc(), &design, rows).as_slice() == state(),
             Err(_) => false,
         }
     );
@@ -142,7 +143,7 @@ fn fault_of(alloc: Global, at: usize, byte: u8) -> Result<Option<StateFault>, Al
     let design = One {
         limits: Limits::standard(),
     };
-    let mut text = Vec::from_slice(alloc, TEXT)?;
+    let mut text = Vec::from_slice(alloc, state())?;
     if at < text.len() {
         text[at] = byte;
     }
