@@ -20,6 +20,8 @@ mod sessions;
 #[cfg(test)]
 mod spans;
 #[cfg(test)]
+mod states;
+#[cfg(test)]
 mod tokens;
 #[cfg(test)]
 mod undo;

@@ -1,0 +1,18 @@
+//! Laws of saved floors.
+
+ghost use Rattle.lf_restore.specs.Saved.{RunKeepsDesign, SavedRestores, StateAndTail};
+
+/// What was saved of a floor is read from its text, and restored it is that floor: on any floor of the same design.
+pub fn saved_restores()
+    ensures { SavedRestores }
+{}
+
+/// A state text and the journal behind it are a backup.
+pub fn state_and_tail()
+    ensures { StateAndTail }
+{}
+
+/// Whatever a run does, the floor stays one of its design: so states can be saved one behind the other.
+pub fn run_keeps_design()
+    ensures { RunKeepsDesign }
+{}

@@ -1,0 +1,10 @@
+use Rattle.std.proofs.Common.{◌≡◌, drop}
+use Rattle.lf_state.specs.Saved.{team_views}
+use Rattle.lf_state.specs.Reading.{each_at, team_at}
+use Rattle.lf_state.proofs.Loop.{with_front}
+use Rattle.lf_state.proofs.reading.teams_at.Given as goal
+
+abbrev pub invariant-loop-team : goal.invariant-loop-team
+invariant-loop-team g l =
+    let design = g.D.Design.named l.design in
+    with_front (team_views l.items.items) (each_at (team_at design.limits) (drop l.team design.teams) l.rest) ≡ each_at (team_at design.limits) design.teams l.bytes

@@ -1,0 +1,6 @@
+pub mod Designs
+pub mod Words
+pub mod Saved
+pub mod Reading
+pub mod Writing
+pub mod Replay

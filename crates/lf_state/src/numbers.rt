@@ -1,0 +1,56 @@
+//! The numbers of a state text.
+
+ghost use Rattle.std.specs.Prelude.{◌≡◌, ◌≤◌, ◌<ℤ◌, IfSome, length, negsuc, true};
+ghost use Rattle.std.specs.Char.{is_ascii_digit};
+ghost use Rattle.std.specs.List.{list_all};
+ghost use Rattle.std.specs.Str.Parse.{digits_value};
+ghost use Rattle.lf_proto.specs.Numbers.{coordinate, digits};
+ghost use Rattle.lf_state.specs.Words.{number};
+
+/// Whether each byte is a digit.
+fn are_digits(word: &[u8]) -> bool
+    ensures { result ≡ list_all is_ascii_digit word.now }
+{
+    word.iter().all(|byte| byte.is_ascii_digit())
+}
+
+/// The number that at most ten digits write.
+fn value_of(digits: &[u8]) -> u64
+    requires digits { list_all is_ascii_digit digits.now ≡ true }
+    requires short { length digits.now ≤ 10 }
+    ensures { result ≡ digits_value 10 digits.now }
+{
+    let mut value = 0u64;
+    for digit in digits {
+        value = value * 10 + u64::from(*digit - b'0');
+    }
+    value
+}
+
+/// The number that one to ten digits write.
+fn digits_of(word: &[u8]) -> Option<u64>
+    ensures { result ≡ digits word.now }
+{
+    if word.is_empty() || word.len() > 10 || !are_digits(word) {
+        return None;
+    }
+    Some(value_of(word))
+}
+
+/// The number below 2^32 that the word writes, if it writes one.
+pub(crate) fn number_of(word: &[u8]) -> Option<u32>
+    ensures { result ≡ number word.now }
+{
+    u32::try_from(digits_of(word)?).ok()
+}
+
+/// The coordinate in database units that the word writes, if it writes one.
+pub(crate) fn coordinate_of(word: &[u8]) -> Option<i32>
+    ensures value { result ≡ coordinate word.now }
+    ensures in_def { IfSome result (λ z. negsuc 2147483647 <ℤ z) }
+{
+    match word.split_first() {
+        Some((b'-', rest)) => Some(-i32::try_from(digits_of(rest)?).ok()?),
+        _ => i32::try_from(digits_of(word)?).ok(),
+    }
+}

@@ -1,0 +1,83 @@
+//! Places as words.
+
+ghost use Rattle.std.specs.Prelude.{◌≡◌, ◌<◌, ◌==◌, IfSome, length, option_map, position};
+ghost use Rattle.lf_proto.specs.Requests.{orient_named, place_written};
+ghost use Rattle.lf_state.specs.Words.{behind, cut, place_in, place_on};
+
+use crate::numbers::coordinate_of;
+use lf_floorplan::{PackedPlace, Place};
+use lf_orient::Orient;
+
+/// What stands before and behind the first such byte.
+#[tactic(auto, unfolding(crate::specs::Words::cut))]
+pub(crate) fn cut(byte: u8, bytes: &[u8]) -> Option<(&[u8], &[u8])>
+    ensures { option_map (λ x. (x.0.now, x.1.now)) result ≡ cut byte bytes.now }
+{
+    let at = position_of(byte, bytes)?;
+    Some((&bytes[..at], &bytes[at + 1..]))
+}
+
+/// Where the first such byte stands.
+fn position_of(byte: u8, bytes: &[u8]) -> Option<usize>
+    ensures found { result ≡ position (λ b. b == byte) bytes.now }
+    ensures within { IfSome result (λ at. at < length bytes.now) }
+{
+    bytes.iter().position(|b| *b == byte)
+}
+
+/// What stands behind these bytes, where they come first.
+#[tactic(auto, unfolding(crate::specs::Words::behind))]
+pub(crate) fn behind<'a>(due: &[u8], bytes: &'a [u8]) -> Option<&'a [u8]>
+    ensures { option_map (λ rest. rest.now) result ≡ behind due.now bytes.now }
+{
+    bytes.strip_prefix(due)
+}
+
+/// The orientation of that name.
+fn orient_of(word: &[u8]) -> Option<Orient>
+    ensures { result ≡ orient_named word.now }
+{
+    match word {
+        b"N" => Some(Orient::N),
+        b"W" => Some(Orient::W),
+        b"S" => Some(Orient::S),
+        b"E" => Some(Orient::E),
+        b"FN" => Some(Orient::FN),
+        b"FW" => Some(Orient::FW),
+        b"FS" => Some(Orient::FS),
+        b"FE" => Some(Orient::FE),
+        _ => None,
+    }
+}
+
+/// The place that three words write.
+fn read_place(x: &[u8], y: &[u8], orient: &[u8]) -> Option<Place>
+    ensures { result ≡ place_written x.now y.now orient.now }
+{
+    let x = coordinate_of(x)?;
+    let y = coordinate_of(y)?;
+    let orient = orient_of(orient)?;
+    Some(Place::new(x, y, orient))
+}
+
+/// The place that a word writes with commas between its parts.
+#[tactic(auto, unfolding(crate::specs::Words::place_in))]
+fn place_in(word: &[u8]) -> Option<Place>
+    ensures { result ≡ place_in word.now }
+{
+    let (x, rest) = cut(b',', word)?;
+    let (y, orient) = cut(b',', rest)?;
+    read_place(x, y, orient)
+}
+
+/// The place that a word writes, or none for a minus alone.
+#[tactic(auto, unfolding(crate::specs::Words::place_on))]
+pub(crate) fn place_on(word: &[u8]) -> Option<PackedPlace>
+    ensures { result ≡ place_on word.now }
+{
+    if word == b"-".as_slice() {
+        return Some(PackedPlace::of(None));
+    }
+    let place = place_in(word)?;
+    Some(PackedPlace::of(Some(place)))
+}
