@@ -11,11 +11,13 @@ import os
 import time
 from collections import OrderedDict
 from collections.abc import Callable
+from pathlib import Path
 
 from .design import fences_in
 from .faults import FAILED, REFUSED, Fault
+from .frames import Record
 from .hub_client import Client, Entry
-from .journal import Journal
+from .journal import MOST_REPLY, Journal
 from .protocol import CHANGES, GROUND, UNBOUNDED, is_change
 from .server import Server, ServerLost, teams_told
 
@@ -47,6 +49,8 @@ class Hub:
         self.journal = journal
         self.patience = patience
         self.say = say
+        # Files to which no export may go, besides the journal and the texts that are kept.
+        self.given: list[Path] = []
         self.nobody = b""
         self.most_clients = MOST_CLIENTS
         self.clients: set[Client] = set()
@@ -145,6 +149,12 @@ class Hub:
             await self._work.wait()
             self._work.clear()
 
+    async def watch(self) -> None:
+        """Looks each second whether the journal is where it was; a fault where it is not."""
+        while True:
+            await asyncio.sleep(1)
+            self.journal.refuse_loss()
+
     def _linger(self, batch: list[Entry]) -> float:
         """Seconds to wait for the next lines of the clients that were just told, so that they share the next sync.
 
@@ -165,7 +175,7 @@ class Hub:
         asked = [entry for entry in batch if entry.reply is None]
         for entry, reply in zip(asked, await self._ask([entry.line for entry in asked])):
             entry.reply = reply
-        changes = [(entry.line, entry.reply) for entry in asked if entry.reply and is_change(entry.fields, entry.reply)]
+        changes = [Record(entry.line, entry.reply, entry.who) for entry in asked if entry.reply and is_change(entry.fields, entry.reply)]
         if changes:
             # Whatever ends this process up to here, nobody was told of these changes.
             self.journal.append(changes)
@@ -212,7 +222,7 @@ class Hub:
         changes = [entry for entry in batch if entry.reply is None and entry.verb in CHANGES]
         if not changes:
             return
-        is_full = not self.journal.has_room(sum(len(entry.line) + 64 for entry in changes))
+        is_full = not self.journal.has_room(sum(len(entry.line) + MOST_REPLY for entry in changes))
         if is_full != self._is_full:
             self._is_full = is_full
             self.say("the journal has no room: changes are refused" if is_full else "the journal has room again")
@@ -265,7 +275,8 @@ class Hub:
 
     def refuse_export(self, path: str) -> None:
         """A fault where an export to the path would overwrite the journal or the design, or has no folder to go to."""
-        if os.path.exists(path) and any(os.path.samefile(path, own) for own in (self.journal.path, *self.server.program.texts)):
+        own = [file for file in (self.journal.path, *self.server.program.texts, *self.given) if file.exists()]
+        if os.path.exists(path) and any(os.path.samefile(path, file) for file in own):
             raise Fault(FAILED, f"{path} is the journal or a text of the design")
         if os.path.isdir(path) or not os.access(os.path.dirname(os.path.abspath(path)), os.W_OK):
             raise Fault(FAILED, f"{path} cannot be written")
@@ -277,6 +288,7 @@ class Hub:
         async with self._export_turn:
             try:
                 self.refuse_export(path)
+                self.journal.refuse_loss()
                 await second.start()
                 await second.restore(self.journal.records(end))
                 return await second.end() == 0

@@ -24,7 +24,7 @@ _MOST_READS = 64
 class Entry:
     """One line on its way through the hub, of no client where the hub itself asks; its reply, once it is known."""
 
-    __slots__ = ("client", "fields", "is_last", "line", "reply", "verb")
+    __slots__ = ("client", "fields", "is_last", "line", "reply", "verb", "who")
 
     def __init__(self, client: Client | None, fields: list[bytes], reply: bytes | None = None, is_last: bool = False) -> None:
         self.client = client
@@ -34,6 +34,8 @@ class Entry:
         self.is_last = is_last
         self.verb = fields[0] if fields else b""
         self.line = b" ".join(fields)
+        # Whose it is, as the journal tells it.
+        self.who = client.who if client else b"-"
 
 
 class Host(Protocol):
@@ -69,14 +71,18 @@ class Client(asyncio.BufferedProtocol):
         self._partial = b""
         self._timer: asyncio.TimerHandle | None = None
         self._name = ""
+        # Its uid and pid.
+        self.who = b"-"
 
     def connection_made(self, transport: asyncio.BaseTransport) -> None:
         assert isinstance(transport, asyncio.Transport)
         self.transport = transport
         transport.set_write_buffer_limits(high=UNREAD_BYTES)
         peer = transport.get_extra_info("socket").getsockopt(socket.SOL_SOCKET, socket.SO_PEERCRED, 12)
+        pid, uid, _ = struct.unpack("iIi", peer)
+        self.who = b"%d %d" % (uid, pid)
         team = "operator" if self.team is None else self.team.decode()
-        self._name = "{} pid {} uid {}".format(team, *struct.unpack("3i", peer))
+        self._name = f"{team} pid {pid} uid {uid}"
         if not self.host.admit(self):
             self.host.say(f"{self._name}: one client too many")
             transport.abort()

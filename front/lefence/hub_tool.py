@@ -15,10 +15,12 @@ from pathlib import Path
 from .faults import DONE, FAILED, Fault, Parser, log, run_tool
 from .hub import MOST_CLIENTS, Hub
 from .hub_client import Client
-from .journal import Journal, lock, sums_of
+from .journal import Journal, lock
+from .owner import own
 from .program import Program, find_program
 from .protocol import socket_name
 from .server import Server
+from .texts import settle_texts
 
 TOOL = "lefence-hub"
 # The most bytes of a socket's path that the system takes.
@@ -81,10 +83,12 @@ async def serve(hub: Hub, folder: Path, wanted: list[str], stopped: asyncio.Even
     teams = start.result()
     files = resource.getrlimit(resource.RLIMIT_NOFILE)[0]
     hub.most_clients = max(1, min(MOST_CLIENTS, (files - 64) // (len(teams) + 1) - 1))
-    pump = asyncio.create_task(hub.pump())
+    pump, watch = asyncio.create_task(hub.pump()), asyncio.create_task(hub.watch())
     listeners = await listen(hub, folder, teams)
     say(f"ready: {len(teams)} teams, {hub.journal.changes} changes restored")
-    await asyncio.wait({pump, stop}, return_when=asyncio.FIRST_COMPLETED)
+    await asyncio.wait({pump, stop, watch}, return_when=asyncio.FIRST_COMPLETED)
+    if watch.done():
+        watch.result()
     for listener in listeners:
         listener.close()
     hub.stop()
@@ -111,9 +115,10 @@ async def run(options: argparse.Namespace) -> None:
     program = find_program(options.program)
     options.sockets.mkdir(exist_ok=True)
     lock(os.open(options.sockets, os.O_RDONLY | os.O_DIRECTORY | os.O_CLOEXEC), options.sockets)
-    sums = sums_of(paths)
-    journal = Journal(options.journal, sums, say, not options.no_sync)
-    hub = Hub(Server(Program(program, paths), sums), journal, options.patience, say)
+    texts, kept = settle_texts(options.journal, paths, say)
+    journal = Journal(options.journal, texts, say, not options.no_sync, own(program), options.takeover)
+    hub = Hub(Server(Program(program, kept), [text.sum for text in texts]), journal, options.patience, say)
+    hub.given = paths
     try:
         if options.export:
             hub.refuse_export(options.export)
@@ -143,6 +148,7 @@ def parser() -> Parser:
     add("--export", metavar="FILE", help="where the committed places are exported at the end")
     add("--team", metavar="NAME", action="append", default=[], help="a team to serve, and no others than those so named")
     add("--patience", metavar="S", type=float, default=60.0, help="seconds for which a client may read nothing (60)")
+    add("--takeover", action="store_true", help="take the journal from a hub of another host, which is gone for certain")
     add("--no-sync", action="store_true", help="do not wait for the disk: a crash of the machine may lose changes")
     made.add_program()
     return made

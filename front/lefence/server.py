@@ -9,7 +9,7 @@ from collections.abc import Callable, Iterator
 from .async_run import AsyncRun
 from .description import take_team
 from .faults import FAILED, REFUSED, Fault
-from .journal import sums_of
+from .frames import Record, sums_of
 from .program import PIECE, Program
 from .protocol import GROUND, text_length
 
@@ -78,19 +78,22 @@ class Server:
             replies[-1] += rest + await reader.readexactly(length - len(rest))
         return replies
 
-    async def restore(self, records: Iterator[tuple[bytes, bytes]], note: Note | None = None) -> None:
+    async def restore(self, records: Iterator[Record], note: Note | None = None) -> None:
         """Has the lines of a journal answered, and compares each reply; `note` is told of each.
 
         Raises a fault at the first reply that is another; ServerLost where the program dies or lacks memory.
         """
+        count = 0
         while chunk := list(itertools.islice(records, _CHUNK)):
-            for (line, told), reply in zip(chunk, await self.ask([line for line, _ in chunk])):
+            for record, reply in zip(chunk, await self.ask([record.line for record in chunk])):
+                count += 1
                 if reply.startswith(b"no 12 "):
                     raise ServerLost("the program has no memory to restore its state")
-                if reply != told:
-                    raise Fault(REFUSED, f"the journal has {told!r} for {line!r}, and the program answers {reply!r}")
+                if reply != record.reply:
+                    place = f"change {count}: the journal has {record.reply!r} for {record.line!r}"
+                    raise Fault(REFUSED, f"{place}, and the program answers {reply!r}")
                 if note:
-                    note(line.split(), reply)
+                    note(record.line.split(), reply)
 
     async def end(self) -> int:
         """Ends the program's input, and returns its exit status."""

@@ -22,7 +22,8 @@ from support import CELLS, PATIENCE, PROGRAM, TEAMS, WIDTH, HubCase, Script, Tal
 from lefence import hub as hub_module
 from lefence.faults import Fault
 from lefence.hub_client import Client
-from lefence.journal import Journal
+from lefence.frames import Record
+from lefence.journal import Journal, texts_in
 from lefence.protocol import socket_name, team_of_socket
 
 
@@ -376,13 +377,13 @@ class Ends(HubCase):
             self.assertEqual((second.returncode, b"another hub holds it" in second.stderr), (3, True))
         self.hub.end()
         kept = self.journal.read_bytes()
-        self.design.write_text(design_text() + "\n")
-        self.assertIn("of another design", self.start())
-        self.assertEqual((self.hub.process.returncode, self.journal.read_bytes()), (1, kept))
-        self.design.write_text(design_text())
-        sums = [word.decode() for word in kept.split()[4:7:2]]
-        journal = Journal(self.journal, sums, mock.Mock())
-        journal.append([(b"open f1", b"ok 3 0\n")])
+        other = self.folder / "other.def"
+        other.write_text(design_text() + "\n")
+        second = subprocess.run([*tool_words("lefence-hub"), *self.words(design=other)], capture_output=True, timeout=PATIENCE)
+        self.assertIn(b"of another design", second.stderr)
+        self.assertEqual((second.returncode, self.journal.read_bytes()), (1, kept))
+        journal = Journal(self.journal, texts_in(self.journal) or [], mock.Mock())
+        journal.append([Record(b"open f1", b"ok 3 0\n")])
         journal.close()
         self.assertIn("has b'ok 3 0", self.start())
         self.assertEqual(self.hub.process.returncode, 1)
