@@ -16,7 +16,7 @@ import lefence
 
 TOOLS = (
     *("lefence-hub", "lefence-slice", "lefence-push", "lefence-shell", "lefence-picture", "lefence-report"),
-    *("lefence-summary", "lefence-markers", "lefence-prepare", "lefence-repair"),
+    *("lefence-summary", "lefence-markers", "lefence-prepare", "lefence-repair", "lefence-journal"),
 )
 
 
@@ -45,6 +45,8 @@ class Tools(FrontCase):
             ("lefence-slice", ("t.def", "--team", "f0", "--output", "nowhere/x")),
             ("lefence-slice", ("t.def", "nowhere.lef", "--team", "f0", "--program", PROGRAM)),
             ("lefence-push", (b"\xff", "s")),
+            ("lefence-journal", ("check", b"\xff")),
+            ("lefence-journal", ("verify", "nowhere")),
             ("lefence-shell", (b"\xff.def", "t.lef", "--program", PROGRAM)),
             ("lefence-summary", ("t.def", b"\xff.def", "t.lef", "--program", PROGRAM)),
             ("lefence-summary", ("t.def", "nowhere.def", "t.lef", "--program", PROGRAM)),
