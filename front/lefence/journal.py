@@ -81,6 +81,8 @@ class Journal:
         self.is_synced = is_synced
         # How long the disk took for the last frame.
         self.seconds = 0.0
+        # When the last change was made, in seconds since 1970.
+        self.last = 0.0
         # Who wrote it before, if that is told.
         self.former: Owner | None = None
         self._say = say
@@ -112,6 +114,7 @@ class Journal:
         last, is_claimed = None, False
         for last in self._reader.frames(self._start):
             self.changes += last.changes
+            self.last = float(last.time) if last.changes else self.last
             self.end = last.end
             for note in last.notes():
                 self.former = owner_of(note) or self.former
@@ -202,6 +205,7 @@ class Journal:
             self._is_broken = True
             raise Fault(FAILED, f"{self.path}: {error}; nothing of this was acknowledged") from error
         self.seconds = time.monotonic() - begin
+        self.last = time.time()
         self.end += len(frame)
         self.changes += len(records)
 

@@ -103,7 +103,7 @@ class Sockets(HubCase):
         (self.folder / "s/f1.sock").chmod(0o600)
         (self.folder / "s/operator.sock").chmod(0o666)
         if os.geteuid() == 0:
-            os.chown(self.folder / "s/f0.sock", 12345, 12345)
+            os.chown(self.folder / "s/f0.sock", -1, 12345)
         self.start()
         self.assertEqual(self.modes(), first | {"f1.sock": 0o600})
         self.hub.kill()
@@ -263,7 +263,7 @@ class Disk(HubCase):
         for error in (None, OSError(5, "the disk")):
             steps = mock.Mock(**{"sync.side_effect": error})
             server = mock.Mock(ask=mock.AsyncMock(return_value=[b"ok 0 0\n"]))
-            hub = hub_module.Hub(server, Journal(self.folder / str(error), [], mock.Mock()), 60, mock.Mock())
+            hub = hub_module.Hub(server, Journal(self.folder / str(error), [], mock.Mock()), hub_module.Bounds(), mock.Mock())
             client = Client(hub, b"f0")
             client.transport = mock.Mock(**{"is_closing.return_value": False, "write": steps.write})
             client.get_buffer(8)[:8] = b"open f0\n"
@@ -306,7 +306,7 @@ class Ends(HubCase):
 
     def test_a_signal_ends_it_with_everything_told(self) -> None:
         target = self.folder / "end.def"
-        for number in (signal.SIGTERM, signal.SIGINT):
+        for number in (signal.SIGTERM, signal.SIGINT, signal.SIGHUP):
             self.start("--export", str(target))
             talker, idle, operator = self.talk("f0"), self.talk("f1"), self.talk("operator")
             self.assertRegex(talker.ask("open f0")[0], "ok 0")
