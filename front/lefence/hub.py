@@ -11,13 +11,20 @@ import os
 import time
 from collections import OrderedDict
 from collections.abc import Callable
+from dataclasses import dataclass
+from pathlib import Path
 
+from .calm import Calm
 from .design import fences_in
 from .faults import FAILED, REFUSED, Fault
+from .figures import Figures
+from .frames import Record
 from .hub_client import Client, Entry
-from .journal import Journal
+from .journal import MOST_REPLY, Journal
+from .notify import notify_alive
 from .protocol import CHANGES, GROUND, UNBOUNDED, is_change
 from .server import Server, ServerLost, teams_told
+from .status import status_text
 
 # What a batch may weigh; a line of one cell weighs 1, one of a whole team as much as WHOLE.
 _BATCH = 1024
@@ -29,10 +36,34 @@ _LONG, _SHORT = 0.02, 0.005
 _LINGER, _MOST_LINGER = 0.25, 0.002
 # Clients of one socket.
 MOST_CLIENTS = 256
+# What of a socket's connections and of a team's sessions one user may have, who is not the hub's own, and how many sessions there are.
+_SHARE = 3 / 4
+_SESSIONS = 8
+# Bytes of replies that are left unread by all clients, above which nobody is asked for more than a short reply; how many clients
+# of a socket may leave more unread than a client may have while it is asked on.
+_MOST_UNREAD = 256 << 20
+_MOST_LONG = 2
 # How often a program that dies is started again for the same lines.
 _STARTS = 5
 # Seconds after which closes that a full disk refused are tried again.
 _LATER = 1
+
+
+@dataclass
+class Holder:
+    """Who opened a session, None where that was before this start, and when."""
+
+    client: Client | None
+    since: float
+
+
+@dataclass
+class Bounds:
+    """What a hub bears, in seconds: a client that reads nothing, one that is idle without a session, a program that says nothing."""
+
+    patience: float = 60
+    idle: float = 900
+    deadline: float = 600
 
 
 class Hub:
@@ -41,19 +72,29 @@ class Hub:
     So between batches each session's owner is known, and the journal is the program's state.
     """
 
-    def __init__(self, server: Server, journal: Journal, patience: float, say: Callable[[str], None]) -> None:
-        """A hub that is not started; a client that reads nothing for `patience` seconds is dropped."""
+    def __init__(self, server: Server, journal: Journal, bounds: Bounds, say: Callable[[str], None]) -> None:
+        """A hub that is not started."""
         self.server = server
         self.journal = journal
-        self.patience = patience
+        self.patience = bounds.patience
+        self.bounds = bounds
         self.say = say
+        self.calm = Calm(say)
+        self.figures = Figures()
+        # Files to which no export may go, besides the journal and the texts that are kept.
+        self.given: list[Path] = []
         self.nobody = b""
         self.most_clients = MOST_CLIENTS
         self.clients: set[Client] = set()
-        # Clients with lines that may be asked, in turn.
+        self.teams: list[str] = []
+        # Clients with lines that may be asked, in turn; those that wait for others to read; those that leave much unread.
         self._queue: OrderedDict[Client, None] = OrderedDict()
-        # Of each open session, a team and the number of its slot, the client that opened it; None is one before this start.
-        self._owners: dict[tuple[bytes, int], Client | None] = {}
+        self._waiting: OrderedDict[Client, None] = OrderedDict()
+        self._clogged: set[Client] = set()
+        # Of each open session, a team and the number of its slot, who opened it.
+        self.holders: dict[tuple[bytes, int], Holder] = {}
+        # A program that writes an export.
+        self._second: Server | None = None
         # A session may be open whose client is gone.
         self._has_orphans = True
         self._exports: set[asyncio.Task[None]] = set()
@@ -77,7 +118,8 @@ class Hub:
             await asyncio.gather(telling, return_exceptions=True)
         if missing := [team for team in wanted if team not in teams]:
             raise Fault(REFUSED, f"no team: {', '.join(missing)}")
-        return list(dict.fromkeys(wanted)) or teams
+        self.teams = list(dict.fromkeys(wanted)) or teams
+        return self.teams
 
     async def _start_program(self) -> None:
         try:
@@ -89,10 +131,15 @@ class Hub:
     # What clients call.
 
     def admit(self, client: Client) -> bool:
-        """Takes a new client in; False where its socket has as many as may be."""
-        crowd = sum(other.team == client.team for other in self.clients)
+        """Takes a new client in; False where its socket has as many as may be, or as many of one user."""
+        crowd = [other for other in self.clients if other.team == client.team]
+        mine = sum(other.uid == client.uid for other in crowd)
         self.clients.add(client)
-        return crowd < self.most_clients
+        return len(crowd) < self.most_clients and (self._is_own(client) or mine < max(1, int(self.most_clients * _SHARE)))
+
+    def _is_own(self, client: Client) -> bool:
+        """Whether a client is of the user of the hub, who may end it anyway."""
+        return client.uid == os.geteuid()
 
     def wake(self, client: Client) -> None:
         """Puts a client in the queue for its turn, where it has a line and may have it answered."""
@@ -103,7 +150,27 @@ class Hub:
     def leave(self, client: Client) -> None:
         """A client is gone; its sessions are closed at the head of the next batch."""
         self.clients.discard(client)
+        self.unclog(client)
         self._close_orphans()
+
+    def clog(self, client: Client) -> None:
+        """A client leaves much unread."""
+        self._clogged.add(client)
+
+    def unclog(self, client: Client) -> None:
+        """A client has read, or is gone: those that waited for it have their turn."""
+        self._clogged.discard(client)
+        while self._waiting:
+            self.wake(self._waiting.popitem(last=False)[0])
+
+    def _is_crowded(self, client: Client) -> bool:
+        """Whether so much is unread, by all or by clients of this socket, that no reply without bound may be asked for."""
+        long = sum(other.team == client.team for other in self._clogged)
+        return long >= _MOST_LONG or self.unread() >= _MOST_UNREAD
+
+    def unread(self) -> int:
+        """The bytes that those leave unread that leave much."""
+        return sum(client.transport.get_write_buffer_size() for client in self._clogged)
 
     def _close_orphans(self) -> None:
         self._has_orphans = True
@@ -116,17 +183,22 @@ class Hub:
         batch: list[Entry] = []
         if self._has_orphans:
             self._has_orphans = False
-            gone = [session for session, owner in self._owners.items() if owner is None or owner.is_done]
+            gone = [session for session, holder in self.holders.items() if holder.client is None or holder.client.is_done]
             batch += [Entry(None, [b"close", team, b"%d" % number]) for team, number in gone]
         weight = 0
         while self._queue and weight < self._budget:
             client, _ = self._queue.popitem(last=False)
             if client.is_clogged or client.is_done:
                 continue
+            if self._clogged and client.is_unbounded() and self._is_crowded(client):
+                self._waiting[client] = None
+                continue
             entry = client.next_entry(not self._is_stopping)
             batch.append(entry)
             if is_export(entry):
                 client.is_busy, entry.reply = True, b""
+            elif is_status(entry):
+                entry.reply = b"ok %b\n" % status_text(self)
             self.wake(client)
             weight += _WHOLE if entry.verb in _WHOLE_TEAM else 1
             # A reply without bound is the last of its batch, which bounds what is held of replies.
@@ -140,10 +212,31 @@ class Hub:
             while batch := self.take():
                 await self.answer(batch)
                 await asyncio.sleep(self._linger(batch))
-            if self._is_stopping and not self._exports:
+            if self._is_stopping and not (self._exports or self._waiting):
                 return
             await self._work.wait()
             self._work.clear()
+
+    async def watch(self) -> None:
+        """Looks each second after what may not stay as it is; a fault where the journal is not where it was."""
+        while True:
+            await asyncio.sleep(1)
+            notify_alive(bool(self.teams))
+            self.journal.refuse_loss()
+            for server in (self.server, self._second):
+                if server and server.silence() > self.bounds.deadline:
+                    self.say(f"the program has said nothing for {self.bounds.deadline:g} seconds, and is killed")
+                    server.strike()
+            self._drop_idle()
+
+    def _drop_idle(self) -> None:
+        """Drops the clients that have no session and were not heard for long."""
+        since = time.monotonic() - self.bounds.idle
+        holders = {holder.client for holder in self.holders.values()}
+        for client in [each for each in self.clients if each.heard < since and each not in holders]:
+            if not (client.waiting or client.is_busy or client.is_clogged or client.is_done):
+                self.calm("idle", f"{client.name}: dropped, idle without a session")
+                client.part()
 
     def _linger(self, batch: list[Entry]) -> float:
         """Seconds to wait for the next lines of the clients that were just told, so that they share the next sync.
@@ -162,13 +255,16 @@ class Hub:
     async def answer(self, batch: list[Entry]) -> None:
         """Has a batch answered and journaled, then tells the replies."""
         self._refuse_without_room(batch)
+        self._refuse_above_share(batch)
+        self.figures.count(len(batch))
         asked = [entry for entry in batch if entry.reply is None]
         for entry, reply in zip(asked, await self._ask([entry.line for entry in asked])):
             entry.reply = reply
-        changes = [(entry.line, entry.reply) for entry in asked if entry.reply and is_change(entry.fields, entry.reply)]
+        changes = [Record(entry.line, entry.reply, entry.who) for entry in asked if entry.reply and is_change(entry.fields, entry.reply)]
         if changes:
             # Whatever ends this process up to here, nobody was told of these changes.
             self.journal.append(changes)
+            self.figures.syncs.append(self.journal.seconds)
         for entry in batch:
             self._tell(entry)
         for client in {entry.client for entry in batch if entry.client}:
@@ -198,8 +294,10 @@ class Hub:
         """Starts the program again in the state of the journal, a handful of times where it dies again."""
         for _ in range(_STARTS):
             self.say(f"{lost}; {self.journal.changes} changes are restored")
+            self.figures.restores += 1
             if note:
-                self._owners.clear()
+                self.holders.clear()
+                self.figures.teams.clear()
             try:
                 await self.server.start()
                 return await self.server.restore(self.journal.records(self.journal.end), note)
@@ -212,14 +310,28 @@ class Hub:
         changes = [entry for entry in batch if entry.reply is None and entry.verb in CHANGES]
         if not changes:
             return
-        is_full = not self.journal.has_room(sum(len(entry.line) + 64 for entry in changes))
+        is_full = not self.journal.has_room(sum(len(entry.line) + MOST_REPLY for entry in changes))
         if is_full != self._is_full:
             self._is_full = is_full
-            self.say("the journal has no room: changes are refused" if is_full else "the journal has room again")
+            told = "the journal has no room: changes are refused" if is_full else "the journal has room again"
+            self.calm(told, told)
         if is_full:
             for entry in changes:
                 entry.reply = b"no 12 OutOfMemory\n"
             asyncio.get_running_loop().call_later(_LATER, self._close_orphans)
+
+    def _refuse_above_share(self, batch: list[Entry]) -> None:
+        """A user who has as many sessions of a team as one may have is refused another one as if there were no more."""
+        opens = [entry for entry in batch if entry.reply is None and entry.verb == b"open" and entry.client and len(entry.fields) == 2]
+        asked: dict[tuple[bytes, int], int] = {}
+        for entry in opens:
+            client, team = entry.client, entry.fields[1]
+            if client is None or self._is_own(client) or team == self.nobody:
+                continue
+            mine = sum(holder.client.uid == client.uid for (name, _), holder in self.holders.items() if name == team and holder.client)
+            asked[team, client.uid] = asked.get((team, client.uid), mine) + 1
+            if asked[team, client.uid] > _SESSIONS * _SHARE and team.decode() in self.teams:
+                entry.reply = b"no 10 SessionsFull\n"
 
     def _tell(self, entry: Entry) -> None:
         """What an answered entry comes to; its reply is put to those of its client."""
@@ -242,13 +354,14 @@ class Hub:
         self._note(fields, reply, None)
 
     def _note(self, fields: list[bytes], reply: bytes, client: Client | None) -> None:
-        """Keeps who owns which session."""
+        """Keeps who owns which session, and counts."""
         if not is_change(fields, reply):
             return
+        self.figures.note(fields, reply)
         if fields[0] == b"open":
-            self._owners[fields[1], int(reply.split()[1])] = client
+            self.holders[fields[1], int(reply.split()[1])] = Holder(client, time.time())
         elif fields[0] == b"close":
-            del self._owners[fields[1], int(fields[2])]
+            del self.holders[fields[1], int(fields[2])]
 
     # Exports.
 
@@ -265,7 +378,8 @@ class Hub:
 
     def refuse_export(self, path: str) -> None:
         """A fault where an export to the path would overwrite the journal or the design, or has no folder to go to."""
-        if os.path.exists(path) and any(os.path.samefile(path, own) for own in (self.journal.path, *self.server.program.texts)):
+        own = [file for file in (self.journal.path, *self.server.program.texts, *self.given) if file.exists()]
+        if os.path.exists(path) and any(os.path.samefile(path, file) for file in own):
             raise Fault(FAILED, f"{path} is the journal or a text of the design")
         if os.path.isdir(path) or not os.access(os.path.dirname(os.path.abspath(path)), os.W_OK):
             raise Fault(FAILED, f"{path} cannot be written")
@@ -276,7 +390,9 @@ class Hub:
         second = Server(live.program, live.sums, export=path)
         async with self._export_turn:
             try:
+                self._second = second
                 self.refuse_export(path)
+                self.journal.refuse_loss()
                 await second.start()
                 await second.restore(self.journal.records(end))
                 return await second.end() == 0
@@ -284,6 +400,7 @@ class Hub:
                 self.say(f"export: {fault}")
                 return False
             finally:
+                self._second = None
                 await second.kill()
 
 
@@ -305,4 +422,14 @@ def refuse_other_teams(found: list[str], told: list[str]) -> None:
 
 def is_export(entry: Entry) -> bool:
     """Whether the line is the operator's `export PATH`."""
-    return entry.verb == b"export" and len(entry.fields) == 2 and entry.client is not None and entry.client.team is None
+    return entry.verb == b"export" and len(entry.fields) == 2 and is_operators(entry)
+
+
+def is_status(entry: Entry) -> bool:
+    """Whether the line is the operator's `status`."""
+    return entry.fields == [b"status"] and is_operators(entry)
+
+
+def is_operators(entry: Entry) -> bool:
+    """Whether the line came by the operator's socket."""
+    return entry.client is not None and entry.client.team is None

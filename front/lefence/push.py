@@ -13,7 +13,7 @@ from pathlib import Path
 from .client import Connection, Sent
 from .endpoint import connect_to
 from .faults import DONE, FAILED, REFUSED, Fault, Parser, log, run_tool
-from .journal import read_records
+from .frames import read_records
 from .protocol import REVISIONS
 
 TOOL = "lefence-push"
@@ -115,7 +115,7 @@ def _open_again(connection: Connection, team: bytes, sessions: set[int], revisio
 
 def push_journal(journal: Path, where: str, ahead: int, continues: bool) -> Push:
     """Sends a journal's commands to a socket; a fault tells the first reply that differs, or that the connection is lost."""
-    records = [(number, line, reply) for number, (line, reply) in enumerate(read_records(journal), 1)]
+    records = [(number, line, reply) for number, (line, reply, _) in enumerate(read_records(journal), 1)]
     there = connect_to(where)
     push = Push(there.connection, max(1, ahead))
     try:

@@ -12,7 +12,7 @@ from pathlib import Path
 
 from .client import Connection, Session
 from .endpoint import Endpoint, connect_to, start_program
-from .faults import DONE, FAILED, REFUSED, Fault, Parser, run_tool
+from .faults import DONE, FAILED, REFUSED, Fault, Parser, printable, run_tool
 from .protocol import ORIENTS, VERBS
 from .refusals import Refusal, broken_in_words
 from .verbs import Legalized, Place, ProtocolError, Report, Tidied
@@ -151,7 +151,7 @@ class Shell(cmd.Cmd):
             self._name()
 
     def _print(self, lines: list[str]) -> None:
-        self.stdout.write("".join(f"{line}\n" for line in lines))
+        self.stdout.write("".join(f"{printable(line)}\n" for line in lines))
         self.stdout.flush()
 
     # Help and completion.

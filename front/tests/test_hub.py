@@ -22,7 +22,8 @@ from support import CELLS, PATIENCE, PROGRAM, TEAMS, WIDTH, HubCase, Script, Tal
 from lefence import hub as hub_module
 from lefence.faults import Fault
 from lefence.hub_client import Client
-from lefence.journal import Journal
+from lefence.frames import Record
+from lefence.journal import Journal, texts_in
 from lefence.protocol import socket_name, team_of_socket
 
 
@@ -102,7 +103,7 @@ class Sockets(HubCase):
         (self.folder / "s/f1.sock").chmod(0o600)
         (self.folder / "s/operator.sock").chmod(0o666)
         if os.geteuid() == 0:
-            os.chown(self.folder / "s/f0.sock", 12345, 12345)
+            os.chown(self.folder / "s/f0.sock", -1, 12345)
         self.start()
         self.assertEqual(self.modes(), first | {"f1.sock": 0o600})
         self.hub.kill()
@@ -262,7 +263,7 @@ class Disk(HubCase):
         for error in (None, OSError(5, "the disk")):
             steps = mock.Mock(**{"sync.side_effect": error})
             server = mock.Mock(ask=mock.AsyncMock(return_value=[b"ok 0 0\n"]))
-            hub = hub_module.Hub(server, Journal(self.folder / str(error), [], mock.Mock()), 60, mock.Mock())
+            hub = hub_module.Hub(server, Journal(self.folder / str(error), [], mock.Mock()), hub_module.Bounds(), mock.Mock())
             client = Client(hub, b"f0")
             client.transport = mock.Mock(**{"is_closing.return_value": False, "write": steps.write})
             client.get_buffer(8)[:8] = b"open f0\n"
@@ -305,7 +306,7 @@ class Ends(HubCase):
 
     def test_a_signal_ends_it_with_everything_told(self) -> None:
         target = self.folder / "end.def"
-        for number in (signal.SIGTERM, signal.SIGINT):
+        for number in (signal.SIGTERM, signal.SIGINT, signal.SIGHUP):
             self.start("--export", str(target))
             talker, idle, operator = self.talk("f0"), self.talk("f1"), self.talk("operator")
             self.assertRegex(talker.ask("open f0")[0], "ok 0")
@@ -376,13 +377,13 @@ class Ends(HubCase):
             self.assertEqual((second.returncode, b"another hub holds it" in second.stderr), (3, True))
         self.hub.end()
         kept = self.journal.read_bytes()
-        self.design.write_text(design_text() + "\n")
-        self.assertIn("of another design", self.start())
-        self.assertEqual((self.hub.process.returncode, self.journal.read_bytes()), (1, kept))
-        self.design.write_text(design_text())
-        sums = [word.decode() for word in kept.split()[4:7:2]]
-        journal = Journal(self.journal, sums, mock.Mock())
-        journal.append([(b"open f1", b"ok 3 0\n")])
+        other = self.folder / "other.def"
+        other.write_text(design_text() + "\n")
+        second = subprocess.run([*tool_words("lefence-hub"), *self.words(design=other)], capture_output=True, timeout=PATIENCE)
+        self.assertIn(b"of another design", second.stderr)
+        self.assertEqual((second.returncode, self.journal.read_bytes()), (1, kept))
+        journal = Journal(self.journal, texts_in(self.journal) or [], mock.Mock())
+        journal.append([Record(b"open f1", b"ok 3 0\n")])
         journal.close()
         self.assertIn("has b'ok 3 0", self.start())
         self.assertEqual(self.hub.process.returncode, 1)

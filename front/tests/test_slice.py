@@ -13,7 +13,8 @@ from support import PROGRAM, TEAMS, Hub, HubCase, Script, converse, design_text
 import lefence
 from lefence.design import Design
 from lefence.faults import Fault
-from lefence.journal import Journal
+from lefence.frames import Record
+from lefence.journal import Journal, texts_in
 from lefence.slice import refuse_difference, slice_of
 
 # What a design of a flow holds beside the small one: sections that a slice drops, comments, quotes, FIXED and COVER components.
@@ -50,9 +51,8 @@ def rich_text() -> str:
 
 def made_journal(path: Path, like: Path, records: Iterable[tuple[bytes, bytes]]) -> Path:
     """A journal with these records, of the design of another one."""
-    sums = [word.decode() for word in like.read_bytes().split()[4:7:2]]
-    journal = Journal(path, sums, mock.Mock())
-    journal.append(list(records))
+    journal = Journal(path, texts_in(like) or [], mock.Mock())
+    journal.append([Record(line, reply) for line, reply in records])
     journal.close()
     return path
 

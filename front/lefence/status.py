@@ -1,0 +1,80 @@
+"""What the operator of a hub is told of it: a line of JSON, and the question for it."""
+
+from __future__ import annotations
+
+import json
+import os
+import time
+from collections.abc import Iterator
+from pathlib import Path
+from typing import TYPE_CHECKING, Any
+
+from .client import connect
+from .faults import FAILED, Fault
+from .figures import TeamFigures, memory_of, share
+
+if TYPE_CHECKING:
+    from .hub import Hub
+
+
+def status_text(hub: Hub) -> bytes:
+    """One line of JSON without a line feed."""
+    return json.dumps(_status(hub), separators=(",", ":")).encode()
+
+
+def _status(hub: Hub) -> dict[str, Any]:
+    figures, journal, now = hub.figures, hub.journal, time.time()
+    return {
+        "uptime_seconds": round(now - figures.begun, 1),
+        "clients": len(hub.clients),
+        "unread_bytes": hub.unread(),
+        "lines_total": figures.lines,
+        "restores_total": figures.restores,
+        "changes_total": journal.changes,
+        "journal_bytes": journal.end,
+        "journal_age_seconds": round(now - (journal.last or now), 1),
+        **{f"sync_seconds_p{part}": round(share(figures.syncs, part / 100), 6) for part in (50, 99)},
+        **{f"batch_lines_p{part}": share(figures.batches, part / 100) for part in (50, 99)},
+        "program_bytes": memory_of(hub.server.pid),
+        "hub_bytes": memory_of(os.getpid()),
+        "teams": [_team_status(hub, team) for team in hub.teams],
+    }
+
+
+def _team_status(hub: Hub, team: str) -> dict[str, Any]:
+    name = team.encode()
+    counts = hub.figures.teams.get(name, TeamFigures())
+    return {
+        "team": team,
+        "clients": sum(client.team == name for client in hub.clients),
+        "revision": counts.revision,
+        "uncommitted": counts.uncommitted,
+        "sessions": list(_sessions(hub, name)),
+    }
+
+
+def _sessions(hub: Hub, team: bytes) -> Iterator[dict[str, Any]]:
+    for (name, number), holder in sorted(hub.holders.items(), key=lambda item: item[0]):
+        if name == team and holder.client:
+            yield {"number": number, "uid": holder.client.uid, "pid": holder.client.pid, "since": round(holder.since, 1)}
+
+
+def uncommitted_lines(hub: Hub) -> Iterator[str]:
+    """A line for each team of which an export lacks work."""
+    for team, counts in sorted(hub.figures.teams.items()):
+        if counts.uncommitted:
+            yield f"team {team.decode()}: {counts.uncommitted} changes up to revision {counts.revision} are not committed"
+
+
+def ask_status(folder: Path) -> dict[str, Any]:
+    """The status of the hub that has its sockets in a folder; a fault where none listens there."""
+    path = folder / "operator.sock"
+    try:
+        with connect(path) as connection:
+            words = connection.ask_line(b"status")
+    except OSError as error:
+        raise Fault(FAILED, f"{path}: {error}") from None
+    if not words.startswith(b"ok {"):
+        raise Fault(FAILED, f"{path}: answered {words.decode(errors='backslashreplace').strip()}")
+    found: dict[str, Any] = json.loads(words[3:])
+    return found
