@@ -30,7 +30,7 @@ _ENTRY = re.compile(_SKIP + rb"-" + _ALONE + _NAME + _MORE + _SKIP + _SEMICOLON,
 _AT_ONCE = 1000
 
 # A star in a pattern of names, which is any run of bytes, unless it stands directly behind a backslash.
-_STAR = re.compile(rb"(?<!\\)\*")
+STAR = re.compile(rb"(?<!\\)\*")
 
 # Sections, which end with END and their keyword; all other statements end with a semicolon, but for BEGINEXT and END DESIGN.
 SECTIONS = frozenset(
@@ -98,7 +98,7 @@ class Entry:
 
 def pattern_of(word: bytes) -> re.Pattern[bytes]:
     """What a name or a pattern with stars names, if it is matched as a whole."""
-    return re.compile(rb".*".join(map(re.escape, _STAR.split(word))), re.S)
+    return re.compile(rb".*".join(map(re.escape, STAR.split(word))), re.S)
 
 
 def words_in(text: bytes) -> Iterator[bytes]:
@@ -183,7 +183,7 @@ class Design:
         for word in group.words[1:]:
             if word == b"+":
                 break
-            parts = _STAR.split(word)
+            parts = STAR.split(word)
             if len(parts) == 1:
                 self._literal.setdefault(word, fence)
             else:
