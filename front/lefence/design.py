@@ -112,15 +112,17 @@ def words_in(text: bytes) -> Iterator[bytes]:
 
 def statements(text: bytes) -> list[Statement]:
     """The statements up to END DESIGN, which is the last."""
-    found: list[Statement] = []
+    return list(_statements(text))
+
+
+def _statements(text: bytes) -> Iterator[Statement]:
     start = 0
     while first := TOKENS.match(text, start):
         stop = _end_of(text, first)
-        found.append(Statement(first[1], start, stop))
+        yield Statement(first[1], start, stop)
         if first[1] == b"END":
-            break
+            return
         start = stop
-    return found
 
 
 def section_parts(text: bytes, section: Statement) -> tuple[bytes, bytes, Iterator[Entry]]:
@@ -145,6 +147,14 @@ def entries(text: bytes, found: list[Statement], keyword: bytes) -> Iterator[Ent
     for statement in found:
         if statement.keyword == keyword:
             yield from section_parts(text, statement)[2]
+
+
+def units_in(text: bytes) -> bytes:
+    """The database units in a micron; 0 where the text does not tell them in a form that the program loads."""
+    for statement in _statements(text):
+        if statement.keyword == b"UNITS":
+            return (list(words_in(text[statement.start : statement.stop]))[3:4] or [b"0"])[0]
+    return b"0"
 
 
 def fences_in(text: bytes) -> list[str]:

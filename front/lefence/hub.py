@@ -12,11 +12,11 @@ import time
 from collections import OrderedDict
 from collections.abc import Callable
 
-from .design import fences_in
+from .design import fences_in, units_in
 from .faults import FAILED, REFUSED, Fault
 from .hub_client import Client, Entry
 from .journal import Journal
-from .protocol import CHANGES, GROUND, UNBOUNDED, is_change
+from .protocol import CHANGES, GROUND, UNBOUNDED, is_change, on_one_line
 from .server import Server, ServerLost, teams_told
 
 # What a batch may weigh; a line of one cell weighs 1, one of a whole team as much as WHOLE.
@@ -47,7 +47,7 @@ class Hub:
         self.journal = journal
         self.patience = patience
         self.say = say
-        self.nobody = b""
+        self.nobody, self.units = b"", b""
         self.most_clients = MOST_CLIENTS
         self.clients: set[Client] = set()
         # Clients with lines that may be asked, in turn.
@@ -58,6 +58,8 @@ class Hub:
         self._has_orphans = True
         self._exports: set[asyncio.Task[None]] = set()
         self._export_turn = asyncio.Lock()
+        # Why the last export that failed did so.
+        self._why_not = b""
         self._work = asyncio.Event()
         self._is_stopping = False
         self._is_full = False
@@ -67,6 +69,7 @@ class Hub:
         """Starts the program in the state of the journal; the teams to be served, which are all or those wanted."""
         text = await asyncio.to_thread(self.server.program.texts[0].read_bytes)
         teams = [GROUND, *await asyncio.to_thread(fences_in, text)]
+        self.units = await asyncio.to_thread(units_in, text)
         self.nobody = name_of_nobody(teams)
         telling = asyncio.create_task(teams_told(self.server.program))
         try:
@@ -254,7 +257,7 @@ class Hub:
 
     async def _answer_export(self, client: Client, path: str, end: int) -> None:
         """Answers an export of the committed places as they were in its turn, while others are served."""
-        client.replies.append(b"ok\n" if await self.export(path, end) else b"no 13 NotExported\n")
+        client.replies.append(b"ok\n" if await self.export(path, end) else b"no 13 NotExported %b\n" % self._why_not)
         client.flush()
         client.is_busy = False
         self.wake(client)
@@ -279,9 +282,11 @@ class Hub:
                 self.refuse_export(path)
                 await second.start()
                 await second.restore(self.journal.records(end))
+                self._why_not = b"the program did not write it, and the hub's standard error says why"
                 return await second.end() == 0
             except (Fault, OSError, ServerLost) as fault:
                 self.say(f"export: {fault}")
+                self._why_not = on_one_line(str(fault))
                 return False
             finally:
                 await second.kill()
