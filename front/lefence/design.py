@@ -112,10 +112,11 @@ def words_in(text: bytes) -> Iterator[bytes]:
 
 def statements(text: bytes) -> list[Statement]:
     """The statements up to END DESIGN, which is the last."""
-    return list(_statements(text))
+    return list(statements_in(text))
 
 
-def _statements(text: bytes) -> Iterator[Statement]:
+def statements_in(text: bytes) -> Iterator[Statement]:
+    """The same, each when it is asked for."""
     start = 0
     while first := TOKENS.match(text, start):
         stop = _end_of(text, first)
@@ -151,7 +152,7 @@ def entries(text: bytes, found: list[Statement], keyword: bytes) -> Iterator[Ent
 
 def units_in(text: bytes) -> bytes:
     """The database units in a micron; 0 where the text does not tell them in a form that the program loads."""
-    for statement in _statements(text):
+    for statement in statements_in(text):
         if statement.keyword == b"UNITS":
             return (list(words_in(text[statement.start : statement.stop]))[3:4] or [b"0"])[0]
     return b"0"
