@@ -15,14 +15,14 @@ from dataclasses import dataclass
 from pathlib import Path
 
 from .calm import Calm
-from .design import fences_in
+from .design import fences_in, units_in
 from .faults import FAILED, REFUSED, Fault
 from .figures import Figures
 from .frames import Record
 from .hub_client import Client, Entry
 from .journal import MOST_REPLY, Journal
 from .notify import notify_alive
-from .protocol import CHANGES, GROUND, UNBOUNDED, is_change
+from .protocol import CHANGES, GROUND, UNBOUNDED, is_change, on_one_line
 from .server import Server, ServerLost, teams_told
 from .status import status_text
 
@@ -83,7 +83,7 @@ class Hub:
         self.figures = Figures()
         # Files to which no export may go, besides the journal and the texts that are kept.
         self.given: list[Path] = []
-        self.nobody = b""
+        self.nobody, self.units = b"", b""
         self.most_clients = MOST_CLIENTS
         self.clients: set[Client] = set()
         self.teams: list[str] = []
@@ -99,6 +99,8 @@ class Hub:
         self._has_orphans = True
         self._exports: set[asyncio.Task[None]] = set()
         self._export_turn = asyncio.Lock()
+        # Why the last export that failed did so.
+        self._why_not = b""
         self._work = asyncio.Event()
         self._is_stopping = False
         self._is_full = False
@@ -108,6 +110,7 @@ class Hub:
         """Starts the program in the state of the journal; the teams to be served, which are all or those wanted."""
         text = await asyncio.to_thread(self.server.program.texts[0].read_bytes)
         teams = [GROUND, *await asyncio.to_thread(fences_in, text)]
+        self.units = await asyncio.to_thread(units_in, text)
         self.nobody = name_of_nobody(teams)
         telling = asyncio.create_task(teams_told(self.server.program))
         try:
@@ -367,7 +370,7 @@ class Hub:
 
     async def _answer_export(self, client: Client, path: str, end: int) -> None:
         """Answers an export of the committed places as they were in its turn, while others are served."""
-        client.replies.append(b"ok\n" if await self.export(path, end) else b"no 13 NotExported\n")
+        client.replies.append(b"ok\n" if await self.export(path, end) else b"no 13 NotExported %b\n" % self._why_not)
         client.flush()
         client.is_busy = False
         self.wake(client)
@@ -395,9 +398,11 @@ class Hub:
                 self.journal.refuse_loss()
                 await second.start()
                 await second.restore(self.journal.records(end))
+                self._why_not = b"the program did not write it, and the hub's standard error says why"
                 return await second.end() == 0
             except (Fault, OSError, ServerLost) as fault:
                 self.say(f"export: {fault}")
+                self._why_not = on_one_line(str(fault))
                 return False
             finally:
                 self._second = None

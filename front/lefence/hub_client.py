@@ -47,6 +47,8 @@ class Host(Protocol):
     patience: float
     # A team name that no team has.
     nobody: bytes
+    # The database units in a micron.
+    units: bytes
 
     def admit(self, client: Client) -> bool: ...
 
@@ -135,6 +137,8 @@ class Client(asyncio.BufferedProtocol):
         if line is None or fields == [b"bye"]:
             self.is_done = True
             return Entry(self, [], b"" if line is None else b"ok\n", is_last=True)
+        if fields == [b"units"]:
+            return Entry(self, fields, b"ok %b\n" % self.host.units)
         if self.team is not None and len(fields) > 1 and fields[1] != self.team:
             fields[1] = self.host.nobody
         return Entry(self, fields)

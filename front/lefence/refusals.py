@@ -198,12 +198,12 @@ class OutOfMemory(Refusal):
 
 
 class NotExported(Refusal):
-    """13, of a hub alone: the file could not be written."""
+    """13, of a hub alone: the file could not be written; the fields are the reason in words."""
 
     number = 13
 
     def words(self) -> str:
-        return "the file was not written; the hub's standard error says why"
+        return f"the file was not written: {' '.join(self.fields) or 'the hub gives no reason'}"
 
 
 _KINDS: dict[int, type[Refusal]] = {kind.number: kind for kind in Refusal.__subclasses__()}

@@ -244,6 +244,13 @@ def _converse(shell: Shell) -> None:
             pass
 
 
+def _relay(connection: Connection) -> None:
+    """Sends each line of standard input, and writes its reply, up to the end of either side."""
+    for line in sys.stdin.buffer:
+        sys.stdout.buffer.write(connection.ask_line(line.removesuffix(b"\n")))
+        sys.stdout.buffer.flush()
+
+
 def parser() -> Parser:
     made = Parser(
         TOOL,
@@ -252,6 +259,8 @@ def parser() -> Parser:
     )
     made.add_argument("where", metavar="WHERE", nargs="+", help="a socket, HOST:PORT, or DEF LEF...")
     made.add_argument("--team", metavar="NAME", help="the team to begin with")
+    told = "sends the lines of standard input as they are, and writes the replies as they are: for programs that cannot reach a socket"
+    made.add_argument("--raw", action="store_true", help=told)
     made.add_program()
     return made
 
@@ -270,6 +279,9 @@ def main() -> int:
             endpoint = start_program(options.program, [Path(word) for word in options.where])
         shell = Shell(endpoint)
         try:
+            if options.raw:
+                _relay(endpoint.connection)
+                return DONE
             if options.team and not _begin(shell, options.team):
                 return REFUSED
             _converse(shell)

@@ -21,6 +21,8 @@ from .protocol import GROUND
 from .whole_file import refuse_inputs
 
 TOOL = "lefence-slice"
+# Sections of which a slice has the entries of a team.
+_SLICED = (b"COMPONENTS", b"GROUPS")
 # What speaks of components or nets that a slice lacks, and plays no part in legality.
 _DROPPED = frozenset(b"PINS PINPROPERTIES SLOTS FILLS SPECIALNETS NETS SCANCHAINS BEGINEXT".split())
 
@@ -34,25 +36,42 @@ def slice_of(text: bytes, team: str) -> bytes:
     name = os.fsencode(team)
     if team != GROUND and name not in design.fences:
         raise Fault(REFUSED, f"no team: {team}")
-    return b"".join(_pieces(design, name)) + b"\n"
+    return next(slices_of(design, [name]))
 
 
-def _pieces(design: Design, team: bytes) -> Iterator[bytes]:
-    for statement in design.statements:
-        if statement.keyword in (b"COMPONENTS", b"GROUPS"):
-            yield _section(design, statement, team)
-        elif statement.keyword not in _DROPPED:
-            yield design.text[statement.start : statement.stop]
+def slices_of(design: Design, teams: list[bytes]) -> Iterator[bytes]:
+    """The slices of a design for these teams of its own, in one pass; each of them is made when it is asked for."""
+    sections = {statement.start: _Entries(design, statement, teams) for statement in design.statements if statement.keyword in _SLICED}
+    for team in teams:
+        pieces = []
+        for statement in design.statements:
+            if statement.keyword in _SLICED:
+                pieces.append(sections[statement.start].of(team))
+            elif statement.keyword not in _DROPPED:
+                pieces.append(design.text[statement.start : statement.stop])
+        yield b"".join(pieces) + b"\n"
 
 
-def _section(design: Design, section: Statement, team: bytes) -> bytes:
-    """COMPONENTS or GROUPS with the entries that concern the team alone, and their number as the count."""
-    before, behind, entries = section_parts(design.text, section)
-    if section.keyword == b"GROUPS":
-        kept = [entry.text for entry in entries if design.fence_of(entry) == team]
-    else:
-        kept = [entry.text for entry in entries if design.team_of(entry) in (team, None)]
-    return before + b"%d" % len(kept) + behind + b"".join(kept) + b"\nEND " + section.keyword
+class _Entries:
+    """The entries of COMPONENTS or GROUPS by the team that they concern; those of no team concern all, or none if they are groups."""
+
+    def __init__(self, design: Design, section: Statement, teams: list[bytes]) -> None:
+        self._keyword = section.keyword
+        self._before, self._behind, entries = section_parts(design.text, section)
+        self._own: dict[bytes, list[bytes]] = {team: [] for team in teams}
+        is_groups = section.keyword == b"GROUPS"
+        for entry in entries:
+            team = design.fence_of(entry) if is_groups else design.team_of(entry)
+            if team is None and not is_groups:
+                for own in self._own.values():
+                    own.append(entry.text)
+            elif team in self._own:
+                self._own[team].append(entry.text)
+
+    def of(self, team: bytes) -> bytes:
+        """The section with the entries of a team alone, and their number as the count."""
+        kept = self._own[team]
+        return self._before + b"%d" % len(kept) + self._behind + b"".join(kept) + b"\nEND " + self._keyword
 
 
 def refuse_difference(program: str, whole: Path, part: bytes, libraries: list[Path], team: str) -> None:

@@ -302,7 +302,10 @@ class Ends(HubCase):
             done += b"\n".join(later) + b"\n"
         self.assertEqual(others.replies.readline(), b"ok 0 0\n")
         refused = [f"export {path}" for path in ("/nowhere/x.def", self.journal, self.design)]
-        self.assertEqual(operator.ask(*refused, "where f0 0 nil"), ["no 13 NotExported"] * 3 + ["no 5 NoCell"])
+        *told, last = operator.ask(*refused, "where f0 0 nil")
+        own = "is the journal or a text of the design"
+        reasons = ["/nowhere/x.def cannot be written", f"{self.journal} {own}", f"{self.design} {own}"]
+        self.assertEqual((told, last), ([f"no 13 NotExported {reason}" for reason in reasons], "no 5 NoCell"))
 
     def test_a_signal_ends_it_with_everything_told(self) -> None:
         target = self.folder / "end.def"

@@ -48,7 +48,8 @@ class Texts(HubCase):
         self.lef.unlink()
         os.kill(self.hub.server_pid(), signal.SIGKILL)
         self.assertEqual(self.talk("f0").ask("open f0", "where f0 0 f0c1"), ["ok 1 3", "ok 0 0 N"])
-        self.assertEqual(self.talk("operator").ask(f"export {exported}", f"export {self.design}"), ["ok", "no 13 NotExported"])
+        refused = f"no 13 NotExported {self.design} is the journal or a text of the design"
+        self.assertEqual(self.talk("operator").ask(f"export {exported}", f"export {self.design}"), ["ok", refused])
         self.assertIn("f0c1 INV + PLACED ( 0 0 ) N", exported.read_text())
         self.hub.kill()
         self.assertIn("ready", self.start())

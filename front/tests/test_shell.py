@@ -55,6 +55,11 @@ class Words(HubCase):
         }
         self.assertEqual(self.say(*lines), list(lines.values()))
 
+    def test_lines_and_replies_as_they_are_where_asked(self) -> None:
+        text = b"open f0\nplace f0 0 f0c1 0 0 N\ndef f0 0\n\nwhere f0 0 f0c2\r\nx\nsync f0 0"
+        done = self.tool("lefence-shell", "t.def", "t.lef", "--program", PROGRAM, "--raw", lines=text)
+        self.assertEqual((done.returncode, done.stdout, done.stderr), (0, self.direct(text), b""))
+
     def test_a_report_is_a_table(self) -> None:
         said = self.say("team f0", "place f0c1 0 0 N", "place f0c2 400 0 N", "pad 1", "check")
         head = ["10 cells, 8 without a place, 2 break a rule", "cell  rule  what"]

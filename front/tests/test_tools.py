@@ -21,7 +21,7 @@ from lefence.faults import Fault, run_tool
 
 TOOLS = (
     *("lefence-hub", "lefence-slice", "lefence-push", "lefence-shell", "lefence-picture", "lefence-report"),
-    *("lefence-summary", "lefence-markers", "lefence-prepare", "lefence-repair", "lefence-journal"),
+    *("lefence-summary", "lefence-markers", "lefence-prepare", "lefence-repair", "lefence-journal", "lefence-farm"),
 )
 
 
@@ -63,6 +63,8 @@ class Tools(FrontCase):
             ("lefence-picture", ("nowhere.def", "t.lef", "--program", PROGRAM)),
             ("lefence-picture", ("t.def", "t.lef", "--program", PROGRAM, "-o", "nowhere/x.svg")),
             ("lefence-report", ("nowhere.def", "t.lef", "--program", PROGRAM)),
+            ("lefence-farm", ("work", "nowhere.def", "t.lef", "--program", PROGRAM, "--", "true")),
+            ("lefence-farm", ("work", "--collect")),
             ("lefence-report", ("t.def", "t.lef", "--program", PROGRAM, "-o", "nowhere/x.html")),
         )
         for name, words in commands:
@@ -84,8 +86,10 @@ class Tools(FrontCase):
             ("lefence-markers", (*design, "--output", "x")),
             ("lefence-prepare", (*design, "--output", "x")),
             ("lefence-repair", (*design, "--out", "x")),
+            ("lefence-farm", ("work", *design)),
         ):
-            done = self.tool(name, *words, "--program", "./nothing")
+            more = ("--", "true") if name == "lefence-farm" else ()
+            done = self.tool(name, *words, "--program", "./nothing", *more)
             self.assertEqual((done.returncode, done.stderr.count(b"no such program")), (2, 1), done.stderr)
 
     def test_output_that_nobody_reads_ends_with_3(self) -> None:
