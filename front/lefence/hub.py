@@ -24,7 +24,7 @@ from .journal import MOST_REPLY, Journal
 from .notify import notify_alive
 from .protocol import CHANGES, GROUND, UNBOUNDED, is_change
 from .server import Server, ServerLost, teams_told
-from .status import status_text
+from .status import status_text, uncommitted_text
 
 # What a batch may weigh; a line of one cell weighs 1, one of a whole team as much as WHOLE.
 _BATCH = 1024
@@ -346,6 +346,8 @@ class Hub:
             self._close_orphans()
         elif is_export(entry):
             path = os.fsdecode(entry.fields[1])
+            if told := uncommitted_text(self):
+                self.say(f"export {path}: {told}")
             task = asyncio.create_task(self._answer_export(client, path, self.journal.end))
             self._exports.add(task)
             task.add_done_callback(self._export_done)

@@ -79,11 +79,10 @@ class Journal:
         """
         self.path = path
         self.is_synced = is_synced
-        # How long the disk took for the last frame.
-        self.seconds = 0.0
-        # When the last change was made, in seconds since 1970.
-        self.last = 0.0
-        # Who wrote it before, if that is told.
+        # How long the disk took for the last frame, and when the last change was made, in seconds since 1970.
+        self.seconds = self.last = 0.0
+        # Whose it is, and whose it was before, if that is told.
+        self.owner = owner or own()
         self.former: Owner | None = None
         self._say = say
         # The disk has failed; the file is another's.
@@ -94,18 +93,17 @@ class Journal:
             self._reader = Reader(self._fd, path)
             # Where the frames begin and end, and how many changes they hold.
             self._start = self.end = self.changes = 0
-            owner = owner or own()
-            last = self._find_end(owner, takes_over)
+            last = self._find_end(takes_over)
             if not self._is_of(texts):
                 self._begin(texts)
                 last = None
             self._cut(last)
-            self._note(owner.note())
+            self._note(self.owner.note())
         except BaseException:
             os.close(self._fd)
             raise
 
-    def _find_end(self, owner: Owner, takes_over: bool) -> Frame | None:
+    def _find_end(self, takes_over: bool) -> Frame | None:
         """The last of the whole frames, if there is a header; a fault where another hub may be at work."""
         header = texts_of(os.pread(self._fd, MOST_HEADER, 0))
         if not header:
@@ -119,7 +117,7 @@ class Journal:
             for note in last.notes():
                 self.former = owner_of(note) or self.former
                 is_claimed = note != ENDED
-        if is_claimed and self.former and not takes_over and (reason := claim(self.former, owner)):
+        if is_claimed and self.former and not takes_over and (reason := claim(self.former, self.owner)):
             raise Fault(FAILED, f"{self.path}: {reason}; --takeover takes the journal from a hub that is gone")
         return last
 

@@ -16,6 +16,9 @@ from .figures import TeamFigures, memory_of, share
 if TYPE_CHECKING:
     from .hub import Hub
 
+# Teams that a line of the log names.
+_MOST_TEAMS = 50
+
 
 def status_text(hub: Hub) -> bytes:
     """One line of JSON without a line feed."""
@@ -59,11 +62,13 @@ def _sessions(hub: Hub, team: bytes) -> Iterator[dict[str, Any]]:
             yield {"number": number, "uid": holder.client.uid, "pid": holder.client.pid, "since": round(holder.since, 1)}
 
 
-def uncommitted_lines(hub: Hub) -> Iterator[str]:
-    """A line for each team of which an export lacks work."""
-    for team, counts in sorted(hub.figures.teams.items()):
-        if counts.uncommitted:
-            yield f"team {team.decode()}: {counts.uncommitted} changes up to revision {counts.revision} are not committed"
+def uncommitted_text(hub: Hub) -> str | None:
+    """Of which teams an export lacks work; None where it lacks nothing."""
+    counts = sorted((team.decode(), each.uncommitted) for team, each in hub.figures.teams.items() if each.uncommitted)
+    if not counts:
+        return None
+    more = f" and {len(counts) - _MOST_TEAMS} teams more" if len(counts) > _MOST_TEAMS else ""
+    return "changes that are not committed: " + ", ".join(f"{count} of {team}" for team, count in counts[:_MOST_TEAMS]) + more
 
 
 def ask_status(folder: Path) -> dict[str, Any]:
