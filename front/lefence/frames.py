@@ -100,6 +100,14 @@ def texts_of(found: bytes) -> tuple[list[Text], int] | None:
     return (texts, at + len(END_OF_HEADER)) if found.startswith(END_OF_HEADER, at) else None
 
 
+def other_title(found: bytes) -> str:
+    """What a file is that begins with these bytes and with no header of this version."""
+    title = found.split(b"\n")[0]
+    if re.fullmatch(rb"lefence-hub journal \d{1,9}", title) and not TITLE.startswith(title):
+        return f"`{title.decode()}`, the journal of another version, which this one does not read"
+    return "no journal of lefence-hub, or one whose header is damaged"
+
+
 def is_begun(found: bytes) -> bool:
     """Whether these bytes are a header that was not written to its end."""
     if len(found) >= MOST_HEADER:
@@ -143,7 +151,7 @@ class Reader:
         """The texts of the header, and its length; a fault where the file is no journal."""
         found = texts_of(os.pread(self._fd, MOST_HEADER, 0))
         if found is None:
-            raise Fault(REFUSED, f"{self.path}: no journal of lefence-hub")
+            raise Fault(REFUSED, f"{self.path}: {other_title(os.pread(self._fd, MOST_HEAD, 0))}")
         return found
 
     def frame(self, offset: int) -> Frame | None:

@@ -15,8 +15,8 @@ from collections.abc import Callable, Iterator
 from pathlib import Path
 
 from .faults import FAILED, REFUSED, Fault
-from .frames import MOST_HEADER, TITLE, Frame, Reader, Record, Text, body_of, frame_of, header_of, is_begun, refuse_damage, texts_of
-from .owner import ENDED, Owner, claim, own, owner_of
+from .frames import MOST_HEADER, TITLE, Frame, Reader, Record, Text, body_of, frame_of, header_of, is_begun, other_title, refuse_damage, texts_of
+from .owner import ENDED, Owner, Succession, own
 from .whole_file import sync_folder
 
 # Bytes that are set aside on the disk at a time, so that a sync has no length of the file to store.
@@ -90,6 +90,8 @@ class Journal:
         self._fd = os.open(path, os.O_RDWR | os.O_CREAT | os.O_CLOEXEC, 0o600)
         try:
             lock(self._fd, path)
+            if os.fstat(self._fd).st_mode & 0o022:
+                say(f"{path}: others may write to the journal; `chmod go-w` mends it")
             self._reader = Reader(self._fd, path)
             # Where the frames begin and end, and how many changes they hold.
             self._start = self.end = self.changes = 0
@@ -109,16 +111,16 @@ class Journal:
         if not header:
             return None
         self._start = self.end = header[1]
-        last, is_claimed = None, False
+        last, succession = None, Succession()
         for last in self._reader.frames(self._start):
             self.changes += last.changes
             self.last = float(last.time) if last.changes else self.last
             self.end = last.end
             for note in last.notes():
-                self.former = owner_of(note) or self.former
-                is_claimed = note != ENDED
-        if is_claimed and self.former and not takes_over and (reason := claim(self.former, self.owner)):
-            raise Fault(FAILED, f"{self.path}: {reason}; --takeover takes the journal from a hub that is gone")
+                succession.take(note)
+        self.former = succession.last
+        if not takes_over:
+            succession.refuse_claim(self.owner, self.path)
         return last
 
     def _is_of(self, texts: list[Text]) -> bool:
@@ -130,8 +132,7 @@ class Journal:
             return True
         if is_begun(found) or header and not _has_changes(self._reader, self._start):
             return False
-        kind = "a journal of another design" if found.startswith(TITLE) else "no journal of lefence-hub"
-        raise Fault(REFUSED, f"{self.path}: {kind}")
+        raise Fault(REFUSED, f"{self.path}: {'a journal of another design' if found.startswith(TITLE) else other_title(found)}")
 
     def _begin(self, texts: list[Text]) -> None:
         """Writes the header."""
