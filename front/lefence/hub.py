@@ -25,6 +25,7 @@ from .notify import notify_alive
 from .protocol import CHANGES, GROUND, UNBOUNDED, is_change
 from .server import Server, ServerLost, teams_told
 from .status import status_text, uncommitted_text
+from .whole_file import sync_folder
 
 # What a batch may weigh; a line of one cell weighs 1, one of a whole team as much as WHOLE.
 _BATCH = 1024
@@ -328,7 +329,8 @@ class Hub:
             client, team = entry.client, entry.fields[1]
             if client is None or self._is_own(client) or team == self.nobody:
                 continue
-            mine = sum(holder.client.uid == client.uid for (name, _), holder in self.holders.items() if name == team and holder.client)
+            held = [self.holders.get((team, number)) for number in range(_SESSIONS)]
+            mine = sum(each is not None and each.client is not None and each.client.uid == client.uid for each in held)
             asked[team, client.uid] = asked.get((team, client.uid), mine) + 1
             if asked[team, client.uid] > _SESSIONS * _SHARE and team.decode() in self.teams:
                 entry.reply = b"no 10 SessionsFull\n"
@@ -397,7 +399,10 @@ class Hub:
                 self.journal.refuse_loss()
                 await second.start()
                 await second.restore(self.journal.records(end))
-                return await second.end() == 0
+                is_written = await second.end() == 0
+                # (the program has synced the file before it took the name)
+                sync_folder(Path(path).absolute().parent)
+                return is_written
             except (Fault, OSError, ServerLost) as fault:
                 self.say(f"export: {fault}")
                 return False

@@ -34,6 +34,8 @@ def lock(descriptor: int, path: Path) -> None:
         fcntl.flock(descriptor, fcntl.LOCK_EX | fcntl.LOCK_NB)
     except BlockingIOError:
         raise Fault(FAILED, f"{path}: another hub holds it") from None
+    except OSError as error:
+        raise Fault(FAILED, f"{path}: no lock can be had there: {error.strerror}") from None
 
 
 def texts_in(path: Path) -> list[Text] | None:

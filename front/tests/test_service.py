@@ -285,6 +285,15 @@ class Shares(unittest.TestCase):
             self.hub.leave(second)
             self.assertEqual(self.answer_all(), [b"def f1 0"])
 
+    def test_an_export_is_told_when_the_disk_has_its_name(self) -> None:
+        steps, target = mock.Mock(), Path(self.hub.journal.path).with_name("new.def")
+        second = mock.Mock(start=mock.AsyncMock(), restore=mock.AsyncMock(), kill=mock.AsyncMock())
+        second.end = mock.AsyncMock(side_effect=lambda: [steps.end(), 0][1])
+        self.hub.server.program.texts = []
+        with mock.patch.object(hub_module, "Server", return_value=second), mock.patch.object(hub_module, "sync_folder", steps.sync):
+            self.assertTrue(asyncio.run(self.hub.export(str(target), 0)))
+        self.assertEqual([str(call) for call in steps.mock_calls], ["call.end()", f"call.sync({target.parent!r})"])
+
     def test_a_slow_reader_is_not_dropped_and_one_that_reads_nothing_is(self) -> None:
         near, far = socket.socketpair()
         self.addCleanup(near.close)
