@@ -24,7 +24,7 @@ from .faults import FAILED, REFUSED, Fault
 TITLE = b"lefence-hub journal 2\n"
 END_OF_HEADER = b"changes\n"
 _TEXT = re.compile(rb"text ([0-9a-f]{64}) ([!-~]+)\n")
-_FRAME = re.compile(rb"batch (\d{1,12}\.\d{3}) (\d{1,9}) [0-9a-f]{8}\n")
+_FRAME = re.compile(rb"batch (\d{1,12}\.\d{3}) (\d{1,9}) ([0-9a-f]{8})\n")
 MOST_HEADER = 1 << 20
 # More bytes than the first line of any frame has.
 MOST_HEAD = 64
@@ -58,9 +58,9 @@ class Frame(NamedTuple):
     def records(self) -> Iterator[Record]:
         """Its changes."""
         for line in self.body.splitlines():
-            if b"\t" in line:
-                asked, reply, who = line.split(b"\t", 2)
-                yield Record(asked, reply + b"\n", who)
+            words = line.split(b"\t")
+            if len(words) == 3:
+                yield Record(words[0], words[1] + b"\n", words[2])
 
     def notes(self) -> list[bytes]:
         """Its other lines."""
@@ -100,6 +100,14 @@ def texts_of(found: bytes) -> tuple[list[Text], int] | None:
     return (texts, at + len(END_OF_HEADER)) if found.startswith(END_OF_HEADER, at) else None
 
 
+def other_title(found: bytes) -> str:
+    """What a file is that begins with these bytes and with no header of this version."""
+    title = found.split(b"\n")[0]
+    if re.fullmatch(rb"lefence-hub journal \d{1,9}", title) and not TITLE.startswith(title):
+        return f"`{title.decode()}`, the journal of another version, which this one does not read"
+    return "no journal of lefence-hub, or one whose header is damaged"
+
+
 def is_begun(found: bytes) -> bool:
     """Whether these bytes are a header that was not written to its end."""
     if len(found) >= MOST_HEADER:
@@ -133,27 +141,31 @@ class Reader:
         self._fd = descriptor
         self._window, self._at = b"", 0
 
-    def _bytes(self, offset: int, count: int) -> bytes:
+    def _see(self, offset: int, count: int) -> int:
+        """Has so many bytes from the offset on in the window, or those that are there; where in it they begin."""
         if not self._at <= offset <= offset + count <= self._at + len(self._window):
             self._window, self._at = os.pread(self._fd, max(count, _WINDOW), offset), offset
-        return self._window[offset - self._at : offset - self._at + count]
+        return offset - self._at
 
     def texts(self) -> tuple[list[Text], int]:
         """The texts of the header, and its length; a fault where the file is no journal."""
-        found = texts_of(self._bytes(0, MOST_HEADER))
+        found = texts_of(os.pread(self._fd, MOST_HEADER, 0))
         if found is None:
-            raise Fault(REFUSED, f"{self.path}: no journal of lefence-hub")
+            raise Fault(REFUSED, f"{self.path}: {other_title(os.pread(self._fd, MOST_HEAD, 0))}")
         return found
 
     def frame(self, offset: int) -> Frame | None:
         """The whole frame at the offset, if one stands there."""
-        head = _FRAME.match(self._bytes(offset, MOST_HEAD))
+        at = self._see(offset, MOST_HEAD)
+        head = _FRAME.match(self._window, at)
         if not head:
             return None
-        start, length = offset + head.end(), int(head[2])
-        body = self._bytes(start, length)
-        is_whole = len(body) == length and head[0].endswith(b" %08x\n" % _sum(offset, head[1], body))
-        return Frame(offset, start + length, head[1], body) if is_whole else None
+        when, length = head[1], int(head[2])
+        start = offset + len(head[0])
+        at = self._see(start, length)
+        body = self._window[at : at + length]
+        is_whole = len(body) == length and int(head[3], 16) == _sum(offset, when, body)
+        return Frame(offset, start + length, when, body) if is_whole else None
 
     def frames(self, offset: int) -> Iterator[Frame]:
         """The whole frames that follow each other from the offset on."""

@@ -24,7 +24,8 @@ from .journal import MOST_REPLY, Journal
 from .notify import notify_alive
 from .protocol import CHANGES, GROUND, UNBOUNDED, is_change, on_one_line
 from .server import Server, ServerLost, teams_told
-from .status import status_text
+from .status import status_text, uncommitted_text
+from .whole_file import sync_folder
 
 # What a batch may weigh; a line of one cell weighs 1, one of a whole team as much as WHOLE.
 _BATCH = 1024
@@ -331,7 +332,8 @@ class Hub:
             client, team = entry.client, entry.fields[1]
             if client is None or self._is_own(client) or team == self.nobody:
                 continue
-            mine = sum(holder.client.uid == client.uid for (name, _), holder in self.holders.items() if name == team and holder.client)
+            held = [self.holders.get((team, number)) for number in range(_SESSIONS)]
+            mine = sum(each is not None and each.client is not None and each.client.uid == client.uid for each in held)
             asked[team, client.uid] = asked.get((team, client.uid), mine) + 1
             if asked[team, client.uid] > _SESSIONS * _SHARE and team.decode() in self.teams:
                 entry.reply = b"no 10 SessionsFull\n"
@@ -349,6 +351,8 @@ class Hub:
             self._close_orphans()
         elif is_export(entry):
             path = os.fsdecode(entry.fields[1])
+            if told := uncommitted_text(self):
+                self.say(f"export {path}: {told}")
             task = asyncio.create_task(self._answer_export(client, path, self.journal.end))
             self._exports.add(task)
             task.add_done_callback(self._export_done)
@@ -399,7 +403,10 @@ class Hub:
                 await second.start()
                 await second.restore(self.journal.records(end))
                 self._why_not = b"the program did not write it, and the hub's standard error says why"
-                return await second.end() == 0
+                is_written = await second.end() == 0
+                # (the program has synced the file before it took the name)
+                sync_folder(Path(os.path.realpath(path)).parent)
+                return is_written
             except (Fault, OSError, ServerLost) as fault:
                 self.say(f"export: {fault}")
                 self._why_not = on_one_line(str(fault))

@@ -26,7 +26,7 @@ from .program import Program, find_program
 from .protocol import socket_name
 from .server import Server
 from .sockets import bound_socket, groups_of, take_folder
-from .status import ask_status, uncommitted_lines
+from .status import ask_status, uncommitted_text
 from .texts import settle_texts
 
 TOOL = "lefence-hub"
@@ -146,14 +146,16 @@ async def run(options: argparse.Namespace) -> None:
     bounds = Bounds(options.patience, options.idle, options.deadline)
     hub = Hub(Server(Program(program, kept), [text.sum for text in texts]), journal, bounds, say)
     hub.given = paths
+    if journal.former and journal.former.program != journal.owner.program:
+        say(f"the journal was written with another program, {journal.former.program} of front {journal.former.front}")
     end_by_signals(hub, stopped, options.grace)
     tell_calmly(hub)
     try:
         if options.export:
             hub.refuse_export(options.export)
         await serve(hub, options, stopped)
-        for line in uncommitted_lines(hub):
-            say(line)
+        if told := uncommitted_text(hub):
+            say(told)
         await hub.server.kill()
         if options.export and not await hub.export(options.export, journal.end):
             raise Fault(FAILED, f"{options.export}: not exported")

@@ -15,8 +15,8 @@ from collections.abc import Callable, Iterator
 from pathlib import Path
 
 from .faults import FAILED, REFUSED, Fault
-from .frames import MOST_HEADER, TITLE, Frame, Reader, Record, Text, body_of, frame_of, header_of, is_begun, refuse_damage, texts_of
-from .owner import ENDED, Owner, claim, own, owner_of
+from .frames import MOST_HEADER, TITLE, Frame, Reader, Record, Text, body_of, frame_of, header_of, is_begun, other_title, refuse_damage, texts_of
+from .owner import ENDED, Owner, Succession, own
 from .whole_file import sync_folder
 
 # Bytes that are set aside on the disk at a time, so that a sync has no length of the file to store.
@@ -34,6 +34,8 @@ def lock(descriptor: int, path: Path) -> None:
         fcntl.flock(descriptor, fcntl.LOCK_EX | fcntl.LOCK_NB)
     except BlockingIOError:
         raise Fault(FAILED, f"{path}: another hub holds it") from None
+    except OSError as error:
+        raise Fault(FAILED, f"{path}: no lock can be had there: {error.strerror}") from None
 
 
 def texts_in(path: Path) -> list[Text] | None:
@@ -79,11 +81,10 @@ class Journal:
         """
         self.path = path
         self.is_synced = is_synced
-        # How long the disk took for the last frame.
-        self.seconds = 0.0
-        # When the last change was made, in seconds since 1970.
-        self.last = 0.0
-        # Who wrote it before, if that is told.
+        # How long the disk took for the last frame, and when the last change was made, in seconds since 1970.
+        self.seconds = self.last = 0.0
+        # Whose it is, and whose it was before, if that is told.
+        self.owner = owner or own()
         self.former: Owner | None = None
         self._say = say
         # The disk has failed; the file is another's.
@@ -91,36 +92,37 @@ class Journal:
         self._fd = os.open(path, os.O_RDWR | os.O_CREAT | os.O_CLOEXEC, 0o600)
         try:
             lock(self._fd, path)
+            if os.fstat(self._fd).st_mode & 0o022:
+                say(f"{path}: others may write to the journal; `chmod go-w` mends it")
             self._reader = Reader(self._fd, path)
             # Where the frames begin and end, and how many changes they hold.
             self._start = self.end = self.changes = 0
-            owner = owner or own()
-            last = self._find_end(owner, takes_over)
+            last = self._find_end(takes_over)
             if not self._is_of(texts):
                 self._begin(texts)
                 last = None
             self._cut(last)
-            self._note(owner.note())
+            self._note(self.owner.note())
         except BaseException:
             os.close(self._fd)
             raise
 
-    def _find_end(self, owner: Owner, takes_over: bool) -> Frame | None:
+    def _find_end(self, takes_over: bool) -> Frame | None:
         """The last of the whole frames, if there is a header; a fault where another hub may be at work."""
         header = texts_of(os.pread(self._fd, MOST_HEADER, 0))
         if not header:
             return None
         self._start = self.end = header[1]
-        last, is_claimed = None, False
+        last, succession = None, Succession()
         for last in self._reader.frames(self._start):
             self.changes += last.changes
             self.last = float(last.time) if last.changes else self.last
             self.end = last.end
             for note in last.notes():
-                self.former = owner_of(note) or self.former
-                is_claimed = note != ENDED
-        if is_claimed and self.former and not takes_over and (reason := claim(self.former, owner)):
-            raise Fault(FAILED, f"{self.path}: {reason}; --takeover takes the journal from a hub that is gone")
+                succession.take(note)
+        self.former = succession.last
+        if not takes_over:
+            succession.refuse_claim(self.owner, self.path)
         return last
 
     def _is_of(self, texts: list[Text]) -> bool:
@@ -132,8 +134,7 @@ class Journal:
             return True
         if is_begun(found) or header and not _has_changes(self._reader, self._start):
             return False
-        kind = "a journal of another design" if found.startswith(TITLE) else "no journal of lefence-hub"
-        raise Fault(REFUSED, f"{self.path}: {kind}")
+        raise Fault(REFUSED, f"{self.path}: {'a journal of another design' if found.startswith(TITLE) else other_title(found)}")
 
     def _begin(self, texts: list[Text]) -> None:
         """Writes the header."""

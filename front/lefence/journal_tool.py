@@ -15,6 +15,7 @@ from pathlib import Path
 from .faults import DONE, FAILED, REFUSED, Fault, Parser, log, run_tool
 from .frames import Frame, Reader, Record, body_of, frame_of, header_of, read_records
 from .journal import lock
+from .owner import Succession, own
 from .program import Program, find_program
 from .server import Server
 from .texts import kept_text
@@ -99,11 +100,13 @@ def is_of(record: Record, team: str | None) -> bool:
     return team is None or record.line.split()[1] == team.encode()
 
 
-def cut(path: Path, at: int | None) -> int:
+def cut(path: Path, at: int | None, takes_over: bool) -> int:
     """Cuts a journal off at the end of a frame, or before its first damage; the whole of it is kept beside it first."""
     with open(path, "r+b") as file:
         lock(file.fileno(), path)
         reader = Reader(file.fileno(), path)
+        if not takes_over:
+            _refuse_claim(reader)
         first = next(stretches(reader))
         at = first.end if at is None else at
         if at not in (first.start, *(frame.end for frame in reader.frames(first.start))):
@@ -119,6 +122,15 @@ def cut(path: Path, at: int | None) -> int:
         sync_folder(path.absolute().parent)
     log(TOOL, f"{path}: cut off at byte {at}; as it was it is {aside}")
     return DONE
+
+
+def _refuse_claim(reader: Reader) -> None:
+    """A fault where a hub may be at work on the journal."""
+    succession = Succession()
+    for frame in whole_frames(reader):
+        for note in frame.notes():
+            succession.take(note)
+    succession.refuse_claim(own(), reader.path)
 
 
 def export(reader: Reader, team: str | None, start: int, output: Path | None) -> int:
@@ -179,6 +191,7 @@ def parser() -> Parser:
     added.add_argument("--team", metavar="NAME", help=one_team)
     added = verb("cut", "cut it off at the end of a frame; as it was it is kept beside it")
     added.add_argument("--at", metavar="BYTE", type=int, help="where (before the first damage)")
+    added.add_argument("--takeover", action="store_true", help="also that of a hub of another host, which is gone for certain")
     added = verb("export", "write the lines of all whole frames")
     added.add_argument("--team", metavar="NAME", help=one_team)
     added.add_argument("--from", dest="start", metavar="BYTE", type=int, default=0, help="from the frame on that begins there")
@@ -194,7 +207,7 @@ def main() -> int:
 
     def work() -> int:
         if options.verb == "cut":
-            return cut(options.journal, options.at)
+            return cut(options.journal, options.at, options.takeover)
         if options.verb == "verify":
             return verify(options.journal, options.texts, options.program)
         with open(options.journal, "rb") as file:

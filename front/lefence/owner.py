@@ -9,6 +9,7 @@ from dataclasses import dataclass
 from pathlib import Path
 
 from . import __version__
+from .faults import FAILED, Fault
 from .frames import sum_of
 
 # The note of a hub that has ended, behind which the journal is nobody's.
@@ -37,6 +38,25 @@ class Owner:
 
     def __str__(self) -> str:
         return f"process {self.pid} of host {self.host}"
+
+
+class Succession:
+    """Whose a journal is, by its notes in order."""
+
+    def __init__(self) -> None:
+        # The last hub that it tells, and whether that has not ended.
+        self.last: Owner | None = None
+        self.is_open = False
+
+    def take(self, note: bytes) -> None:
+        """Takes account of the next note."""
+        self.last = owner_of(note) or self.last
+        self.is_open = note != ENDED
+
+    def refuse_claim(self, me: Owner, path: Path) -> None:
+        """A fault where the last hub may be at work."""
+        if self.last and self.is_open and (reason := claim(self.last, me)):
+            raise Fault(FAILED, f"{path}: {reason}; --takeover takes the journal from a hub that is gone")
 
 
 def owner_of(note: bytes) -> Owner | None:

@@ -5,6 +5,7 @@ from __future__ import annotations
 import json
 import os
 import time
+from collections import Counter
 from collections.abc import Iterator
 from pathlib import Path
 from typing import TYPE_CHECKING, Any
@@ -15,6 +16,9 @@ from .figures import TeamFigures, memory_of, share
 
 if TYPE_CHECKING:
     from .hub import Hub
+
+# Teams that a line of the log names.
+_MOST_TEAMS = 50
 
 
 def status_text(hub: Hub) -> bytes:
@@ -37,33 +41,36 @@ def _status(hub: Hub) -> dict[str, Any]:
         **{f"batch_lines_p{part}": share(figures.batches, part / 100) for part in (50, 99)},
         "program_bytes": memory_of(hub.server.pid),
         "hub_bytes": memory_of(os.getpid()),
-        "teams": [_team_status(hub, team) for team in hub.teams],
+        "teams": list(_teams(hub)),
     }
 
 
-def _team_status(hub: Hub, team: str) -> dict[str, Any]:
-    name = team.encode()
-    counts = hub.figures.teams.get(name, TeamFigures())
-    return {
-        "team": team,
-        "clients": sum(client.team == name for client in hub.clients),
-        "revision": counts.revision,
-        "uncommitted": counts.uncommitted,
-        "sessions": list(_sessions(hub, name)),
-    }
+def _teams(hub: Hub) -> Iterator[dict[str, Any]]:
+    clients, sessions = Counter(client.team for client in hub.clients), _sessions(hub)
+    for team in hub.teams:
+        name = team.encode()
+        counts = hub.figures.teams.get(name, TeamFigures())
+        own = {"clients": clients[name], "revision": counts.revision, "uncommitted": counts.uncommitted}
+        yield {"team": team, **own, "sessions": sessions.get(name, [])}
 
 
-def _sessions(hub: Hub, team: bytes) -> Iterator[dict[str, Any]]:
-    for (name, number), holder in sorted(hub.holders.items(), key=lambda item: item[0]):
-        if name == team and holder.client:
-            yield {"number": number, "uid": holder.client.uid, "pid": holder.client.pid, "since": round(holder.since, 1)}
+def _sessions(hub: Hub) -> dict[bytes, list[dict[str, Any]]]:
+    """Of each team the sessions whose clients are there."""
+    found: dict[bytes, list[dict[str, Any]]] = {}
+    for (team, number), holder in sorted(hub.holders.items(), key=lambda item: item[0]):
+        if who := holder.client:
+            told = {"number": number, "uid": who.uid, "pid": who.pid, "since": round(holder.since, 1)}
+            found.setdefault(team, []).append(told)
+    return found
 
 
-def uncommitted_lines(hub: Hub) -> Iterator[str]:
-    """A line for each team of which an export lacks work."""
-    for team, counts in sorted(hub.figures.teams.items()):
-        if counts.uncommitted:
-            yield f"team {team.decode()}: {counts.uncommitted} changes up to revision {counts.revision} are not committed"
+def uncommitted_text(hub: Hub) -> str | None:
+    """Of which teams an export lacks work; None where it lacks nothing."""
+    counts = sorted((team.decode(), each.uncommitted) for team, each in hub.figures.teams.items() if each.uncommitted)
+    if not counts:
+        return None
+    more = f" and {len(counts) - _MOST_TEAMS} teams more" if len(counts) > _MOST_TEAMS else ""
+    return "changes that are not committed: " + ", ".join(f"{count} of {team}" for team, count in counts[:_MOST_TEAMS]) + more
 
 
 def ask_status(folder: Path) -> dict[str, Any]:

@@ -9,6 +9,7 @@ from __future__ import annotations
 import contextlib
 import fcntl
 import os
+import re
 import shutil
 from collections.abc import Callable
 from pathlib import Path
@@ -19,6 +20,8 @@ from .frames import Text, sum_of
 from .journal import texts_in
 from .whole_file import sync_folder, whole_file
 
+# The end of the name of a copy that was not made to its end.
+_PARTIAL = re.compile(r"(\.partial\d+)+$")
 # Has a file share the bytes of another one, where the file system can do so.
 _FICLONE = 0x40049409
 
@@ -32,7 +35,7 @@ def kept_text(journal: Path, text: Text) -> Path | None:
     """The kept copy of a text; None where there is none, or one of other bytes."""
     with contextlib.suppress(FileNotFoundError):
         for path in sorted((texts_folder(journal) / text.sum).iterdir()):
-            if path.is_file() and sum_of(path) == text.sum:
+            if path.is_file() and not _PARTIAL.search(path.name) and sum_of(path) == text.sum:
                 return path
     return None
 
@@ -71,7 +74,7 @@ def _settle_text(journal: Path, text: Text, given: Path, say: Callable[[str], No
 def _keep(journal: Path, text: Text, given: Path) -> Path:
     """Makes the copy of a text, which is on the disk when this returns."""
     folder = texts_folder(journal)
-    path = folder / text.sum / given.name
+    path = folder / text.sum / _PARTIAL.sub("", given.name)
     folder.mkdir(mode=0o700, exist_ok=True)
     path.parent.mkdir(mode=0o700, exist_ok=True)
     with open(given, "rb") as source, whole_file(path) as copy:

@@ -109,9 +109,13 @@ class Journals(unittest.TestCase):
         self.fill()
         self.assertIn("of another design", self.refusal([TEXTS[1], TEXTS[0]]))
         self.assertIn("of another design", self.refusal(TEXTS[:1]))
-        for other in (b"something else\n", b"\n", b"lefence-hub journal 3\n" + bytes(300)):
+        for other, said in (
+            (b"something else\n", "no journal"),
+            (b"\n", "no journal"),
+            (b"lefence-hub journal 3\n" + bytes(300), "of another version"),
+        ):
             self.path.write_bytes(other)
-            self.assertIn("no journal", self.refusal())
+            self.assertIn(said, self.refusal())
             with self.assertRaises(Fault):
                 list(read_records(self.path))
 

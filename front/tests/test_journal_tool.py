@@ -2,13 +2,17 @@
 
 from __future__ import annotations
 
+import os
 import re
 import unittest
+from dataclasses import replace
 from pathlib import Path
 
 from support import PROGRAM, HubCase
 
 from lefence.frames import Reader, read_records
+from lefence.journal import Journal, texts_in
+from lefence.owner import own
 
 
 class JournalTool(HubCase):
@@ -75,6 +79,12 @@ class JournalTool(HubCase):
         self.assertEqual((self.folder / f"journal.before-cut-at-{start}").read_bytes(), before)
         self.assertIn("ready", self.start())
         self.assertEqual(self.tool("lefence-journal", "cut", self.journal).returncode, 3)
+
+    def test_one_that_another_host_may_have_is_cut_when_that_is_said(self) -> None:
+        texts = texts_in(self.journal) or []
+        os.close(Journal(self.journal, texts, self.fail, owner=replace(own(), host="farm2"))._fd)
+        self.told("cut", self.journal, status=3)
+        self.told("cut", self.journal, "--takeover")
 
     def test_what_is_torn_or_answered_otherwise_is_told(self) -> None:
         whole = self.journal.read_bytes()

@@ -5,6 +5,7 @@ from __future__ import annotations
 import asyncio
 import contextlib
 import grp
+import itertools
 import json
 import os
 import re
@@ -21,15 +22,17 @@ from pathlib import Path
 from typing import Any
 from unittest import mock
 
-from support import FRONT, PATIENCE, FrontCase, HubCase, design_text, tool_words
+from support import FRONT, PATIENCE, PROGRAM, FrontCase, Hub as RunningHub, HubCase, design_text, tool_words
 
 from lefence import hub as hub_module
 from lefence.calm import Calm
 from lefence.faults import Fault
+from lefence.frames import sum_of
 from lefence.hub import Bounds, Hub
 from lefence.hub_client import Client
 from lefence.journal import Journal
 from lefence.sockets import bound_socket, groups_of, take_folder
+from lefence.texts import settle_texts
 
 
 class Texts(HubCase):
@@ -79,6 +82,66 @@ class Texts(HubCase):
                 spoil(path)
             self.assertIn("ready", self.start())
         self.assertEqual(self.talk("f0").ask("open f0"), ["ok 0 1"])
+
+    def test_a_backup_is_the_journal_and_its_texts_copied_while_the_hub_runs(self) -> None:
+        self.start()
+        self.talk("f0").ask("open f0", "place f0 0 f0c1 0 0 N")
+        saved = self.folder / "saved"
+        saved.mkdir()
+        shutil.copy(self.journal, saved)
+        shutil.copytree(self.folder / "journal.texts", saved / "journal.texts")
+        self.assertEqual(self.hub.end(), 0)
+        for path in (self.journal, self.design, self.lef):
+            path.unlink()
+        shutil.rmtree(self.folder / "journal.texts")
+        # Another place and no other text: the copies may be given themselves.
+        self.design, self.lef = (next((saved / "journal.texts").rglob(name)) for name in ("t.def", "t.lef"))
+        self.hub = RunningHub(self.folder, self.words(journal="saved/journal"))
+        self.addCleanup(self.hub.kill)
+        self.assertIn("ready", self.hub.wait_ready())
+        self.assertEqual(self.talk("f0").ask("open f0", "where f0 0 f0c1"), ["ok 0 1", "ok 0 0 N"])
+
+    def test_another_program_is_told_with_the_first_reply_that_differs(self) -> None:
+        self.start()
+        self.talk("f0").ask("open f0", "place f0 0 f0c1 0 0 N")
+        self.hub.kill()
+        script = self.folder / "other"
+        script.write_text(f"#!/bin/sh\n[ $1 = replay ] || exec '{PROGRAM}' \"$@\"\n'{PROGRAM}' \"$@\" | sed -u 's/^ok 1$/ok 7/'\n")
+        script.chmod(0o755)
+        self.program = str(script)
+        self.assertIn("the journal was written with another program", self.start())
+        self.assertIn("change 2: the journal has b'ok 1", self.hub.told())
+
+    def test_a_first_start_may_be_cut_off_at_any_step(self) -> None:
+        journal, steps = self.folder / "j", ("fsync", "replace", "pwrite", "ftruncate", "mkdir", "fdatasync")
+
+        def start() -> list[Path]:
+            texts, kept = settle_texts(journal, [self.design, self.lef], self.fail)
+            Journal(journal, texts, self.fail).close()
+            return [path for text, path in zip(texts, kept) if sum_of(path) == text.sum]
+
+        def begin(last: int) -> bool:
+            """Whether a process that ends at the step of that number comes to the end of a start."""
+            if child := os.fork():
+                return os.waitpid(child, 0)[1] == 0
+            count = itertools.count()
+            for name in steps:
+                step = getattr(os, name)
+
+                def take(*words: Any, step: Callable[..., Any] = step, **more: Any) -> Any:
+                    return step(*words, **more) if next(count) < last else os._exit(7)
+
+                setattr(os, name, take)
+            start()
+            os._exit(0)
+
+        number = 0
+        while not begin(number):
+            number += 1
+            self.assertEqual([path.name for path in start()], ["t.def", "t.lef"])
+            shutil.rmtree(self.folder / "j.texts")
+            journal.unlink()
+        self.assertGreater(number, 12)
 
     def test_a_journal_without_changes_is_begun_anew_with_another_design(self) -> None:
         self.design.write_text("DESIGN x ;\nEND DESIGN\n")
@@ -223,6 +286,15 @@ class Shares(unittest.TestCase):
             self.hub.leave(second)
             self.assertEqual(self.answer_all(), [b"def f1 0"])
 
+    def test_an_export_is_told_when_the_disk_has_its_name(self) -> None:
+        steps, target = mock.Mock(), Path(self.hub.journal.path).with_name("new.def")
+        second = mock.Mock(start=mock.AsyncMock(), restore=mock.AsyncMock(), kill=mock.AsyncMock())
+        second.end = mock.AsyncMock(side_effect=lambda: [steps.end(), 0][1])
+        self.hub.server.program.texts = []
+        with mock.patch.object(hub_module, "Server", return_value=second), mock.patch.object(hub_module, "sync_folder", steps.sync):
+            self.assertTrue(asyncio.run(self.hub.export(str(target), 0)))
+        self.assertEqual([str(call) for call in steps.mock_calls], ["call.end()", f"call.sync({target.parent!r})"])
+
     def test_a_slow_reader_is_not_dropped_and_one_that_reads_nothing_is(self) -> None:
         near, far = socket.socketpair()
         self.addCleanup(near.close)
@@ -293,8 +365,7 @@ class Operator(HubCase):
                 while piece := systemd.recv(1 << 12):
                     words += piece + b"\n"
         self.assertEqual([b"READY=1\nSTATUS=ready" in words, b"WATCHDOG=1" in words, b"STOPPING=1" in words], [True] * 3)
-        self.assertIn("team f0: 2 changes up to revision 2 are not committed", self.hub.told())
-        self.assertNotIn("team f1:", self.hub.told())
+        self.assertIn("changes that are not committed: 2 of f0\n", self.hub.told())
         done = subprocess.run([*tool_words("lefence-hub"), "--status", str(self.folder / "s")], capture_output=True, timeout=PATIENCE)
         self.assertEqual(done.returncode, 3)
 
