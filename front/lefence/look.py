@@ -8,6 +8,7 @@ from __future__ import annotations
 import re
 from collections import Counter, defaultdict
 from collections.abc import Iterable, Iterator
+from itertools import chain
 from typing import NamedTuple
 
 from .description import Facts
@@ -25,6 +26,7 @@ CLAUSES = {
         b"SLOTS FILLS PUSHDOWN EXCEPTPGNET COMPONENT SPACING DESIGNRULEWIDTH MASK SOFT PARTIAL".split()
     ),
 }
+_PLUS = re.compile(rb"\+[ \t\r\n]+([^ \t\r\n]+)")
 _PLACEMENTS = (b"PLACED", b"UNPLACED", b"FIXED", b"COVER")
 # What an entry of a section is called.
 _CALLED = {b"COMPONENTS": "component", b"REGIONS": "region", b"GROUPS": "group", b"BLOCKAGES": "blockage"}
@@ -41,50 +43,50 @@ class Remark(NamedTuple):
 def remarks_of(text: bytes, facts: Facts | None) -> list[Remark]:
     """The remarks on a text; with what the program told of the design, also those on its rows. Of many alike the first are told."""
     design = Design(text)
-    found = [*_of_counts(design), *_of_words(design), *_of_teams(design)]
-    if facts:
-        found += _of_rows(design, facts.site)
-    return list(_few(found))
+    return list(_few(chain(_of_sections(design), _of_teams(design), _of_rows(design, facts.site) if facts else ())))
 
 
 def _few(remarks: Iterable[Remark]) -> Iterator[Remark]:
     """The first of each kind, and how many more there are."""
     kinds: defaultdict[str, list[Remark]] = defaultdict(list)
+    counts: Counter[str] = Counter()
     for remark in remarks:
-        kinds[remark.kind].append(remark)
-    for kind, alike in kinds.items():
-        yield from alike[:MOST_ALIKE]
-        if len(alike) > MOST_ALIKE:
-            yield Remark(kind, f"and {len(alike) - MOST_ALIKE} more: {kind}")
+        counts[remark.kind] += 1
+        if counts[remark.kind] <= MOST_ALIKE:
+            kinds[remark.kind].append(remark)
+    for kind, first in kinds.items():
+        yield from first
+        if counts[kind] > MOST_ALIKE:
+            yield Remark(kind, f"and {counts[kind] - MOST_ALIKE} more: {kind}")
 
 
-def _of_counts(design: Design) -> Iterator[Remark]:
-    """Sections that announce another number of entries than they have."""
+def _of_sections(design: Design) -> Iterator[Remark]:
+    """Sections that announce another number of entries than they have, and words behind `+` that DEF 5.8 does not have."""
     for statement in design.statements:
         if statement.keyword in CLAUSES:
             before, _, entries = section_parts(design.text, statement)
+            many = 0
+            for many, entry in enumerate(entries, 1):
+                yield from _of_words(statement.keyword, entry)
             place = statement.start + len(before)
-            told, many = next(words_in(design.text[place : place + 20]), b""), sum(1 for _ in entries)
+            told = next(words_in(design.text[place : place + 20]), b"")
             if told != b"%d" % many:
                 text = f"{_shown(statement.keyword)} {_shown(told)}, and there are {many}"
                 yield Remark("counts that are wrong", text, place)
 
 
-def _of_words(design: Design) -> Iterator[Remark]:
-    """Words behind `+` that DEF 5.8 does not have."""
-    for section, known in CLAUSES.items():
-        for entry in design.entries(section):
-            if b"+" not in entry.text:
-                continue
-            words = entry.words
-            clauses = [word for plus, word in zip(words, words[1:]) if plus == b"+"]
-            for word in clauses:
-                if word not in known:
-                    kind = f"+ {_shown(word)} in {_shown(section)}"
-                    text = f"+ {_shown(word)} of {_CALLED[section]} {_shown(entry.name)} is no word of DEF 5.8, and is passed over"
-                    if section == b"COMPONENTS" and not any(clause in _PLACEMENTS for clause in clauses):
-                        text += ": it has no place"
-                    yield Remark(kind, text, _place_of(entry))
+def _of_words(section: bytes, entry: Entry) -> Iterator[Remark]:
+    known = CLAUSES[section]
+    # (of most entries this tells that there is nothing to tell; a comment or a quoted text may have a plus too)
+    if known.issuperset(_PLUS.findall(entry.text)):
+        return
+    clauses = [word for plus, word in zip(entry.words, entry.words[1:]) if plus == b"+"]
+    for word in clauses:
+        if word not in known:
+            text = f"+ {_shown(word)} of {_CALLED[section]} {_shown(entry.name)} is no word of DEF 5.8, and is passed over"
+            if section == b"COMPONENTS" and not any(clause in _PLACEMENTS for clause in clauses):
+                text += ": it has no place"
+            yield Remark(f"+ {_shown(word)} in {_shown(section)}", text, _place_of(entry))
 
 
 def _of_teams(design: Design) -> Iterator[Remark]:

@@ -148,7 +148,7 @@ def main() -> int:
     def work() -> int:
         push = push_journal(options.journal, options.socket, options.ahead, options.continues)
         teams = ", ".join(f"{team.decode()} at revision {revision}" for team, revision in push.revisions.items())
-        log(TOOL, f"{push.count} lines answered as recorded" + (f"; team {teams}" if teams else ""))
+        log(TOOL, f"{push.count} {'line' if push.count == 1 else 'lines'} answered as recorded" + (f"; team {teams}" if teams else ""))
         return DONE
 
     return run_tool(TOOL, work)

@@ -13,7 +13,7 @@ from pathlib import Path
 from .client import Connection, Session
 from .endpoint import Endpoint, connect_to, start_program
 from .faults import DONE, FAILED, REFUSED, Fault, Parser, printable, run_tool
-from .protocol import ORIENTS, VERBS
+from .protocol import OPENACCESS, ORIENTS, VERBS
 from .refusals import Refusal, broken_in_words
 from .verbs import Legalized, Place, ProtocolError, Report, Tidied
 
@@ -143,7 +143,7 @@ class Shell(cmd.Cmd):
             raise ValueError(f"{verb} takes {' '.join(wanted) or 'nothing'}")
         session = self._session()
         method = getattr(session, "def_text" if verb == "def" else verb)
-        values = [_number(field) if kind in ("X", "Y", "P") else field for kind, field in zip(wanted, fields)]
+        values = [_value(kind, field) for kind, field in zip(wanted, fields)]
         self._print(in_words(verb, fields, method(*values)))
         if verb == "close":
             self._sessions.pop(session.team)
@@ -200,9 +200,15 @@ class Shell(cmd.Cmd):
             return []
 
 
-def _number(field: str) -> int:
+def _value(kind: str, field: str) -> str | int:
+    """A field as the client library takes it; ValueError of one that no request can have."""
+    if kind == "O" and field not in ORIENTS:
+        meant = f", which calls it {OPENACCESS[field]}" if field in OPENACCESS else ""
+        raise ValueError(f"{field} is no orientation of DEF{meant}: {' '.join(ORIENTS)}")
+    if kind not in ("X", "Y", "P"):
+        return field
     if not re.fullmatch(r"-?[0-9]+", field, re.ASCII):
-        raise ValueError(f"{field} is no whole number of database units")
+        raise ValueError(f"{field} is no whole number{' of database units' if kind != 'P' else ''}")
     return int(field)
 
 

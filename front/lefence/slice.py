@@ -14,7 +14,7 @@ from itertools import zip_longest
 from pathlib import Path
 
 from .description import Cell, Description
-from .design import Design, Statement, section_parts
+from .design import Design, Statement, section_parts, statements_in
 from .faults import DONE, REFUSED, Fault, Parser, log, run_tool
 from .program import find_program
 from .protocol import GROUND
@@ -37,6 +37,12 @@ def slice_of(text: bytes, team: str) -> bytes:
     if team != GROUND and name not in design.fences:
         raise Fault(REFUSED, f"no team: {team}")
     return next(slices_of(design, [name]))
+
+
+def refuse_other_text(text: bytes) -> None:
+    """A fault where a text is no DEF text."""
+    if not any(statement.keyword == b"DESIGN" for statement in statements_in(text)):
+        raise Fault(REFUSED, "the file has no DESIGN: it is no DEF text" + (", but compressed by gzip" if text[:2] == b"\x1f\x8b" else ""))
 
 
 def slices_of(design: Design, teams: list[bytes]) -> Iterator[bytes]:
@@ -126,6 +132,7 @@ def main() -> int:
         if options.output is not None:
             refuse_inputs(options.output, [options.design, *options.libraries])
         text = options.design.read_bytes()
+        refuse_other_text(text)
         made = slice_of(text, options.team)
         if options.libraries:
             refuse_difference(find_program(options.program), options.design, made, options.libraries, options.team)

@@ -6,8 +6,11 @@ import io
 import os
 import subprocess
 import sys
+import time
 import unittest
+from unittest import mock
 
+import cluster
 from support import CELLS, FRONT, PATIENCE, PROGRAM, FrontCase, tool_words
 
 from lefence.design import Design
@@ -75,7 +78,9 @@ print(f"Job <{number}> is submitted to default queue <normal>." if lsf else numb
 """
 
 
-class Farms(FrontCase):
+class FarmCase(FrontCase):
+    """A design of two teams and the ground, and a worker."""
+
     def setUp(self) -> None:
         super().setUp()
         (self.folder / "worker.py").write_text(WORKER.replace("FRONT", repr(str(FRONT))))
@@ -103,6 +108,8 @@ class Farms(FrontCase):
         self.direct(text.encode(), "--export", str(self.folder / "want.def"))
         return (self.folder / "want.def").read_bytes()
 
+
+class Farms(FarmCase):
     def test_a_team_that_fails_is_named_and_given_again_it_alone_is_at_work(self) -> None:
         (self.folder / "B.fails").touch()
         done = self.farm("--export", "new.def", "--processes", "4")
@@ -167,6 +174,30 @@ class Farms(FrontCase):
         for words in (("work",), ("work", "t.def", "t.lef"), ("work", "t.def", "--", "true")):
             done = self.tool("lefence-farm", *words)
             self.assertEqual((done.returncode, done.stdout), (2, b""), done.stderr)
+
+
+@unittest.skipIf(cluster.lacking(), f"a real cluster cannot be started: it lacks {cluster.lacking()} (Debian: slurm-wlm, munge)")
+class Cluster(FarmCase):
+    def test_a_real_cluster_of_slurm(self) -> None:
+        (self.folder / "B.fails").touch()
+        with cluster.cluster() as environment:
+            told = self.by_slurm(environment)
+            self.assertIn("lefence-farm: team B is not in it: the command ended with 7", told)
+            self.assertIn("the work of 2 of 3 teams\n", told)
+            (self.folder / "B.fails").unlink()
+            self.assertIn("the work of 3 of 3 teams\n", self.by_slurm(environment))
+        self.assertEqual((self.work / "new.def").read_bytes(), self.wanted())
+
+    def by_slurm(self, environment: dict[str, str]) -> str:
+        """What the last job of a farm told, once it was there."""
+        (self.work / "collect.log").unlink(missing_ok=True)
+        with mock.patch.dict(os.environ, environment):
+            done = self.farm("--engine", "slurm", "--option=--mem=100")
+            self.assertEqual(done.returncode, 0, done.stderr)
+            last = time.monotonic() + PATIENCE
+            while subprocess.check_output(["squeue", "--noheader"]).strip() and time.monotonic() < last:
+                time.sleep(0.1)
+        return (self.work / "collect.log").read_text()
 
 
 class Merges(FrontCase):

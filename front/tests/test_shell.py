@@ -46,6 +46,8 @@ class Words(HubCase):
             "team Z": "no: there is no such team here",
             "place f0c1 1.5 0 N": "no: 1.5 is no whole number of database units",
             "place f0c1": "no: place takes CELL X Y O",
+            "place f0c1 0 0 n": "no: n is no orientation of DEF: N W S E FN FW FS FE",
+            "place f0c1 0 0 MX": "no: MX is no orientation of DEF, which calls it FS: N W S E FN FW FS FE",
             "raw open f0": "ok 1 4",
             "raw nonsense": "no 1 BadRequest",
             "export /tmp/x": "no: that is no request",
