@@ -1,16 +1,16 @@
 """A farm's folder: which teams have work to do, the work of one of them over its slice, and all of it in one design at the end.
 
-`WORK/farm.json` is the plan. Team number I, from 1, has the folder `WORK/I`: its `slice.def`, the `journal` of a hub over it, `new.def`
-with its committed places, a `log`, and in the end `done`, or `failed` with the reason. Nothing but these files goes from one machine to
-another.
+`WORK/farm.json` is the plan. Team number I, from 1, has the folder `WORK/I`: its `slice.def`, the `journal` of a hub over it with its
+texts, `new.def` with its committed places, a `log`, and in the end `done`, or `failed` with the reason. Nothing but these files goes
+from one machine to another.
 """
 
 from __future__ import annotations
 
 import contextlib
-import hashlib
 import json
 import os
+import shutil
 import signal
 import subprocess
 import sys
@@ -24,10 +24,12 @@ from types import FrameType
 from .client import connect
 from .design import Design
 from .faults import DONE, FAILED, REFUSED, Fault, log
+from .frames import sum_of
 from .merge import merge
 from .protocol import GROUND, socket_name
 from .push import push_journal
 from .slice import slices_of
+from .texts import texts_folder
 from .whole_file import whole_file
 
 TOOL = "lefence-farm"
@@ -70,12 +72,6 @@ class Plan:
             raise Fault(REFUSED, f"{self.design} is another text than the slices were made of")
 
 
-def sum_of(path: Path) -> str:
-    """The SHA-256 of a file, which is read piece by piece."""
-    with open(path, "rb") as file:
-        return hashlib.file_digest(file, "sha256").hexdigest()
-
-
 def teams_of(design: Design) -> list[str]:
     """The teams of a design: those of its fences, and the team of the ground."""
     return [*(fence.decode("ascii", "backslashreplace") for fence in design.fences), GROUND]
@@ -106,9 +102,9 @@ def run_team(work: Path, number: int) -> int:
         status = _run_command(plan, own, plan.teams[number - 1])
         if status:
             raise Fault(status if 0 < status < 128 else FAILED, f"the command ended with {status}")
-    except Fault as fault:
-        (own / "failed").write_text(f"{fault}\n")
-        raise Fault(fault.status, f"team {plan.teams[number - 1]}: {fault}") from None
+    except (Fault, OSError) as fault:
+        (own / "failed").write_text(f"{fault}\n", errors="backslashreplace")
+        raise Fault(fault.status if isinstance(fault, Fault) else FAILED, f"team {plan.teams[number - 1]}: {fault}") from None
     with whole_file(own / "done") as file:
         file.write(b"done\n")
     return DONE
@@ -127,8 +123,11 @@ def refuse_another_slice(own: Path, plan: Plan) -> None:
 
 
 def _run_command(plan: Plan, own: Path, team: str) -> int:
-    """The status of the command, which finds the team's socket by LEFENCE_SOCKET, and its name by LEFENCE_TEAM."""
-    words = ["--team", team, "--journal", str(own / "journal"), "--export", str(own / "new.def")]
+    """The status of the command, which finds the team's socket by LEFENCE_SOCKET, and its name by LEFENCE_TEAM.
+
+    The engine gives a task to one machine at a time: a hub of another one that did not end the journal is gone.
+    """
+    words = ["--team", team, "--journal", str(own / "journal"), "--takeover", "--export", str(own / "new.def")]
     with _hub(plan, own / "slice.def", words, socket_name(team)) as socket:
         environment = {**os.environ, "LEFENCE_SOCKET": str(socket), "LEFENCE_TEAM": team, "LEFENCE_WORK": str(own)}
         with subprocess.Popen(plan.command, cwd=plan.folder, env=environment, stdin=subprocess.DEVNULL) as command:
@@ -195,10 +194,16 @@ def _merge(work: Path, plan: Plan, done: list[int]) -> None:
 
 def _push(work: Path, plan: Plan, done: list[int]) -> None:
     journal = work / "whole.journal"
-    journal.unlink(missing_ok=True)
+    _remove(journal)
     words = ["--journal", str(journal), "--no-sync", "--export", plan.export]
     with _hub(plan, Path(plan.design), words, socket_name(None)) as socket:
         for number in done:
             push = push_journal(work / str(number) / "journal", str(socket), _AHEAD, False)
             log(TOOL, f"team {plan.teams[number - 1]}: {push.count} lines answered as recorded")
-    journal.unlink()
+    _remove(journal)
+
+
+def _remove(journal: Path) -> None:
+    """Removes a journal with its copies of the texts."""
+    journal.unlink(missing_ok=True)
+    shutil.rmtree(texts_folder(journal), ignore_errors=True)

@@ -13,8 +13,9 @@ from pathlib import Path
 from typing import NamedTuple
 
 from .design import Design
-from .farm import TOOL, Plan, begin, collect, run_team, sum_of, teams_of
+from .farm import TOOL, Plan, begin, collect, run_team, teams_of
 from .faults import DONE, FAILED, USAGE, Fault, Parser, log, run_tool
+from .frames import sum_of
 from .program import find_program
 from .whole_file import refuse_inputs
 

@@ -249,6 +249,12 @@ class Hub:
         """
         return min(_MOST_LINGER, self.journal.seconds * _LINGER) if len(batch) > 1 else 0
 
+    def strike(self) -> None:
+        """Kills the program, and one that writes an export, and waits for nothing."""
+        for server in (self.server, self._second):
+            if server:
+                server.strike()
+
     def stop(self) -> None:
         """No more is read; `pump` answers what was read."""
         self._is_stopping = True
@@ -304,7 +310,8 @@ class Hub:
                 self.figures.teams.clear()
             try:
                 await self.server.start()
-                return await self.server.restore(self.journal.records(self.journal.end), note)
+                await self.server.restore(self.journal.records(self.journal.end), note)
+                return
             except ServerLost as again:
                 lost = again
         raise Fault(FAILED, f"{lost}; given up after {_STARTS} starts, nothing acknowledged is lost")

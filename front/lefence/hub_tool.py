@@ -63,6 +63,7 @@ async def serve(hub: Hub, options: argparse.Namespace, stopped: asyncio.Event) -
     groups = groups_of(options.group)
     stop, watch = asyncio.create_task(stopped.wait()), asyncio.create_task(hub.watch())
     start = asyncio.create_task(hub.start([*options.team]))
+    tasks = [stop, watch, start]
     try:
         await asyncio.wait({start, stop, watch}, return_when=asyncio.FIRST_COMPLETED)
         if not start.done():
@@ -75,6 +76,7 @@ async def serve(hub: Hub, options: argparse.Namespace, stopped: asyncio.Event) -
         files = resource.getrlimit(resource.RLIMIT_NOFILE)[0]
         hub.most_clients = max(1, min(MOST_CLIENTS, (files - 64) // (len(teams) + 1) - 1))
         pump = asyncio.create_task(hub.pump())
+        tasks.append(pump)
         listeners = await listen(hub, options.sockets, groups)
         ready = f"ready: {len(teams)} teams, {hub.journal.changes} changes restored"
         say(ready)
@@ -88,7 +90,9 @@ async def serve(hub: Hub, options: argparse.Namespace, stopped: asyncio.Event) -
         await pump
         await part(hub)
     finally:
-        watch.cancel()
+        # (after a fault nothing more is acknowledged)
+        for task in tasks:
+            task.cancel()
 
 
 async def part(hub: Hub) -> None:
@@ -106,7 +110,7 @@ def end_by_signals(hub: Hub, stopped: asyncio.Event, grace: float) -> None:
 
     def give_up() -> None:
         say(f"given up: not ended within {grace:g} seconds, or asked twice; nothing acknowledged is lost")
-        hub.server.strike()
+        hub.strike()
         os._exit(FAILED)
 
     def stop() -> None:

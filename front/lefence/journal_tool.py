@@ -17,7 +17,7 @@ from .frames import Frame, Reader, Record, body_of, frame_of, header_of, read_re
 from .journal import lock
 from .owner import Succession, own
 from .program import Program, find_program
-from .server import Server
+from .server import Server, ServerLost
 from .texts import kept_text
 from .whole_file import refuse_inputs, sync_folder, whole_file
 
@@ -158,15 +158,16 @@ def verify(path: Path, given: list[Path], wanted: str | None) -> int:
         raise Fault(REFUSED, f"{path}: {len(texts)} texts, of which {len(paths)} are {'given' if given else 'kept beside it'}")
     server = Server(Program(find_program(wanted), paths), [text.sum for text in texts])
 
-    async def replay() -> None:
+    async def replay() -> int:
         try:
             await server.start()
-            await server.restore(read_records(path))
+            return await server.restore(read_records(path))
+        except ServerLost as lost:
+            raise Fault(FAILED, f"{path}: {lost}") from None
         finally:
             await server.kill()
 
-    asyncio.run(replay())
-    log(TOOL, f"{path}: {sum(1 for _ in read_records(path))} changes are answered as recorded")
+    log(TOOL, f"{path}: {asyncio.run(replay())} changes are answered as recorded")
     return DONE
 
 

@@ -99,8 +99,8 @@ class Server:
             replies[-1] += rest + await reader.readexactly(length - len(rest))
         return replies
 
-    async def restore(self, records: Iterator[Record], note: Note | None = None) -> None:
-        """Has the lines of a journal answered, and compares each reply; `note` is told of each.
+    async def restore(self, records: Iterator[Record], note: Note | None = None) -> int:
+        """Has the lines of a journal answered, and compares each reply; `note` is told of each. How many they are.
 
         Raises a fault at the first reply that is another; ServerLost where the program dies or lacks memory.
         """
@@ -115,6 +115,7 @@ class Server:
                     raise Fault(REFUSED, f"{place}, and the program answers {reply!r}")
                 if note:
                     note(record.line.split(), reply)
+        return count
 
     async def end(self) -> int:
         """Ends the program's input, and returns its exit status."""

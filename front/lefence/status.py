@@ -80,7 +80,7 @@ def ask_status(folder: Path) -> dict[str, Any]:
         with connect(path) as connection:
             words = connection.ask_line(b"status")
     except OSError as error:
-        raise Fault(FAILED, f"{path}: {error}") from None
+        raise Fault(FAILED, f"{path}: {error.strerror or error}") from None
     if not words.startswith(b"ok {"):
         raise Fault(FAILED, f"{path}: answered {words.decode(errors='backslashreplace').strip()}")
     found: dict[str, Any] = json.loads(words[3:])

@@ -15,15 +15,14 @@ from dataclasses import dataclass
 from decimal import Decimal, InvalidOperation
 from typing import Generic, TypeVar
 
+from . import design
 from .protocol import OPENACCESS
 
 T = TypeVar("T")
 Length = int | float | Decimal
 
 _NAME = re.compile(r"[!-~]+")
-# The text of a team begins with the header, in which the database units of a micron are.
 _OPENACCESS_OF = {orient: other for other, orient in reversed(OPENACCESS.items())}
-_UNITS = re.compile(rb"^UNITS DISTANCE MICRONS (\d+) ;$", re.M)
 
 
 class ProtocolError(Exception):
@@ -168,10 +167,10 @@ def close_session(scope: Scope) -> Request[None]:
 
 def units_in(text: bytes) -> int:
     """The database units in a micron, from a team's DEF text."""
-    found = _UNITS.search(text[:100_000])
-    if not found:
+    units = design.units_in(text)
+    if not units.isdigit() or not int(units):
         raise ProtocolError("the team's DEF text has no UNITS")
-    return int(found[1])
+    return int(units)
 
 
 def sync(scope: Scope) -> Request[int]:

@@ -43,6 +43,7 @@ proc lefence::connect {where} {
     } trap {LEFENCE BadRequest} {} {
         # (lefence serve)
     } trap {LEFENCE ConnectionLost} {message} {
+        disconnect $connection
         throw {LEFENCE ConnectionLost} "$where: $message"
     }
     return $connection
@@ -219,9 +220,10 @@ proc lefence::Define {verb fields} {
     set values [join [lmap name $names {set name \$$name}]]
     proc ::lefence::$verb [list session {*}$names] "Verb $verb \$session $values"
 }
-dict for {verb known} $lefence::VERBS {
-    if {$verb ni {open close}} {
-        lefence::Define $verb [dict get $known fields]
+apply {{verbs} {
+    dict for {verb known} $verbs {
+        if {$verb ni {open close}} {
+            lefence::Define $verb [dict get $known fields]
+        }
     }
-}
-unset verb known
+}} $lefence::VERBS

@@ -65,17 +65,16 @@ def cluster() -> Iterator[dict[str, str]]:
         folder.chmod(0o711)
         for part in ("controller", "node", "munge"):
             (folder / part).mkdir()
-        started.callback(_end, [_munge(folder / "munge")])
+        started.callback(_end, _munge(folder / "munge"))
         host, memory = socket.gethostname(), os.sysconf("SC_PAGE_SIZE") * os.sysconf("SC_PHYS_PAGES") >> 20
         configuration = folder / "slurm.conf"
         values = {"folder": folder, "host": host, "ports": _free_ports(), "processors": os.cpu_count(), "memory": memory // 2}
         configuration.write_text(_CONFIGURATION.format(**values))
         environment = {**os.environ, "SLURM_CONF": str(configuration)}
-        daemons = []
         for words in (["slurmctld", "-D", "-i"], ["slurmd", "-D", "-N", host]):
             with open(folder / f"{words[0]}.log", "wb") as log:
-                daemons.append(subprocess.Popen([*words, "-f", configuration], stdin=subprocess.DEVNULL, stdout=log, stderr=log, env=environment))
-        started.callback(_end, daemons)
+                daemon = subprocess.Popen([*words, "-f", configuration], stdin=subprocess.DEVNULL, stdout=log, stderr=log, env=environment)
+            started.callback(_end, daemon)
         _wait_idle(environment, folder)
         yield environment
 
@@ -109,12 +108,10 @@ def _wait_idle(environment: dict[str, str], folder: Path) -> None:
     raise AssertionError(f"the cluster does not start: {done.stdout} {done.stderr}\n{logs}")
 
 
-def _end(processes: list[subprocess.Popen[bytes]]) -> None:
-    for process in reversed(processes):
-        process.terminate()
-    for process in processes:
-        try:
-            process.wait(PATIENCE)
-        except subprocess.TimeoutExpired:
-            process.kill()
-            process.wait()
+def _end(process: subprocess.Popen[bytes]) -> None:
+    process.terminate()
+    try:
+        process.wait(PATIENCE)
+    except subprocess.TimeoutExpired:
+        process.kill()
+        process.wait()

@@ -8,6 +8,7 @@ import subprocess
 import sys
 import time
 import unittest
+from dataclasses import replace
 from unittest import mock
 
 import cluster
@@ -16,7 +17,9 @@ from support import CELLS, FRONT, PATIENCE, PROGRAM, FrontCase, tool_words
 from lefence.design import Design
 from lefence.farm import teams_of
 from lefence.faults import Fault
+from lefence.journal import Journal, texts_in
 from lefence.merge import merge
+from lefence.owner import own
 from lefence.slice import slice_of, slices_of
 
 # Two fences and the ground around them, with two cells each.
@@ -119,8 +122,12 @@ class Farms(FarmCase):
         text = (self.folder / "new.def").read_text()
         self.assertEqual(("- b1 BUF ;" in text, "- b2 INV ;" in text, "- a2 INV ;" in text), (True, True, False))
         (self.folder / "B.fails").unlink()
+        # As if the task had been at work on another machine, which is gone.
+        journal = self.work / "2/journal"
+        os.close(Journal(journal, texts_in(journal) or [], self.fail, owner=replace(own(), host="farm2"))._fd)
         done = self.farm("--export", "new.def")
         self.assertEqual(done.returncode, 0, done.stderr)
+        self.assertEqual([*self.work.glob("whole*")], [])
         self.assertIn("lefence-farm: 1 of 3 teams have work to do\n", done.stderr)
         self.assertEqual((self.folder / "new.def").read_bytes(), self.wanted())
         # The second run went on from what the first had done.
@@ -169,6 +176,12 @@ class Farms(FarmCase):
         refusing.chmod(0o755)
         done = self.farm("--engine", "lsf", folder=str(self.folder))
         self.assertEqual((done.returncode, "bsub ended with 255: no queue" in done.stderr), (3, True))
+
+    def test_a_command_that_is_not_there_is_told(self) -> None:
+        done = self.tool("lefence-farm", "work", "t.def", "t.lef", "--program", PROGRAM, "--merge", "--", "./nothing")
+        self.assertEqual(done.returncode, 4, done.stderr)
+        for team in TEAMS:
+            self.assertIn(f"team {team} is not in it: [Errno 2] No such file or directory: './nothing'; ", done.stderr.decode())
 
     def test_words_that_lack_something(self) -> None:
         for words in (("work",), ("work", "t.def", "t.lef"), ("work", "t.def", "--", "true")):

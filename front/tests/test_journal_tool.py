@@ -100,6 +100,9 @@ class JournalTool(HubCase):
         script.chmod(0o755)
         done = self.tool("lefence-journal", "verify", self.journal, self.design, self.lef, "--program", str(script))
         self.assertEqual((done.returncode, b"change 5: the journal has b'ok 2" in done.stderr), (1, True), done.stderr)
+        script.write_text("#!/bin/sh\nexit 9\n")
+        done = self.tool("lefence-journal", "verify", self.journal, self.design, self.lef, "--program", str(script))
+        self.assertEqual((done.returncode, done.stderr.count(b"journal: the program is lost")), (3, 1), done.stderr)
 
 
 if __name__ == "__main__":

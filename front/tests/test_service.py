@@ -358,24 +358,28 @@ class Operator(HubCase):
             for line in metrics.splitlines():
                 self.assertRegex(line, r"^(# (HELP|TYPE) )?lefence_[a-z0-9_]+(\{team=\"[^ ]+\"\})? ([-0-9.e]+|counter|gauge|[A-Z].*)$")
             self.assertEqual(talker.ask("status"), ["no 1 BadRequest"])
+            systemd.settimeout(PATIENCE)
+            words = b""
+            while b"WATCHDOG=1" not in words:
+                words += systemd.recv(1 << 12) + b"\n"
             self.assertEqual(self.hub.end(), 0)
             systemd.setblocking(False)
-            words = b""
             with contextlib.suppress(BlockingIOError):
                 while piece := systemd.recv(1 << 12):
                     words += piece + b"\n"
-        self.assertEqual([b"READY=1\nSTATUS=ready" in words, b"WATCHDOG=1" in words, b"STOPPING=1" in words], [True] * 3)
+        self.assertEqual([b"READY=1\nSTATUS=ready" in words, b"STOPPING=1" in words], [True] * 2)
         self.assertIn("changes that are not committed: 2 of f0\n", self.hub.told())
         done = subprocess.run([*tool_words("lefence-hub"), "--status", str(self.folder / "s")], capture_output=True, timeout=PATIENCE)
-        self.assertEqual(done.returncode, 3)
+        refusal = f"lefence-hub: {self.folder / 's/operator.sock'}: Connection refused\n"
+        self.assertEqual((done.returncode, done.stderr.decode()), (3, refusal))
 
     def test_a_program_that_hangs_is_restored_and_cannot_hold_the_end(self) -> None:
-        self.start("--deadline", "1", "--idle", "2", "--grace", "1")
+        self.start("--deadline", "2", "--idle", "2", "--grace", "1")
         talker, idle = self.talk("f0"), self.talk("f1")
         self.assertEqual(talker.ask("open f0", "place f0 0 f0c1 0 0 N"), ["ok 0 0", "ok 1"])
         os.kill(self.hub.server_pid(), signal.SIGSTOP)
         self.assertEqual(talker.ask("where f0 0 f0c1"), ["ok 0 0 N"])
-        self.assertIn("has said nothing for 1 seconds", self.hub.told())
+        self.assertIn("has said nothing for 2 seconds", self.hub.told())
         # Who has no session and says nothing is dropped.
         self.assertEqual(idle.replies.read(), b"")
         self.assertEqual(talker.ask("where f0 0 f0c1"), ["ok 0 0 N"])

@@ -83,13 +83,17 @@ class Tcl(HubCase):
             }
             try {lefence::undo $s; lefence::undo $s} trap {LEFENCE NothingToUndo} {} {puts trapped}
             puts [catch {lefence::place $s f0c2 0 0}]
+            puts [lsearch -all -inline -not [file channels] std*]
+            puts $c
             """,
             self.folder / "s/f0.sock",
             told="lefence-shell: /no/such.sock: No such file or directory\n",
         )
         codes = ["Illegal 7 8 f0c2 f0c1", "Unplaced 6 f0c2", "NoCell 5", "BadRequest 1", "BadName", "BadLength", "NoSession", "BadRequest 1"]
         codes += ["NoTeam 2", "ConnectionLost"]
-        self.assertEqual(told, [*(f"LEFENCE {code}" for code in codes), "trapped", "1"])
+        self.assertEqual(told[:-2], [*(f"LEFENCE {code}" for code in codes), "trapped", "1"])
+        # No channel is left open but that of the connection.
+        self.assertEqual(told[-2], told[-1])
 
     def test_microns_and_retries_where_asked(self) -> None:
         self.start()
@@ -115,8 +119,8 @@ class Tcl(HubCase):
         told = self.run_tcl(code.replace("$connection A", "$connection f0").replace("session u", "session f0c"))
         self.assertEqual(told, ["f0c2 f0c1", "0.4 0.0 N", "2"])
 
-    def test_the_version_is_that_of_the_package(self) -> None:
-        self.assertEqual(self.run_tcl("puts [package require lefence]"), [lefence.__version__])
+    def test_the_version_is_that_of_the_package_which_leaves_variables_as_they_are(self) -> None:
+        self.assertEqual(self.run_tcl("set verb mine; puts [package require lefence]; puts $verb"), [lefence.__version__, "mine"])
 
 
 if __name__ == "__main__":
