@@ -6,6 +6,7 @@ import os
 from collections.abc import Iterable
 from dataclasses import dataclass
 from decimal import Decimal
+from functools import lru_cache
 from pathlib import Path
 from typing import cast
 
@@ -46,10 +47,20 @@ def cells_in(text: bytes, scope: Scope, libraries: Iterable[str | os.PathLike[st
     """The cells of a team's DEF text, in its order; of two macros with one name in the LEF texts the first counts."""
     sizes: dict[bytes, tuple[Decimal, Decimal]] = {}
     for library in libraries:
-        for name, width, height in sizes_of(Path(library).read_bytes()):
-            sizes.setdefault(name, (width, height))
+        known = os.stat(library)
+        for name, size in _sizes_in(os.fspath(library), known.st_mtime_ns, known.st_size).items():
+            sizes.setdefault(name, size)
     units = units_in(text)
     return [_cell(entry, scope, sizes, units) for entry in entries(text, statements(text), b"COMPONENTS")]
+
+
+@lru_cache(maxsize=64)
+def _sizes_in(library: str, *version: int) -> dict[bytes, tuple[Decimal, Decimal]]:
+    """The sizes of the macros of a LEF text, which is read again where its time or its length is another one."""
+    sizes: dict[bytes, tuple[Decimal, Decimal]] = {}
+    for name, width, height in sizes_of(Path(library).read_bytes()):
+        sizes.setdefault(name, (width, height))
+    return sizes
 
 
 def _cell(entry: Entry, scope: Scope, sizes: dict[bytes, tuple[Decimal, Decimal]], units: int) -> Cell:

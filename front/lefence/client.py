@@ -67,7 +67,7 @@ def named(error: OSError, where: str, port: int | None) -> OSError:
     """The error with what was tried."""
     tried = where if port is None else f"{where}:{port}"
     if error.errno is None:
-        return type(error)(f"{tried}: {error}")
+        return type(error)(f"{tried}: {str(error) or 'timed out'}")
     error.filename = tried
     return error
 
@@ -369,4 +369,4 @@ class Pipeline(Verbs):
 
 
 def _is_stale(reply: bytes) -> bool:
-    return isinstance(refusal_of(reply), Stale)
+    return reply.startswith(b"no %d " % Stale.number)

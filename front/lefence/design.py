@@ -6,10 +6,15 @@ loads; of others no more is promised than that reading ends.
 
 from __future__ import annotations
 
+import mmap
+import os
 import re
 from collections.abc import Iterator
+from contextlib import ExitStack
 from dataclasses import dataclass
 from functools import cached_property, lru_cache
+from pathlib import Path
+from typing import cast
 
 from .protocol import GROUND
 
@@ -99,6 +104,14 @@ class Entry:
 def pattern_of(word: bytes) -> re.Pattern[bytes]:
     """What a name or a pattern with stars names, if it is matched as a whole."""
     return re.compile(rb".*".join(map(re.escape, STAR.split(word))), re.S)
+
+
+def mapped(path: Path, stack: ExitStack) -> bytes:
+    """A file's bytes until the stack ends, which the system reads as they are needed; what is taken of them are bytes."""
+    with open(path, "rb") as file:
+        if not os.fstat(file.fileno()).st_size:
+            return b""
+        return cast(bytes, stack.enter_context(mmap.mmap(file.fileno(), 0, access=mmap.ACCESS_READ)))
 
 
 def words_in(text: bytes) -> Iterator[bytes]:

@@ -86,7 +86,8 @@ def begin(work: Path, plan: Plan, design: Design) -> None:
     for at, text in zip(lacking, slices_of(design, [names[at - 1] for at in lacking]), strict=True):
         (work / str(at)).mkdir(parents=True, exist_ok=True)
         with whole_file(work / str(at) / "slice.def") as file:
-            file.write(_MARK % plan.sum.encode() + text)
+            file.write(_MARK % plan.sum.encode())
+            file.writelines(text)
     plan.save(work)
 
 

@@ -9,10 +9,11 @@ import shlex
 import subprocess
 import sys
 from concurrent.futures import ThreadPoolExecutor
+from contextlib import ExitStack
 from pathlib import Path
 from typing import NamedTuple
 
-from .design import Design
+from .design import Design, mapped
 from .farm import TOOL, Plan, begin, collect, run_team, teams_of
 from .faults import DONE, FAILED, USAGE, Fault, Parser, log, run_tool
 from .frames import sum_of
@@ -156,10 +157,12 @@ def main() -> int:
             raise Fault(USAGE, "WORK DEF LEF... -- COMMAND are needed")
         if options.export:
             refuse_inputs(options.export, options.texts)
-        design = Design(options.texts[0].read_bytes())
-        plan = plan_of(options, command, design)
-        options.work.mkdir(parents=True, exist_ok=True)
-        begin(options.work, plan, design)
+        with ExitStack() as stack:
+            design = Design(mapped(options.texts[0], stack))
+            plan = plan_of(options, command, design)
+            options.work.mkdir(parents=True, exist_ok=True)
+            begin(options.work, plan, design)
+            del design
         numbers = plan.numbers_left(options.work)
         log(TOOL, f"{len(numbers)} of {len(plan.teams)} teams have work to do")
         return ENGINES[options.engine](Farm(options.work, options.option, max(0, options.processes)), numbers)

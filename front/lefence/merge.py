@@ -6,14 +6,13 @@ them; the components of each are in the order of the whole text. So one look ahe
 
 from __future__ import annotations
 
-import mmap
 import resource
 from collections.abc import Iterator
 from contextlib import ExitStack
 from pathlib import Path
-from typing import BinaryIO, cast
+from typing import BinaryIO
 
-from .design import Entry, section_parts, statements_in
+from .design import Entry, mapped, section_parts, statements_in
 from .faults import REFUSED, Fault
 
 
@@ -27,8 +26,8 @@ def merge(whole: Path, slices: list[Path], output: BinaryIO) -> int:
     files = resource.getrlimit(resource.RLIMIT_NOFILE)[1]
     resource.setrlimit(resource.RLIMIT_NOFILE, (files, files))
     with ExitStack() as stack:
-        text = _mapped(whole, stack)
-        streams = [_movable(_mapped(path, stack)) for path in slices]
+        text = mapped(whole, stack)
+        streams = [_movable(mapped(path, stack)) for path in slices]
         # The next component of each slice, by its name.
         heads: dict[bytes, tuple[Entry, int]] = {}
         for number, stream in enumerate(streams):
@@ -52,12 +51,6 @@ def merge(whole: Path, slices: list[Path], output: BinaryIO) -> int:
 def _copy(text: bytes, start: int, stop: int, output: BinaryIO) -> None:
     for at in range(start, stop, _PIECE):
         output.write(text[at : min(stop, at + _PIECE)])
-
-
-def _mapped(path: Path, stack: ExitStack) -> bytes:
-    """A file's bytes, which the system reads as they are needed; what is read of them are bytes."""
-    with open(path, "rb") as file:
-        return cast(bytes, stack.enter_context(mmap.mmap(file.fileno(), 0, access=mmap.ACCESS_READ)))
 
 
 def _components(text: bytes) -> Iterator[Entry]:

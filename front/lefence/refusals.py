@@ -211,6 +211,9 @@ _KINDS: dict[int, type[Refusal]] = {kind.number: kind for kind in Refusal.__subc
 
 def refusal_of(reply: bytes) -> Refusal | None:
     """The refusal that a reply is; None where it is none."""
+    if not reply.startswith(b"no "):
+        # (of a text of a team not one word is looked at)
+        return None
     words = reply.decode("ascii", "backslashreplace").split()
     if len(words) < 3 or words[0] != "no" or not words[1].isdecimal():
         return None

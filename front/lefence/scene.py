@@ -203,8 +203,8 @@ class Scene:
 
     @property
     def shows_too_full(self) -> bool:
-        """Whether the red of a map is for bins that are too full: where three of four cells break a rule, that tells more than where."""
-        return 4 * self.sum_of("broken") > 3 * (self.sum_of("cells") - self.sum_of("unplaced"))
+        """Whether the red of a map is for bins that are too full: where two of three cells break a rule, that tells more than where."""
+        return 3 * self.sum_of("broken") > 2 * (self.sum_of("cells") - self.sum_of("unplaced"))
 
     def red_paths(self) -> dict[tuple[int, int], str]:
         """The red bins of the map, as `Bins.paths`."""

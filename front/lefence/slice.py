@@ -9,12 +9,13 @@ from __future__ import annotations
 import os
 import sys
 import tempfile
+from array import array
 from collections.abc import Iterator
 from itertools import zip_longest
 from pathlib import Path
 
 from .description import Cell, Description
-from .design import Design, Statement, section_parts, statements_in
+from .design import Design, Entry, Statement, section_parts, statements_in
 from .faults import DONE, REFUSED, Fault, Parser, log, run_tool
 from .program import find_program
 from .protocol import GROUND
@@ -36,7 +37,7 @@ def slice_of(text: bytes, team: str) -> bytes:
     name = os.fsencode(team)
     if team != GROUND and name not in design.fences:
         raise Fault(REFUSED, f"no team: {team}")
-    return next(slices_of(design, [name]))
+    return b"".join(next(slices_of(design, [name])))
 
 
 def refuse_other_text(text: bytes) -> None:
@@ -45,39 +46,58 @@ def refuse_other_text(text: bytes) -> None:
         raise Fault(REFUSED, "the file has no DESIGN: it is no DEF text" + (", but compressed by gzip" if text[:2] == b"\x1f\x8b" else ""))
 
 
-def slices_of(design: Design, teams: list[bytes]) -> Iterator[bytes]:
-    """The slices of a design for these teams of its own, in one pass; each of them is made when it is asked for."""
+def slices_of(design: Design, teams: list[bytes]) -> Iterator[Iterator[bytes]]:
+    """The slices of a design for these teams of its own, in one pass, each piece by piece."""
     sections = {statement.start: _Entries(design, statement, teams) for statement in design.statements if statement.keyword in _SLICED}
     for team in teams:
-        pieces = []
-        for statement in design.statements:
-            if statement.keyword in _SLICED:
-                pieces.append(sections[statement.start].of(team))
-            elif statement.keyword not in _DROPPED:
-                pieces.append(design.text[statement.start : statement.stop])
-        yield b"".join(pieces) + b"\n"
+        yield _pieces(design, team, sections)
+
+
+def _pieces(design: Design, team: bytes, sections: dict[int, _Entries]) -> Iterator[bytes]:
+    for statement in design.statements:
+        if statement.keyword in _SLICED:
+            yield from sections[statement.start].of(team)
+        elif statement.keyword not in _DROPPED:
+            yield design.text[statement.start : statement.stop]
+    yield b"\n"
 
 
 class _Entries:
-    """The entries of COMPONENTS or GROUPS by the team that they concern; those of no team concern all, or none if they are groups."""
+    """The entries of COMPONENTS or GROUPS by the team that they concern; those of no team concern all, or none if they are groups.
+
+    Kept are their places in the text, neighbours as one.
+    """
 
     def __init__(self, design: Design, section: Statement, teams: list[bytes]) -> None:
-        self._keyword = section.keyword
+        self._text, self._keyword = design.text, section.keyword
         self._before, self._behind, entries = section_parts(design.text, section)
-        self._own: dict[bytes, list[bytes]] = {team: [] for team in teams}
+        # Where entries begin and end in turn, and how many they are.
+        self._spans = {team: array("Q") for team in teams}
+        self._counts = dict.fromkeys(teams, 0)
         is_groups = section.keyword == b"GROUPS"
         for entry in entries:
             team = design.fence_of(entry) if is_groups else design.team_of(entry)
-            if team is None and not is_groups:
-                for own in self._own.values():
-                    own.append(entry.text)
-            elif team in self._own:
-                self._own[team].append(entry.text)
+            if team in self._spans:
+                self._take(team, entry)
+            elif team is None and not is_groups:
+                for each in teams:
+                    self._take(each, entry)
 
-    def of(self, team: bytes) -> bytes:
-        """The section with the entries of a team alone, and their number as the count."""
-        kept = self._own[team]
-        return self._before + b"%d" % len(kept) + self._behind + b"".join(kept) + b"\nEND " + self._keyword
+    def _take(self, team: bytes, entry: Entry) -> None:
+        spans, stop = self._spans[team], entry.start + len(entry.text)
+        self._counts[team] += 1
+        if spans and spans[-1] == entry.start:
+            spans[-1] = stop
+        else:
+            spans.extend((entry.start, stop))
+
+    def of(self, team: bytes) -> Iterator[bytes]:
+        """The section with the entries of a team alone, and their number as the count, piece by piece."""
+        yield self._before + b"%d" % self._counts[team] + self._behind
+        spans = self._spans[team]
+        for start, stop in zip(spans[::2], spans[1::2]):
+            yield self._text[start:stop]
+        yield b"\nEND " + self._keyword
 
 
 def refuse_difference(program: str, whole: Path, part: bytes, libraries: list[Path], team: str) -> None:

@@ -219,7 +219,8 @@ class Merges(FrontCase):
         text = self.design.read_bytes().replace(b"END DESIGN", more.encode() + b"END DESIGN")
         design = Design(text)
         teams = teams_of(design)
-        self.assertEqual([*slices_of(design, [team.encode() for team in teams])], [slice_of(text, team) for team in teams])
+        slices = [b"".join(pieces) for pieces in slices_of(design, [team.encode() for team in teams])]
+        self.assertEqual(slices, [slice_of(text, team) for team in teams])
 
     def test_slices_go_back_into_the_text(self) -> None:
         more = "COMPONENTS 3 ;\n- wall BUF + FIXED ( 0 6000 ) N ; # a\n - f0x INV ; - lid INV + COVER ( 0 0 ) N ;\nEND COMPONENTS\n"
