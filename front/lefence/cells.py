@@ -10,7 +10,7 @@ from functools import lru_cache
 from pathlib import Path
 from typing import cast
 
-from .design import Entry, entries, statements
+from .design import Entry, entries, shown, statements
 from .lef import sizes_of
 from .verbs import Length, Place, ProtocolError, Scope, units_in
 
@@ -69,10 +69,6 @@ def _cell(entry: Entry, scope: Scope, sizes: dict[bytes, tuple[Decimal, Decimal]
     size: list[Length | None] = [None, None]
     if sizes:
         if macro not in sizes:
-            raise ProtocolError(f"no LEF text has the macro {_text(macro)} of {_text(name)}")
+            raise ProtocolError(f"no LEF text has the macro {shown(macro)} of {shown(name)}")
         size = [scope.length(str(int(length * units))) for length in sizes[macro]]
-    return Cell(_text(name), _text(macro), place, *size)
-
-
-def _text(word: bytes) -> str:
-    return word.decode("ascii", "backslashreplace")
+    return Cell(shown(name), shown(macro), place, *size)

@@ -171,9 +171,14 @@ def units_in(text: bytes) -> bytes:
     return b"0"
 
 
+def shown(word: bytes) -> str:
+    """A word of a text for people, whatever bytes it has."""
+    return word.decode("ascii", "backslashreplace")
+
+
 def fences_in(text: bytes) -> list[str]:
     """The teams of the FENCE regions of a text."""
-    return [fence.decode("ascii", "backslashreplace") for fence in fences_of(text, statements(text))]
+    return [shown(fence) for fence in fences_of(text, statements(text))]
 
 
 def fences_of(text: bytes, found: list[Statement]) -> list[bytes]:

@@ -22,7 +22,7 @@ from pathlib import Path
 from types import FrameType
 
 from .client import connect
-from .design import Design
+from .design import Design, shown
 from .faults import DONE, FAILED, REFUSED, Fault, log
 from .frames import sum_of
 from .merge import merge
@@ -74,7 +74,7 @@ class Plan:
 
 def teams_of(design: Design) -> list[str]:
     """The teams of a design: those of its fences, and the team of the ground."""
-    return [*(fence.decode("ascii", "backslashreplace") for fence in design.fences), GROUND]
+    return [*map(shown, design.fences), GROUND]
 
 
 def begin(work: Path, plan: Plan, design: Design) -> None:

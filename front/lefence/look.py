@@ -12,7 +12,7 @@ from itertools import chain
 from typing import NamedTuple
 
 from .description import Facts
-from .design import STAR, TOKENS, Design, Entry, pattern_of, section_parts, words_in
+from .design import STAR, TOKENS, Design, Entry, pattern_of, section_parts, shown, words_in
 from .protocol import GROUND
 
 # Of remarks of one kind so many are told one by one.
@@ -71,7 +71,7 @@ def _of_sections(design: Design) -> Iterator[Remark]:
             place = statement.start + len(before)
             told = next(words_in(design.text[place : place + 20]), b"")
             if told != b"%d" % many:
-                text = f"{_shown(statement.keyword)} {_shown(told)}, and there are {many}"
+                text = f"{shown(statement.keyword)} {shown(told)}, and there are {many}"
                 yield Remark("counts that are wrong", text, place)
 
 
@@ -83,10 +83,10 @@ def _of_words(section: bytes, entry: Entry) -> Iterator[Remark]:
     clauses = [word for plus, word in zip(entry.words, entry.words[1:]) if plus == b"+"]
     for word in clauses:
         if word not in known:
-            text = f"+ {_shown(word)} of {_CALLED[section]} {_shown(entry.name)} is no word of DEF 5.8, and is passed over"
+            text = f"+ {shown(word)} of {_CALLED[section]} {shown(entry.name)} is no word of DEF 5.8, and is passed over"
             if section == b"COMPONENTS" and not any(clause in _PLACEMENTS for clause in clauses):
                 text += ": it has no place"
-            yield Remark(f"+ {_shown(word)} in {_shown(section)}", text, _place_of(entry))
+            yield Remark(f"+ {shown(word)} in {shown(section)}", text, _place_of(entry))
 
 
 def _of_teams(design: Design) -> Iterator[Remark]:
@@ -101,16 +101,16 @@ def _of_teams(design: Design) -> Iterator[Remark]:
             cells[team] += 1
             region = component.behind(b"REGION") if b"REGION" in component.text else None
             if region in fences and region != team:
-                text = f"+ REGION {_shown(region)} of component {_shown(component.name)} binds it to no fence, as a group would: it is of"
-                yield Remark("+ REGION of components", f"{text} team {_shown(team)}", _place_of(component))
+                text = f"+ REGION {shown(region)} of component {shown(component.name)} binds it to no fence, as a group would: it is of"
+                yield Remark("+ REGION of components", f"{text} team {shown(team)}", _place_of(component))
     yield from patterns.unmatched()
     for group in design.entries(b"GROUPS"):
         if (region := group.behind(b"REGION")) is not None and region not in fences:
-            text = f"group {_shown(group.name)} is bound to {_shown(region)}, which is no fence: its cells are of team {GROUND}"
+            text = f"group {shown(group.name)} is bound to {shown(region)}, which is no fence: its cells are of team {GROUND}"
             yield Remark("groups without a fence", text, _place_of(group))
     for region_entry in design.entries(b"REGIONS"):
         if region_entry.name in fences and not cells[region_entry.name]:
-            text = f"fence {_shown(region_entry.name)} has no cells"
+            text = f"fence {shown(region_entry.name)} has no cells"
             yield Remark("fences without cells", text, _place_of(region_entry))
 
 
@@ -148,7 +148,7 @@ class _Patterns:
         left = [(group, word) for word, groups in self._names.items() for group in groups]
         left += [(group, word) for pairs in self._starred.values() for _, word, group in pairs]
         for group, word in sorted(left, key=lambda pair: pair[0].start):
-            yield Remark("names of groups", f"{_shown(word)} of group {_shown(group.name)} matches no component", _place_of(group))
+            yield Remark("names of groups", f"{shown(word)} of group {shown(group.name)} matches no component", _place_of(group))
 
 
 def _members(group: Entry) -> Iterator[bytes]:
@@ -165,7 +165,7 @@ def _of_rows(design: Design, site: str) -> Iterator[Remark]:
     for statement in design.statements:
         if statement.keyword == b"ROW":
             words = list(words_in(design.text[statement.start : statement.stop]))
-            if len(words) > 2 and (name := _shown(words[2])) != site:
+            if len(words) > 2 and (name := shown(words[2])) != site:
                 others.setdefault(name, []).append(statement.stop - 1)
     for name, places in others.items():
         rows = "1 row" if len(places) == 1 else f"{len(places)} rows"
@@ -176,10 +176,6 @@ def _place_of(entry: Entry) -> int:
     """Where an entry begins, behind white space and comments."""
     dash = TOKENS.match(entry.text)
     return entry.start + (dash.start(1) if dash else 0)
-
-
-def _shown(word: bytes) -> str:
-    return word.decode("ascii", "backslashreplace")
 
 
 def line_of(text: bytes, place: int) -> int:

@@ -12,9 +12,8 @@ from contextlib import ExitStack
 from pathlib import Path
 from typing import BinaryIO
 
-from .design import Entry, mapped, section_parts, statements_in
+from .design import Entry, mapped, section_parts, shown, statements_in
 from .faults import REFUSED, Fault
-
 
 # Bytes that are written at a time.
 _PIECE = 1 << 20
@@ -42,7 +41,7 @@ def merge(whole: Path, slices: list[Path], output: BinaryIO) -> int:
                 count += 1
                 _advance(heads, streams[number], number)
         _copy(text, at, len(text), output)
-        left = sorted((number, entry.name.decode("ascii", "backslashreplace")) for entry, number in heads.values())
+        left = sorted((number, shown(entry.name)) for entry, number in heads.values())
     for number, name in left:
         raise Fault(REFUSED, f"{slices[number]}: component {name} is none of {whole}, or stands in another order there")
     return count

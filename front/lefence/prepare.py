@@ -11,7 +11,7 @@ from itertools import count
 from typing import NamedTuple
 
 from .description import Box
-from .design import Entry, Statement, fences_of, pattern_of, section_parts, statements, words_in
+from .design import Entry, Statement, fences_of, pattern_of, section_parts, shown, statements, words_in
 from .faults import REFUSED, USAGE, Fault
 from .lef import Site
 
@@ -118,7 +118,7 @@ class Preparation:
 
     def add_rows(self, site: Site, wanted: Wanted) -> None:
         """Rows of the site over the core, on the grid of the placed cells; those that the text has are taken out."""
-        name = f"site {_shown(site.name)}"
+        name = f"site {shown(site.name)}"
         width, height = (_whole(length * self.units, name) for length in (site.width, site.height))
         core = wanted.core or self._die()
         core = Box(core.left + wanted.margin, core.bottom + wanted.margin, core.right - wanted.margin, core.top - wanted.margin)
@@ -290,10 +290,6 @@ def _word(word: str) -> str:
     if not _NAME.fullmatch(word) or word in (";", "+", "-", "(", ")"):
         raise Fault(USAGE, f"{word!r} can be no name in a DEF text")
     return word
-
-
-def _shown(name: bytes) -> str:
-    return name.decode("ascii", "backslashreplace")
 
 
 def _box(box: Box) -> str:

@@ -10,6 +10,7 @@ from dataclasses import dataclass
 from pathlib import Path
 
 from .description import Box, Description, Facts, Total
+from .design import shown
 from .faults import DONE, REFUSED, USAGE, Fault, Parser, log, run_tool
 from .lef import Site, sites_of
 from .look import Remark, line_of, remarks_of
@@ -48,7 +49,7 @@ def _core_site(libraries: list[bytes], name: str | None) -> Site:
     usable = [site for site in sites.values() if site.is_core and site.width > 0 and site.height > 0]
     wanted = [site for site in usable if name is None or site.name == name.encode(errors="surrogateescape")]
     if not wanted:
-        found = ", ".join(site.name.decode("ascii", "backslashreplace") for site in usable) or "none"
+        found = ", ".join(shown(site.name) for site in usable) or "none"
         what = "a site" if name is None else f"a site {name}"
         raise Fault(REFUSED, f"no LEF text has {what} with CLASS CORE and a SIZE; found: {found}")
     return wanted[0]

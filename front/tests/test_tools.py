@@ -3,10 +3,10 @@
 from __future__ import annotations
 
 import io
-import os
 import shutil
 import subprocess
 import sys
+import tempfile
 import unittest
 import venv
 from collections.abc import Callable
@@ -129,7 +129,10 @@ class Faults(unittest.TestCase):
             raise Fault(1, "a\x1b[2Jb\udcff\u202e\x9b é")
 
         self.assertEqual(self.told(fail), (1, "x: a\\x1b[2Jb\\udcff\\u202e\\x9b é\n"))
-        done = subprocess.run([*tool_words("lefence-slice"), os.devnull, "--team", "\x1b]0;"], capture_output=True)
+        with tempfile.NamedTemporaryFile() as file:
+            file.write(b"DESIGN t ;\nEND DESIGN\n")
+            file.flush()
+            done = subprocess.run([*tool_words("lefence-slice"), file.name, "--team", "\x1b]0;"], capture_output=True)
         self.assertEqual((done.returncode, b"\x1b" in done.stderr, b"\\x1b]0;" in done.stderr), (1, False, True))
 
 
