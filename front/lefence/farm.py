@@ -38,6 +38,8 @@ LACKING = 4
 _MARK = b"# a slice of the text %b\n"
 # Seconds between two looks whether a hub serves, and lines in flight of a push.
 _NAP, _AHEAD = 0.05, 50
+# Seconds that a hub has for its end, and a command for what it does before its first session: the engine has bounds of its own.
+_BOUNDS = ("--grace", "1e7", "--idle", "1e7")
 
 
 @dataclass
@@ -145,7 +147,7 @@ def _hub(plan: Plan, design: Path, words: list[str], name: str) -> Iterator[Path
     code = "import sys; from lefence.hub_tool import main; sys.exit(main())"
     path = os.pathsep.join([str(Path(__file__).resolve().parents[1]), *filter(None, [os.environ.get("PYTHONPATH")])])
     with tempfile.TemporaryDirectory(prefix="lefence-farm") as folder:
-        command = [sys.executable, "-c", code, str(design), *plan.libraries, "--program", plan.program, "--sockets", folder, *words]
+        command = [sys.executable, "-c", code, str(design), *plan.libraries, "--program", plan.program, *_BOUNDS, "--sockets", folder, *words]
         with subprocess.Popen(command, env={**os.environ, "PYTHONPATH": path}, stdin=subprocess.DEVNULL) as hub:
             try:
                 _wait_served(hub, Path(folder) / name)

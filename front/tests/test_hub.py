@@ -21,8 +21,8 @@ from support import CELLS, PATIENCE, PROGRAM, TEAMS, WIDTH, HubCase, Script, Tal
 
 from lefence import hub as hub_module
 from lefence.faults import Fault
-from lefence.hub_client import Client
 from lefence.frames import Record
+from lefence.hub_client import Client
 from lefence.journal import Journal, texts_in
 from lefence.protocol import socket_name, team_of_socket
 
