@@ -17,8 +17,11 @@ package provide lefence 0.1.0
 namespace eval lefence {
     # The command by which a Unix socket is reached, since Tcl has none: it is given the path as its last word.
     variable client [list [file join [file dirname [file dirname [file normalize [info script]]]] bin lefence-shell] --raw]
+    # The orientations as OpenAccess spells them, and how DEF does; of two spellings of one the first is that of replies.
+    variable ORIENTS {R0 N R90 W R180 S R270 E MY FN MXR90 FW MX FS MYR90 FE MX90 FW MY90 FE}
     # Of each connection the database units in a micron, 0 where nobody told them. Of each session its connection, its team, its
-    # number, the database units of its lengths (0 where they are such), and how often a stale change is sent again.
+    # number, the database units of its lengths (0 where they are such), how often a stale change is sent again, and whether its
+    # orientations are those of OpenAccess.
     variable connections
     variable sessions
     variable count 0
@@ -49,16 +52,21 @@ proc lefence::connect {where} {
     return $connection
 }
 
-# A session of a team. -microns 1: its lengths are microns; -retries N: a change that is refused as stale is sent again behind a
-# sync, so many times.
+# A session of a team. -microns 1: its lengths are microns; -openaccess 1: its orientations are R0, MX and so on; -retries N: a
+# change that is refused as stale is sent again behind a sync, so many times.
 proc lefence::open {connection team args} {
     variable connections
     variable sessions
     variable count
-    set options [dict merge {-microns 0 -retries 0} $args]
+    set options [dict merge {-microns 0 -retries 0 -openaccess 0} $args]
+    if {[dict size $options] != 3} {
+        throw {LEFENCE BadOption} "the options of a session are -microns, -retries and -openaccess: $args"
+    }
     set number [lindex [Ask $connection "open [Name $team]"] 0]
     set session lefence[incr count]
-    set sessions($session) [dict create connection $connection team $team number $number units 0 retries [dict get $options -retries]]
+    set sessions($session) [dict create connection $connection team $team number $number units 0]
+    dict set sessions($session) retries [dict get $options -retries]
+    dict set sessions($session) openaccess [dict get $options -openaccess]
     if {[dict get $options -microns]} {
         set units $connections($connection)
         if {!$units} {
@@ -148,6 +156,19 @@ proc lefence::Whole {length units} {
     return $whole
 }
 
+# An orientation of the caller's as DEF spells it.
+proc lefence::Orient {orient openaccess} {
+    variable ORIENTS
+    if {![dict exists $ORIENTS $orient]} {
+        return [Name $orient]
+    }
+    set meant [dict get $ORIENTS $orient]
+    if {!$openaccess} {
+        throw {LEFENCE BadOrient} "$orient is no orientation of DEF, which calls it $meant: -openaccess 1 takes it"
+    }
+    return $meant
+}
+
 # Asks for a verb of a session, with its fields; what its reply says: one word, or a list of several, a dict for check, and the
 # text for def.
 proc lefence::Verb {verb session args} {
@@ -159,7 +180,11 @@ proc lefence::Verb {verb session args} {
     dict with sessions($session) {}
     set line "$verb $team $number"
     foreach field [dict get $VERBS $verb fields] value $args {
-        append line " " [expr {$field in {X Y} ? [Whole $value $units] : [Name $value]}]
+        switch $field {
+            X - Y {append line " " [Whole $value $units]}
+            O {append line " " [Orient $value $openaccess]}
+            default {append line " " [Name $value]}
+        }
     }
     for {set tries 0} {1} {incr tries} {
         try {
@@ -172,11 +197,12 @@ proc lefence::Verb {verb session args} {
             Ask $connection "sync $team $number"
         }
     }
-    return [Said $said [dict get $VERBS $verb reply] $units]
+    return [Said $said [dict get $VERBS $verb reply] $units $openaccess]
 }
 
 # What the words behind ok say.
-proc lefence::Said {said kinds units} {
+proc lefence::Said {said kinds units openaccess} {
+    variable ORIENTS
     switch -- $kinds {
         JSON {return [Report $said]}
         LENGTH {return [string range $said [string first \n $said]+1 end]}
@@ -185,6 +211,8 @@ proc lefence::Said {said kinds units} {
     foreach kind $kinds word [split $said] {
         if {$units && $kind in {X Y}} {
             set word [expr {$word / double($units)}]
+        } elseif {$openaccess && $kind eq "O"} {
+            set word [lindex $ORIENTS [lsearch -exact $ORIENTS $word]-1]
         }
         lappend result $word
     }

@@ -112,6 +112,29 @@ class Tcl(HubCase):
         with self.service(1) as port:
             self.assertEqual(self.run_tcl(script, f"localhost:{port}"), told)
 
+    def test_orientations_of_openaccess_where_asked(self) -> None:
+        self.start()
+        told = self.run_tcl(
+            """package require lefence
+            set c [lefence::connect [lindex $argv 0]]
+            set s [lefence::open $c f0 -openaccess 1]
+            foreach {y orient} {0 R0 0 MY 2000 MX 2000 R180} {
+                lefence::place $s f0c1 0 $y $orient
+                puts [lefence::where $s f0c1]
+            }
+            puts [lindex [lefence::find $s f0c2 400 0] end]
+            set plain [lefence::open $c f0]
+            puts [lefence::where $plain f0c1]
+            foreach line {{lefence::place $plain f0c1 0 0 R0} {lefence::open $c f0 -micron 1}} {
+                catch $line message options
+                puts [dict get $options -errorcode]
+            }
+            """,
+            self.folder / "s/f0.sock",
+        )
+        places = ["0 0 R0", "0 0 MY", "0 2000 MX", "0 2000 R180"]
+        self.assertEqual(told, [*places, "R0", "0 2000 S", "LEFENCE BadOrient", "LEFENCE BadOption"])
+
     def test_the_example_of_the_page_runs(self) -> None:
         self.start()
         page = (FRONT.parent / "docs/FRONT.md").read_text()
