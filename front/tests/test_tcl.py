@@ -11,6 +11,7 @@ from pathlib import Path
 from support import CELLS, FRONT, PATIENCE, HubCase
 
 import lefence
+from lefence.protocol import OPENACCESS
 
 TCLSH = shutil.which("tclsh")
 
@@ -141,6 +142,10 @@ class Tcl(HubCase):
         code = page.partition("```tcl\n")[2].partition("```")[0].replace("/run/lefence/A.sock", str(self.folder / "s/f0.sock"))
         told = self.run_tcl(code.replace("$connection A", "$connection f0").replace("session u", "session f0c"))
         self.assertEqual(told, ["f0c2 f0c1", "0.4 0.0 N", "2"])
+
+    def test_orientations_are_those_of_the_library_for_python(self) -> None:
+        [told] = self.run_tcl("package require lefence; puts $lefence::ORIENTS")
+        self.assertEqual(told.split(), [word for pair in OPENACCESS.items() for word in pair])
 
     def test_the_version_is_that_of_the_package_which_leaves_variables_as_they_are(self) -> None:
         self.assertEqual(self.run_tcl("set verb mine; puts [package require lefence]; puts $verb"), [lefence.__version__, "mine"])
