@@ -1,8 +1,8 @@
 """A farm's folder: which teams have work to do, the work of one of them over its slice, and all of it in one design at the end.
 
-`WORK/farm.json` is the plan. Team number I, from 1, has the folder `WORK/I`: its `slice.def`, the `journal` of a hub over it with its
-texts, `new.def` with its committed places, a `log`, and in the end `done`, or `failed` with the reason. Nothing but these files goes
-from one machine to another.
+`WORK/farm.json` is the plan. Team number I, from 1, has the folder `WORK/I`: its `slice.def`, the `journal` of a hub over it (with copies
+of its texts until the team is done), `new.def` with its committed places, a `log`, and in the end `done`, or `failed` with the
+reason. Nothing but these files goes from one machine to another.
 """
 
 from __future__ import annotations
@@ -110,6 +110,7 @@ def run_team(work: Path, number: int) -> int:
         raise Fault(fault.status if isinstance(fault, Fault) else FAILED, f"team {plan.teams[number - 1]}: {fault}") from None
     with whole_file(own / "done") as file:
         file.write(b"done\n")
+    _remove_texts(own / "journal")
     return DONE
 
 
@@ -197,16 +198,17 @@ def _merge(work: Path, plan: Plan, done: list[int]) -> None:
 
 def _push(work: Path, plan: Plan, done: list[int]) -> None:
     journal = work / "whole.journal"
-    _remove(journal)
+    journal.unlink(missing_ok=True)
+    _remove_texts(journal)
     words = ["--journal", str(journal), "--no-sync", "--export", plan.export]
     with _hub(plan, Path(plan.design), words, socket_name(None)) as socket:
         for number in done:
             push = push_journal(work / str(number) / "journal", str(socket), _AHEAD, False)
             log(TOOL, f"team {plan.teams[number - 1]}: {push.count} lines answered as recorded")
-    _remove(journal)
+    journal.unlink()
+    _remove_texts(journal)
 
 
-def _remove(journal: Path) -> None:
-    """Removes a journal with its copies of the texts."""
-    journal.unlink(missing_ok=True)
+def _remove_texts(journal: Path) -> None:
+    """Removes the copies of the texts of a journal on which no hub is to go on."""
     shutil.rmtree(texts_folder(journal), ignore_errors=True)

@@ -82,10 +82,10 @@ async def serve(hub: Hub, options: argparse.Namespace, stopped: asyncio.Event) -
         say(ready)
         notify("READY=1", f"STATUS={ready}")
         await asyncio.wait({pump, stop, watch}, return_when=asyncio.FIRST_COMPLETED)
-        if watch.done():
-            watch.result()
         for listener in listeners:
             listener.close()
+        if watch.done():
+            watch.result()
         hub.stop()
         await pump
         await part(hub)

@@ -127,7 +127,7 @@ class Farms(FarmCase):
         os.close(Journal(journal, texts_in(journal) or [], self.fail, owner=replace(own(), host="farm2"))._fd)
         done = self.farm("--export", "new.def")
         self.assertEqual(done.returncode, 0, done.stderr)
-        self.assertEqual([*self.work.glob("whole*")], [])
+        self.assertEqual([*self.work.glob("whole*"), *self.work.rglob("*.texts")], [])
         self.assertIn("lefence-farm: 1 of 3 teams have work to do\n", done.stderr)
         self.assertEqual((self.folder / "new.def").read_bytes(), self.wanted())
         # The second run went on from what the first had done.

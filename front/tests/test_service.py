@@ -2,6 +2,7 @@
 
 from __future__ import annotations
 
+import argparse
 import asyncio
 import contextlib
 import grp
@@ -24,7 +25,7 @@ from unittest import mock
 
 from support import FRONT, PATIENCE, PROGRAM, FrontCase, Hub as RunningHub, HubCase, design_text, tool_words
 
-from lefence import hub as hub_module
+from lefence import hub as hub_module, hub_tool
 from lefence.calm import Calm
 from lefence.faults import Fault
 from lefence.frames import sum_of
@@ -319,6 +320,31 @@ class Shares(unittest.TestCase):
             return found
 
         self.assertEqual(asyncio.run(judge()), [False, False, True])
+
+
+class Faults(FrontCase):
+    def test_behind_a_fault_nothing_more_is_answered(self) -> None:
+        ended = []
+
+        async def pump() -> None:
+            try:
+                await asyncio.Event().wait()
+            finally:
+                ended.append(True)
+
+        async def watch() -> None:
+            while not (self.folder / "operator.sock").exists():
+                await asyncio.sleep(0.01)
+            raise Fault(3, "the journal is lost")
+
+        async def run() -> None:
+            hub = mock.Mock(teams=[], clients=set(), start=mock.AsyncMock(return_value=[]), pump=pump, watch=watch)
+            with self.assertRaisesRegex(Fault, "is lost"), mock.patch.object(hub_tool, "say"):
+                await hub_tool.serve(hub, argparse.Namespace(group=[], team=[], sockets=self.folder), asyncio.Event())
+            await asyncio.sleep(0)
+            self.assertEqual(ended, [True])
+
+        asyncio.run(run())
 
 
 class Floods(unittest.TestCase):
