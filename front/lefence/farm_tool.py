@@ -24,11 +24,13 @@ _PACKAGE = Path(__file__).resolve().parents[1]
 
 
 class Farm(NamedTuple):
-    """Where the work is, the words for the engine, and how many teams are at work at once (0: as many as the engine lets)."""
+    """Where the work is, the words for the engine, how many teams are at work at once (0: as many as the engine lets), and whether
+    an engine's last job is waited for."""
 
     work: Path
     words: list[str]
     most: int
+    waits: bool
 
 
 def task_words(work: Path, *words: str) -> list[str]:
@@ -55,8 +57,9 @@ def local(farm: Farm, numbers: list[int]) -> int:
             return subprocess.run(words, stdin=subprocess.DEVNULL, stdout=told, stderr=subprocess.STDOUT).returncode
 
     with ThreadPoolExecutor(farm.most or os.cpu_count() or 1) as pool:
+        teams = Plan.load(farm.work).teams
         for number, status in zip(numbers, pool.map(run, numbers)):
-            log(TOOL, f"team {number}: {'done' if status == DONE else f'ended with {status}'}")
+            log(TOOL, f"team {teams[number - 1]}: {'done' if status == DONE else f'ended with {status}'}")
     return collect(farm.work)
 
 
@@ -71,8 +74,8 @@ def slurm(farm: Farm, numbers: list[int]) -> int:
         log_of = str(farm.work / "%a" / "log")
         job = _submitted([*common, f"--array={array}", "--requeue", "--open-mode=append", f"--output={log_of}", str(task)], r"(\d+)")
         waits = [f"--dependency=afterany:{job}"]
-    end = _submitted([*common, *waits, f"--output={farm.work / 'collect.log'}", str(last)], r"(\d+)")
-    return _told(farm, numbers, end)
+    waits += ["--wait"] * farm.waits
+    return _submit_last(farm, numbers, [*common, *waits, f"--output={farm.work / 'collect.log'}", str(last)], r"(\d+)")
 
 
 def lsf(farm: Farm, numbers: list[int]) -> int:
@@ -84,8 +87,8 @@ def lsf(farm: Farm, numbers: list[int]) -> int:
     if numbers:
         job = _submitted(["bsub", *farm.words, "-J", array, "-r", "-o", str(farm.work / "%I" / "log"), str(task)], r"Job <(\d+)>")
         waits = ["-w", f"ended({job})"]
-    end = _submitted(["bsub", *farm.words, *waits, "-o", str(farm.work / "collect.log"), str(last)], r"Job <(\d+)>")
-    return _told(farm, numbers, end)
+    waits += ["-K"] * farm.waits
+    return _submit_last(farm, numbers, ["bsub", *farm.words, *waits, "-o", str(farm.work / "collect.log"), str(last)], r"Job <(\d+)>")
 
 
 def _submitted(words: list[str], pattern: str) -> str:
@@ -100,9 +103,20 @@ def _submitted(words: list[str], pattern: str) -> str:
     return found[1]
 
 
-def _told(farm: Farm, numbers: list[int], end: str) -> int:
-    log(TOOL, f"{len(numbers)} teams are submitted; job {end} collects what they did, and tells so in {farm.work / 'collect.log'}")
-    return DONE
+def _submit_last(farm: Farm, numbers: list[int], words: list[str], pattern: str) -> int:
+    """Submits the last job; its status, and what it told, where it is waited for."""
+    told = farm.work / "collect.log"
+    if not farm.waits:
+        end = _submitted(words, pattern)
+        log(TOOL, f"{len(numbers)} teams are submitted; job {end} collects what they did, and tells so in {told}")
+        return DONE
+    log(TOOL, f"{len(numbers)} teams are submitted; the job that collects what they did is waited for")
+    told.unlink(missing_ok=True)
+    status = subprocess.run(words, stdin=subprocess.DEVNULL, stdout=subprocess.DEVNULL).returncode
+    if not told.exists():
+        raise Fault(FAILED, f"{words[0]} ended with {status}, and {told} is not there")
+    sys.stderr.write(told.read_text(errors="backslashreplace"))
+    return status
 
 
 ENGINES = {"local": local, "slurm": slurm, "lsf": lsf}
@@ -123,6 +137,7 @@ def parser() -> Parser:
     add("--engine", choices=ENGINES, default="local", help="what runs the teams: this machine (local), Slurm or LSF")
     add("--processes", metavar="N", type=int, default=0, help="at most so many teams at once (local: one for each processor)")
     add("--option", metavar="WORD", action="append", default=[], help="a word for sbatch or bsub, as --option=--mem=2G; again for more")
+    add("--wait", action="store_true", help="wait for the last job of an engine, and end with its status")
     add("--export", metavar="FILE", type=Path, help="the design at the end (WORK/new.def)")
     add("--merge", action="store_true", help="splice the teams' slices into the DEF text, so that no machine holds the design")
     add("--task", metavar="I", type=int, help="do the work of team number I of WORK")
@@ -165,6 +180,6 @@ def main() -> int:
             del design
         numbers = plan.numbers_left(options.work)
         log(TOOL, f"{len(numbers)} of {len(plan.teams)} teams have work to do")
-        return ENGINES[options.engine](Farm(options.work, options.option, max(0, options.processes)), numbers)
+        return ENGINES[options.engine](Farm(options.work, options.option, max(0, options.processes), options.wait), numbers)
 
     return run_tool(TOOL, work)

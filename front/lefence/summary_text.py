@@ -74,7 +74,8 @@ def text_of(summary: Summary) -> str:
     if summary.farthest:
         parts.append(_table(["farthest", "team", "from", "to", "way", "in rows"], (_far(far, facts.units, height) for far in summary.farthest)))
     parts += _alone(summary.only_before, "before") + _alone(summary.only_after, "after")
-    parts += [f"note: {note}" for note in summary.notes]
+    # What differs beside the places comes first, since it may mean that these are two designs.
+    parts[1:1] = [f"note: {note}" for note in summary.notes]
     return "\n\n".join(parts) + "\n"
 
 

@@ -6,7 +6,6 @@ import io
 import os
 import subprocess
 import sys
-import time
 import unittest
 from dataclasses import replace
 from unittest import mock
@@ -70,7 +69,7 @@ while words and words[0].startswith("-"):
     elif name in ("--dependency", "-w"):
         assert re.fullmatch(r"afterany:41|ended\\(41\\)", value), value
     else:
-        assert word in ("--parsable", "--requeue", "--open-mode=append", "-r", "--mem=100", "-q"), word
+        assert word in ("--parsable", "--requeue", "--open-mode=append", "-r", "-K", "--mem=100", "-q"), word
 assert len(words) == 1, words
 for number in array or [""]:
     variables = {"LSB_JOBINDEX" if lsf else "SLURM_ARRAY_TASK_ID": number}
@@ -146,14 +145,14 @@ class Farms(FarmCase):
         done = self.tool("lefence-farm", "work", "t.def", "t.lef", "--program", PROGRAM, "--", "true")
         self.assertEqual((done.returncode, done.stderr.count(b"is of another text than")), (1, 1))
 
-    def by_engine(self, name: str, engine: str, option: str) -> str:
+    def by_engine(self, name: str, engine: str, option: str, *words: str) -> str:
         """The line of a farm by a stand-in of an engine, whose tasks and last job did their work."""
         folder = self.folder / "engines"
         folder.mkdir(exist_ok=True)
         stand_in = folder / name
         stand_in.write_text(f"#!{sys.executable}\n{ENGINE}")
         stand_in.chmod(0o755)
-        done = self.farm("--engine", engine, f"--option={option}", "--processes", "4", folder=str(folder))
+        done = self.farm("--engine", engine, f"--option={option}", "--processes", "4", *words, folder=str(folder))
         self.assertEqual((done.returncode, done.stdout), (0, ""), done.stderr)
         self.assertIn("the work of 3 of 3 teams\n", (self.work / "collect.log").read_text())
         self.assertEqual((self.work / "new.def").read_bytes(), self.wanted())
@@ -164,8 +163,9 @@ class Farms(FarmCase):
         self.assertIn("lefence-farm: 3 teams are submitted; job 42 collects what they did", told)
 
     def test_a_job_array_of_lsf(self) -> None:
-        told = self.by_engine("bsub", "lsf", "-q")
-        self.assertIn("lefence-farm: 3 teams are submitted; job 42 collects what they did", told)
+        told = self.by_engine("bsub", "lsf", "-q", "--wait")
+        self.assertIn("3 teams are submitted; the job that collects what they did is waited for\n", told)
+        self.assertIn("the work of 3 of 3 teams\n", told)
 
     def test_an_engine_that_is_not_there_or_refuses_is_told(self) -> None:
         done = self.farm("--engine", "slurm", folder="nowhere") if subprocess.run(["which", "sbatch"], capture_output=True).returncode else None
@@ -194,23 +194,16 @@ class Cluster(FarmCase):
     def test_a_real_cluster_of_slurm(self) -> None:
         (self.folder / "B.fails").touch()
         with cluster.cluster() as environment:
-            told = self.by_slurm(environment)
-            self.assertIn("lefence-farm: team B is not in it: the command ended with 7", told)
-            self.assertIn("the work of 2 of 3 teams\n", told)
-            (self.folder / "B.fails").unlink()
-            self.assertIn("the work of 3 of 3 teams\n", self.by_slurm(environment))
+            with mock.patch.dict(os.environ, environment):
+                done = self.farm("--engine", "slurm", "--option=--mem=100", "--wait")
+                self.assertEqual(done.returncode, 4, done.stderr)
+                self.assertIn("lefence-farm: team B is not in it: the command ended with 7", done.stderr)
+                self.assertIn("the work of 2 of 3 teams\n", done.stderr)
+                (self.folder / "B.fails").unlink()
+                done = self.farm("--engine", "slurm", "--option=--mem=100", "--wait")
+                self.assertEqual(done.returncode, 0, done.stderr)
+                self.assertIn("the work of 3 of 3 teams\n", done.stderr)
         self.assertEqual((self.work / "new.def").read_bytes(), self.wanted())
-
-    def by_slurm(self, environment: dict[str, str]) -> str:
-        """What the last job of a farm told, once it was there."""
-        (self.work / "collect.log").unlink(missing_ok=True)
-        with mock.patch.dict(os.environ, environment):
-            done = self.farm("--engine", "slurm", "--option=--mem=100")
-            self.assertEqual(done.returncode, 0, done.stderr)
-            last = time.monotonic() + PATIENCE
-            while subprocess.check_output(["squeue", "--noheader"]).strip() and time.monotonic() < last:
-                time.sleep(0.1)
-        return (self.work / "collect.log").read_text()
 
 
 class Merges(FrontCase):

@@ -103,6 +103,7 @@ class Summaries(FrontCase):
         summary = summary_of(BEFORE, [cell("still", "-", (0, 0, "N"))], other)
         self.assertEqual([(team.name, team.lost) for team in summary.teams], [("-", 2), ("A", 4)])
         self.assertEqual(summary.notes, ["cells of another team than before: 1"])
+        self.assertEqual(text_of(summary).split("\n\n")[1], "note: cells of another team than before: 1")
 
     def test_two_files_are_summed_up_for_scripts(self) -> None:
         text, after = self.design.read_text(), self.folder / "after.def"
