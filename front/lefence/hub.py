@@ -12,10 +12,11 @@ import time
 from collections import OrderedDict
 from collections.abc import Callable
 from dataclasses import dataclass
-from pathlib import Path
 
 from .calm import Calm
+from .crowd import Crowd
 from .design import fences_in, units_in
+from .exporter import Exporter
 from .faults import FAILED, REFUSED, Fault
 from .figures import Figures
 from .frames import Record
@@ -25,7 +26,6 @@ from .notify import notify_alive
 from .protocol import CHANGES, GROUND, UNBOUNDED, is_change, on_one_line
 from .server import Server, ServerLost, teams_told
 from .status import status_text, uncommitted_text
-from .whole_file import sync_folder
 
 # What a batch may weigh; a line of one cell weighs 1, one of a whole team as much as WHOLE.
 _BATCH = 1024
@@ -35,27 +35,10 @@ _WHOLE_TEAM = frozenset((b"tidy", b"commit", b"revert", b"undo"))
 _LONG, _SHORT = 0.02, 0.005
 # What part of a sync the hub waits for more lines, and the most, in seconds.
 _LINGER, _MOST_LINGER = 0.25, 0.002
-# Clients of one socket.
-MOST_CLIENTS = 256
-# What of a socket's connections and of a team's sessions one user may have, who is not the hub's own, and how many sessions there are.
-_SHARE = 3 / 4
-_SESSIONS = 8
-# Bytes of replies that are left unread by all clients, above which nobody is asked for more than a short reply; how many clients
-# of a socket may leave more unread than a client may have while it is asked on.
-_MOST_UNREAD = 256 << 20
-_MOST_LONG = 2
 # How often a program that dies is started again for the same lines.
 _STARTS = 5
 # Seconds after which closes that a full disk refused are tried again.
 _LATER = 1
-
-
-@dataclass
-class Holder:
-    """Who opened a session, None where that was before this start, and when."""
-
-    client: Client | None
-    since: float
 
 
 @dataclass
@@ -82,26 +65,16 @@ class Hub:
         self.say = say
         self.calm = Calm(say)
         self.figures = Figures()
-        # Files to which no export may go, besides the journal and the texts that are kept.
-        self.given: list[Path] = []
+        self.crowd = Crowd()
+        self.exporter = Exporter(server, journal, say)
         self.nobody, self.units = b"", b""
-        self.most_clients = MOST_CLIENTS
-        self.clients: set[Client] = set()
         self.teams: list[str] = []
-        # Clients with lines that may be asked, in turn; those that wait for others to read; those that leave much unread.
+        # Clients with lines that may be asked, in turn; those that wait for others to read.
         self._queue: OrderedDict[Client, None] = OrderedDict()
         self._waiting: OrderedDict[Client, None] = OrderedDict()
-        self._clogged: set[Client] = set()
-        # Of each open session, a team and the number of its slot, who opened it.
-        self.holders: dict[tuple[bytes, int], Holder] = {}
-        # A program that writes an export.
-        self._second: Server | None = None
         # A session may be open whose client is gone.
         self._has_orphans = True
         self._exports: set[asyncio.Task[None]] = set()
-        self._export_turn = asyncio.Lock()
-        # Why the last export that failed did so.
-        self._why_not = b""
         self._work = asyncio.Event()
         self._is_stopping = False
         self._is_full = False
@@ -135,15 +108,8 @@ class Hub:
     # What clients call.
 
     def admit(self, client: Client) -> bool:
-        """Takes a new client in; False where its socket has as many as may be, or as many of one user."""
-        crowd = [other for other in self.clients if other.team == client.team]
-        mine = sum(other.uid == client.uid for other in crowd)
-        self.clients.add(client)
-        return len(crowd) < self.most_clients and (self._is_own(client) or mine < max(1, int(self.most_clients * _SHARE)))
-
-    def _is_own(self, client: Client) -> bool:
-        """Whether a client is of the user of the hub, who may end it anyway."""
-        return client.uid == os.geteuid()
+        """Takes a new client in; False where there are too many."""
+        return self.crowd.admit(client)
 
     def wake(self, client: Client) -> None:
         """Puts a client in the queue for its turn, where it has a line and may have it answered."""
@@ -153,28 +119,19 @@ class Hub:
 
     def leave(self, client: Client) -> None:
         """A client is gone; its sessions are closed at the head of the next batch."""
-        self.clients.discard(client)
+        self.crowd.leave(client)
         self.unclog(client)
         self._close_orphans()
 
     def clog(self, client: Client) -> None:
         """A client leaves much unread."""
-        self._clogged.add(client)
+        self.crowd.clogged.add(client)
 
     def unclog(self, client: Client) -> None:
         """A client has read, or is gone: those that waited for it have their turn."""
-        self._clogged.discard(client)
+        self.crowd.clogged.discard(client)
         while self._waiting:
             self.wake(self._waiting.popitem(last=False)[0])
-
-    def _is_crowded(self, client: Client) -> bool:
-        """Whether so much is unread, by all or by clients of this socket, that no reply without bound may be asked for."""
-        long = sum(other.team == client.team for other in self._clogged)
-        return long >= _MOST_LONG or self.unread() >= _MOST_UNREAD
-
-    def unread(self) -> int:
-        """The bytes that those leave unread that leave much."""
-        return sum(client.transport.get_write_buffer_size() for client in self._clogged)
 
     def _close_orphans(self) -> None:
         self._has_orphans = True
@@ -187,14 +144,13 @@ class Hub:
         batch: list[Entry] = []
         if self._has_orphans:
             self._has_orphans = False
-            gone = [session for session, holder in self.holders.items() if holder.client is None or holder.client.is_done]
-            batch += [Entry(None, [b"close", team, b"%d" % number]) for team, number in gone]
+            batch += [Entry(None, [b"close", team, b"%d" % number]) for team, number in self.crowd.orphans()]
         weight = 0
         while self._queue and weight < self._budget:
             client, _ = self._queue.popitem(last=False)
             if client.is_clogged or client.is_done:
                 continue
-            if self._clogged and client.is_unbounded() and self._is_crowded(client):
+            if self.crowd.must_wait(client):
                 self._waiting[client] = None
                 continue
             entry = client.next_entry(not self._is_stopping)
@@ -227,18 +183,11 @@ class Hub:
             await asyncio.sleep(1)
             notify_alive(bool(self.teams))
             self.journal.refuse_loss()
-            for server in (self.server, self._second):
+            for server in (self.server, self.exporter.server):
                 if server and server.silence() > self.bounds.deadline:
                     self.say(f"the program has said nothing for {self.bounds.deadline:g} seconds, and is killed")
                     server.strike()
-            self._drop_idle()
-
-    def _drop_idle(self) -> None:
-        """Drops the clients that have no session and were not heard for long."""
-        since = time.monotonic() - self.bounds.idle
-        holders = {holder.client for holder in self.holders.values()}
-        for client in [each for each in self.clients if each.heard < since and each not in holders]:
-            if not (client.waiting or client.is_busy or client.is_clogged or client.is_done):
+            for client in self.crowd.idle(self.bounds.idle):
                 self.calm("idle", f"{client.name}: dropped, idle without a session")
                 client.part()
 
@@ -251,21 +200,24 @@ class Hub:
 
     def strike(self) -> None:
         """Kills the program, and one that writes an export, and waits for nothing."""
-        for server in (self.server, self._second):
+        for server in (self.server, self.exporter.server):
             if server:
                 server.strike()
 
     def stop(self) -> None:
         """No more is read; `pump` answers what was read."""
         self._is_stopping = True
-        for client in self.clients:
+        for client in self.crowd.clients:
             client.transport.pause_reading()
         self._work.set()
 
     async def answer(self, batch: list[Entry]) -> None:
         """Has a batch answered and journaled, then tells the replies."""
         self._refuse_without_room(batch)
-        self._refuse_above_share(batch)
+        for entry in self.crowd.above_share(batch):
+            # (what names no team is the program's to refuse)
+            if entry.fields[1].decode() in self.teams:
+                entry.reply = b"no 10 SessionsFull\n"
         self.figures.count(len(batch))
         asked = [entry for entry in batch if entry.reply is None]
         for entry, reply in zip(asked, await self._ask([entry.line for entry in asked])):
@@ -306,7 +258,7 @@ class Hub:
             self.say(f"{lost}; {self.journal.changes} changes are restored")
             self.figures.restores += 1
             if note:
-                self.holders.clear()
+                self.crowd.holders.clear()
                 self.figures.teams.clear()
             try:
                 await self.server.start()
@@ -330,20 +282,6 @@ class Hub:
             for entry in changes:
                 entry.reply = b"no 12 OutOfMemory\n"
             asyncio.get_running_loop().call_later(_LATER, self._close_orphans)
-
-    def _refuse_above_share(self, batch: list[Entry]) -> None:
-        """A user who has as many sessions of a team as one may have is refused another one as if there were no more."""
-        opens = [entry for entry in batch if entry.reply is None and entry.verb == b"open" and entry.client and len(entry.fields) == 2]
-        asked: dict[tuple[bytes, int], int] = {}
-        for entry in opens:
-            client, team = entry.client, entry.fields[1]
-            if client is None or self._is_own(client) or team == self.nobody:
-                continue
-            held = [self.holders.get((team, number)) for number in range(_SESSIONS)]
-            mine = sum(each is not None and each.client is not None and each.client.uid == client.uid for each in held)
-            asked[team, client.uid] = asked.get((team, client.uid), mine) + 1
-            if asked[team, client.uid] > _SESSIONS * _SHARE and team.decode() in self.teams:
-                entry.reply = b"no 10 SessionsFull\n"
 
     def _tell(self, entry: Entry) -> None:
         """What an answered entry comes to; its reply is put to those of its client."""
@@ -369,19 +307,14 @@ class Hub:
 
     def _note(self, fields: list[bytes], reply: bytes, client: Client | None) -> None:
         """Keeps who owns which session, and counts."""
-        if not is_change(fields, reply):
-            return
-        self.figures.note(fields, reply)
-        if fields[0] == b"open":
-            self.holders[fields[1], int(reply.split()[1])] = Holder(client, time.time())
-        elif fields[0] == b"close":
-            del self.holders[fields[1], int(fields[2])]
-
-    # Exports.
+        if is_change(fields, reply):
+            self.figures.note(fields, reply)
+            self.crowd.note(fields, reply, client)
 
     async def _answer_export(self, client: Client, path: str, end: int) -> None:
         """Answers an export of the committed places as they were in its turn, while others are served."""
-        client.replies.append(b"ok\n" if await self.export(path, end) else b"no 13 NotExported %b\n" % self._why_not)
+        why_not = await self.exporter.write(path, end)
+        client.replies.append(b"ok\n" if why_not is None else b"no 13 NotExported %b\n" % on_one_line(why_not))
         client.flush()
         client.is_busy = False
         self.wake(client)
@@ -389,38 +322,6 @@ class Hub:
     def _export_done(self, task: asyncio.Task[None]) -> None:
         self._exports.discard(task)
         self._work.set()
-
-    def refuse_export(self, path: str) -> None:
-        """A fault where an export to the path would overwrite the journal or the design, or has no folder to go to."""
-        own = [file for file in (self.journal.path, *self.server.program.texts, *self.given) if file.exists()]
-        if os.path.exists(path) and any(os.path.samefile(path, file) for file in own):
-            raise Fault(FAILED, f"{path} is the journal or a text of the design")
-        if os.path.isdir(path) or not os.access(os.path.dirname(os.path.abspath(path)), os.W_OK):
-            raise Fault(FAILED, f"{path} cannot be written")
-
-    async def export(self, path: str, end: int) -> bool:
-        """Whether the file is there, whole: a second program writes it, over the journal up to that byte."""
-        live = self.server
-        second = Server(live.program, live.sums, export=path)
-        async with self._export_turn:
-            try:
-                self._second = second
-                self.refuse_export(path)
-                self.journal.refuse_loss()
-                await second.start()
-                await second.restore(self.journal.records(end))
-                self._why_not = b"the program did not write it, and the hub's standard error says why"
-                is_written = await second.end() == 0
-                # (the program has synced the file before it took the name)
-                sync_folder(Path(os.path.realpath(path)).parent)
-                return is_written
-            except (Fault, OSError, ServerLost) as fault:
-                self.say(f"export: {fault}")
-                self._why_not = on_one_line(str(fault))
-                return False
-            finally:
-                self._second = None
-                await second.kill()
 
 
 def name_of_nobody(teams: list[str]) -> bytes:

@@ -15,9 +15,10 @@ import traceback
 from pathlib import Path
 from typing import Any
 
+from .crowd import MOST_CLIENTS
 from .faults import DONE, FAILED, REFUSED, Fault, Parser, log, run_tool
 from .figures import prometheus
-from .hub import MOST_CLIENTS, Bounds, Hub
+from .hub import Bounds, Hub
 from .hub_client import Client
 from .journal import Journal
 from .notify import notify
@@ -74,7 +75,7 @@ async def serve(hub: Hub, options: argparse.Namespace, stopped: asyncio.Event) -
         if missing := [team for team in groups if team not in teams]:
             raise Fault(REFUSED, f"no team: {', '.join(missing)}")
         files = resource.getrlimit(resource.RLIMIT_NOFILE)[0]
-        hub.most_clients = max(1, min(MOST_CLIENTS, (files - 64) // (len(teams) + 1) - 1))
+        hub.crowd.most_clients = max(1, min(MOST_CLIENTS, (files - 64) // (len(teams) + 1) - 1))
         pump = asyncio.create_task(hub.pump())
         tasks.append(pump)
         listeners = await listen(hub, options.sockets, groups)
@@ -97,11 +98,11 @@ async def serve(hub: Hub, options: argparse.Namespace, stopped: asyncio.Event) -
 
 async def part(hub: Hub) -> None:
     """Ends the connections once the clients have read what they were told, or have had the time for it."""
-    for client in list(hub.clients):
+    for client in list(hub.crowd.clients):
         client.part()
     loop = asyncio.get_running_loop()
     last = loop.time() + _LAST
-    while hub.clients and loop.time() < last:
+    while hub.crowd.clients and loop.time() < last:
         await asyncio.sleep(0.02)
 
 
@@ -149,19 +150,19 @@ async def run(options: argparse.Namespace) -> None:
     journal = Journal(options.journal, texts, say, not options.no_sync, own(program), options.takeover)
     bounds = Bounds(options.patience, options.idle, options.deadline)
     hub = Hub(Server(Program(program, kept), [text.sum for text in texts]), journal, bounds, say)
-    hub.given = paths
+    hub.exporter.given = paths
     if journal.former and journal.former.program != journal.owner.program:
         say(f"the journal was written with another program, {journal.former.program} of front {journal.former.front}")
     end_by_signals(hub, stopped, options.grace)
     tell_calmly(hub)
     try:
         if options.export:
-            hub.refuse_export(options.export)
+            hub.exporter.refuse(options.export)
         await serve(hub, options, stopped)
         if told := uncommitted_text(hub):
             say(told)
         await hub.server.kill()
-        if options.export and not await hub.export(options.export, journal.end):
+        if options.export and await hub.exporter.write(options.export, journal.end) is not None:
             raise Fault(FAILED, f"{options.export}: not exported")
     finally:
         await hub.server.kill()

@@ -30,8 +30,8 @@ def _status(hub: Hub) -> dict[str, Any]:
     figures, journal, now = hub.figures, hub.journal, time.time()
     return {
         "uptime_seconds": round(now - figures.begun, 1),
-        "clients": len(hub.clients),
-        "unread_bytes": hub.unread(),
+        "clients": len(hub.crowd.clients),
+        "unread_bytes": hub.crowd.unread(),
         "lines_total": figures.lines,
         "restores_total": figures.restores,
         "changes_total": journal.changes,
@@ -46,7 +46,7 @@ def _status(hub: Hub) -> dict[str, Any]:
 
 
 def _teams(hub: Hub) -> Iterator[dict[str, Any]]:
-    clients, sessions = Counter(client.team for client in hub.clients), _sessions(hub)
+    clients, sessions = Counter(client.team for client in hub.crowd.clients), _sessions(hub)
     for team in hub.teams:
         name = team.encode()
         counts = hub.figures.teams.get(name, TeamFigures())
@@ -57,7 +57,7 @@ def _teams(hub: Hub) -> Iterator[dict[str, Any]]:
 def _sessions(hub: Hub) -> dict[bytes, list[dict[str, Any]]]:
     """Of each team the sessions whose clients are there."""
     found: dict[bytes, list[dict[str, Any]]] = {}
-    for (team, number), holder in sorted(hub.holders.items(), key=lambda item: item[0]):
+    for (team, number), holder in sorted(hub.crowd.holders.items(), key=lambda item: item[0]):
         if who := holder.client:
             told = {"number": number, "uid": who.uid, "pid": who.pid, "since": round(holder.since, 1)}
             found.setdefault(team, []).append(told)

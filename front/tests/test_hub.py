@@ -20,6 +20,7 @@ from unittest import mock
 from support import CELLS, PATIENCE, PROGRAM, TEAMS, WIDTH, HubCase, Script, Talker, converse, design_text, spot, tool_words
 
 from lefence import hub as hub_module
+from lefence.crowd import MOST_CLIENTS
 from lefence.faults import Fault
 from lefence.frames import Record
 from lefence.hub_client import Client
@@ -176,7 +177,7 @@ class ManyClients(HubCase):
         memory = int(Path(f"/proc/{self.hub.process.pid}/statm").read_text().split()[1]) * resource.getpagesize()
         self.assertLess(memory, 100 << 20)
         self.assertEqual(self.talk("f0").ask("open f0"), ["ok 0 0"])
-        crowd = [self.talk("f3") for _ in range(hub_module.MOST_CLIENTS)]
+        crowd = [self.talk("f3") for _ in range(MOST_CLIENTS)]
         self.assertEqual(crowd[-1].ask("close f3 0"), ["no 3 NoSession"])
         self.assertEqual((self.talk("f3").replies.read(), quick.ask("sync f2 0")), (b"", ["ok 0"]))
 
@@ -309,6 +310,8 @@ class Ends(HubCase):
 
     def test_a_signal_ends_it_with_everything_told(self) -> None:
         target = self.folder / "end.def"
+        # (a hub passes over what it is told to, as by nohup)
+        self.addCleanup(signal.signal, signal.SIGHUP, signal.signal(signal.SIGHUP, signal.SIG_DFL))
         for number in (signal.SIGTERM, signal.SIGINT, signal.SIGHUP):
             self.start("--export", str(target))
             talker, idle, operator = self.talk("f0"), self.talk("f1"), self.talk("operator")

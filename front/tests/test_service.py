@@ -16,6 +16,7 @@ import signal
 import socket
 import subprocess
 import tempfile
+import threading
 import time
 import unittest
 from collections.abc import Callable
@@ -25,13 +26,14 @@ from unittest import mock
 
 from support import FRONT, PATIENCE, PROGRAM, FrontCase, Hub as RunningHub, HubCase, design_text, tool_words
 
-from lefence import hub as hub_module, hub_tool
+from lefence import crowd, exporter, hub_tool
 from lefence.calm import Calm
 from lefence.faults import Fault
 from lefence.frames import sum_of
 from lefence.hub import Bounds, Hub
 from lefence.hub_client import Client
 from lefence.journal import Journal
+from lefence.notify import notify_alive
 from lefence.sockets import bound_socket, groups_of, take_folder
 from lefence.texts import settle_texts
 
@@ -231,7 +233,7 @@ class Shares(unittest.TestCase):
         server = mock.Mock(**{"ask": mock.AsyncMock(side_effect=ask), "pid": None})
         journal = Journal(Path(self.enterContext(tempfile.TemporaryDirectory())) / "j", [], self.said.append)
         self.hub = Hub(server, journal, Bounds(), self.said.append)
-        self.hub.teams, self.hub.nobody, self.hub.most_clients = ["f0", "f1"], b"~", 8
+        self.hub.teams, self.hub.nobody, self.hub.crowd.most_clients = ["f0", "f1"], b"~", 8
 
     def client(self, team: bytes, uid: int = 4242) -> Client:
         made = Client(self.hub, team)
@@ -269,6 +271,9 @@ class Shares(unittest.TestCase):
         self.assertEqual(self.answer_all().count(b"open f0"), 3)
         replies = b"".join(call.args[0] for call in self.transport.write.mock_calls)
         self.assertEqual(replies.count(b"no 10 SessionsFull\n"), 3)
+        # That another team is not his is the program's to say, however often he asks.
+        self.send(self.client(b"f0", 9), b"open f1\n" * 8)
+        self.assertEqual(self.answer_all(), [b"open ~"] * 8)
 
     def test_long_replies_wait_for_those_that_are_not_read(self) -> None:
         first, second, third, other = (self.client(team) for team in (b"f0", b"f0", b"f0", b"f1"))
@@ -281,7 +286,7 @@ class Shares(unittest.TestCase):
         first.is_clogged = False
         self.hub.unclog(first)
         self.assertEqual(self.answer_all(), [b"check f0 0", b"where f0 0 y"])
-        with mock.patch.object(hub_module, "_MOST_UNREAD", 50000):
+        with mock.patch.object(crowd, "_MOST_UNREAD", 50000):
             self.send(other, b"def f1 0\n")
             self.assertEqual(self.answer_all(), [])
             self.hub.leave(second)
@@ -292,8 +297,8 @@ class Shares(unittest.TestCase):
         second = mock.Mock(start=mock.AsyncMock(), restore=mock.AsyncMock(), kill=mock.AsyncMock())
         second.end = mock.AsyncMock(side_effect=lambda: [steps.end(), 0][1])
         self.hub.server.program.texts = []
-        with mock.patch.object(hub_module, "Server", return_value=second), mock.patch.object(hub_module, "sync_folder", steps.sync):
-            self.assertTrue(asyncio.run(self.hub.export(str(target), 0)))
+        with mock.patch.object(exporter, "Server", return_value=second), mock.patch.object(exporter, "sync_folder", steps.sync):
+            self.assertIsNone(asyncio.run(self.hub.exporter.write(str(target), 0)))
         self.assertEqual([str(call) for call in steps.mock_calls], ["call.end()", f"call.sync({target.parent!r})"])
 
     def test_a_slow_reader_is_not_dropped_and_one_that_reads_nothing_is(self) -> None:
@@ -363,10 +368,31 @@ class Operator(HubCase):
     def ask_hub(self, option: str) -> str:
         return subprocess.check_output([*tool_words("lefence-hub"), option, str(self.folder / "s")], text=True, timeout=PATIENCE)
 
+    def send_end(self, path: Path) -> None:
+        with socket.socket(socket.AF_UNIX, socket.SOCK_DGRAM) as end, contextlib.suppress(OSError):
+            end.sendto(b"end", str(path))
+
+    def test_a_socket_of_systemd_that_takes_nothing_holds_nobody(self) -> None:
+        path = self.folder / "told"
+        with socket.socket(socket.AF_UNIX, socket.SOCK_DGRAM) as systemd, mock.patch.dict(os.environ, {"NOTIFY_SOCKET": str(path)}):
+            systemd.bind(str(path))
+            for _ in range(2000):
+                notify_alive(True)
+            self.assertEqual(systemd.recv(100), b"WATCHDOG=1")
+
     def test_status_metrics_and_what_is_not_committed(self) -> None:
-        told = self.folder / "told"
+        told, words = self.folder / "told", bytearray()
+
+        def hear(systemd: socket.socket) -> None:
+            while (piece := systemd.recv(1 << 12)) != b"end":
+                words.extend(piece + b"\n")
+
         with socket.socket(socket.AF_UNIX, socket.SOCK_DGRAM) as systemd:
             systemd.bind(str(told))
+            listener = threading.Thread(target=hear, args=(systemd,))
+            listener.start()
+            self.addCleanup(listener.join)
+            self.addCleanup(self.send_end, told)
             with mock.patch.dict(os.environ, {"NOTIFY_SOCKET": str(told)}):
                 self.start()
             talker = self.talk("f0")
@@ -384,15 +410,13 @@ class Operator(HubCase):
             for line in metrics.splitlines():
                 self.assertRegex(line, r"^(# (HELP|TYPE) )?lefence_[a-z0-9_]+(\{team=\"[^ ]+\"\})? ([-0-9.e]+|counter|gauge|[A-Z].*)$")
             self.assertEqual(talker.ask("status"), ["no 1 BadRequest"])
-            systemd.settimeout(PATIENCE)
-            words = b""
+            last = time.monotonic() + PATIENCE
             while b"WATCHDOG=1" not in words:
-                words += systemd.recv(1 << 12) + b"\n"
+                self.assertLess(time.monotonic(), last)
+                time.sleep(0.01)
             self.assertEqual(self.hub.end(), 0)
-            systemd.setblocking(False)
-            with contextlib.suppress(BlockingIOError):
-                while piece := systemd.recv(1 << 12):
-                    words += piece + b"\n"
+            self.send_end(told)
+            listener.join()
         self.assertEqual([b"READY=1\nSTATUS=ready" in words, b"STOPPING=1" in words], [True] * 2)
         self.assertIn("changes that are not committed: 2 of f0\n", self.hub.told())
         done = subprocess.run([*tool_words("lefence-hub"), "--status", str(self.folder / "s")], capture_output=True, timeout=PATIENCE)
