@@ -107,9 +107,9 @@ def run_team(work: Path, number: int) -> int:
         status = _run_command(plan, own, plan.teams[number - 1])
         if status:
             raise Fault(status if 0 < status < 128 else FAILED, f"the command ended with {status}")
-    except Fault as fault:
+    except (Fault, OSError) as fault:
         (own / "failed").write_text(f"{fault}\n")
-        raise Fault(fault.status, f"team {plan.teams[number - 1]}: {fault}") from None
+        raise Fault(getattr(fault, "status", FAILED), f"team {plan.teams[number - 1]}: {fault}") from None
     with whole_file(own / "done") as file:
         file.write(b"done\n")
     return DONE

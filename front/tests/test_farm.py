@@ -170,6 +170,11 @@ class Farms(FarmCase):
         done = self.farm("--engine", "lsf", folder=str(self.folder))
         self.assertEqual((done.returncode, "bsub ended with 255: no queue" in done.stderr), (3, True))
 
+    def test_a_command_that_is_not_there_fails_every_team(self) -> None:
+        done = self.tool("lefence-farm", "work", "t.def", "t.lef", "--program", PROGRAM, "--merge", "--", "./nothing")
+        self.assertEqual((done.returncode, done.stderr.count(b"No such file or directory: './nothing'")), (4, 3), done.stderr)
+        self.assertEqual((self.work / "new.def").read_text(), TEXT)
+
     def test_words_that_lack_something(self) -> None:
         for words in (("work",), ("work", "t.def", "t.lef"), ("work", "t.def", "--", "true")):
             done = self.tool("lefence-farm", *words)
