@@ -182,6 +182,7 @@ class Farms(FarmCase):
         self.assertEqual(done.returncode, 4, done.stderr)
         for team in TEAMS:
             self.assertIn(f"team {team} is not in it: [Errno 2] No such file or directory: './nothing'; ", done.stderr.decode())
+        self.assertEqual((self.work / "new.def").read_text(), TEXT)
 
     def test_words_that_lack_something(self) -> None:
         for words in (("work",), ("work", "t.def", "t.lef"), ("work", "t.def", "--", "true")):
