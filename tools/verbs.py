@@ -6,7 +6,8 @@ That comment says what the verb does, then its reply and the numbers of its refu
 open is before them and the row of bye after them, and these two are made of the comments in src/request.rt.
 
 front/lefence/tables.py has the verbs of the same sources: one changes the floor if it is no look by `is_look` of lf_teams, and
-makes a revision if it is a Change; the refusals of src/reply.rt, with the numbers and names of src/text.rt; the rules of lf_rules, and the orientations.
+makes a revision if it is a Change; the refusals of src/reply.rt, with the numbers and names of src/text.rt; the rules of lf_rules,
+and the orientations. front/tcl/tables.tcl has the verbs for Tcl.
 
 usage: tools/verbs.py            (from the top) prints the table
        tools/verbs.py --check    prints the lines in which the page and the front's tables differ, and which verb or refusal the
@@ -29,6 +30,7 @@ ORIENTS = Path("crates/lf_orient/src/lib.rt")
 LOOKS = Path("crates/lf_teams/specs/Journals.antt")
 PAGE = Path("docs/PROTOCOL.md")
 TABLES = Path("front/lefence/tables.py")
+TCL = Path("front/tcl/tables.tcl")
 CLIENT = Path("front/lefence/verbs.py")
 REFUSALS = Path("front/lefence/refusals.py")
 HEAD = ["| line | reply | what it does | refusals |", "|---|---|---|---|"]
@@ -192,6 +194,18 @@ def front_tables() -> list[str]:
     return [*lines, f"ORIENTS = {listed(orients)}", ""]
 
 
+def tcl_tables(tables: list[str]) -> list[str]:
+    """The lines of the table of Tcl, by those of the front's tables: of each verb what a proc of it needs."""
+    rows = [ast.literal_eval(line.strip().rstrip(",")) for line in tables if line.startswith('    ("')]
+    lines = ["# The verbs of the program: of each its fields behind TEAM and N, the words of its reply behind ok, and what it does."]
+    lines += ["# tools/verbs.py --write makes this file of the program's sources: change those.", "", "namespace eval lefence {", "    variable VERBS {"]
+    for name, fields, reply, _, _, text in rows:
+        if set(text) & set("{}\\"):
+            raise NotThere(f"what {name} does is told with braces or backslashes, which the table of Tcl cannot have")
+        lines.append(f"        {name} {{fields {{{' '.join(fields)}}} reply {{{' '.join(reply)}}} does {{{text}}}}}")
+    return [*lines, "    }", "}", ""]
+
+
 def lacking() -> list[str]:
     """What the client library lacks: a function of CLIENT that makes a verb's line, a class of REFUSALS with a refusal's number."""
     client = CLIENT.read_text(encoding="utf-8")
@@ -228,6 +242,7 @@ def main(words: list[str]) -> int:
     page = PAGE.read_text(encoding="utf-8").split("\n")
     try:
         made, tables, lacks = table(), front_tables(), lacking()
+        tcl = tcl_tables(tables)
     except NotThere as error:
         print(f"{SOURCES}: {error}")
         return 1
@@ -239,10 +254,12 @@ def main(words: list[str]) -> int:
     if words == ["--write"]:
         PAGE.write_text("\n".join([*page[:start], *made, *page[stop:]]), encoding="utf-8")
         TABLES.write_text("\n".join(tables), encoding="utf-8")
+        TCL.write_text("\n".join(tcl), encoding="utf-8")
     else:
-        had = TABLES.read_text(encoding="utf-8").split("\n") if TABLES.exists() else []
-        differs = differing(page[start:stop], made, PAGE, "the table of commands differs")
-        if differing(had, tables, TABLES, "the front's tables differ") or differs:
+        differs = [differing(page[start:stop], made, PAGE, "the table of commands differs")]
+        for path, lines, what in ((TABLES, tables, "the front's tables differ"), (TCL, tcl, "the table of Tcl differs")):
+            differs.append(differing(path.read_text(encoding="utf-8").split("\n") if path.exists() else [], lines, path, what))
+        if any(differs):
             return 1
     print("\n".join(lacks) or f"{len(made) - len(HEAD)} commands agree")
     return 1 if lacks else 0

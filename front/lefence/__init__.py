@@ -13,6 +13,7 @@ import importlib
 from types import ModuleType
 from typing import TYPE_CHECKING
 
+from .cells import Cell
 from .client import Connection, ConnectionLost, Pending, Pipeline, Session, connect
 from .refusals import (
     BadRequest,
@@ -37,6 +38,7 @@ if TYPE_CHECKING:
 
 __all__ = [
     "BadRequest",
+    "Cell",
     "Connection",
     "ConnectionLost",
     "Illegal",

@@ -16,11 +16,12 @@ from types import TracebackType
 from typing import TypeVar
 
 from . import verbs
-from .client import ConnectionLost, answer_of
+from .cells import Cell, cells_in
+from .client import ConnectionLost, answer_of, named
 from .protocol import text_length
-from .refusals import Refusal, Stale
-from .session import BaseSession
-from .verbs import Request, Scope
+from .refusals import BadRequest, Refusal, Stale
+from .session import BaseSession, Wishes
+from .verbs import Request
 
 T = TypeVar("T")
 
@@ -28,19 +29,32 @@ T = TypeVar("T")
 _MOST_REPLY = 1 << 40
 
 
-async def connect(where: str | os.PathLike[str], port: int | None = None) -> Connection:
-    """A connection to a Unix socket at a path or, with a port, to a host by TCP; OSError where nobody listens."""
-    if port is not None:
-        return Connection(*await asyncio.open_connection(os.fspath(where), port, limit=_MOST_REPLY))
-    return Connection(*await asyncio.open_unix_connection(os.fspath(where), limit=_MOST_REPLY))
+async def connect(where: str | os.PathLike[str], port: int | None = None, timeout: float | None = None) -> Connection:
+    """A connection to a Unix socket at a path or, with a port, to a host by TCP.
+
+    With a timeout in seconds, a line raises TimeoutError where for so long no reply came at all; the connection is then of no
+    use. Raises OSError, which names the path or HOST:PORT, where nobody listens.
+    """
+    place = os.fspath(where)
+    try:
+        async with asyncio.timeout(timeout):
+            if port is not None:
+                return Connection(*await asyncio.open_connection(place, port, limit=_MOST_REPLY), timeout)
+            return Connection(*await asyncio.open_unix_connection(place, limit=_MOST_REPLY), timeout)
+    except OSError as error:
+        raise named(error, place, port) from None
 
 
 class Connection:
     """Lines that go out and replies that come in, in order; any number of coroutines may share it."""
 
-    def __init__(self, reader: asyncio.StreamReader, writer: asyncio.StreamWriter) -> None:
+    def __init__(self, reader: asyncio.StreamReader, writer: asyncio.StreamWriter, timeout: float | None = None) -> None:
         self._reader = reader
         self._writer = writer
+        self._timeout = timeout
+        # How many replies came.
+        self._count = 0
+        self._is_told = False
         self._waiting: deque[tuple[bytes, asyncio.Future[bytes]]] = deque()
         self._lost: ConnectionLost | None = None
         self._reading = asyncio.create_task(self._read())
@@ -51,14 +65,28 @@ class Connection:
     async def __aexit__(self, *_: object) -> None:
         await self.close()
 
-    def session(self, team: str, *, retries: int = 0, microns: bool = False, per_micron: int | None = None) -> Session:
+    @property
+    def is_lost(self) -> bool:
+        """Whether a caller has been told that the connection is lost, or that a reply took too long."""
+        return self._is_told
+
+    def session(
+        self, team: str, *, retries: int = 0, microns: bool = False, per_micron: int | None = None, openaccess: bool = False
+    ) -> Session:
         """A session of the team, opened by `async with`; the arguments are those of `lefence.client.Connection.session`."""
-        return Session(self, team, retries, microns or per_micron is not None, per_micron)
+        return Session(self, team, Wishes(retries, microns or per_micron is not None, per_micron, openaccess))
 
     async def ask_line(self, line: bytes) -> bytes:
         """The whole reply to a line, given without its line feed; one of `def` with its text."""
         if b"\n" in line:
             raise ValueError("a line has no line feed in it")
+        try:
+            return await self._ask_line(line)
+        except (ConnectionLost, TimeoutError):
+            self._is_told = True
+            raise
+
+    async def _ask_line(self, line: bytes) -> bytes:
         if self._lost:
             raise self._lost
         reply: asyncio.Future[bytes] = asyncio.get_running_loop().create_future()
@@ -68,6 +96,18 @@ class Connection:
             await self._writer.drain()
         except OSError as error:
             self._lose(f"the connection is lost: {error}")
+        return await self._within(reply)
+
+    async def _within(self, reply: asyncio.Future[bytes]) -> bytes:
+        """The reply, as long as some reply comes within the timeout."""
+        while self._timeout is not None:
+            count = self._count
+            done, _ = await asyncio.wait([reply], timeout=self._timeout)
+            if done:
+                break
+            if count == self._count:
+                reply.cancel()
+                raise TimeoutError(f"no reply for {self._timeout} seconds")
         return await reply
 
     async def ask(self, request: Request[T]) -> T:
@@ -77,6 +117,11 @@ class Connection:
     async def export(self, path: str) -> None:
         """Has a hub write the committed places of all teams to a file of its machine; the operator's socket alone."""
         await self.ask(Request(f"export {verbs.name(path)}".encode(), lambda words, text: None))
+
+    async def bye(self) -> None:
+        """Ends the connection, after a last reply."""
+        await self.ask(Request(b"bye", lambda words, text: None))
+        await self.close()
 
     async def close(self) -> None:
         """Ends the connection; a hub then frees its sessions."""
@@ -97,6 +142,7 @@ class Connection:
                 line, waits = self._waiting[0]
                 reply += await self._reader.readexactly(text_length(line, reply))
                 self._waiting.popleft()
+                self._count += 1
                 if not waits.done():
                     waits.set_result(reply)
             self._lose("the connection was ended by the other end")
@@ -114,18 +160,38 @@ class Connection:
 class Session(BaseSession[Connection]):
     """A session of a team: each method is a coroutine that sends a verb and returns what its reply says, or raises its refusal."""
 
-    async def __aenter__(self) -> Session:
+    async def open(self) -> Session:
+        """Opens the session. Refused by NoTeam, SessionsFull."""
         number, self.first_revision = await self.connection.ask(verbs.open_session(self.team))
-        self._scope = Scope(self.team, number)
-        if self._in_microns:
-            self._per_micron = self._per_micron or verbs.units_in(await self.def_text())
-            self._scope = Scope(self.team, number, self._per_micron)
+        self._begin(number)
+        if self._lacks_units:
+            try:
+                units = await self.connection.ask(verbs.units())
+            except BadRequest:
+                units = verbs.units_in(await self.def_text())
+            self._per_micron = units
+            self._begin(number)
         return self
 
-    async def __aexit__(self, kind: type[BaseException] | None, error: BaseException | None, trace: TracebackType | None) -> None:
+    async def close(self) -> None:
+        """Frees the session. Refused by NoSession."""
         scope, self._scope = self.scope, None
+        await self.connection.ask(verbs.close_session(scope))
+
+    async def cells(self, *libraries: str | os.PathLike[str]) -> list[Cell]:
+        """The team's cells, as `lefence.Session.cells` has them."""
+        return cells_in(await self.def_text(), self.scope, libraries)
+
+    async def __aenter__(self) -> Session:
+        return await self.open()
+
+    async def __aexit__(self, kind: type[BaseException] | None, error: BaseException | None, trace: TracebackType | None) -> None:
+        if self._scope is None or self.connection.is_lost:
+            # (the block was told that the connection is lost, and a session goes with it)
+            self._scope = None
+            return
         try:
-            await self.connection.ask(verbs.close_session(scope))
+            await self.close()
         except (Refusal, OSError):
             # What went wrong in the block counts more than that the session is gone already.
             if kind is None:

@@ -42,6 +42,11 @@ class AsyncRun:
         self._process = process
         self._said = said
 
+    @property
+    def pid(self) -> int:
+        """Its process."""
+        return self._process.pid
+
     def send(self, text: bytes) -> None:
         """Sends a text, and waits for nothing."""
         assert self._process.stdin
@@ -62,11 +67,16 @@ class AsyncRun:
         assert self._said
         return fault_of(await self._process.wait(), self._said, otherwise)
 
+    def strike(self) -> None:
+        """Kills the program with its whole session, and waits for nothing."""
+        with contextlib.suppress(ProcessLookupError):
+            if self._process.returncode is None:
+                os.killpg(self._process.pid, signal.SIGKILL)
+
     async def kill(self) -> None:
         """Ends the program, where it runs, with its whole session: one that is a script goes with what it runs."""
         if self._process.returncode is None:
-            with contextlib.suppress(ProcessLookupError):
-                os.killpg(self._process.pid, signal.SIGKILL)
+            self.strike()
             await self._process.wait()
         if self._said:
             self._said.close()

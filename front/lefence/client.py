@@ -20,9 +20,10 @@ from types import TracebackType
 from typing import Any, Generic, TypeVar
 
 from . import verbs
+from .cells import Cell, cells_in
 from .protocol import text_length
-from .refusals import Refusal, Stale, refusal_of
-from .session import BaseSession, Verbs
+from .refusals import BadRequest, Refusal, Stale, refusal_of
+from .session import BaseSession, Verbs, Wishes
 from .verbs import ProtocolError, Request, Scope, read_reply
 
 T = TypeVar("T")
@@ -39,20 +40,36 @@ def connect(where: str | os.PathLike[str], port: int | None = None, timeout: flo
     """A connection to a Unix socket at a path or, with a port, to a host by TCP.
 
     With a timeout in seconds, a reply that takes longer raises TimeoutError, after which the connection is of no use. Raises
-    OSError where nobody listens.
+    OSError, which names the path or HOST:PORT, where nobody listens.
     """
+    try:
+        return Connection(_end_at(os.fspath(where), port, timeout), timeout)
+    except OSError as error:
+        raise named(error, os.fspath(where), port) from None
+
+
+def _end_at(where: str, port: int | None, timeout: float | None) -> socket.socket:
     if port is not None:
-        end = socket.create_connection((os.fspath(where), port), timeout=timeout)
+        end = socket.create_connection((where, port), timeout=timeout)
         end.setsockopt(socket.IPPROTO_TCP, socket.TCP_NODELAY, 1)
-    else:
-        end = socket.socket(socket.AF_UNIX)
-        try:
-            end.settimeout(timeout)
-            end.connect(os.fspath(where))
-        except OSError:
-            end.close()
-            raise
-    return Connection(end, timeout)
+        return end
+    end = socket.socket(socket.AF_UNIX)
+    try:
+        end.settimeout(timeout)
+        end.connect(where)
+    except OSError:
+        end.close()
+        raise
+    return end
+
+
+def named(error: OSError, where: str, port: int | None) -> OSError:
+    """The error with what was tried."""
+    tried = where if port is None else f"{where}:{port}"
+    if error.errno is None:
+        return type(error)(f"{tried}: {str(error) or 'timed out'}")
+    error.filename = tried
+    return error
 
 
 @dataclass
@@ -77,7 +94,7 @@ class Connection:
         self._out = bytearray()
         self._in = bytearray()
         self._unanswered: deque[Sent] = deque()
-        self._is_open = True
+        self._is_open, self._is_lost = True, False
 
     def __enter__(self) -> Connection:
         return self
@@ -85,14 +102,21 @@ class Connection:
     def __exit__(self, *_: object) -> None:
         self.close()
 
-    def session(self, team: str, *, retries: int = 0, microns: bool = False, per_micron: int | None = None) -> Session:
+    @property
+    def is_lost(self) -> bool:
+        """Whether a caller has been told that the connection is lost, or that a reply took too long."""
+        return self._is_lost
+
+    def session(
+        self, team: str, *, retries: int = 0, microns: bool = False, per_micron: int | None = None, openaccess: bool = False
+    ) -> Session:
         """A session of the team, which is opened by `with` and closed at its end.
 
-        A change that is refused as Stale is sent again behind a sync, so many times: a caller who asks for that says that his
-        change is right whatever others changed. With `microns`, lengths are microns; how many database units are one is read
-        from the team's DEF text, or given by `per_micron`.
+        A change that is refused as Stale is sent again behind a sync, `retries` times: a caller who asks for that says that his
+        change is right whatever others changed. With `microns`, lengths are microns; how many database units are one a hub
+        tells, `lefence serve` with the team's DEF text, or `per_micron`. With `openaccess`, orientations are R0, MX and so on.
         """
-        return Session(self, team, retries, microns or per_micron is not None, per_micron)
+        return Session(self, team, Wishes(retries, microns or per_micron is not None, per_micron, openaccess))
 
     def ask_line(self, line: bytes) -> bytes:
         """The whole reply to a line, given without its line feed; one of `def` with its text."""
@@ -157,6 +181,13 @@ class Connection:
         """Sends and reads what goes; both, so that neither end waits for the other."""
         if not self._is_open:
             raise ConnectionLost("the connection is closed")
+        try:
+            self._exchange(waits)
+        except (TimeoutError, ConnectionLost):
+            self._is_lost = True
+            raise
+
+    def _exchange(self, waits: bool) -> None:
         events = selectors.EVENT_READ | (selectors.EVENT_WRITE if self._out else 0)
         if events != self._events:
             self._selector.modify(self._end, events)
@@ -192,43 +223,58 @@ def answer_of(request: Request[T], reply: bytes) -> T:
 class Pending(Generic[T]):
     """A request in flight."""
 
-    def __init__(self, connection: Connection, request: Request[T]) -> None:
+    def __init__(self, pipeline: Pipeline, request: Request[T]) -> None:
         self.request = request
-        # Whether somebody was told what its reply says.
-        self.is_told = False
-        self._connection = connection
-        self._sent = connection.send(request.line)
+        # Whether somebody was told what its reply says, and how often it was sent.
+        self.is_told, self.times_sent = False, 0
+        self._pipeline = pipeline
+        self.send()
+
+    def send(self) -> None:
+        """Sends it, once more where its reply is there."""
+        self._sent = self._pipeline.connection.send(self.request.line)
+        self.times_sent += 1
+
+    def wait(self) -> bytes:
+        """The reply to what was sent last."""
+        return self._pipeline.connection.wait(self._sent)
 
     def result(self) -> T:
         """What its reply says, which is waited for; raises its refusal."""
-        reply = self._connection.wait(self._sent)
-        self.is_told = True
-        return answer_of(self.request, reply)
+        return answer_of(self.request, self._reply())
 
     @property
     def refusal(self) -> Refusal | None:
         """Its refusal, if its reply is one; the reply is waited for."""
-        reply = self._connection.wait(self._sent)
+        return refusal_of(self._reply())
+
+    def _reply(self) -> bytes:
+        reply = self._pipeline.settled(self)
         self.is_told = True
-        return refusal_of(reply)
+        return reply
 
 
 class Session(BaseSession[Connection]):
     """A session of a team: each method sends a verb, waits for its reply and returns what it says, or raises its refusal."""
 
-    @property
-    def number(self) -> int:
-        """The number of the session's slot."""
-        return self.scope.number
-
     def open(self) -> Session:
         """Opens the session. Refused by NoTeam, SessionsFull."""
         number, self.first_revision = self.connection.ask(verbs.open_session(self.team))
-        self._scope = Scope(self.team, number)
-        if self._in_microns:
-            self._per_micron = self._per_micron or verbs.units_in(self.def_text())
-            self._scope = Scope(self.team, number, self._per_micron)
+        self._begin(number)
+        if self._lacks_units:
+            try:
+                self._per_micron = self.connection.ask(verbs.units())
+            except BadRequest:
+                self._per_micron = verbs.units_in(self.def_text())
+            self._begin(number)
         return self
+
+    def cells(self, *libraries: str | os.PathLike[str]) -> list[Cell]:
+        """The team's cells in loading order, with their macros and working places; with the LEF texts also their sizes.
+
+        Lengths are in the session's unit. Refused by NoSession, OutOfMemory.
+        """
+        return cells_in(self.def_text(), self.scope, libraries)
 
     def close(self) -> None:
         """Frees the session. Refused by NoSession."""
@@ -239,9 +285,12 @@ class Session(BaseSession[Connection]):
         return self.open()
 
     def __exit__(self, kind: type[BaseException] | None, error: BaseException | None, trace: TracebackType | None) -> None:
+        if self._scope is None or self.connection.is_lost:
+            # (the block was told that the connection is lost, and a session goes with it)
+            self._scope = None
+            return
         try:
-            if self._scope is not None:
-                self.close()
+            self.close()
         except (Refusal, OSError):
             # What went wrong in the block counts more than that the session is gone already.
             if kind is None:
@@ -266,12 +315,31 @@ class Session(BaseSession[Connection]):
 
 
 class Pipeline(Verbs):
-    """Requests of one session in flight; their replies come in their order. A stale one is not asked again."""
+    """Requests of one session in flight; their replies come in their order.
+
+    Where the session has retries, those that are refused as stale are sent again behind a sync, in their order, once somebody
+    asks for one of them.
+    """
 
     def __init__(self, session: Session, raises: bool) -> None:
         self._session = session
         self._raises = raises
         self._begun: list[Pending[Any]] = []
+
+    @property
+    def connection(self) -> Connection:
+        """The session's connection."""
+        return self._session.connection
+
+    def settled(self, pending: Pending[Any]) -> bytes:
+        """The reply to a request, which is sent again as often as the session says while it is stale."""
+        most = self._session.retries + 1
+        while _is_stale(reply := pending.wait()) and pending.times_sent < most:
+            stale = [each for each in self._begun if each.times_sent < most and _is_stale(each.wait())]
+            self.connection.ask(verbs.sync(self.scope))
+            for each in stale:
+                each.send()
+        return reply
 
     @property
     def scope(self) -> Scope:
@@ -295,6 +363,10 @@ class Pipeline(Verbs):
 
     def ask(self, request: Request[T]) -> Pending[T]:
         """Sends a request, and waits for nothing."""
-        pending = Pending(self._session.connection, request)
+        pending = Pending(self, request)
         self._begun.append(pending)
         return pending
+
+
+def _is_stale(reply: bytes) -> bool:
+    return reply.startswith(b"no %d " % Stale.number)

@@ -6,10 +6,15 @@ loads; of others no more is promised than that reading ends.
 
 from __future__ import annotations
 
+import mmap
+import os
 import re
 from collections.abc import Iterator
+from contextlib import ExitStack
 from dataclasses import dataclass
 from functools import cached_property, lru_cache
+from pathlib import Path
+from typing import cast
 
 from .protocol import GROUND
 
@@ -30,7 +35,7 @@ _ENTRY = re.compile(_SKIP + rb"-" + _ALONE + _NAME + _MORE + _SKIP + _SEMICOLON,
 _AT_ONCE = 1000
 
 # A star in a pattern of names, which is any run of bytes, unless it stands directly behind a backslash.
-_STAR = re.compile(rb"(?<!\\)\*")
+STAR = re.compile(rb"(?<!\\)\*")
 
 # Sections, which end with END and their keyword; all other statements end with a semicolon, but for BEGINEXT and END DESIGN.
 SECTIONS = frozenset(
@@ -98,7 +103,15 @@ class Entry:
 
 def pattern_of(word: bytes) -> re.Pattern[bytes]:
     """What a name or a pattern with stars names, if it is matched as a whole."""
-    return re.compile(rb".*".join(map(re.escape, _STAR.split(word))), re.S)
+    return re.compile(rb".*".join(map(re.escape, STAR.split(word))), re.S)
+
+
+def mapped(path: Path, stack: ExitStack) -> bytes:
+    """A file's bytes until the stack ends, which the system reads as they are needed; what is taken of them are bytes."""
+    with open(path, "rb") as file:
+        if not os.fstat(file.fileno()).st_size:
+            return b""
+        return cast(bytes, stack.enter_context(mmap.mmap(file.fileno(), 0, access=mmap.ACCESS_READ)))
 
 
 def words_in(text: bytes) -> Iterator[bytes]:
@@ -112,15 +125,18 @@ def words_in(text: bytes) -> Iterator[bytes]:
 
 def statements(text: bytes) -> list[Statement]:
     """The statements up to END DESIGN, which is the last."""
-    found: list[Statement] = []
+    return list(statements_in(text))
+
+
+def statements_in(text: bytes) -> Iterator[Statement]:
+    """The same, each when it is asked for."""
     start = 0
     while first := TOKENS.match(text, start):
         stop = _end_of(text, first)
-        found.append(Statement(first[1], start, stop))
+        yield Statement(first[1], start, stop)
         if first[1] == b"END":
-            break
+            return
         start = stop
-    return found
 
 
 def section_parts(text: bytes, section: Statement) -> tuple[bytes, bytes, Iterator[Entry]]:
@@ -147,9 +163,22 @@ def entries(text: bytes, found: list[Statement], keyword: bytes) -> Iterator[Ent
             yield from section_parts(text, statement)[2]
 
 
+def units_in(text: bytes) -> bytes:
+    """The database units in a micron; 0 where the text does not tell them in a form that the program loads."""
+    for statement in statements_in(text):
+        if statement.keyword == b"UNITS":
+            return (list(words_in(text[statement.start : statement.stop]))[3:4] or [b"0"])[0]
+    return b"0"
+
+
+def shown(word: bytes) -> str:
+    """A word of a text for people, whatever bytes it has."""
+    return word.decode("ascii", "backslashreplace")
+
+
 def fences_in(text: bytes) -> list[str]:
     """The teams of the FENCE regions of a text."""
-    return [fence.decode("ascii", "backslashreplace") for fence in fences_of(text, statements(text))]
+    return [shown(fence) for fence in fences_of(text, statements(text))]
 
 
 def fences_of(text: bytes, found: list[Statement]) -> list[bytes]:
@@ -183,7 +212,7 @@ class Design:
         for word in group.words[1:]:
             if word == b"+":
                 break
-            parts = _STAR.split(word)
+            parts = STAR.split(word)
             if len(parts) == 1:
                 self._literal.setdefault(word, fence)
             else:

@@ -22,6 +22,10 @@ MOST_NAMES, LONGEST_NAME = 20, 24
 
 # What XML has no place for.
 _NO_TEXT = re.compile("[^\t\n\r\x20-\ud7ff\ue000-\ufffd\U00010000-\U0010ffff]")
+# The colours of arrows up to so many rows long, and of longer ones.
+WAYS = ((2, "#20124d"), (5, "#5b1a8b"), (10, "#a3158f"), (20, "#e0457b"), (50, "#ff7f3f"), (math.inf, "#ffb000"))
+# Characters that are as wide as high in most fonts; the others are some two thirds of that.
+_WIDE = re.compile(r"[mwMWQ%@&]|[^\x00-\x7f]")
 _INK, _FAINT, _OBSTACLE, _BLOCKAGE, _SOFT = "#1d232b", "#667080", "#59626e", "#aab2bd", "#8a6a2f"
 
 
@@ -33,8 +37,16 @@ class Move(NamedTuple):
     after: Box
 
     @property
-    def length(self) -> float:
-        return math.dist(self.before[:2], self.after[:2])
+    def length(self) -> int:
+        """The way along x plus that along y."""
+        return abs(self.after.left - self.before.left) + abs(self.after.bottom - self.before.bottom)
+
+
+class _Line(NamedTuple):
+    """A line of the legend, and how wide it is about."""
+
+    svg: str
+    wide: float
 
 
 def text_of(name: str) -> str:
@@ -65,7 +77,7 @@ class Drawing:
         """The text, piece by piece."""
         facts, legend = self.scene.frame.facts, [*self._legend()]
         height = max(self.high + HEAD + SPACE, HEAD + 22 * len(legend) + SPACE)
-        width = self.wide + LEGEND + 3 * SPACE
+        width = self.wide + max(LEGEND, *(line.wide for line in legend)) + 3 * SPACE
         name = text_of(facts.name)
         yield f'<svg xmlns="http://www.w3.org/2000/svg" width="{width:.0f}" height="{height:.0f}" '
         yield f'viewBox="0 0 {width:.0f} {height:.0f}" font-family="DejaVu Sans, Helvetica, Arial, sans-serif">\n'
@@ -84,7 +96,7 @@ class Drawing:
         yield f'<text x="{SPACE}" y="60" font-size="13" fill="{_FAINT}">{self._summary()}</text>\n'
         yield f'<g id="legend" font-size="13" fill="{_INK}">\n'
         for at, line in enumerate(legend):
-            yield f'<g transform="translate({self.wide + 2 * SPACE:.2f} {HEAD + 22 * at})">{line}</g>\n'
+            yield f'<g transform="translate({self.wide + 2 * SPACE:.2f} {HEAD + 22 * at})">{line.svg}</g>\n'
         yield "</g>\n</svg>\n"
 
     def _summary(self) -> str:
@@ -135,8 +147,21 @@ class Drawing:
             yield from self._broken_map()
         yield from self._group("borders", f'fill="none" {self._line(1.6)}', self._fences("stroke"))
         if self.moves is not None:
-            style = f'fill="none" stroke="{_INK}" stroke-opacity="0.75" {self._line(1.1)}'
-            yield from self._group("moves", style, map(self._arrow, self.moves))
+            style = f'fill="none" stroke-opacity="0.85" {self._line(1.1)}'
+            yield from self._group("moves", style, self._arrows())
+
+    def _moves_of(self, moves: list[Move]) -> Iterator[tuple[str, str, list[Move]]]:
+        """The moves by their lengths, the shortest first: how far, the colour, and which they are."""
+        height, least = self.scene.frame.facts.site_height, 0.0
+        for most, colour in WAYS:
+            label = f"up to {most} rows" if most < math.inf else f"over {least:g} rows"
+            yield label, colour, [move for move in moves if least < move.length / height <= most]
+            least = most
+
+    def _arrows(self) -> Iterator[str]:
+        for _, colour, moves in self._moves_of(self.moves or []):
+            if moves:
+                yield f'<g stroke="{colour}">\n{"".join(map(self._arrow, moves))}</g>\n'
 
     def _fences(self, key: str) -> Iterator[str]:
         """The fences, with their colours under this key."""
@@ -168,9 +193,8 @@ class Drawing:
         yield "</g>\n"
 
     def _broken_map(self) -> Iterator[str]:
-        bins = self.scene.broken_map
-        yield f'<g id="broken" fill="{BROKEN}" {self._place(bins)}>\n'
-        for (_, shade), path in bins.paths().items():
+        yield f'<g id="broken" fill="{BROKEN}" {self._place(self.scene.broken_map)}>\n'
+        for (_, shade), path in self.scene.red_paths().items():
             yield f'<path fill-opacity="{0.6 + 0.4 * shade / SHADES:.2f}" d="{path}"/>\n'
         yield "</g>\n"
 
@@ -222,7 +246,7 @@ class Drawing:
                 yield f'<text x="{x:.1f}" y="{y + size * 0.36:.1f}" {style}>{text_of(name)}</text>\n'
         yield "</g>\n"
 
-    def _legend(self) -> Iterator[str]:
+    def _legend(self) -> Iterator[_Line]:
         scene, frame = self.scene, self.scene.frame
         teams = frame.teams
         shown = [*range(min(len(teams) - 1, MOST_NAMES)), len(teams) - 1]
@@ -243,11 +267,15 @@ class Drawing:
             if count:
                 yield _entry(style, label, f"{count:,}")
         if self.moves is not None:
-            few = "" if len(self.moves) == self.moved else f", the {len(self.moves):,} longest drawn"
-            yield _note(f"→ {self.moved:,} moved{few}")
+            yield _note(f"→ {self.moved:,} moved")
+            if len(self.moves) < self.moved:
+                yield _note(f"the {len(self.moves):,} longest drawn:")
+            for label, colour, moves in self._moves_of(self.moves):
+                if moves:
+                    yield _entry(f'y="5" height="3" fill="{colour}"', label, f"{len(moves):,}")
         yield from self._notes()
 
-    def _notes(self) -> Iterator[str]:
+    def _notes(self) -> Iterator[_Line]:
         scene = self.scene
         if scene.sum_of("unplaced"):
             yield _note(f"{scene.sum_of('unplaced'):,} without a place")
@@ -257,12 +285,22 @@ class Drawing:
             side = scene.map.side / scene.frame.facts.units
             yield _note(f"Bins of {side:.3g} µm; the darker,")
             yield _note("the more of them is taken.")
+            if scene.shows_too_full:
+                yield _note("Most cells break a rule: red are")
+                yield _note("bins with more cells than room.")
 
 
-def _entry(style: str, label: str, count: str) -> str:
-    box = f'<rect width="14" height="14" rx="2" {style}/>'
-    return f'{box}<text x="22" y="12">{text_of(label)} <tspan fill="{_FAINT}" font-size="11">{count}</tspan></text>'
+def _width(text: str, size: int) -> float:
+    """How wide a text is about, in pixels."""
+    return size * (0.66 * len(text) + 0.34 * len(_WIDE.findall(text)))
 
 
-def _note(text: str) -> str:
-    return f'<text y="12" font-size="12" fill="{_FAINT}">{text_of(text)}</text>'
+def _entry(style: str, label: str, count: str) -> _Line:
+    height = "" if "height=" in style else 'height="14" '
+    box = f'<rect width="14" {height}rx="2" {style}/>'
+    text = f'<text x="22" y="12">{text_of(label)} <tspan fill="{_FAINT}" font-size="11">{count}</tspan></text>'
+    return _Line(box + text, 22 + _width(f"{label} ", 13) + _width(count, 11))
+
+
+def _note(text: str) -> _Line:
+    return _Line(f'<text y="12" font-size="12" fill="{_FAINT}">{text_of(text)}</text>', _width(text, 12))

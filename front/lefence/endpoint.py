@@ -40,7 +40,8 @@ def connect_to(where: str) -> Endpoint:
             return Endpoint(connect(found[1], int(found[2])), [])
         return Endpoint(connect(where), _teams_at(Path(where)))
     except (OSError, OverflowError) as error:
-        raise Fault(FAILED, f"{where}: {error}") from None
+        reason = error.strerror if isinstance(error, OSError) else None
+        raise Fault(FAILED, f"{where}: {reason or error}") from None
 
 
 def _teams_at(path: Path) -> list[str]:

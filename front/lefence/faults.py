@@ -5,6 +5,7 @@ from __future__ import annotations
 import argparse
 import os
 import sys
+import traceback
 from collections.abc import Callable
 from pathlib import Path
 
@@ -41,10 +42,17 @@ class Parser(argparse.ArgumentParser):
         self.add_argument("--program", metavar="PATH", help=told)
 
 
+def printable(text: str) -> str:
+    """The text, with whatever would steer a terminal as an escape sequence of Python's."""
+    if text.isprintable():
+        return text
+    return "".join(sign if sign.isprintable() or sign in "\n\t" else sign.encode("unicode_escape").decode() for sign in text)
+
+
 def log(tool: str, text: str) -> None:
     """A line on standard error, whatever bytes a name in it has; one that cannot be written is no fault."""
     try:
-        print(f"{tool}: {text}".encode("utf-8", "backslashreplace").decode(), file=sys.stderr, flush=True)
+        print(f"{tool}: {printable(text)}", file=sys.stderr, flush=True)
     except OSError:
         pass
 
@@ -69,4 +77,8 @@ def run_tool(tool: str, work: Callable[[], int]) -> int:
         return 130
     except MemoryError:
         log(tool, "out of memory")
+        return FAILED
+    except Exception:
+        # A fault of this tool itself, which must not look as one of what it was given.
+        log(tool, traceback.format_exc().rstrip())
         return FAILED

@@ -11,13 +11,21 @@ import os
 import time
 from collections import OrderedDict
 from collections.abc import Callable
+from dataclasses import dataclass
 
-from .design import fences_in
+from .calm import Calm
+from .crowd import Crowd
+from .design import fences_in, units_in
+from .exporter import Exporter
 from .faults import FAILED, REFUSED, Fault
+from .figures import Figures
+from .frames import Record
 from .hub_client import Client, Entry
-from .journal import Journal
-from .protocol import CHANGES, GROUND, UNBOUNDED, is_change
+from .journal import MOST_REPLY, Journal
+from .notify import notify_alive
+from .protocol import CHANGES, GROUND, UNBOUNDED, is_change, on_one_line
 from .server import Server, ServerLost, teams_told
+from .status import status_text, uncommitted_text
 
 # What a batch may weigh; a line of one cell weighs 1, one of a whole team as much as WHOLE.
 _BATCH = 1024
@@ -27,12 +35,19 @@ _WHOLE_TEAM = frozenset((b"tidy", b"commit", b"revert", b"undo"))
 _LONG, _SHORT = 0.02, 0.005
 # What part of a sync the hub waits for more lines, and the most, in seconds.
 _LINGER, _MOST_LINGER = 0.25, 0.002
-# Clients of one socket.
-MOST_CLIENTS = 256
 # How often a program that dies is started again for the same lines.
 _STARTS = 5
 # Seconds after which closes that a full disk refused are tried again.
 _LATER = 1
+
+
+@dataclass
+class Bounds:
+    """What a hub bears, in seconds: a client that reads nothing, one that is idle without a session, a program that says nothing."""
+
+    patience: float = 60
+    idle: float = 900
+    deadline: float = 600
 
 
 class Hub:
@@ -41,23 +56,25 @@ class Hub:
     So between batches each session's owner is known, and the journal is the program's state.
     """
 
-    def __init__(self, server: Server, journal: Journal, patience: float, say: Callable[[str], None]) -> None:
-        """A hub that is not started; a client that reads nothing for `patience` seconds is dropped."""
+    def __init__(self, server: Server, journal: Journal, bounds: Bounds, say: Callable[[str], None]) -> None:
+        """A hub that is not started."""
         self.server = server
         self.journal = journal
-        self.patience = patience
+        self.patience = bounds.patience
+        self.bounds = bounds
         self.say = say
-        self.nobody = b""
-        self.most_clients = MOST_CLIENTS
-        self.clients: set[Client] = set()
-        # Clients with lines that may be asked, in turn.
+        self.calm = Calm(say)
+        self.figures = Figures()
+        self.crowd = Crowd()
+        self.exporter = Exporter(server, journal, say)
+        self.nobody, self.units = b"", b""
+        self.teams: list[str] = []
+        # Clients with lines that may be asked, in turn; those that wait for others to read.
         self._queue: OrderedDict[Client, None] = OrderedDict()
-        # Of each open session, a team and the number of its slot, the client that opened it; None is one before this start.
-        self._owners: dict[tuple[bytes, int], Client | None] = {}
+        self._waiting: OrderedDict[Client, None] = OrderedDict()
         # A session may be open whose client is gone.
         self._has_orphans = True
         self._exports: set[asyncio.Task[None]] = set()
-        self._export_turn = asyncio.Lock()
         self._work = asyncio.Event()
         self._is_stopping = False
         self._is_full = False
@@ -67,6 +84,7 @@ class Hub:
         """Starts the program in the state of the journal; the teams to be served, which are all or those wanted."""
         text = await asyncio.to_thread(self.server.program.texts[0].read_bytes)
         teams = [GROUND, *await asyncio.to_thread(fences_in, text)]
+        self.units = await asyncio.to_thread(units_in, text)
         self.nobody = name_of_nobody(teams)
         telling = asyncio.create_task(teams_told(self.server.program))
         try:
@@ -77,7 +95,8 @@ class Hub:
             await asyncio.gather(telling, return_exceptions=True)
         if missing := [team for team in wanted if team not in teams]:
             raise Fault(REFUSED, f"no team: {', '.join(missing)}")
-        return list(dict.fromkeys(wanted)) or teams
+        self.teams = list(dict.fromkeys(wanted)) or teams
+        return self.teams
 
     async def _start_program(self) -> None:
         try:
@@ -89,10 +108,8 @@ class Hub:
     # What clients call.
 
     def admit(self, client: Client) -> bool:
-        """Takes a new client in; False where its socket has as many as may be."""
-        crowd = sum(other.team == client.team for other in self.clients)
-        self.clients.add(client)
-        return crowd < self.most_clients
+        """Takes a new client in; False where there are too many."""
+        return self.crowd.admit(client)
 
     def wake(self, client: Client) -> None:
         """Puts a client in the queue for its turn, where it has a line and may have it answered."""
@@ -102,8 +119,19 @@ class Hub:
 
     def leave(self, client: Client) -> None:
         """A client is gone; its sessions are closed at the head of the next batch."""
-        self.clients.discard(client)
+        self.crowd.leave(client)
+        self.unclog(client)
         self._close_orphans()
+
+    def clog(self, client: Client) -> None:
+        """A client leaves much unread."""
+        self.crowd.clogged.add(client)
+
+    def unclog(self, client: Client) -> None:
+        """A client has read, or is gone: those that waited for it have their turn."""
+        self.crowd.clogged.discard(client)
+        while self._waiting:
+            self.wake(self._waiting.popitem(last=False)[0])
 
     def _close_orphans(self) -> None:
         self._has_orphans = True
@@ -116,17 +144,21 @@ class Hub:
         batch: list[Entry] = []
         if self._has_orphans:
             self._has_orphans = False
-            gone = [session for session, owner in self._owners.items() if owner is None or owner.is_done]
-            batch += [Entry(None, [b"close", team, b"%d" % number]) for team, number in gone]
+            batch += [Entry(None, [b"close", team, b"%d" % number]) for team, number in self.crowd.orphans()]
         weight = 0
         while self._queue and weight < self._budget:
             client, _ = self._queue.popitem(last=False)
             if client.is_clogged or client.is_done:
                 continue
+            if self.crowd.must_wait(client):
+                self._waiting[client] = None
+                continue
             entry = client.next_entry(not self._is_stopping)
             batch.append(entry)
             if is_export(entry):
                 client.is_busy, entry.reply = True, b""
+            elif is_status(entry):
+                entry.reply = b"ok %b\n" % status_text(self)
             self.wake(client)
             weight += _WHOLE if entry.verb in _WHOLE_TEAM else 1
             # A reply without bound is the last of its batch, which bounds what is held of replies.
@@ -140,10 +172,24 @@ class Hub:
             while batch := self.take():
                 await self.answer(batch)
                 await asyncio.sleep(self._linger(batch))
-            if self._is_stopping and not self._exports:
+            if self._is_stopping and not (self._exports or self._waiting):
                 return
             await self._work.wait()
             self._work.clear()
+
+    async def watch(self) -> None:
+        """Looks each second after what may not stay as it is; a fault where the journal is not where it was."""
+        while True:
+            await asyncio.sleep(1)
+            notify_alive(bool(self.teams))
+            self.journal.refuse_loss()
+            for server in (self.server, self.exporter.server):
+                if server and server.silence() > self.bounds.deadline:
+                    self.say(f"the program has said nothing for {self.bounds.deadline:g} seconds, and is killed")
+                    server.strike()
+            for client in self.crowd.idle(self.bounds.idle):
+                self.calm("idle", f"{client.name}: dropped, idle without a session")
+                client.part()
 
     def _linger(self, batch: list[Entry]) -> float:
         """Seconds to wait for the next lines of the clients that were just told, so that they share the next sync.
@@ -152,23 +198,35 @@ class Hub:
         """
         return min(_MOST_LINGER, self.journal.seconds * _LINGER) if len(batch) > 1 else 0
 
+    def strike(self) -> None:
+        """Kills the program, and one that writes an export, and waits for nothing."""
+        for server in (self.server, self.exporter.server):
+            if server:
+                server.strike()
+
     def stop(self) -> None:
         """No more is read; `pump` answers what was read."""
         self._is_stopping = True
-        for client in self.clients:
+        for client in self.crowd.clients:
             client.transport.pause_reading()
         self._work.set()
 
     async def answer(self, batch: list[Entry]) -> None:
         """Has a batch answered and journaled, then tells the replies."""
         self._refuse_without_room(batch)
+        for entry in self.crowd.above_share(batch):
+            # (what names no team is the program's to refuse)
+            if entry.fields[1].decode() in self.teams:
+                entry.reply = b"no 10 SessionsFull\n"
+        self.figures.count(len(batch))
         asked = [entry for entry in batch if entry.reply is None]
         for entry, reply in zip(asked, await self._ask([entry.line for entry in asked])):
             entry.reply = reply
-        changes = [(entry.line, entry.reply) for entry in asked if entry.reply and is_change(entry.fields, entry.reply)]
+        changes = [Record(entry.line, entry.reply, entry.who) for entry in asked if entry.reply and is_change(entry.fields, entry.reply)]
         if changes:
             # Whatever ends this process up to here, nobody was told of these changes.
             self.journal.append(changes)
+            self.figures.syncs.append(self.journal.seconds)
         for entry in batch:
             self._tell(entry)
         for client in {entry.client for entry in batch if entry.client}:
@@ -198,11 +256,14 @@ class Hub:
         """Starts the program again in the state of the journal, a handful of times where it dies again."""
         for _ in range(_STARTS):
             self.say(f"{lost}; {self.journal.changes} changes are restored")
+            self.figures.restores += 1
             if note:
-                self._owners.clear()
+                self.crowd.holders.clear()
+                self.figures.teams.clear()
             try:
                 await self.server.start()
-                return await self.server.restore(self.journal.records(self.journal.end), note)
+                await self.server.restore(self.journal.records(self.journal.end), note)
+                return
             except ServerLost as again:
                 lost = again
         raise Fault(FAILED, f"{lost}; given up after {_STARTS} starts, nothing acknowledged is lost")
@@ -212,10 +273,11 @@ class Hub:
         changes = [entry for entry in batch if entry.reply is None and entry.verb in CHANGES]
         if not changes:
             return
-        is_full = not self.journal.has_room(sum(len(entry.line) + 64 for entry in changes))
+        is_full = not self.journal.has_room(sum(len(entry.line) + MOST_REPLY for entry in changes))
         if is_full != self._is_full:
             self._is_full = is_full
-            self.say("the journal has no room: changes are refused" if is_full else "the journal has room again")
+            told = "the journal has no room: changes are refused" if is_full else "the journal has room again"
+            self.calm(told, told)
         if is_full:
             for entry in changes:
                 entry.reply = b"no 12 OutOfMemory\n"
@@ -234,6 +296,8 @@ class Hub:
             self._close_orphans()
         elif is_export(entry):
             path = os.fsdecode(entry.fields[1])
+            if told := uncommitted_text(self):
+                self.say(f"export {path}: {told}")
             task = asyncio.create_task(self._answer_export(client, path, self.journal.end))
             self._exports.add(task)
             task.add_done_callback(self._export_done)
@@ -242,19 +306,15 @@ class Hub:
         self._note(fields, reply, None)
 
     def _note(self, fields: list[bytes], reply: bytes, client: Client | None) -> None:
-        """Keeps who owns which session."""
-        if not is_change(fields, reply):
-            return
-        if fields[0] == b"open":
-            self._owners[fields[1], int(reply.split()[1])] = client
-        elif fields[0] == b"close":
-            del self._owners[fields[1], int(fields[2])]
-
-    # Exports.
+        """Keeps who owns which session, and counts."""
+        if is_change(fields, reply):
+            self.figures.note(fields, reply)
+            self.crowd.note(fields, reply, client)
 
     async def _answer_export(self, client: Client, path: str, end: int) -> None:
         """Answers an export of the committed places as they were in its turn, while others are served."""
-        client.replies.append(b"ok\n" if await self.export(path, end) else b"no 13 NotExported\n")
+        why_not = await self.exporter.write(path, end)
+        client.replies.append(b"ok\n" if why_not is None else b"no 13 NotExported %b\n" % on_one_line(why_not))
         client.flush()
         client.is_busy = False
         self.wake(client)
@@ -262,29 +322,6 @@ class Hub:
     def _export_done(self, task: asyncio.Task[None]) -> None:
         self._exports.discard(task)
         self._work.set()
-
-    def refuse_export(self, path: str) -> None:
-        """A fault where an export to the path would overwrite the journal or the design, or has no folder to go to."""
-        if os.path.exists(path) and any(os.path.samefile(path, own) for own in (self.journal.path, *self.server.program.texts)):
-            raise Fault(FAILED, f"{path} is the journal or a text of the design")
-        if os.path.isdir(path) or not os.access(os.path.dirname(os.path.abspath(path)), os.W_OK):
-            raise Fault(FAILED, f"{path} cannot be written")
-
-    async def export(self, path: str, end: int) -> bool:
-        """Whether the file is there, whole: a second program writes it, over the journal up to that byte."""
-        live = self.server
-        second = Server(live.program, live.sums, export=path)
-        async with self._export_turn:
-            try:
-                self.refuse_export(path)
-                await second.start()
-                await second.restore(self.journal.records(end))
-                return await second.end() == 0
-            except (Fault, OSError, ServerLost) as fault:
-                self.say(f"export: {fault}")
-                return False
-            finally:
-                await second.kill()
 
 
 def name_of_nobody(teams: list[str]) -> bytes:
@@ -305,4 +342,14 @@ def refuse_other_teams(found: list[str], told: list[str]) -> None:
 
 def is_export(entry: Entry) -> bool:
     """Whether the line is the operator's `export PATH`."""
-    return entry.verb == b"export" and len(entry.fields) == 2 and entry.client is not None and entry.client.team is None
+    return entry.verb == b"export" and len(entry.fields) == 2 and is_operators(entry)
+
+
+def is_status(entry: Entry) -> bool:
+    """Whether the line is the operator's `status`."""
+    return entry.fields == [b"status"] and is_operators(entry)
+
+
+def is_operators(entry: Entry) -> bool:
+    """Whether the line came by the operator's socket."""
+    return entry.client is not None and entry.client.team is None

@@ -4,14 +4,17 @@ from __future__ import annotations
 
 import asyncio
 import contextlib
+import fcntl
 import os
 import socket
 import struct
 import sys
+import termios
+import time
 from collections import deque
 from typing import Protocol
 
-from .protocol import MOST_LINE, fields_of
+from .protocol import MOST_LINE, UNBOUNDED, fields_of
 
 # A client with more lines waiting is not read; one with more bytes unread is not asked for more.
 WAITING_LINES = 64
@@ -24,7 +27,7 @@ _MOST_READS = 64
 class Entry:
     """One line on its way through the hub, of no client where the hub itself asks; its reply, once it is known."""
 
-    __slots__ = ("client", "fields", "is_last", "line", "reply", "verb")
+    __slots__ = ("client", "fields", "is_last", "line", "reply", "verb", "who")
 
     def __init__(self, client: Client | None, fields: list[bytes], reply: bytes | None = None, is_last: bool = False) -> None:
         self.client = client
@@ -34,6 +37,8 @@ class Entry:
         self.is_last = is_last
         self.verb = fields[0] if fields else b""
         self.line = b" ".join(fields)
+        # Whose it is, as the journal tells it.
+        self.who = client.who if client else b"-"
 
 
 class Host(Protocol):
@@ -42,6 +47,8 @@ class Host(Protocol):
     patience: float
     # A team name that no team has.
     nobody: bytes
+    # The database units in a micron.
+    units: bytes
 
     def admit(self, client: Client) -> bool: ...
 
@@ -49,7 +56,11 @@ class Host(Protocol):
 
     def leave(self, client: Client) -> None: ...
 
-    def say(self, text: str) -> None: ...
+    def clog(self, client: Client) -> None: ...
+
+    def unclog(self, client: Client) -> None: ...
+
+    def calm(self, kind: str, text: str) -> None: ...
 
 
 class Client(asyncio.BufferedProtocol):
@@ -68,23 +79,31 @@ class Client(asyncio.BufferedProtocol):
         # A line that has not ended.
         self._partial = b""
         self._timer: asyncio.TimerHandle | None = None
-        self._name = ""
+        self.name = ""
+        # Its uid and pid, as the journal tells them.
+        self.who = b"-"
+        self.uid = self.pid = -1
+        # When it was heard or told something last.
+        self.heard = time.monotonic()
 
     def connection_made(self, transport: asyncio.BaseTransport) -> None:
         assert isinstance(transport, asyncio.Transport)
         self.transport = transport
         transport.set_write_buffer_limits(high=UNREAD_BYTES)
         peer = transport.get_extra_info("socket").getsockopt(socket.SOL_SOCKET, socket.SO_PEERCRED, 12)
+        self.pid, self.uid, _ = struct.unpack("iIi", peer)
+        self.who = b"%d %d" % (self.uid, self.pid)
         team = "operator" if self.team is None else self.team.decode()
-        self._name = "{} pid {} uid {}".format(team, *struct.unpack("3i", peer))
+        self.name = f"{team} pid {self.pid} uid {self.uid}"
         if not self.host.admit(self):
-            self.host.say(f"{self._name}: one client too many")
+            self.host.calm(f"crowd {team}", f"{self.name}: one client too many")
             transport.abort()
 
     def get_buffer(self, sizehint: int) -> bytearray:
         return self._buffer
 
     def buffer_updated(self, count: int) -> None:
+        self.heard = time.monotonic()
         *lines, rest = (self._partial + self._buffer[:count]).split(b"\n")
         # What is longer is too long all the same.
         self._partial = bytes(rest[: MOST_LINE + 1])
@@ -101,6 +120,11 @@ class Client(asyncio.BufferedProtocol):
         self.host.wake(self)
         return True
 
+    def is_unbounded(self) -> bool:
+        """Whether the next of the waiting lines may have a reply without bound."""
+        words = (self.waiting[0] or b"").split(None, 1)
+        return bool(words) and words[0] in UNBOUNDED
+
     def next_entry(self, reads_on: bool) -> Entry:
         """The next of the waiting lines, as the program is to read it; `reads_on` says whether more may be read.
 
@@ -113,12 +137,15 @@ class Client(asyncio.BufferedProtocol):
         if line is None or fields == [b"bye"]:
             self.is_done = True
             return Entry(self, [], b"" if line is None else b"ok\n", is_last=True)
+        if fields == [b"units"]:
+            return Entry(self, fields, b"ok %b\n" % self.host.units)
         if self.team is not None and len(fields) > 1 and fields[1] != self.team:
             fields[1] = self.host.nobody
         return Entry(self, fields)
 
     def flush(self) -> None:
         """Sends the replies."""
+        self.heard = time.monotonic()
         if not self.transport.is_closing():
             self.transport.write(b"".join(self.replies))
         self.replies.clear()
@@ -137,19 +164,26 @@ class Client(asyncio.BufferedProtocol):
 
     def pause_writing(self) -> None:
         self.is_clogged = True
+        self.host.clog(self)
         self._judge(sys.maxsize)
 
     def _judge(self, before: int) -> None:
         """Drops the client if it has read nothing since this was asked last."""
-        unread = self.transport.get_write_buffer_size()
+        unread = self.transport.get_write_buffer_size() + self._unread_of_system()
         if unread < before:
             self._timer = asyncio.get_running_loop().call_later(self.host.patience, self._judge, unread)
         else:
-            self.host.say(f"{self._name}: dropped, leaves {unread} bytes unread")
+            self.host.calm("dropped", f"{self.name}: dropped, leaves {unread} bytes unread")
             self.transport.abort()
+
+    def _unread_of_system(self) -> int:
+        """The bytes that the system holds for the client, which get less before any of those that wait here can go there."""
+        held = fcntl.ioctl(self.transport.get_extra_info("socket").fileno(), termios.TIOCOUTQ, bytes(4))
+        return int(struct.unpack("i", held)[0])
 
     def resume_writing(self) -> None:
         self.is_clogged = False
+        self.host.unclog(self)
         if self._timer is not None:
             self._timer.cancel()
         self.host.wake(self)

@@ -5,24 +5,35 @@ from __future__ import annotations
 import argparse
 import asyncio
 import functools
+import json
 import os
 import resource
 import signal
-import socket
 import sys
+import threading
+import traceback
 from pathlib import Path
+from typing import Any
 
-from .faults import DONE, FAILED, Fault, Parser, log, run_tool
-from .hub import MOST_CLIENTS, Hub
+from .crowd import MOST_CLIENTS
+from .faults import DONE, FAILED, REFUSED, Fault, Parser, log, run_tool
+from .figures import prometheus
+from .hub import Bounds, Hub
 from .hub_client import Client
-from .journal import Journal, lock, sums_of
+from .journal import Journal
+from .notify import notify
+from .owner import own
 from .program import Program, find_program
 from .protocol import socket_name
 from .server import Server
+from .sockets import bound_socket, groups_of, take_folder
+from .status import ask_status, uncommitted_text
+from .texts import settle_texts
 
 TOOL = "lefence-hub"
-# The most bytes of a socket's path that the system takes.
-_MOST_PATH = 107
+# Connections of a socket that may wait to be taken in, and how many asyncio takes in at a time: where no descriptor is left, it
+# says so that often.
+_QUEUE, _AT_ONCE = 1024, 16
 # Seconds that clients have at the end to read what they were told.
 _LAST = 5
 
@@ -31,100 +42,144 @@ def say(text: str) -> None:
     log(TOOL, text)
 
 
-def bound_socket(path: Path, mode: int, keeps_mode: bool) -> socket.socket:
-    """A socket at the path that does not listen yet.
-
-    A dead one that stood there hands on its owner and group, and its mode where that is to be kept.
-    """
-    if len(os.fsencode(path)) > _MOST_PATH:
-        raise Fault(FAILED, f"{path}: longer than {_MOST_PATH} bytes; use a shorter --sockets, or serve other teams by --team")
-    former = path.lstat() if path.is_socket() else None
-    if former:
-        path.unlink()
-    listener = socket.socket(socket.AF_UNIX)
-    try:
-        listener.bind(str(path))
-    except OSError as error:
-        raise Fault(FAILED, f"{path}: {error}") from None
-    if former:
-        try:
-            os.chown(path, former.st_uid, former.st_gid)
-        except OSError as error:
-            say(f"{path}: owner and group are not what they were: {error}")
-    path.chmod(former.st_mode & 0o777 if former and keeps_mode else mode)
-    return listener
-
-
-async def listen(hub: Hub, folder: Path, teams: list[str]) -> list[asyncio.AbstractServer]:
+async def listen(hub: Hub, folder: Path, groups: dict[str, int]) -> list[asyncio.AbstractServer]:
     """Serves the operator's socket and one for each team."""
     loop = asyncio.get_running_loop()
-    create = functools.partial(loop.create_unix_server, backlog=1024)
+    create = functools.partial(loop.create_unix_server, backlog=_AT_ONCE)
     if sys.version_info >= (3, 13):
         create = functools.partial(create, cleanup_socket=False)
     listeners: list[asyncio.AbstractServer] = []
-    for team in (None, *teams):
-        bound = bound_socket(folder / socket_name(team), 0o600 if team is None else 0o660, team is not None)
+    for team in (None, *hub.teams):
+        mode, group = (0o600, None) if team is None else (0o660, groups.get(team))
+        bound = bound_socket(folder / socket_name(team), mode, team is not None, group)
         client = functools.partial(Client, hub, None if team is None else team.encode())
         listeners.append(await create(client, sock=bound))
+        # (asyncio has one number for both)
+        bound.listen(_QUEUE)
     return listeners
 
 
-async def serve(hub: Hub, folder: Path, wanted: list[str], stopped: asyncio.Event) -> None:
+async def serve(hub: Hub, options: argparse.Namespace, stopped: asyncio.Event) -> None:
     """Starts and serves until a fault or a signal to stop; then reads no more, but answers what was read."""
-    stop = asyncio.create_task(stopped.wait())
-    start = asyncio.create_task(hub.start(wanted))
-    await asyncio.wait({start, stop}, return_when=asyncio.FIRST_COMPLETED)
-    if not start.done():
-        start.cancel()
-        await asyncio.gather(start, return_exceptions=True)
-        return
-    teams = start.result()
-    files = resource.getrlimit(resource.RLIMIT_NOFILE)[0]
-    hub.most_clients = max(1, min(MOST_CLIENTS, (files - 64) // (len(teams) + 1) - 1))
-    pump = asyncio.create_task(hub.pump())
-    listeners = await listen(hub, folder, teams)
-    say(f"ready: {len(teams)} teams, {hub.journal.changes} changes restored")
-    await asyncio.wait({pump, stop}, return_when=asyncio.FIRST_COMPLETED)
-    for listener in listeners:
-        listener.close()
-    hub.stop()
-    await pump
-    await part(hub)
+    groups = groups_of(options.group)
+    stop, watch = asyncio.create_task(stopped.wait()), asyncio.create_task(hub.watch())
+    start = asyncio.create_task(hub.start([*options.team]))
+    tasks = [stop, watch, start]
+    try:
+        await asyncio.wait({start, stop, watch}, return_when=asyncio.FIRST_COMPLETED)
+        if not start.done():
+            start.cancel()
+            await asyncio.gather(start, return_exceptions=True)
+            return None if stop.done() else watch.result()
+        teams = start.result()
+        if missing := [team for team in groups if team not in teams]:
+            raise Fault(REFUSED, f"no team: {', '.join(missing)}")
+        files = resource.getrlimit(resource.RLIMIT_NOFILE)[0]
+        hub.crowd.most_clients = max(1, min(MOST_CLIENTS, (files - 64) // (len(teams) + 1) - 1))
+        pump = asyncio.create_task(hub.pump())
+        tasks.append(pump)
+        listeners = await listen(hub, options.sockets, groups)
+        ready = f"ready: {len(teams)} teams, {hub.journal.changes} changes restored"
+        say(ready)
+        notify("READY=1", f"STATUS={ready}")
+        await asyncio.wait({pump, stop, watch}, return_when=asyncio.FIRST_COMPLETED)
+        for listener in listeners:
+            listener.close()
+        if watch.done():
+            watch.result()
+        hub.stop()
+        await pump
+        await part(hub)
+    finally:
+        # (after a fault nothing more is acknowledged)
+        for task in tasks:
+            task.cancel()
 
 
 async def part(hub: Hub) -> None:
     """Ends the connections once the clients have read what they were told, or have had the time for it."""
-    for client in list(hub.clients):
+    for client in list(hub.crowd.clients):
         client.part()
     loop = asyncio.get_running_loop()
     last = loop.time() + _LAST
-    while hub.clients and loop.time() < last:
+    while hub.crowd.clients and loop.time() < last:
         await asyncio.sleep(0.02)
+
+
+def end_by_signals(hub: Hub, stopped: asyncio.Event, grace: float) -> None:
+    """Has signals set the event; after so many seconds more, or at a second signal, this process ends as it stands."""
+
+    def give_up() -> None:
+        say(f"given up: not ended within {grace:g} seconds, or asked twice; nothing acknowledged is lost")
+        hub.strike()
+        os._exit(FAILED)
+
+    def stop() -> None:
+        if stopped.is_set():
+            give_up()
+        notify("STOPPING=1")
+        stopped.set()
+        last = threading.Timer(grace, give_up)
+        last.daemon = True
+        last.start()
+
+    for number in (signal.SIGTERM, signal.SIGINT, signal.SIGHUP):
+        # (one that `nohup` has this process pass over stays so)
+        if signal.getsignal(number) != signal.SIG_IGN:
+            asyncio.get_running_loop().add_signal_handler(number, stop)
+
+
+def tell_calmly(hub: Hub) -> None:
+    """Has what the event loop says of itself told once a minute, as that no descriptor is left."""
+
+    def handle(loop: asyncio.AbstractEventLoop, context: dict[str, Any]) -> None:
+        error = context.get("exception")
+        told = context["message"] if isinstance(error, OSError) or not error else "".join(traceback.format_exception(error))
+        hub.calm(str(context["message"]), f"{told}: {error}")
+
+    asyncio.get_running_loop().set_exception_handler(handle)
 
 
 async def run(options: argparse.Namespace) -> None:
     """The hub from its locks to its last export."""
     stopped = asyncio.Event()
-    for number in (signal.SIGTERM, signal.SIGINT):
-        asyncio.get_running_loop().add_signal_handler(number, stopped.set)
     paths = [options.design, *options.library]
     program = find_program(options.program)
-    options.sockets.mkdir(exist_ok=True)
-    lock(os.open(options.sockets, os.O_RDONLY | os.O_DIRECTORY | os.O_CLOEXEC), options.sockets)
-    sums = sums_of(paths)
-    journal = Journal(options.journal, sums, say, not options.no_sync)
-    hub = Hub(Server(Program(program, paths), sums), journal, options.patience, say)
+    take_folder(options.sockets)
+    texts, kept = settle_texts(options.journal, paths, say)
+    journal = Journal(options.journal, texts, say, not options.no_sync, own(program), options.takeover)
+    bounds = Bounds(options.patience, options.idle, options.deadline)
+    hub = Hub(Server(Program(program, kept), [text.sum for text in texts]), journal, bounds, say)
+    hub.exporter.given = paths
+    if journal.former and journal.former.program != journal.owner.program:
+        say(f"the journal was written with another program, {journal.former.program} of front {journal.former.front}")
+    end_by_signals(hub, stopped, options.grace)
+    tell_calmly(hub)
     try:
         if options.export:
-            hub.refuse_export(options.export)
-        await serve(hub, options.sockets, options.team, stopped)
+            hub.exporter.refuse(options.export)
+        await serve(hub, options, stopped)
+        if told := uncommitted_text(hub):
+            say(told)
         await hub.server.kill()
-        if options.export and not await hub.export(options.export, journal.end):
+        if options.export and await hub.exporter.write(options.export, journal.end) is not None:
             raise Fault(FAILED, f"{options.export}: not exported")
     finally:
         await hub.server.kill()
         journal.close()
     say("ended")
+
+
+class Ask(argparse.Action):
+    """An option that asks a hub for its status, prints it and ends."""
+
+    def __call__(self, parser: argparse.ArgumentParser, _: object, value: Any, option: str | None = None) -> None:
+        def work() -> int:
+            status = ask_status(value)
+            sys.stdout.write(prometheus(status) if option == "--metrics" else json.dumps(status) + "\n")
+            return DONE
+
+        parser.exit(run_tool(TOOL, work))
 
 
 def parser() -> Parser:
@@ -142,9 +197,17 @@ def parser() -> Parser:
     add("--journal", metavar="FILE", type=Path, required=True, help="where accepted changes are kept, made if it is missing")
     add("--export", metavar="FILE", help="where the committed places are exported at the end")
     add("--team", metavar="NAME", action="append", default=[], help="a team to serve, and no others than those so named")
+    add("--group", metavar="TEAM=GROUP", action="append", default=[], help="the group of a team's socket")
     add("--patience", metavar="S", type=float, default=60.0, help="seconds for which a client may read nothing (60)")
+    add("--idle", metavar="S", type=float, default=900.0, help="seconds for which one without a session may say nothing (900)")
+    add("--deadline", metavar="S", type=float, default=600.0, help="seconds of silence after which the program hangs (600)")
+    add("--grace", metavar="S", type=float, default=240.0, help="seconds within which SIGTERM ends it, exports and all (240)")
+    add("--takeover", action="store_true", help="take the journal from a hub of another host, which is gone for certain")
     add("--no-sync", action="store_true", help="do not wait for the disk: a crash of the machine may lose changes")
     made.add_program()
+    asked = {"--status": "print what the hub of a folder of sockets tells of itself, as JSON", "--metrics": "the same for Prometheus"}
+    for option, told in asked.items():
+        add(option, metavar="DIR", type=Path, action=Ask, help=told)
     return made
 
 

@@ -1,4 +1,4 @@
-"""LEF texts, as far as rows need them: the sites and their sizes."""
+"""LEF texts, as far as rows and lists of cells need them: the sites, the macros, and their sizes."""
 
 from __future__ import annotations
 
@@ -36,6 +36,30 @@ def sites_of(text: bytes) -> Iterator[Site]:
             _section(words, word)
         elif word == b"BEGINEXT":
             next((each for each in words if each == b"ENDEXT"), None)
+
+
+def sizes_of(text: bytes) -> Iterator[tuple[bytes, Decimal, Decimal]]:
+    """The macros of a LEF text with their widths and heights in microns, in its order."""
+    words = words_in(text)
+    for word in words:
+        if word == b"MACRO":
+            name = next(words, b"")
+            width, height = _size(_section(words, name))
+            yield name, width, height
+        elif word in _NAMED or word == b"SITE":
+            _section(words, next(words, b""))
+        elif word == b"PROPERTYDEFINITIONS":
+            _section(words, word)
+        elif word == b"BEGINEXT":
+            next((each for each in words if each == b"ENDEXT"), None)
+
+
+def _size(words: list[bytes]) -> tuple[Decimal, Decimal]:
+    """The SIZE of a macro; 0 where it has none. A pin or a property of that name has no BY behind its number."""
+    for at, word in enumerate(words):
+        if word == b"SIZE" and words[at + 2 : at + 3] == [b"BY"] and len(words) > at + 3:
+            return length(words[at + 1]), length(words[at + 3])
+    return Decimal(0), Decimal(0)
 
 
 def _section(words: Iterator[bytes], name: bytes) -> list[bytes]:

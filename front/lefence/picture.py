@@ -40,7 +40,7 @@ class Moves:
 
     def __init__(self) -> None:
         self.count = 0
-        self._longest: list[tuple[float, int, Move]] = []
+        self._longest: list[tuple[int, int, Move]] = []
         # The cells of either side that have not been met on the other one.
         self._waiting: tuple[dict[str, Box | None], dict[str, Box | None]] = ({}, {})
 
@@ -140,6 +140,8 @@ def main() -> int:
         outputs = options.output or []
         for output in outputs:
             refuse_inputs(output, [options.design, *options.libraries, *([options.before] if options.before else [])])
+            if output.suffix.lower() not in ("", ".svg", ".png"):
+                raise Fault(USAGE, f"{output} would be no {output.suffix[1:]}: the name of a picture ends with .svg or .png")
         klayout = _klayout(outputs)
         program = find_program(options.program)
         drawing = drawing_of(program, options.design, options.libraries, options.before, max(0, options.limit))

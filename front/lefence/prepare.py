@@ -11,7 +11,7 @@ from itertools import count
 from typing import NamedTuple
 
 from .description import Box
-from .design import Entry, Statement, fences_of, pattern_of, section_parts, statements, words_in
+from .design import Entry, Statement, fences_of, pattern_of, section_parts, shown, statements, words_in
 from .faults import REFUSED, USAGE, Fault
 from .lef import Site
 
@@ -59,7 +59,7 @@ class Preparation:
     """A DEF text that is being changed; `said` has a line for each change."""
 
     def __init__(self, text: bytes) -> None:
-        self._text = text
+        self.text = text
         self._statements = statements(text)
         self._changes: list[_Change] = []
         self.said: list[str] = []
@@ -81,19 +81,30 @@ class Preparation:
         """The text with all changes; those at one place in the order in which they were made."""
         pieces, at = [], 0
         for change in sorted(self._changes, key=lambda change: change.start):
-            pieces += [self._text[at : change.start], change.text]
+            pieces += [self.text[at : change.start], change.text]
             at = change.stop
-        return b"".join([*pieces, self._text[at:]])
+        return b"".join([*pieces, self.text[at:]])
+
+    def place_before(self, place: int) -> int | None:
+        """Where a place of the result stands in the text that was read; None where it was put in."""
+        shift = 0
+        for change in sorted(self._changes, key=lambda change: change.start):
+            if place < change.start + shift:
+                break
+            if place < change.start + shift + len(change.text):
+                return None
+            shift += len(change.text) - (change.stop - change.start)
+        return place - shift
 
     def _all(self, keyword: bytes) -> Iterator[Statement]:
         return (statement for statement in self._statements if statement.keyword == keyword)
 
     def _words(self, statement: Statement) -> list[bytes]:
-        return list(words_in(self._text[statement.start : statement.stop]))
+        return list(words_in(self.text[statement.start : statement.stop]))
 
     def _line_end(self, place: int) -> int:
         """The end of the line if nothing but a comment follows there, else the place itself."""
-        rest = _REST.match(self._text, place)
+        rest = _REST.match(self.text, place)
         return rest.end() if rest else place
 
     def _put(self, place: int, text: bytes) -> None:
@@ -107,7 +118,7 @@ class Preparation:
 
     def add_rows(self, site: Site, wanted: Wanted) -> None:
         """Rows of the site over the core, on the grid of the placed cells; those that the text has are taken out."""
-        name = f"site {_shown(site.name)}"
+        name = f"site {shown(site.name)}"
         width, height = (_whole(length * self.units, name) for length in (site.width, site.height))
         core = wanted.core or self._die()
         core = Box(core.left + wanted.margin, core.bottom + wanted.margin, core.right - wanted.margin, core.top - wanted.margin)
@@ -152,7 +163,7 @@ class Preparation:
         # By where a cell stands in a pair of rows, and whether it is flipped; None where that tells nothing.
         upwards: Counter[tuple[int, bool | None]] = Counter()
         for statement in self._all(b"COMPONENTS"):
-            for entry in section_parts(self._text, statement)[2]:
+            for entry in section_parts(self.text, statement)[2]:
                 if found := _placed(entry):
                     x, y, orient = found
                     across[x % width] += 1
@@ -173,23 +184,26 @@ class Preparation:
 
     def remove_fillers(self, patterns: list[str]) -> None:
         """Takes out the components whose name or macro one of the patterns has."""
-        are_fillers = [pattern_of(_word(pattern).encode()).fullmatch for pattern in patterns]
-        removed = 0
+        are_fillers = {pattern: pattern_of(_word(pattern).encode()).fullmatch for pattern in patterns}
+        removed, unmet = 0, set(patterns)
         for statement in self._all(b"COMPONENTS"):
-            section = _Section(self._text, statement)
+            section = _Section(self.text, statement)
             kept = 0
             for start, entry in section.entries():
-                if any(is_filler(word) for is_filler in are_fillers for word in entry.words[:2]):
+                found = {pattern for pattern, is_filler in are_fillers.items() if any(map(is_filler, entry.words[:2]))}
+                if found:
+                    unmet -= found
                     self._remove(start, start + len(entry.text))
                     removed += 1
                 else:
                     kept += 1
             self._changes.append(_Change(section.count, section.behind_count, b"%d" % kept))
         self.said.append(f"{removed} fillers removed ({' '.join(patterns)})")
+        self.said += [f"no component has a name or a macro like {pattern}" for pattern in patterns if pattern in unmet and removed]
 
     def add_fences(self, fences: dict[str, list[Box]]) -> None:
         """FENCE regions of these rectangles."""
-        known = {entry.name for statement in self._all(b"REGIONS") for entry in section_parts(self._text, statement)[2]}
+        known = {entry.name for statement in self._all(b"REGIONS") for entry in section_parts(self.text, statement)[2]}
         entries = []
         for name, boxes in fences.items():
             word = _word(name).encode()
@@ -202,8 +216,8 @@ class Preparation:
 
     def add_groups(self, groups: dict[str, list[str]], fences: list[str]) -> None:
         """Groups of these patterns, each bound to the fence of its name; `fences` are those that are added."""
-        known = {*fences_of(self._text, self._statements), *(name.encode() for name in fences)}
-        taken = {entry.name for statement in self._all(b"GROUPS") for entry in section_parts(self._text, statement)[2]}
+        known = {*fences_of(self.text, self._statements), *(name.encode() for name in fences)}
+        taken = {entry.name for statement in self._all(b"GROUPS") for entry in section_parts(self.text, statement)[2]}
         entries = []
         for name, patterns in groups.items():
             fence = _word(name).encode()
@@ -218,14 +232,14 @@ class Preparation:
     def _add_entries(self, keyword: bytes, entries: list[bytes], followers: tuple[bytes, ...]) -> None:
         """Entries at the end of the first section of that keyword; else in a new one, before the first of the followers."""
         if (statement := next(self._all(keyword), None)) is not None:
-            section = _Section(self._text, statement)
+            section = _Section(self.text, statement)
             last, many = section.start, len(entries)
             for start, entry in section.entries():
                 last, many = start + len(entry.text), many + 1
             self._changes.append(_Change(section.count, section.behind_count, b"%d" % many))
             self._put(last, b"".join(entries))
             return
-        place = next((each.start for each in self._statements if each.keyword in followers), len(self._text))
+        place = next((each.start for each in self._statements if each.keyword in followers), len(self.text))
         self._put(place, b"\n%b %d ;%b\nEND %b" % (keyword, len(entries), b"".join(entries), keyword))
 
 
@@ -276,10 +290,6 @@ def _word(word: str) -> str:
     if not _NAME.fullmatch(word) or word in (";", "+", "-", "(", ")"):
         raise Fault(USAGE, f"{word!r} can be no name in a DEF text")
     return word
-
-
-def _shown(name: bytes) -> str:
-    return name.decode("ascii", "backslashreplace")
 
 
 def _box(box: Box) -> str:

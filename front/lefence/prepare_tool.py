@@ -6,11 +6,14 @@ import argparse
 import functools
 import tempfile
 from collections import Counter
+from dataclasses import dataclass
 from pathlib import Path
 
-from .description import Box, Description, Total
+from .description import Box, Description, Facts, Total
+from .design import shown
 from .faults import DONE, REFUSED, USAGE, Fault, Parser, log, run_tool
 from .lef import Site, sites_of
+from .look import Remark, line_of, remarks_of
 from .prepare import Preparation, Wanted, whole_units
 from .program import find_program
 from .progress import Progress
@@ -18,6 +21,8 @@ from .protocol import RULES
 from .whole_file import refuse_inputs, whole_file
 
 TOOL = "lefence-prepare"
+# The status where every cell breaks a rule, or where a look has something to tell.
+NOT_LEGAL = 4
 _BOX_WORDS = ("X1", "Y1", "X2", "Y2")
 
 
@@ -44,28 +49,58 @@ def _core_site(libraries: list[bytes], name: str | None) -> Site:
     usable = [site for site in sites.values() if site.is_core and site.width > 0 and site.height > 0]
     wanted = [site for site in usable if name is None or site.name == name.encode(errors="surrogateescape")]
     if not wanted:
-        found = ", ".join(site.name.decode("ascii", "backslashreplace") for site in usable) or "none"
+        found = ", ".join(shown(site.name) for site in usable) or "none"
         what = "a site" if name is None else f"a site {name}"
         raise Fault(REFUSED, f"no LEF text has {what} with CLASS CORE and a SIZE; found: {found}")
     return wanted[0]
 
 
-def totals_of(program: str, text: bytes, libraries: list[Path]) -> tuple[Total, Counter[str], Counter[int]]:
-    """What the program says of a text: the totals, the cells of each team, and the violations of each rule."""
+@dataclass
+class Told:
+    """What the program tells of a text, with the cells of each team, how many break each rule, and how high how many are."""
+
+    facts: Facts
+    total: Total
+    teams: Counter[str]
+    rules: Counter[int]
+    heights: Counter[int]
+
+    @property
+    def fits_rows(self) -> bool:
+        """Whether a cell is as high as from 1 to 8 rows, without which no place can be legal, or there is no cell at all."""
+        site = self.facts.site_height
+        return not self.heights or any(height % site == 0 and height <= 8 * site for height in self.heights)
+
+    @property
+    def is_all_illegal(self) -> bool:
+        """Whether there are cells and each of them breaks a rule."""
+        return 0 < self.total.cells == self.total.illegal
+
+    def in_words(self) -> str:
+        """The totals."""
+        broken = ", ".join(f"{many} by rule {rule} {RULES.get(rule, '')}" for rule, many in sorted(self.rules.items()))
+        illegal = f"{self.total.illegal} illegal ({broken})" if broken else "0 illegal"
+        return f"it loads: {self.total.cells} cells, {self.total.unplaced} unplaced, {illegal}"
+
+
+def told_of(program: str, text: bytes, libraries: list[Path], name: str) -> Told:
+    """What the program tells of a text; a fault, which calls it by this name, where it does not load."""
     with tempfile.NamedTemporaryFile(suffix=".def") as file:
         file.write(text)
         file.flush()
         teams: Counter[str] = Counter()
         rules: Counter[int] = Counter()
+        heights: Counter[int] = Counter()
         try:
             with Description(program, Path(file.name), libraries) as description:
                 for cell in Progress(TOOL, "cells").over(description.cells()):
                     teams[cell.team] += 1
+                    heights[cell.height] += 1
                     if cell.rule is not None:
                         rules[cell.rule] += 1
-                return description.total, teams, rules
+                return Told(description.frame.facts, description.total, teams, rules, heights)
         except Fault as fault:
-            raise Fault(fault.status, str(fault).replace(f"DEF file {file.name}", "the prepared text")) from None
+            raise Fault(fault.status, str(fault).replace(f"DEF file {file.name}", name)) from None
 
 
 def wanted_of(options: argparse.Namespace, units: int) -> Wanted:
@@ -95,12 +130,14 @@ def parser() -> Parser:
         TOOL,
         "Makes a DEF text loadable: puts in rows where it has none, and fences and groups, and takes out fillers. The\n"
         "other bytes stay. The program reads the result, which is written if it loads. Lengths are microns.",
+        f"{TOOL} chip.def tech.lef cells.lef --look\n"
         f"{TOOL} chip.def tech.lef cells.lef --output ready.def --fillers 'FILL*' \\\n"
         "    --fence A 0 0 100 50 --group A 'u1/*' 'u2/*'",
     )
     made.add_design()
     add = made.add_argument
-    add("-o", "--output", metavar="FILE", type=Path, required=True, help="where the prepared text is written")
+    add("-o", "--output", metavar="FILE", type=Path, help="where the prepared text is written")
+    add("--look", action="store_true", help="tells what in the text is passed over or odd, and writes nothing")
     add("--rows", action="store_true", help="makes rows also where the text has some, in their place")
     add("--site", metavar="NAME", help="the site of the rows (the first of the LEF texts with CLASS CORE)")
     add("--core", metavar=_BOX_WORDS, nargs=4, help="where rows are made (DIEAREA)")
@@ -119,6 +156,10 @@ def main() -> int:
 
     def work() -> int:
         program = find_program(options.program)
+        if options.look:
+            return look(program, options)
+        if options.output is None:
+            raise Fault(USAGE, "--output FILE says where the prepared text is written; --look writes none")
         refuse_inputs(options.output, (options.design, *options.libraries))
         preparation = Preparation(options.design.read_bytes())
         wanted = wanted_of(options, preparation.units)
@@ -126,8 +167,8 @@ def main() -> int:
         for line in preparation.said:
             log(TOOL, line)
         text = preparation.result()
-        status = _tell(program, text, options.libraries, wanted)
-        if status == DONE or options.force:
+        status = _tell(program, preparation, text, options, wanted)
+        if status in (DONE, NOT_LEGAL) or options.force:
             with whole_file(options.output) as file:
                 file.write(text)
         else:
@@ -137,16 +178,59 @@ def main() -> int:
     return run_tool(TOOL, work)
 
 
-def _tell(program: str, text: bytes, libraries: list[Path], wanted: Wanted) -> int:
-    """Says what the program makes of the text: the status is 0 if it loads, and else that of the program."""
+def look(program: str, options: argparse.Namespace) -> int:
+    """Tells of the text as it is, on standard output."""
+    if options.output or options.rows or options.site or options.core or options.margin or options.fillers or options.fence or options.group:
+        raise Fault(USAGE, "--look tells of the text as it is: it goes with no option that prepares or writes one")
+    text = options.design.read_bytes()
+    judged = judge(program, text, options.libraries, str(options.design))
+    lines = [_located(options.design, text, remark.place, remark.text) for remark in judged.remarks]
+    print("\n".join([*lines, *judged.lines]).encode("utf-8", "backslashreplace").decode())
+    return judged.status or (NOT_LEGAL if lines else DONE)
+
+
+@dataclass
+class Judged:
+    """What there is to say of a text, and the status to end with: 0, 4 where every cell breaks a rule, or why it is not sound."""
+
+    status: int
+    lines: list[str]
+    remarks: list[Remark]
+    teams: Counter[str]
+
+
+def judge(program: str, text: bytes, libraries: list[Path], name: str) -> Judged:
+    """What the program makes of a text, and what it passes over in it; its fault calls the text by this name."""
     try:
-        total, teams, rules = totals_of(program, text, libraries)
+        told = told_of(program, text, libraries, name)
     except Fault as fault:
-        log(TOOL, f"it does not load: {fault}")
-        return fault.status
+        return Judged(fault.status, [f"it does not load: {fault}"], remarks_of(text, None), Counter())
+    lines, status = [told.in_words()], DONE
+    if not told.fits_rows:
+        heights = ", ".join(f"{height / told.facts.units:g}" for height in sorted(told.heights)[:5])
+        site = f"{told.facts.site}, {told.facts.site_height / told.facts.units:g} microns high"
+        lines.append(f"no cell fits the rows of site {site}: the cells are {heights} microns high; --rows --site NAME takes another site")
+        status = REFUSED
+    elif told.is_all_illegal:
+        lines.append("every cell breaks a rule; lefence-repair looks for places")
+        status = NOT_LEGAL
+    return Judged(status, lines, remarks_of(text, told.facts), told.teams)
+
+
+def _located(path: Path, text: bytes, place: int | None, said: str) -> str:
+    """What is said of a place of a text, with its line."""
+    return said if place is None else f"{path}, line {line_of(text, place)}: {said}"
+
+
+def _tell(program: str, preparation: Preparation, text: bytes, options: argparse.Namespace, wanted: Wanted) -> int:
+    """Says what the program makes of the text, and what it passes over, by the lines of the text that was read; the status."""
+    judged = judge(program, text, options.libraries, "the prepared text")
+    for remark in judged.remarks:
+        place = None if remark.place is None else preparation.place_before(remark.place)
+        log(TOOL, _located(options.design, preparation.text, place, remark.text))
     for name in wanted.groups:
-        log(TOOL, f"team {name} has {teams[name]} cells")
-    broken = ", ".join(f"{many} by rule {rule} {RULES.get(rule, '')}" for rule, many in sorted(rules.items()))
-    illegal = f"{total.illegal} illegal ({broken})" if broken else "0 illegal"
-    log(TOOL, f"it loads: {total.cells} cells, {total.unplaced} unplaced, {illegal}")
-    return DONE
+        if judged.teams[name]:
+            log(TOOL, f"team {name} has {judged.teams[name]} cells")
+    for line in judged.lines:
+        log(TOOL, line)
+    return judged.status

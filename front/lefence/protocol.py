@@ -17,6 +17,8 @@ MOST_LINES = 4_294_967_295
 # The greatest number of a session and of a revision.
 MOST_NUMBER = 4_294_967_295
 ORIENTS = tables.ORIENTS
+# How OpenAccess and many Tcl tools spell the orientations, the first of each as replies have it.
+OPENACCESS = {"R0": "N", "R90": "W", "R180": "S", "R270": "E", "MY": "FN", "MXR90": "FW", "MX": "FS", "MYR90": "FE", "MX90": "FW", "MY90": "FE"}
 # The team of the ground outside all fences.
 GROUND = "-"
 
@@ -66,6 +68,11 @@ def fields_of(line: bytes) -> list[bytes]:
 def is_accepted(reply: bytes) -> bool:
     """Whether a reply says that the command was carried out."""
     return reply == b"ok\n" or reply.startswith(b"ok ")
+
+
+def on_one_line(text: str) -> bytes:
+    """A text as the end of a reply: what is not printable is escaped."""
+    return "".join(each if " " <= each <= "~" else each.encode("unicode_escape").decode() for each in text).encode()
 
 
 def is_change(fields: list[bytes], reply: bytes) -> bool:

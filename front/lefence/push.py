@@ -13,7 +13,7 @@ from pathlib import Path
 from .client import Connection, Sent
 from .endpoint import connect_to
 from .faults import DONE, FAILED, REFUSED, Fault, Parser, log, run_tool
-from .journal import read_records
+from .frames import read_records
 from .protocol import REVISIONS
 
 TOOL = "lefence-push"
@@ -115,7 +115,7 @@ def _open_again(connection: Connection, team: bytes, sessions: set[int], revisio
 
 def push_journal(journal: Path, where: str, ahead: int, continues: bool) -> Push:
     """Sends a journal's commands to a socket; a fault tells the first reply that differs, or that the connection is lost."""
-    records = [(number, line, reply) for number, (line, reply) in enumerate(read_records(journal), 1)]
+    records = [(number, line, reply) for number, (line, reply, _) in enumerate(read_records(journal), 1)]
     there = connect_to(where)
     push = Push(there.connection, max(1, ahead))
     try:
@@ -148,7 +148,7 @@ def main() -> int:
     def work() -> int:
         push = push_journal(options.journal, options.socket, options.ahead, options.continues)
         teams = ", ".join(f"{team.decode()} at revision {revision}" for team, revision in push.revisions.items())
-        log(TOOL, f"{push.count} lines answered as recorded" + (f"; team {teams}" if teams else ""))
+        log(TOOL, f"{push.count} {'line' if push.count == 1 else 'lines'} answered as recorded" + (f"; team {teams}" if teams else ""))
         return DONE
 
     return run_tool(TOOL, work)

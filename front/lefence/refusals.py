@@ -198,12 +198,12 @@ class OutOfMemory(Refusal):
 
 
 class NotExported(Refusal):
-    """13, of a hub alone: the file could not be written."""
+    """13, of a hub alone: the file could not be written; the fields are the reason in words."""
 
     number = 13
 
     def words(self) -> str:
-        return "the file was not written; the hub's standard error says why"
+        return f"the file was not written: {' '.join(self.fields) or 'the hub gives no reason'}"
 
 
 _KINDS: dict[int, type[Refusal]] = {kind.number: kind for kind in Refusal.__subclasses__()}
@@ -211,6 +211,9 @@ _KINDS: dict[int, type[Refusal]] = {kind.number: kind for kind in Refusal.__subc
 
 def refusal_of(reply: bytes) -> Refusal | None:
     """The refusal that a reply is; None where it is none."""
+    if not reply.startswith(b"no "):
+        # (of a text of a team not one word is looked at)
+        return None
     words = reply.decode("ascii", "backslashreplace").split()
     if len(words) < 3 or words[0] != "no" or not words[1].isdecimal():
         return None

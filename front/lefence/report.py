@@ -149,7 +149,7 @@ def _data(report: Report) -> dict[str, object]:
         "soft": [_sized(box) for box in scene.soft],
         "cells": [cell_of(cell) for cell in report.cells],
         "broken": [[*cell_of(cell), cell.other, _words(cell)] for cell in scene.broken],
-        "map": None if scene.map is None else _map(scene.map, scene.broken_map),
+        "map": None if scene.map is None else _map(scene.map, scene.red_paths()),
         "shades": SHADES,
         "broken_colour": BROKEN,
         "macros": list(macros),
@@ -160,8 +160,8 @@ def _sized(box: Box) -> list[int]:
     return [box.left, box.bottom, box.width, box.height]
 
 
-def _map(bins: Bins, broken: Bins) -> dict[str, object]:
-    paths, ill = ([[team, shade, path] for (team, shade), path in each.paths().items()] for each in (bins, broken))
+def _map(bins: Bins, red: dict[tuple[int, int], str]) -> dict[str, object]:
+    paths, ill = ([[team, shade, path] for (team, shade), path in each.items()] for each in (bins.paths(), red))
     return {"side": bins.side, "left": bins.view.left, "bottom": bins.view.bottom, "paths": paths, "broken": ill}
 
 
@@ -190,7 +190,7 @@ def _legend(scene: Scene) -> str:
     frame = scene.frame
     kinds = {obstacle.name is None for obstacle in frame.obstacles}
     named = [("var(--fixed)", "FIXED")] * (False in kinds) + [("var(--blocked)", "blockage")] * (True in kinds)
-    named += [(BROKEN, "breaks a rule")] * bool(scene.broken)
+    named += [(BROKEN, "breaks a rule; from afar: more cells than room" if scene.map and scene.shows_too_full else "breaks a rule")] * bool(scene.broken)
     teams = [(colour_of(at, team), shortened(team)) for at, team in enumerate(frame.teams[:-1])][:12]
     teams.append((colour_of(len(frame.fences), GROUND), "- (ground)"))
     text = [f'<span><i class="swatch" style="background:{colour}"></i>{text_of(name)}</span>' for colour, name in teams + named]

@@ -8,6 +8,7 @@ from __future__ import annotations
 
 import colorsys
 from collections import Counter, defaultdict
+from collections.abc import Iterable
 from dataclasses import dataclass, field
 
 from .description import Box, Cell, Frame, Obstacle
@@ -99,20 +100,37 @@ class Bins:
     def paths(self) -> dict[tuple[int, int], str]:
         """Of each team and shade (1 to SHADES) the bins that it fills most, as an SVG path whose unit is a bin."""
         most: dict[tuple[int, int], tuple[int, int]] = {}
-        whole: defaultdict[tuple[int, int], int] = defaultdict(int)
         for (up, along, team), area in self._taken.items():
-            whole[up, along] += area
             if area > most.get((up, along), (0, 0))[0]:
                 most[up, along] = area, team
-        runs: defaultdict[tuple[int, int], list[list[int]]] = defaultdict(list)
-        for (up, along), (_, team) in sorted(most.items()):
-            shade = min(SHADES, -(-whole[up, along] * SHADES // self.side**2))
-            places = runs[team, shade]
-            if places and places[-1][0] == up and places[-1][1] + places[-1][2] == along:
-                places[-1][2] += 1
-            else:
-                places.append([up, along, 1])
-        return {key: "".join(f"M{x} {y}h{n}v1h-{n}z" for y, x, n in places) for key, places in sorted(runs.items())}
+        whole = self._whole()
+        return _paths((place, team, min(SHADES, -(-whole[place] * SHADES // self.side**2))) for place, (_, team) in most.items())
+
+    def too_full(self, others: Bins) -> dict[tuple[int, int], str]:
+        """The bins of which both together take more than there is, as `paths`, all of one team; the last shade is that of twice as much."""
+        room, taken = self.side**2, Counter(self._whole())
+        taken.update(others._whole())
+        over = ((place, area - room) for place, area in taken.items() if area > room)
+        return _paths((place, ILL, min(SHADES, -(-more * SHADES // room))) for place, more in over)
+
+    def _whole(self) -> dict[tuple[int, int], int]:
+        """How much of each bin is taken."""
+        whole: defaultdict[tuple[int, int], int] = defaultdict(int)
+        for (up, along, _), area in self._taken.items():
+            whole[up, along] += area
+        return whole
+
+
+def _paths(bins: Iterable[tuple[tuple[int, int], int, int]]) -> dict[tuple[int, int], str]:
+    """Bins, each with its team and its shade, as a path for each of these two; neighbours in a line are one rectangle."""
+    runs: defaultdict[tuple[int, int], list[list[int]]] = defaultdict(list)
+    for (up, along), team, shade in sorted(bins):
+        places = runs[team, shade]
+        if places and places[-1][0] == up and places[-1][1] + places[-1][2] == along:
+            places[-1][2] += 1
+        else:
+            places.append([up, along, 1])
+    return {key: "".join(f"M{x} {y}h{n}v1h-{n}z" for y, x, n in places) for key, places in sorted(runs.items())}
 
 
 # The numbers, in the place of a team's, of obstacles in a map and of cells that break a rule.
@@ -182,6 +200,20 @@ class Scene:
             assert cell.box is not None
             self.map.add(self._numbers[cell.team], cell.box)
         self.cells = []
+
+    @property
+    def shows_too_full(self) -> bool:
+        """Whether the red of a map is for bins that are too full: where two of three cells break a rule, that tells more than where."""
+        return 3 * self.sum_of("broken") > 2 * (self.sum_of("cells") - self.sum_of("unplaced"))
+
+    def red_paths(self) -> dict[tuple[int, int], str]:
+        """The red bins of the map, as `Bins.paths`."""
+        if self.map is None or not self.shows_too_full:
+            return self.broken_map.paths()
+        drawn = Bins(self.view)
+        for obstacle in self.obstacles:
+            drawn.add(OBSTACLES, obstacle.box)
+        return self.map.too_full(drawn)
 
     def sum_of(self, key: str) -> int:
         """`cells` or `unplaced` or `broken` of all teams together."""

@@ -4,12 +4,13 @@ from __future__ import annotations
 
 import asyncio
 import itertools
+import time
 from collections.abc import Callable, Iterator
 
 from .async_run import AsyncRun
 from .description import take_team
 from .faults import FAILED, REFUSED, Fault
-from .journal import sums_of
+from .frames import Record, sums_of
 from .program import PIECE, Program
 from .protocol import GROUND, text_length
 
@@ -32,6 +33,22 @@ class Server:
         self.sums = sums
         self._export = export
         self._run: AsyncRun | None = None
+        # Since when the program says nothing to what it was asked.
+        self._since: float | None = None
+
+    @property
+    def pid(self) -> int | None:
+        """The process of the program, where it runs."""
+        return self._run.pid if self._run else None
+
+    def silence(self) -> float:
+        """For how many seconds the program has said nothing, while it has something to answer or to write."""
+        return 0 if self._since is None else time.monotonic() - self._since
+
+    def strike(self) -> None:
+        """Kills a program that hangs; whoever waits for it is told that it is lost."""
+        if self._run:
+            self._run.strike()
 
     async def start(self) -> None:
         """Starts the program and waits until it has loaded the design.
@@ -55,12 +72,15 @@ class Server:
         """The reply to each line with all its bytes; a `def` may only be the last. Raises ServerLost where the program dies."""
         if not lines:
             return []
+        self._since = time.monotonic()
         try:
             assert self._run
             self._run.send(b"\n".join(lines) + b"\n")
             return await self._replies(lines)
         except (OSError, asyncio.IncompleteReadError) as error:
             raise ServerLost(f"the program is lost: {error}") from None
+        finally:
+            self._since = None
 
     async def _replies(self, lines: list[bytes]) -> list[bytes]:
         assert self._run
@@ -71,6 +91,7 @@ class Server:
             if not piece:
                 raise ConnectionResetError("end of its replies")
             pieces.append(piece)
+            self._since = time.monotonic()
             feeds += piece.count(b"\n")
         *texts, rest = b"".join(pieces).split(b"\n", len(lines))
         replies = [text + b"\n" for text in texts]
@@ -78,24 +99,32 @@ class Server:
             replies[-1] += rest + await reader.readexactly(length - len(rest))
         return replies
 
-    async def restore(self, records: Iterator[tuple[bytes, bytes]], note: Note | None = None) -> None:
-        """Has the lines of a journal answered, and compares each reply; `note` is told of each.
+    async def restore(self, records: Iterator[Record], note: Note | None = None) -> int:
+        """Has the lines of a journal answered, and compares each reply; `note` is told of each. How many they are.
 
         Raises a fault at the first reply that is another; ServerLost where the program dies or lacks memory.
         """
+        count = 0
         while chunk := list(itertools.islice(records, _CHUNK)):
-            for (line, told), reply in zip(chunk, await self.ask([line for line, _ in chunk])):
+            for record, reply in zip(chunk, await self.ask([record.line for record in chunk])):
+                count += 1
                 if reply.startswith(b"no 12 "):
                     raise ServerLost("the program has no memory to restore its state")
-                if reply != told:
-                    raise Fault(REFUSED, f"the journal has {told!r} for {line!r}, and the program answers {reply!r}")
+                if reply != record.reply:
+                    place = f"change {count}: the journal has {record.reply!r} for {record.line!r}"
+                    raise Fault(REFUSED, f"{place}, and the program answers {reply!r}")
                 if note:
-                    note(line.split(), reply)
+                    note(record.line.split(), reply)
+        return count
 
     async def end(self) -> int:
         """Ends the program's input, and returns its exit status."""
         assert self._run
-        return await self._run.finish()
+        self._since = time.monotonic()
+        try:
+            return await self._run.finish()
+        finally:
+            self._since = None
 
     async def kill(self) -> None:
         """Ends the program, where it runs."""

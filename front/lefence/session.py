@@ -4,6 +4,7 @@ from __future__ import annotations
 
 import functools
 from collections.abc import Awaitable, Callable
+from dataclasses import dataclass
 from typing import TYPE_CHECKING, Any, Concatenate, Generic, ParamSpec, Protocol, TypeVar, overload
 
 from . import verbs
@@ -74,18 +75,28 @@ class Verbs:
     pad = Method(verbs.pad)
 
 
+@dataclass(frozen=True)
+class Wishes:
+    """What a session is opened with: how often a stale change is sent again, and how lengths and orientations are spelled."""
+
+    retries: int = 0
+    microns: bool = False
+    per_micron: int | None = None
+    openaccess: bool = False
+
+
 class BaseSession(Verbs, Generic[C]):
     """A session of a team over a connection; it is open inside its block."""
 
-    def __init__(self, connection: C, team: str, retries: int, in_microns: bool, per_micron: int | None) -> None:
+    def __init__(self, connection: C, team: str, wishes: Wishes) -> None:
         self.connection = connection
         self.team = team
-        self.retries = retries
+        self.retries = wishes.retries
         # The team's revision when the session was opened.
         self.first_revision = 0
         self._scope: Scope | None = None
-        self._in_microns = in_microns
-        self._per_micron = per_micron
+        self._wishes = wishes
+        self._per_micron = wishes.per_micron
 
     @property
     def scope(self) -> Scope:
@@ -93,3 +104,17 @@ class BaseSession(Verbs, Generic[C]):
         if self._scope is None:
             raise ValueError("the session is not open: its block opens it")
         return self._scope
+
+    @property
+    def number(self) -> int:
+        """The number of the session's slot."""
+        return self.scope.number
+
+    @property
+    def _lacks_units(self) -> bool:
+        """Whether lengths are microns, and how many database units one has is not known."""
+        return self._wishes.microns and self._per_micron is None
+
+    def _begin(self, number: int) -> None:
+        """The session is open, with all that its wishes need."""
+        self._scope = Scope(self.team, number, self._per_micron, self._wishes.openaccess)

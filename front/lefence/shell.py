@@ -12,8 +12,8 @@ from pathlib import Path
 
 from .client import Connection, Session
 from .endpoint import Endpoint, connect_to, start_program
-from .faults import DONE, FAILED, REFUSED, Fault, Parser, run_tool
-from .protocol import ORIENTS, VERBS
+from .faults import DONE, FAILED, REFUSED, Fault, Parser, printable, run_tool
+from .protocol import OPENACCESS, ORIENTS, VERBS
 from .refusals import Refusal, broken_in_words
 from .verbs import Legalized, Place, ProtocolError, Report, Tidied
 
@@ -143,7 +143,7 @@ class Shell(cmd.Cmd):
             raise ValueError(f"{verb} takes {' '.join(wanted) or 'nothing'}")
         session = self._session()
         method = getattr(session, "def_text" if verb == "def" else verb)
-        values = [_number(field) if kind in ("X", "Y", "P") else field for kind, field in zip(wanted, fields)]
+        values = [_value(kind, field) for kind, field in zip(wanted, fields)]
         self._print(in_words(verb, fields, method(*values)))
         if verb == "close":
             self._sessions.pop(session.team)
@@ -151,7 +151,7 @@ class Shell(cmd.Cmd):
             self._name()
 
     def _print(self, lines: list[str]) -> None:
-        self.stdout.write("".join(f"{line}\n" for line in lines))
+        self.stdout.write("".join(f"{printable(line)}\n" for line in lines))
         self.stdout.flush()
 
     # Help and completion.
@@ -200,9 +200,15 @@ class Shell(cmd.Cmd):
             return []
 
 
-def _number(field: str) -> int:
+def _value(kind: str, field: str) -> str | int:
+    """A field as the client library takes it; ValueError of one that no request can have."""
+    if kind == "O" and field not in ORIENTS:
+        meant = f", which calls it {OPENACCESS[field]}" if field in OPENACCESS else ""
+        raise ValueError(f"{field} is no orientation of DEF{meant}: {' '.join(ORIENTS)}")
+    if kind not in ("X", "Y", "P"):
+        return field
     if not re.fullmatch(r"-?[0-9]+", field, re.ASCII):
-        raise ValueError(f"{field} is no whole number of database units")
+        raise ValueError(f"{field} is no whole number{' of database units' if kind != 'P' else ''}")
     return int(field)
 
 
@@ -244,6 +250,13 @@ def _converse(shell: Shell) -> None:
             pass
 
 
+def _relay(connection: Connection) -> None:
+    """Sends each line of standard input, and writes its reply, up to the end of either side."""
+    for line in sys.stdin.buffer:
+        sys.stdout.buffer.write(connection.ask_line(line.removesuffix(b"\n")))
+        sys.stdout.buffer.flush()
+
+
 def parser() -> Parser:
     made = Parser(
         TOOL,
@@ -252,6 +265,8 @@ def parser() -> Parser:
     )
     made.add_argument("where", metavar="WHERE", nargs="+", help="a socket, HOST:PORT, or DEF LEF...")
     made.add_argument("--team", metavar="NAME", help="the team to begin with")
+    told = "sends the lines of standard input as they are, and writes the replies as they are: for programs that cannot reach a socket"
+    made.add_argument("--raw", action="store_true", help=told)
     made.add_program()
     return made
 
@@ -270,6 +285,9 @@ def main() -> int:
             endpoint = start_program(options.program, [Path(word) for word in options.where])
         shell = Shell(endpoint)
         try:
+            if options.raw:
+                _relay(endpoint.connection)
+                return DONE
             if options.team and not _begin(shell, options.team):
                 return REFUSED
             _converse(shell)

@@ -9,18 +9,21 @@ from __future__ import annotations
 import os
 import sys
 import tempfile
+from array import array
 from collections.abc import Iterator
 from itertools import zip_longest
 from pathlib import Path
 
 from .description import Cell, Description
-from .design import Design, Statement, section_parts
+from .design import Design, Entry, Statement, section_parts, statements_in
 from .faults import DONE, REFUSED, Fault, Parser, log, run_tool
 from .program import find_program
 from .protocol import GROUND
 from .whole_file import refuse_inputs
 
 TOOL = "lefence-slice"
+# Sections of which a slice has the entries of a team.
+_SLICED = (b"COMPONENTS", b"GROUPS")
 # What speaks of components or nets that a slice lacks, and plays no part in legality.
 _DROPPED = frozenset(b"PINS PINPROPERTIES SLOTS FILLS SPECIALNETS NETS SCANCHAINS BEGINEXT".split())
 
@@ -34,25 +37,67 @@ def slice_of(text: bytes, team: str) -> bytes:
     name = os.fsencode(team)
     if team != GROUND and name not in design.fences:
         raise Fault(REFUSED, f"no team: {team}")
-    return b"".join(_pieces(design, name)) + b"\n"
+    return b"".join(next(slices_of(design, [name])))
 
 
-def _pieces(design: Design, team: bytes) -> Iterator[bytes]:
+def refuse_other_text(text: bytes) -> None:
+    """A fault where a text is no DEF text."""
+    if not any(statement.keyword == b"DESIGN" for statement in statements_in(text)):
+        raise Fault(REFUSED, "the file has no DESIGN: it is no DEF text" + (", but compressed by gzip" if text[:2] == b"\x1f\x8b" else ""))
+
+
+def slices_of(design: Design, teams: list[bytes]) -> Iterator[Iterator[bytes]]:
+    """The slices of a design for these teams of its own, in one pass, each piece by piece."""
+    sections = {statement.start: _Entries(design, statement, teams) for statement in design.statements if statement.keyword in _SLICED}
+    for team in teams:
+        yield _pieces(design, team, sections)
+
+
+def _pieces(design: Design, team: bytes, sections: dict[int, _Entries]) -> Iterator[bytes]:
     for statement in design.statements:
-        if statement.keyword in (b"COMPONENTS", b"GROUPS"):
-            yield _section(design, statement, team)
+        if statement.keyword in _SLICED:
+            yield from sections[statement.start].of(team)
         elif statement.keyword not in _DROPPED:
             yield design.text[statement.start : statement.stop]
+    yield b"\n"
 
 
-def _section(design: Design, section: Statement, team: bytes) -> bytes:
-    """COMPONENTS or GROUPS with the entries that concern the team alone, and their number as the count."""
-    before, behind, entries = section_parts(design.text, section)
-    if section.keyword == b"GROUPS":
-        kept = [entry.text for entry in entries if design.fence_of(entry) == team]
-    else:
-        kept = [entry.text for entry in entries if design.team_of(entry) in (team, None)]
-    return before + b"%d" % len(kept) + behind + b"".join(kept) + b"\nEND " + section.keyword
+class _Entries:
+    """The entries of COMPONENTS or GROUPS by the team that they concern; those of no team concern all, or none if they are groups.
+
+    Kept are their places in the text, neighbours as one.
+    """
+
+    def __init__(self, design: Design, section: Statement, teams: list[bytes]) -> None:
+        self._text, self._keyword = design.text, section.keyword
+        self._before, self._behind, entries = section_parts(design.text, section)
+        # Where entries begin and end in turn, and how many they are.
+        self._spans = {team: array("Q") for team in teams}
+        self._counts = dict.fromkeys(teams, 0)
+        is_groups = section.keyword == b"GROUPS"
+        for entry in entries:
+            team = design.fence_of(entry) if is_groups else design.team_of(entry)
+            if team in self._spans:
+                self._take(team, entry)
+            elif team is None and not is_groups:
+                for each in teams:
+                    self._take(each, entry)
+
+    def _take(self, team: bytes, entry: Entry) -> None:
+        spans, stop = self._spans[team], entry.start + len(entry.text)
+        self._counts[team] += 1
+        if spans and spans[-1] == entry.start:
+            spans[-1] = stop
+        else:
+            spans.extend((entry.start, stop))
+
+    def of(self, team: bytes) -> Iterator[bytes]:
+        """The section with the entries of a team alone, and their number as the count, piece by piece."""
+        yield self._before + b"%d" % self._counts[team] + self._behind
+        spans = self._spans[team]
+        for start, stop in zip(spans[::2], spans[1::2]):
+            yield self._text[start:stop]
+        yield b"\nEND " + self._keyword
 
 
 def refuse_difference(program: str, whole: Path, part: bytes, libraries: list[Path], team: str) -> None:
@@ -107,6 +152,7 @@ def main() -> int:
         if options.output is not None:
             refuse_inputs(options.output, [options.design, *options.libraries])
         text = options.design.read_bytes()
+        refuse_other_text(text)
         made = slice_of(text, options.team)
         if options.libraries:
             refuse_difference(find_program(options.program), options.design, made, options.libraries, options.team)

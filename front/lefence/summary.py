@@ -17,6 +17,8 @@ from .protocol import ORIENTS
 
 # The upper ends of the bins of a histogram, in rows; the last bin has none.
 BINS = (0, 1, 2, 5, 10, 20, 50)
+# How many of the farthest movers are named, if nothing else is asked for.
+MOST_FAR = 10
 
 
 class _Place(NamedTuple):
@@ -86,9 +88,40 @@ class Team:
                 setattr(self, name, getattr(self, name) + getattr(other, name))
 
 
+class Far(NamedTuple):
+    """A cell that moved, how far, and from where to where."""
+
+    way: int
+    name: str
+    team: str
+    before: _Place
+    after: _Place
+
+
+class _Farthest:
+    """The farthest movers, by name where they went as far."""
+
+    def __init__(self, most: int) -> None:
+        self._most = most
+        self._found: list[Far] = []
+        # A cell that went less far is none of them.
+        self._least = 0
+
+    def take(self, far: Far) -> None:
+        if far.way >= self._least and self._most:
+            self._found.append(far)
+            if len(self._found) >= 2 * self._most + 100:
+                self._least = self.cells()[-1].way
+
+    def cells(self) -> list[Far]:
+        self._found.sort(key=lambda far: (-far.way, far.name))
+        del self._found[self._most :]
+        return self._found
+
+
 @dataclass
 class Summary:
-    """The teams in the order of the frame after, all of them in one, and the cells that are in one design alone.
+    """The teams in the order of the frame after, all of them in one, the cells that are in one design alone, and the farthest movers.
 
     `notes` tells in words what else differs.
     """
@@ -99,14 +132,15 @@ class Summary:
     only_before: list[str]
     only_after: list[str]
     notes: list[str]
+    farthest: list[Far]
 
 
-def summary_of(before: Iterable[Cell], after: Iterable[Cell], frame: Frame) -> Summary:
+def summary_of(before: Iterable[Cell], after: Iterable[Cell], frame: Frame, most_far: int = MOST_FAR) -> Summary:
     """What became of the cells; `frame` is that of the design after. Both are gone through once, side by side.
 
     Cells in the same order take eight bytes each where they moved (the median some 50 at the end), and others some 200.
     """
-    count = _Count(frame)
+    count = _Count(frame, most_far)
     early, late = _Waiting(), _Waiting()
     for first, second in zip_longest(before, after):
         if first is not None:
@@ -114,12 +148,12 @@ def summary_of(before: Iterable[Cell], after: Iterable[Cell], frame: Frame) -> S
         if second is not None:
             count.see_after(second)
         if first is not None and second is not None and first.name == second.name:
-            count.compare(first.team, _place_of(first), second.team, _place_of(second))
+            count.compare(first.name, (first.team, _place_of(first)), (second.team, _place_of(second)))
             continue
         if first is not None and (found := late.match(first, early)):
-            count.compare(first.team, _place_of(first), *found)
+            count.compare(first.name, (first.team, _place_of(first)), found)
         if second is not None and (found := early.match(second, late)):
-            count.compare(*found, second.team, _place_of(second))
+            count.compare(second.name, found, (second.team, _place_of(second)))
     return count.summary(early.cells(), late.cells())
 
 
@@ -167,8 +201,9 @@ class _Waiting:
 class _Count:
     """The teams while their cells are counted."""
 
-    def __init__(self, frame: Frame) -> None:
+    def __init__(self, frame: Frame, most_far: int) -> None:
         self._frame = frame
+        self._farthest = _Farthest(most_far)
         self._teams = {name: Team(name, ground_area=area) for name, area in areas_of(frame).items()}
         self._changed_team = 0
 
@@ -188,8 +223,9 @@ class _Count:
         team.illegal_after += cell.rule is not None
         team.placeless_after += cell.box is None
 
-    def compare(self, team_before: str, before: _Place | None, team_after: str, after: _Place | None) -> None:
-        """One cell of both designs."""
+    def compare(self, name: str, early: tuple[str, _Place | None], late: tuple[str, _Place | None]) -> None:
+        """One cell of both designs, with its team and place before and after."""
+        (team_before, before), (team_after, after) = early, late
         self._changed_team += team_before != team_after
         team = self._team(team_after)
         if before is None:
@@ -198,7 +234,9 @@ class _Count:
             team.unplaced += 1
         elif before[:2] != after[:2]:
             team.moved += 1
-            team.moves.append(abs(after.x - before.x) + abs(after.y - before.y))
+            way = abs(after.x - before.x) + abs(after.y - before.y)
+            team.moves.append(way)
+            self._farthest.take(Far(way, name, team_after, before, after))
         elif before.orient != after.orient:
             team.turned += 1
         else:
@@ -215,7 +253,7 @@ class _Count:
         for each in self._teams.values():
             every.add(each)
         names = [name for name, _ in early], [name for name, _ in late]
-        return Summary(self._frame, list(self._teams.values()), every, *names, notes)
+        return Summary(self._frame, list(self._teams.values()), every, *names, notes, self._farthest.cells())
 
 
 def notes_of(before: Frame, after: Frame) -> list[str]:

@@ -4,7 +4,7 @@ from __future__ import annotations
 
 from collections.abc import Iterable
 
-from .summary import BINS, Summary, Team
+from .summary import BINS, Far, Summary, Team
 
 # How many of the cells that are in one design alone are named, and how long the longest bar is.
 _NAMED, _BAR = 10, 40
@@ -22,8 +22,16 @@ def object_of(summary: Summary) -> dict[str, object]:
         "all": _team_object(summary, summary.all),
         "only_before": summary.only_before,
         "only_after": summary.only_after,
+        "farthest": [_far_object(summary, far) for far in summary.farthest],
         "notes": summary.notes,
     }
+
+
+def _far_object(summary: Summary, far: Far) -> dict[str, object]:
+    facts = summary.frame.facts
+    before, after = ([place.x / facts.units, place.y / facts.units, place.orient] for place in (far.before, far.after))
+    ways = {"displacement": far.way / facts.units, "displacement_rows": far.way / facts.site_height}
+    return {"name": far.name, "team": far.team, "before": before, "after": after, **ways}
 
 
 def _team_object(summary: Summary, team: Team) -> dict[str, object]:
@@ -63,8 +71,11 @@ def text_of(summary: Summary) -> str:
         ),
         _bars(summary.all.histogram(height)),
     ]
+    if summary.farthest:
+        parts.append(_table(["farthest", "team", "from", "to", "way", "in rows"], (_far(far, facts.units, height) for far in summary.farthest)))
     parts += _alone(summary.only_before, "before") + _alone(summary.only_after, "after")
-    parts += [f"note: {note}" for note in summary.notes]
+    # What differs beside the places comes first, since it may mean that these are two designs.
+    parts[1:1] = [f"note: {note}" for note in summary.notes]
     return "\n\n".join(parts) + "\n"
 
 
@@ -84,6 +95,11 @@ def _ways(team: Team, units: int, row_height: int) -> list[str]:
     three = (team.mean, team.median, team.largest)
     microns = [f"{length / units:.3f}" for length in (*three, sum(team.moves))]
     return [team.name, *microns, *(f"{length / row_height:.2f}" for length in three)]
+
+
+def _far(far: Far, units: int, row_height: int) -> list[str]:
+    places = (f"{place.x / units:g} {place.y / units:g} {place.orient}" for place in (far.before, far.after))
+    return [far.name, far.team, *places, f"{far.way / units:.3f}", f"{far.way / row_height:.2f}"]
 
 
 def _table(head: list[str], rows: Iterable[list[str]]) -> str:

@@ -10,20 +10,20 @@ from .description import Description
 from .faults import DONE, REFUSED, Fault, Parser, run_tool
 from .program import find_program
 from .progress import Progress
-from .summary import Summary, notes_of, summary_of
+from .summary import MOST_FAR, Summary, notes_of, summary_of
 from .summary_text import object_of, text_of
 
 TOOL = "lefence-summary"
 
 
-def summary_of_files(program: str, before: Path, after: Path, libraries: list[Path]) -> Summary:
-    """The summary of two DEF texts over the same LEF texts; both are read at once."""
+def summary_of_files(program: str, before: Path, after: Path, libraries: list[Path], most_far: int) -> Summary:
+    """The summary of two DEF texts over the same LEF texts, with so many of the farthest movers; both are read at once."""
     with Description(program, before, libraries) as early, Description(program, after, libraries) as late:
         units = early.frame.facts.units, late.frame.facts.units
         if units[0] != units[1]:
             raise Fault(REFUSED, f"{before} has {units[0]} database units in a micron, and {after} has {units[1]}")
         cells = Progress(TOOL, "cells").over(late.cells())
-        summary = summary_of(early.cells(), cells, late.frame)
+        summary = summary_of(early.cells(), cells, late.frame, most_far)
         summary.notes[:0] = notes_of(early.frame, late.frame)
         return summary
 
@@ -39,6 +39,7 @@ def parser() -> Parser:
     add("before", metavar="BEFORE", type=Path, help="the DEF text before")
     add("after", metavar="AFTER", type=Path, help="the DEF text after")
     add("libraries", metavar="LEF", type=Path, nargs="+", help="the LEF texts of both, in the order of the program")
+    add("--most", metavar="N", type=int, default=MOST_FAR, help=f"name so many of the cells that moved farthest ({MOST_FAR})")
     add("--json", action="store_true", help="one JSON object in place of the tables")
     made.add_program()
     return made
@@ -48,7 +49,7 @@ def main() -> int:
     options = parser().parse_args()
 
     def work() -> int:
-        summary = summary_of_files(find_program(options.program), options.before, options.after, options.libraries)
+        summary = summary_of_files(find_program(options.program), options.before, options.after, options.libraries, max(0, options.most))
         text = f"{json.dumps(object_of(summary))}\n" if options.json else text_of(summary)
         sys.stdout.write(text)
         return DONE

@@ -15,12 +15,14 @@ from dataclasses import dataclass
 from decimal import Decimal, InvalidOperation
 from typing import Generic, TypeVar
 
+from . import design
+from .protocol import OPENACCESS
+
 T = TypeVar("T")
 Length = int | float | Decimal
 
 _NAME = re.compile(r"[!-~]+")
-# The text of a team begins with the header, in which the database units of a micron are.
-_UNITS = re.compile(rb"^UNITS DISTANCE MICRONS (\d+) ;$", re.M)
+_OPENACCESS_OF = {orient: other for other, orient in reversed(OPENACCESS.items())}
 
 
 class ProtocolError(Exception):
@@ -85,11 +87,13 @@ class Request(Generic[T]):
 
 @dataclass(frozen=True)
 class Scope:
-    """A session: its team, its number, and the database units in a micron where its lengths are microns, else None."""
+    """A session: its team, its number, the database units in a micron where its lengths are microns, else None, and whether its
+    orientations are spelled as OpenAccess has them (R0, MX ..)."""
 
     team: str
     number: int
     per_micron: int | None = None
+    openaccess: bool = False
 
     def line(self, verb: str, *fields: str) -> bytes:
         return " ".join((verb, name(self.team), str(self.number), *fields)).encode()
@@ -108,8 +112,17 @@ class Scope:
         """A length of a reply in the session's unit."""
         return int(dbu) if self.per_micron is None else int(dbu) / self.per_micron
 
+    def orient(self, orient: str) -> str:
+        """An orientation of the caller's as DEF spells it."""
+        if orient not in OPENACCESS:
+            return name(orient)
+        if not self.openaccess:
+            raise ValueError(f"{orient} is no orientation of DEF, which calls it {OPENACCESS[orient]}")
+        return OPENACCESS[orient]
+
     def place(self, words: list[str]) -> Place:
-        return Place(self.length(words[0]), self.length(words[1]), words[2])
+        orient = _OPENACCESS_OF.get(words[2], words[2]) if self.openaccess else words[2]
+        return Place(self.length(words[0]), self.length(words[1]), orient)
 
 
 def name(word: str) -> str:
@@ -142,6 +155,11 @@ def open_session(team: str) -> Request[tuple[int, int]]:
     return Request(f"open {name(team)}".encode(), lambda words, text: (int(words[0]), int(words[1])))
 
 
+def units() -> Request[int]:
+    """The database units in a micron; of a hub alone, and BadRequest of all others."""
+    return Request(b"units", _revision)
+
+
 def close_session(scope: Scope) -> Request[None]:
     """Frees the session."""
     return Request(scope.line("close"), lambda words, text: None)
@@ -149,10 +167,10 @@ def close_session(scope: Scope) -> Request[None]:
 
 def units_in(text: bytes) -> int:
     """The database units in a micron, from a team's DEF text."""
-    found = _UNITS.search(text[:100_000])
-    if not found:
+    units = design.units_in(text)
+    if not units.isdigit() or not int(units):
         raise ProtocolError("the team's DEF text has no UNITS")
-    return int(found[1])
+    return int(units)
 
 
 def sync(scope: Scope) -> Request[int]:
@@ -200,7 +218,7 @@ def place(scope: Scope, cell: str, x: Length, y: Length, orient: str) -> Request
 
     Refused by NoSession, Stale, RevisionsSpent, NoCell, Illegal, OutOfMemory.
     """
-    return Request(scope.line("place", name(cell), scope.dbu(x), scope.dbu(y), name(orient)), _revision)
+    return Request(scope.line("place", name(cell), scope.dbu(x), scope.dbu(y), scope.orient(orient)), _revision)
 
 
 def legalize(scope: Scope, cell: str, x: Length, y: Length) -> Request[Legalized]:

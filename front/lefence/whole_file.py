@@ -16,8 +16,8 @@ from .faults import USAGE, Fault
 def whole_file(path: Path) -> Iterator[BinaryIO]:
     """A new file beside (`FILE.partial0`, or the next free number), which takes the name and the mode at the end of the block.
 
-    After any exception of the block it is gone, and the file stays as it was. Links are followed. What is no regular file, as a
-    pipe, is written to as it is.
+    After any exception of the block it is gone, and the file stays as it was. The disk has the new one before it has the name,
+    and both at the end. Links are followed. What is no regular file, as a pipe, is written to as it is.
     """
     if path.exists() and not path.is_file():
         with open(path, "wb") as file:
@@ -28,13 +28,25 @@ def whole_file(path: Path) -> Iterator[BinaryIO]:
     try:
         with open(descriptor, "wb") as file:
             yield file
+            file.flush()
+            os.fsync(descriptor)
         if target.exists():
             os.chmod(partial, target.stat().st_mode)
         os.replace(partial, target)
+        sync_folder(target.parent)
     except BaseException:
         with contextlib.suppress(OSError):
             os.unlink(partial)
         raise
+
+
+def sync_folder(path: Path) -> None:
+    """Has the names in a folder on the disk."""
+    folder = os.open(path, os.O_RDONLY | os.O_DIRECTORY | os.O_CLOEXEC)
+    try:
+        os.fsync(folder)
+    finally:
+        os.close(folder)
 
 
 def _beside(target: Path) -> tuple[int, str]:

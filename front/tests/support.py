@@ -231,7 +231,7 @@ class Hub:
         last = time.monotonic() + PATIENCE
         while self.process.poll() is None and time.monotonic() < last:
             for line in self.told().splitlines():
-                if "ready" in line:
+                if ": ready:" in line:
                     return line
             time.sleep(0.01)
         return self.told()

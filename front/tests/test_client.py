@@ -13,6 +13,7 @@ import unittest
 from collections.abc import Callable
 from decimal import Decimal
 from typing import assert_type, cast
+from unittest import mock
 
 from support import CELLS, FRONT, PATIENCE, WIDTH, HubCase
 
@@ -90,6 +91,8 @@ class Verbs(HubCase):
             assert refusal is not None
             self.assertEqual((refusal.number, refusal.name, type(refusal).__name__), (number, name, name))
             self.assertTrue(refusal.words() and type(refusal).__doc__)
+        why = refusal_of(b"no 13 NotExported x cannot be written\n")
+        self.assertEqual(why and why.words(), "the file was not written: x cannot be written")
         self.assertEqual([refusal_of(reply) for reply in (b"ok", b"", b"no", b"no x y")], [None] * 4)
 
     def test_every_verb_of_the_protocol_is_a_method_of_all_three(self) -> None:
@@ -131,6 +134,44 @@ class Verbs(HubCase):
         self.assertEqual(given.where("f0c1"), Place(0.4, 2.0, "FS"))
         with self.assertRaises(ValueError):
             self.enterContext(session.connection.session("f0")).place("f0c1", 0.5, 0, "N")
+
+    def test_microns_cost_no_text_of_the_team_where_a_hub_is_asked(self) -> None:
+        self.start()
+        connection = self.enterContext(lefence.connect(self.folder / "s/f0.sock", timeout=PATIENCE))
+        with mock.patch.object(connection, "send", side_effect=connection.send) as send:
+            with connection.session("f0", microns=True) as session:
+                self.assertEqual(session.place("f0c1", 0.4, 0, "N"), 1)
+        self.assertEqual([call.args[0] for call in send.call_args_list], [b"open f0", b"units", b"place f0 0 f0c1 400 0 N", b"close f0 0"])
+        with self.service(1) as port, lefence.connect("127.0.0.1", port) as connection, connection.session("f0", microns=True) as session:
+            self.assertEqual(session.place("f0c1", 0.4, 0, "N"), 1)
+
+    def test_the_cells_of_a_team_need_no_parser(self) -> None:
+        self.start()
+        session = self.session()
+        session.place("f0c1", 400, 2000, "FS")
+        cells = session.cells(self.lef)
+        self.assertEqual([cell.name for cell in cells], [f"f0c{at}" for at in range(CELLS)])
+        self.assertEqual(cells[:2], [lefence.Cell("f0c0", "BUF", None, 600, 2000), lefence.Cell("f0c1", "INV", Place(400, 2000, "FS"), 400, 2000)])
+        self.assertEqual((cells[0].box, cells[1].box), (None, (400, 2000, 800, 4000)))
+        self.assertEqual(session.cells()[1], lefence.Cell("f0c1", "INV", Place(400, 2000, "FS"), None, None))
+        (self.folder / "x.lef").write_text("MACRO INV SIZE 1 BY 1 ; END INV")
+        with self.assertRaises(lefence.ProtocolError):
+            session.cells(self.folder / "x.lef")
+        other = self.enterContext(session.connection.session("f0", microns=True, openaccess=True))
+        self.assertEqual(other.cells(self.lef)[1], lefence.Cell("f0c1", "INV", Place(0.4, 2.0, "MX"), 0.4, 2.0))
+
+    def test_orientations_of_openaccess_where_asked(self) -> None:
+        self.start()
+        plain = self.session()
+        with self.assertRaisesRegex(ValueError, "R0 is no orientation of DEF, which calls it N"):
+            plain.place("f0c1", 0, 0, "R0")
+        with plain.connection.session("f0", openaccess=True) as session:
+            for at, (y, orient, same) in enumerate(((0, "R0", "N"), (0, "MY", "FN"), (2000, "MX", "FS"), (2000, "R180", "S"))):
+                self.assertEqual(session.place("f0c1", 0, y, orient), at + 1)
+                self.assertEqual((session.where("f0c1").orient, plain.where("f0c1").orient), (orient, same))
+            with self.assertRaises(lefence.Illegal):
+                session.place("f0c1", 0, 0, "MX90")
+            self.assertEqual(session.place("f0c1", 0, 0, "N"), 5)
 
     def test_the_example_of_the_page_runs(self) -> None:
         self.start()
@@ -192,6 +233,22 @@ class Flights(HubCase):
                 raise ZeroDivisionError
             self.assertEqual(session.sync(), 0)
 
+    def test_a_pipeline_sends_again_what_was_stale_where_the_session_says_so(self) -> None:
+        self.start()
+        with lefence.connect(self.folder / "s/f0.sock") as connection, connection.session("f0") as other:
+            with connection.session("f0", retries=1) as session, session.pipeline() as pipeline:
+                other.place("f0c9", 7000, 6000, "FS")
+                flying = [pipeline.place("f0c1", 200 * at, 0, "N") for at in range(10)]
+                self.assertEqual(flying[3].result(), 5)
+                flying.append(pipeline.place("f0c1", 2000, 0, "N"))
+                # A look in between is sent once.
+                place = pipeline.where("f0c1")
+            self.assertEqual([each.result() for each in flying], list(range(2, 13)))
+            self.assertEqual((place.result(), place.times_sent), (Place(2000, 0, "N"), 1))
+            self.assertEqual([each.times_sent for each in flying], [2] * 10 + [1])
+            with self.assertRaises(lefence.Stale), other.pipeline() as pipeline:
+                pipeline.place("f0c1", 0, 0, "N")
+
     def test_neither_end_waits_for_the_other(self) -> None:
         self.start()
         with lefence.connect(self.folder / "s/f0.sock") as connection, connection.session("f0") as session:
@@ -214,6 +271,14 @@ class Flights(HubCase):
                     async with connection.session("f0", retries=1) as other:
                         self.assertEqual((await session.unplace("f0c1"), await other.tidy()), (31, Tidied(32, CELLS)))
                 self.assertEqual(await connection.ask_line(b"sync f0 0"), b"no 3 NoSession\n")
+                session = await connection.session("f0").open()
+                self.assertEqual((session.number, [cell.macro for cell in await session.cells()][:2]), (0, ["BUF", "INV"]))
+                await session.close()
+                with self.assertRaises(lefence.NoSession):
+                    await connection.ask(verbs.sync(verbs.Scope("f0", 0)))
+                await connection.bye()
+                with self.assertRaises(lefence.ConnectionLost):
+                    await connection.ask_line(b"")
 
         asyncio.run(work())
 
@@ -233,8 +298,35 @@ class Flights(HubCase):
             with self.assertRaises(lefence.ConnectionLost), connection.session("f1") as session:
                 asyncio.run(wait())
                 session.sync()
-        with self.assertRaises(OSError):
-            lefence.connect(self.folder / "s/f1.sock")
+        for path in (str(self.folder / "s/f1.sock"), str(self.folder / "nowhere.sock")):
+            with self.assertRaisesRegex(OSError, path):
+                lefence.connect(path)
+            with self.assertRaisesRegex(OSError, path):
+                asyncio.run(lefence.aio.connect(path))
+        with socket.socket() as free:
+            free.bind(("127.0.0.1", 0))
+            port = free.getsockname()[1]
+            for host in ("127.0.0.1", "no.such.host.invalid"):
+                with self.assertRaisesRegex(OSError, f"{host}:{port}"):
+                    lefence.connect(host, port)
+
+    def test_a_block_that_was_told_of_the_loss_does_not_tell_it_again(self) -> None:
+        self.start()
+        caught = []
+
+        async def work() -> None:
+            async with await lefence.aio.connect(self.folder / "s/f0.sock") as connection, connection.session("f0") as session:
+                self.hub.kill()
+                with self.assertRaises(lefence.ConnectionLost) as told:
+                    await session.sync()
+                caught.append(told.exception)
+
+        with lefence.connect(self.folder / "s/f1.sock") as connection, connection.session("f1") as session:
+            asyncio.run(work())
+            with self.assertRaises(lefence.ConnectionLost) as told:
+                session.sync()
+            caught.append(told.exception)
+        self.assertEqual(len(caught), 2)
 
     def test_a_reply_that_takes_too_long_is_told(self) -> None:
         self.start()
@@ -242,6 +334,13 @@ class Flights(HubCase):
         os.kill(self.hub.process.pid, signal.SIGSTOP)
         with self.assertRaises(TimeoutError):
             connection.ask_line(b"open f1")
+
+        async def wait() -> None:
+            async with await lefence.aio.connect(self.folder / "s/f1.sock", timeout=0.2) as connection:
+                with self.assertRaises(TimeoutError):
+                    await connection.ask_line(b"open f1")
+
+        asyncio.run(wait())
         os.kill(self.hub.process.pid, signal.SIGCONT)
 
 

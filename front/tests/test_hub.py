@@ -20,9 +20,11 @@ from unittest import mock
 from support import CELLS, PATIENCE, PROGRAM, TEAMS, WIDTH, HubCase, Script, Talker, converse, design_text, spot, tool_words
 
 from lefence import hub as hub_module
+from lefence.crowd import MOST_CLIENTS
 from lefence.faults import Fault
+from lefence.frames import Record
 from lefence.hub_client import Client
-from lefence.journal import Journal
+from lefence.journal import Journal, texts_in
 from lefence.protocol import socket_name, team_of_socket
 
 
@@ -102,7 +104,7 @@ class Sockets(HubCase):
         (self.folder / "s/f1.sock").chmod(0o600)
         (self.folder / "s/operator.sock").chmod(0o666)
         if os.geteuid() == 0:
-            os.chown(self.folder / "s/f0.sock", 12345, 12345)
+            os.chown(self.folder / "s/f0.sock", -1, 12345)
         self.start()
         self.assertEqual(self.modes(), first | {"f1.sock": 0o600})
         self.hub.kill()
@@ -175,7 +177,7 @@ class ManyClients(HubCase):
         memory = int(Path(f"/proc/{self.hub.process.pid}/statm").read_text().split()[1]) * resource.getpagesize()
         self.assertLess(memory, 100 << 20)
         self.assertEqual(self.talk("f0").ask("open f0"), ["ok 0 0"])
-        crowd = [self.talk("f3") for _ in range(hub_module.MOST_CLIENTS)]
+        crowd = [self.talk("f3") for _ in range(MOST_CLIENTS)]
         self.assertEqual(crowd[-1].ask("close f3 0"), ["no 3 NoSession"])
         self.assertEqual((self.talk("f3").replies.read(), quick.ask("sync f2 0")), (b"", ["ok 0"]))
 
@@ -262,7 +264,7 @@ class Disk(HubCase):
         for error in (None, OSError(5, "the disk")):
             steps = mock.Mock(**{"sync.side_effect": error})
             server = mock.Mock(ask=mock.AsyncMock(return_value=[b"ok 0 0\n"]))
-            hub = hub_module.Hub(server, Journal(self.folder / str(error), [], mock.Mock()), 60, mock.Mock())
+            hub = hub_module.Hub(server, Journal(self.folder / str(error), [], mock.Mock()), hub_module.Bounds(), mock.Mock())
             client = Client(hub, b"f0")
             client.transport = mock.Mock(**{"is_closing.return_value": False, "write": steps.write})
             client.get_buffer(8)[:8] = b"open f0\n"
@@ -301,11 +303,16 @@ class Ends(HubCase):
             done += b"\n".join(later) + b"\n"
         self.assertEqual(others.replies.readline(), b"ok 0 0\n")
         refused = [f"export {path}" for path in ("/nowhere/x.def", self.journal, self.design)]
-        self.assertEqual(operator.ask(*refused, "where f0 0 nil"), ["no 13 NotExported"] * 3 + ["no 5 NoCell"])
+        *told, last = operator.ask(*refused, "where f0 0 nil")
+        own = "is the journal or a text of the design"
+        reasons = ["/nowhere/x.def cannot be written", f"{self.journal} {own}", f"{self.design} {own}"]
+        self.assertEqual((told, last), ([f"no 13 NotExported {reason}" for reason in reasons], "no 5 NoCell"))
 
     def test_a_signal_ends_it_with_everything_told(self) -> None:
         target = self.folder / "end.def"
-        for number in (signal.SIGTERM, signal.SIGINT):
+        # (a hub passes over what it is told to, as by nohup)
+        self.addCleanup(signal.signal, signal.SIGHUP, signal.signal(signal.SIGHUP, signal.SIG_DFL))
+        for number in (signal.SIGTERM, signal.SIGINT, signal.SIGHUP):
             self.start("--export", str(target))
             talker, idle, operator = self.talk("f0"), self.talk("f1"), self.talk("operator")
             self.assertRegex(talker.ask("open f0")[0], "ok 0")
@@ -376,13 +383,13 @@ class Ends(HubCase):
             self.assertEqual((second.returncode, b"another hub holds it" in second.stderr), (3, True))
         self.hub.end()
         kept = self.journal.read_bytes()
-        self.design.write_text(design_text() + "\n")
-        self.assertIn("of another design", self.start())
-        self.assertEqual((self.hub.process.returncode, self.journal.read_bytes()), (1, kept))
-        self.design.write_text(design_text())
-        sums = [word.decode() for word in kept.split()[4:7:2]]
-        journal = Journal(self.journal, sums, mock.Mock())
-        journal.append([(b"open f1", b"ok 3 0\n")])
+        other = self.folder / "other.def"
+        other.write_text(design_text() + "\n")
+        second = subprocess.run([*tool_words("lefence-hub"), *self.words(design=other)], capture_output=True, timeout=PATIENCE)
+        self.assertIn(b"of another design", second.stderr)
+        self.assertEqual((second.returncode, self.journal.read_bytes()), (1, kept))
+        journal = Journal(self.journal, texts_in(self.journal) or [], mock.Mock())
+        journal.append([Record(b"open f1", b"ok 3 0\n")])
         journal.close()
         self.assertIn("has b'ok 3 0", self.start())
         self.assertEqual(self.hub.process.returncode, 1)

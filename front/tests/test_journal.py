@@ -7,16 +7,25 @@ import os
 import random
 import tempfile
 import unittest
+from collections.abc import Callable
+from dataclasses import replace
 from pathlib import Path
 from unittest import mock
 
 from support import FRONT, SEED
 
 from lefence.faults import Fault
-from lefence.journal import Journal, read_records
+from lefence.frames import Record, Text, read_records
+from lefence.journal import Journal, texts_in
+from lefence.owner import own
 
-SUMS = ["0" * 64, "f" * 64]
-RECORDS = [(b"open A", b"ok 0 0\n"), (b"place A 0 a1 0 0 N", b"ok 1\n"), (b"pad A 0 2", b"ok 2\n"), (b"tidy A 0", b"ok 3 7\n")]
+TEXTS = [Text("0" * 64, Path("/a b\n.def")), Text("f" * 64, Path("/b.lef"))]
+RECORDS = [
+    Record(b"open A", b"ok 0 0\n", b"7 8"),
+    Record(b"place A 0 a1 0 0 N", b"ok 1\n", b"7 8"),
+    Record(b"pad A 0 2", b"ok 2\n", b"9 10"),
+    Record(b"tidy A 0", b"ok 3 7\n"),
+]
 
 
 class Journals(unittest.TestCase):
@@ -25,26 +34,27 @@ class Journals(unittest.TestCase):
         self.said: list[str] = []
         self.rng = random.Random(SEED)
 
-    def open(self, sums: list[str] | None = None) -> Journal:
-        return Journal(self.path, sums or SUMS, self.said.append)
+    def open(self, texts: list[Text] | None = None) -> Journal:
+        return Journal(self.path, texts or TEXTS, self.said.append)
 
-    def found(self) -> list[tuple[bytes, bytes]]:
+    def found(self) -> list[Record]:
         journal = self.open()
         records = list(journal.records(journal.end))
         self.assertEqual(len(records), journal.changes)
         journal.close()
         return records
 
-    def refusal(self, sums: list[str] | None = None) -> str:
+    def refusal(self, texts: list[Text] | None = None) -> str:
         before = self.path.read_bytes()
         with self.assertRaises(Fault) as caught:
-            self.open(sums)
+            self.open(texts)
         self.assertEqual((caught.exception.status, self.path.read_bytes()), (1, before))
         return str(caught.exception)
 
     def fill(self) -> list[int]:
-        """A frame for each record; where each ends."""
-        journal, ends = self.open(), []
+        """A frame for each record behind that of the start; where each ends."""
+        journal = self.open()
+        ends = [journal.end]
         for record in RECORDS:
             self.assertTrue(journal.has_room(100))
             journal.append([record])
@@ -57,6 +67,8 @@ class Journals(unittest.TestCase):
         self.assertEqual((self.found(), self.found(), self.said), (RECORDS, RECORDS, []))
         self.assertEqual(list(read_records(self.path)), RECORDS)
 
+    @mock.patch("os.fsync", mock.Mock())
+    @mock.patch("os.fdatasync", mock.Mock())
     def test_a_journal_cut_at_any_byte_keeps_its_whole_frames(self) -> None:
         ends = self.fill()
         whole = self.path.read_bytes()
@@ -64,11 +76,12 @@ class Journals(unittest.TestCase):
         for cut in range(start, ends[-1] + 1):
             found = whole[:cut] + self.rng.choice([b"", bytes(99), self.rng.randbytes(9)])
             self.path.write_bytes(found)
-            kept = sum(end <= cut for end in ends)
+            frames = sum(end <= cut for end in ends)
+            kept = max(0, frames - 1)
             self.said.clear()
             self.assertEqual(list(read_records(self.path)), RECORDS[:kept])
             self.assertEqual(self.found(), RECORDS[:kept])
-            is_torn = bool(found[max([start, *ends[:kept]]) :].strip(b"\0"))
+            is_torn = bool(found[max([start, *ends[:frames]]) :].strip(b"\0"))
             self.assertEqual("torn" in "".join(self.said), is_torn)
 
     def test_damage_before_the_end_is_refused_with_its_place(self) -> None:
@@ -94,11 +107,15 @@ class Journals(unittest.TestCase):
 
     def test_other_designs_and_other_files_are_refused(self) -> None:
         self.fill()
-        self.assertIn("of another design", self.refusal([SUMS[1], SUMS[0]]))
-        self.assertIn("of another design", self.refusal(SUMS[:1]))
-        for other in (b"something else\n", b"\n", b"lefence-hub journal 2\n" + bytes(300)):
+        self.assertIn("of another design", self.refusal([TEXTS[1], TEXTS[0]]))
+        self.assertIn("of another design", self.refusal(TEXTS[:1]))
+        for other, said in (
+            (b"something else\n", "no journal"),
+            (b"\n", "no journal"),
+            (b"lefence-hub journal 3\n" + bytes(300), "of another version"),
+        ):
             self.path.write_bytes(other)
-            self.assertIn("no journal", self.refusal())
+            self.assertIn(said, self.refusal())
             with self.assertRaises(Fault):
                 list(read_records(self.path))
 
@@ -108,13 +125,75 @@ class Journals(unittest.TestCase):
         for part in (b"", whole[:5], whole[:40], bytes(100)):
             self.path.write_bytes(part)
             self.assertEqual(self.found(), [])
-            self.assertTrue(whole.startswith(self.path.read_bytes()))
+            self.assertTrue(self.path.read_bytes().startswith(whole[: whole.index(b"batch")]))
 
     def test_the_example_of_the_page_is_a_journal(self) -> None:
         page = (FRONT.parent / "docs/FRONT.md").read_text()
         self.path.write_text(next(block for block in page.split("```\n") if block.startswith("lefence-hub journal")))
         lines = [b"open A", b"place A 0 a1 0 0 N", b"close A 0"]
-        self.assertEqual([line for line, _ in read_records(self.path)], lines)
+        self.assertEqual([record.line for record in read_records(self.path)], lines)
+
+    def test_the_last_frame_is_written_anew_before_it_is_trusted(self) -> None:
+        ends = self.fill()
+        last = self.path.read_bytes()[ends[-2] : ends[-1]]
+        with mock.patch("os.pwrite", wraps=os.pwrite) as written, mock.patch("os.fsync") as synced:
+            synced.side_effect = lambda _: self.assertEqual([call.args[1:] for call in written.mock_calls], [(last, ends[-2])])
+            self.open().close()
+        self.assertTrue(synced.called)
+
+    def test_after_a_sync_that_failed_nothing_is_written(self) -> None:
+        journal = self.open()
+        whole = self.path.read_bytes()
+        with mock.patch("os.fdatasync", side_effect=OSError(errno.EIO, "x")), self.assertRaises(Fault):
+            journal.append(RECORDS)
+        with mock.patch("os.pwrite") as written, mock.patch("os.fdatasync") as synced:
+            journal.close()
+        self.assertEqual((written.called, synced.called, self.path.read_bytes()), (False, False, whole))
+
+    def test_a_file_that_is_gone_or_another_is_a_fault(self) -> None:
+        other = self.path.with_name("other")
+        steps: tuple[tuple[Callable[[], object], str], ...] = (
+            (lambda: self.path.rename(other), "is not there"),
+            (lambda: self.path.unlink(), "is not there"),
+            (lambda: (self.path.rename(other), self.path.write_bytes(other.read_bytes())), "another file"),
+            (lambda: os.truncate(self.path, 200), "another process"),
+            (lambda: self.path.write_bytes(self.path.read_bytes() + b"x"), "another process"),
+        )
+        for step, said in steps:
+            journal = self.open()
+            journal.append(RECORDS)
+            journal.refuse_loss()
+            step()
+            there = self.path.read_bytes() if self.path.exists() else b""
+            with self.assertRaises(Fault) as caught:
+                journal.refuse_loss()
+            journal.close()
+            self.assertIn(said, str(caught.exception))
+            self.assertEqual((caught.exception.status, self.path.read_bytes() if self.path.exists() else b""), (3, there))
+            self.path.unlink(missing_ok=True)
+
+    def test_a_hub_that_may_be_at_work_keeps_it(self) -> None:
+        me, parent = own(), Path(f"/proc/{os.getppid()}/stat").read_text().rpartition(")")[2].split()[19]
+        elsewhere, dead, alive = replace(me, host="farm2"), replace(me, pid=1, began=7), replace(me, pid=os.getppid(), began=int(parent))
+        for owner, is_refused in ((elsewhere, True), (alive, True), (dead, False), (replace(alive, boot="x"), False)):
+            os.close(Journal(self.path, TEXTS, self.said.append, owner=owner)._fd)
+            before = self.path.read_bytes()
+            if is_refused:
+                with self.assertRaises(Fault) as caught:
+                    self.open()
+                self.assertEqual((caught.exception.status, self.path.read_bytes()), (3, before))
+            Journal(self.path, TEXTS, self.said.append, takes_over=is_refused).close()
+            # What has ended is anybody's.
+            self.open().close()
+
+    def test_one_that_holds_no_change_is_begun_anew(self) -> None:
+        self.open().close()
+        other = [Text("1" * 64, Path("/c.def"))]
+        journal = self.open(other)
+        journal.append(RECORDS)
+        journal.close()
+        self.assertEqual((texts_in(self.path), list(read_records(self.path))), (other, RECORDS))
+        self.assertIn("of another design", self.refusal())
 
     def test_one_hub_holds_it(self) -> None:
         first = self.open()

@@ -11,7 +11,7 @@ from xml.etree import ElementTree
 from support import PATIENCE, TEAMS, FrontCase, tool_words
 
 from lefence.description import Box, Description
-from lefence.drawing import Drawing, shortened, text_of
+from lefence.drawing import WAYS, Drawing, Move, shortened, text_of
 from lefence.scene import Scene, colour_of
 
 SVG = "{http://www.w3.org/2000/svg}"
@@ -118,10 +118,52 @@ class Pictures(FrontCase):
         first = "- far INV + PLACED ( 2000000 0 ) N ;\n"
         (self.folder / "old.def").write_text(old.replace(first, "").replace("- one", f"{first}- one"))
         groups = self.picture("--before", "old.def")
-        (arrow,) = list(groups["moves"])
+        ((arrow,),) = list(groups["moves"])
         self.assertEqual(arrow.findtext(f"{SVG}title"), "f1cx")
         self.assertTrue(arrow.attrib["d"].startswith("M12600 5000L8600 1000M"), arrow.attrib)
-        self.assertIn("→ 1 moved", "".join(groups["legend"].itertext()))
+        self.assertIn("→ 1 moved\nup to 5 rows 1\n", "".join(groups["legend"].itertext()))
+
+    def test_arrows_have_the_colours_of_their_lengths(self) -> None:
+        near, far = "- near INV + PLACED ( {} 0 ) N ;\n", "- away INV + PLACED ( {} 2000 ) FS ;\n"
+        text = self.design.read_text()
+        self.design.write_text(text.replace("- far", near.format(66000) + far.format(16000) + "- far"))
+        (self.folder / "old.def").write_text(text.replace("- far", near.format(65800) + far.format(40000) + "- far"))
+        groups = self.picture("--before", "old.def")
+        told = {around.attrib["stroke"]: [arrow.findtext(f"{SVG}title") for arrow in around] for around in groups["moves"]}
+        self.assertEqual(told, {WAYS[0][1]: ["near"], WAYS[3][1]: ["away"]})
+        legend = "".join(groups["legend"].itertext())
+        self.assertIn("→ 2 moved\nup to 2 rows 1\nup to 20 rows 1\n", legend)
+
+    def test_the_legend_is_not_cut_off(self) -> None:
+        long = "W" * 30
+        self.design.write_text(self.design.read_text().replace(" f0 ", f" {long} "))
+        with Description(self.program, self.design, [self.lef]) as description:
+            scene = Scene(description.frame)
+            for cell in description.cells():
+                scene.take(cell)
+        move = Move("f1cx", Box(0, 0, 400, 2000), Box(400, 0, 800, 2000))
+        root = ElementTree.fromstring("".join(Drawing(scene, [move] * 2000, 51850).svg()))
+        legend = next(found for found in root.iter() if found.attrib.get("id") == "legend")
+        for line in legend:
+            left = float(line.attrib["transform"][10:].split()[0])
+            text = line.find(f"{SVG}text")
+            assert text is not None
+            said = "".join(text.itertext())
+            # DejaVu Sans: a W is as wide as high, a small letter or a digit two thirds of that.
+            wide = 13 * sum(0.99 if each in "W…→" else 0.6 for each in said)
+            self.assertLessEqual(left + float(text.get("x", 0)) + wide, float(root.attrib["width"]), said)
+        self.assertIn("51,850 moved", "".join(legend.itertext()))
+
+    def test_where_most_cells_break_a_rule_a_map_shows_what_is_too_full(self) -> None:
+        astray = "".join(f"- x{at} INV + PLACED ( {20000 + 13 * at} 3 ) N ;\n" for at in range(40))
+        self.design.write_text(self.design.read_text().replace("- far", f"{astray}- lone INV + PLACED ( 50007 1 ) N ;\n- far"))
+        groups = self.picture("--limit", "3")
+        red = [tuple(map(int, run)) for path in groups["broken"] for run in re.findall(r"M(\d+) (\d+)h(\d+)v1h-\d+z", path.attrib["d"])]
+        side, _, _, _, left, _ = map(int, groups["map"].attrib["transform"][7:-1].split())
+        # Where the forty stand and where two overlap, but not where one stands alone.
+        places = {(left + side * (x + at)) // 10000 for x, _, length in red for at in range(length)}
+        self.assertEqual(places - {1}, {2, 6})
+        self.assertIn("red are\nbins with more cells than room", "".join(groups["legend"].itertext()))
 
     def test_designs_without_cells_or_places(self) -> None:
         bare = self.design.read_text().split("COMPONENTS")[0] + "END DESIGN\n"
@@ -159,6 +201,8 @@ class Pictures(FrontCase):
     def test_what_is_read_is_not_overwritten(self) -> None:
         done = self.tool("lefence-picture", "t.def", "t.lef", "--program", self.program, "-o", "t.lef")
         self.assertEqual((done.returncode, done.stderr), (2, b"lefence-picture: t.lef is read, and not written\n"))
+        done = self.tool("lefence-picture", "t.def", "t.lef", "--program", self.program, "-o", "x.jpg")
+        self.assertEqual((done.returncode, (self.folder / "x.jpg").exists()), (2, False), done.stderr)
 
 
 if __name__ == "__main__":

@@ -83,8 +83,9 @@ class Preparations(FrontCase):
             "3 fillers removed (FILL*)",
             "fence A added: 2 rectangles",
             "fence B added: 1 rectangle",
+            "nothing of group B matches no component",
+            "fence B has no cells",
             "team A has 2 cells",
-            "team B has 0 cells",
             "it loads: 4 cells, 0 unplaced, 2 illegal (1 by rule 2 Row, 1 by rule 6 Fence)",
         )
         self.assertEqual((done.returncode, done.stdout), (0, b""), done.stderr)
@@ -110,13 +111,13 @@ class Preparations(FrontCase):
         self.assertIn("\nGROUPS 3 ;\n- A a/* + REGION A ;\n- A_2 b/* + REGION A ;\n- B x + REGION B ;\nEND GROUPS", text)
         self.design.write_text(text)
         self.assertEqual(self.output_of(), text)
-        other = self.output_of("--rows", "--site", "tall", "--core", "0", "0", "4", "9", "--margin", "0.3")
+        other = self.output_of("--rows", "--site", "tall", "--core", "0", "0", "4", "9", "--margin", "0.3", "--force", status=1)
         rows = "\nROW ROW_0 tall 300 300 N DO 17 BY 1 STEP 200 0 ;\nROW ROW_1 tall 300 4300 FS DO 17 BY 1 STEP 200 0 ;"
         self.assertIn(f" # the die{rows}\nTRACKS", other)
 
-    def output_of(self, *words: str) -> str:
+    def output_of(self, *words: str, status: int = 0) -> str:
         done = self.run_on(*words)
-        self.assertEqual(done.returncode, 0, done.stderr)
+        self.assertEqual(done.returncode, status, done.stderr)
         return self.output.read_text()
 
     def test_what_does_not_load_is_written_by_force_alone(self) -> None:

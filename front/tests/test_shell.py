@@ -46,6 +46,8 @@ class Words(HubCase):
             "team Z": "no: there is no such team here",
             "place f0c1 1.5 0 N": "no: 1.5 is no whole number of database units",
             "place f0c1": "no: place takes CELL X Y O",
+            "place f0c1 0 0 n": "no: n is no orientation of DEF: N W S E FN FW FS FE",
+            "place f0c1 0 0 MX": "no: MX is no orientation of DEF, which calls it FS: N W S E FN FW FS FE",
             "raw open f0": "ok 1 4",
             "raw nonsense": "no 1 BadRequest",
             "export /tmp/x": "no: that is no request",
@@ -54,6 +56,11 @@ class Words(HubCase):
             "team f0 ": "session 0 of team f0, revision 4",
         }
         self.assertEqual(self.say(*lines), list(lines.values()))
+
+    def test_lines_and_replies_as_they_are_where_asked(self) -> None:
+        text = b"open f0\nplace f0 0 f0c1 0 0 N\ndef f0 0\n\nwhere f0 0 f0c2\r\nx\nsync f0 0"
+        done = self.tool("lefence-shell", "t.def", "t.lef", "--program", PROGRAM, "--raw", lines=text)
+        self.assertEqual((done.returncode, done.stdout, done.stderr), (0, self.direct(text), b""))
 
     def test_a_report_is_a_table(self) -> None:
         said = self.say("team f0", "place f0c1 0 0 N", "place f0c2 400 0 N", "pad 1", "check")

@@ -2,18 +2,20 @@
 
 from __future__ import annotations
 
+import gzip
 import unittest
 from collections.abc import Iterable
 from concurrent.futures import ThreadPoolExecutor
 from pathlib import Path
 from unittest import mock
 
-from support import PROGRAM, TEAMS, Hub, HubCase, Script, converse, design_text
+from support import LEF, PROGRAM, TEAMS, Hub, HubCase, Script, converse, design_text
 
 import lefence
 from lefence.design import Design
 from lefence.faults import Fault
-from lefence.journal import Journal
+from lefence.frames import Record
+from lefence.journal import Journal, texts_in
 from lefence.slice import refuse_difference, slice_of
 
 # What a design of a flow holds beside the small one: sections that a slice drops, comments, quotes, FIXED and COVER components.
@@ -50,9 +52,8 @@ def rich_text() -> str:
 
 def made_journal(path: Path, like: Path, records: Iterable[tuple[bytes, bytes]]) -> Path:
     """A journal with these records, of the design of another one."""
-    sums = [word.decode() for word in like.read_bytes().split()[4:7:2]]
-    journal = Journal(path, sums, mock.Mock())
-    journal.append(list(records))
+    journal = Journal(path, texts_in(like) or [], mock.Mock())
+    journal.append([Record(line, reply) for line, reply in records])
     journal.close()
     return path
 
@@ -109,6 +110,13 @@ class Slices(HubCase):
         done = self.tool("lefence-slice", self.design, "--team", "f1")
         self.assertEqual((done.returncode, done.stdout), (0, slice_of(self.design.read_bytes(), "f1")))
         self.assertIn(b"not compared", done.stderr)
+
+    def test_what_is_no_def_text_is_told_so(self) -> None:
+        text = self.design.read_bytes()
+        for other, told in ((LEF.encode(), "it is no DEF text"), (gzip.compress(text), "it is no DEF text, but compressed by gzip")):
+            self.design.write_bytes(other)
+            done = self.tool("lefence-slice", self.design, "--team", "f0")
+            self.assertEqual((done.returncode, done.stderr.decode()), (1, f"lefence-slice: the file has no DESIGN: {told}\n"))
 
     def test_what_the_program_does_not_find_alike_is_refused(self) -> None:
         whole = self.design.read_bytes()

@@ -68,6 +68,10 @@ up to 20   0
 up to 50   0
 over 50    0
 
+farthest  team       from       to    way  in rows
+far          A      1 0 N   2 2 FS  3.000     1.50
+near         A  0.801 0 N  0.8 0 N  0.001     0.00
+
 cells in the design before alone: 1 (lost)
 
 cells in the design after alone: 1 (added)
@@ -84,6 +88,14 @@ class Summaries(FrontCase):
             early, late = (self.rng.sample(cells, len(cells)) for cells in (BEFORE, AFTER))
             self.assertEqual(text_of(summary_of(early, late, FRAME)), text)
 
+    def test_the_farthest_movers_are_named(self) -> None:
+        names = [f"c{at:03}" for at in range(500)]
+        early = [cell(name, "A", (0, 0, "N")) for name in names]
+        late = [cell(name, "A", (200 + 200 * (at // 3), 0, "N")) for at, name in enumerate(names)]
+        for order in (late, late[::-1], self.rng.sample(late, len(late))):
+            self.assertEqual([far.name for far in summary_of(early, order, FRAME, 5).farthest], ["c498", "c499", "c495", "c496", "c497"])
+        self.assertEqual((summary_of(early, late, FRAME, 0).farthest, len(summary_of(early, late, FRAME).farthest)), ([], 10))
+
     def test_what_else_differs_is_noted(self) -> None:
         other = Frame(FRAME.facts, FRAME.rows[:1], [], FRAME.obstacles, FRAME.soft)
         self.assertEqual(notes_of(FRAME, FRAME), [])
@@ -91,6 +103,7 @@ class Summaries(FrontCase):
         summary = summary_of(BEFORE, [cell("still", "-", (0, 0, "N"))], other)
         self.assertEqual([(team.name, team.lost) for team in summary.teams], [("-", 2), ("A", 4)])
         self.assertEqual(summary.notes, ["cells of another team than before: 1"])
+        self.assertEqual(text_of(summary).split("\n\n")[1], "note: cells of another team than before: 1")
 
     def test_two_files_are_summed_up_for_scripts(self) -> None:
         text, after = self.design.read_text(), self.folder / "after.def"
@@ -109,7 +122,8 @@ class Summaries(FrontCase):
         self.assertEqual(read.pop("teams")[0], team)
         self.assertEqual(read.pop("all"), {**team, "name": "all", "cells": 90, "unplaced": {"before": 89, "after": 89}})
         known = {"design": "t", "units": 1000, "row_height": 2.0, "bins": [0, 1, 2, 5, 10, 20, 50]}
-        self.assertEqual(read, {**known, "only_before": [], "only_after": [], "notes": []})
+        far = {"name": "f0c1", "team": "f0", "before": [0.1, 0, "N"], "after": [5, 4, "N"], "displacement": 8.9, "displacement_rows": 4.45}
+        self.assertEqual(read, {**known, "only_before": [], "only_after": [], "farthest": [far], "notes": []})
 
     def test_other_units_are_refused(self) -> None:
         other = self.folder / "other.def"

@@ -2,21 +2,26 @@
 
 from __future__ import annotations
 
+import io
 import shutil
 import subprocess
 import sys
+import tempfile
 import unittest
 import venv
+from collections.abc import Callable
 from importlib.util import find_spec
 from pathlib import Path
+from unittest import mock
 
 from support import FRONT, PROGRAM, FrontCase, tool_words
 
 import lefence
+from lefence.faults import Fault, run_tool
 
 TOOLS = (
     *("lefence-hub", "lefence-slice", "lefence-push", "lefence-shell", "lefence-picture", "lefence-report"),
-    *("lefence-summary", "lefence-markers", "lefence-prepare", "lefence-repair"),
+    *("lefence-summary", "lefence-markers", "lefence-prepare", "lefence-repair", "lefence-journal", "lefence-farm"),
 )
 
 
@@ -45,6 +50,8 @@ class Tools(FrontCase):
             ("lefence-slice", ("t.def", "--team", "f0", "--output", "nowhere/x")),
             ("lefence-slice", ("t.def", "nowhere.lef", "--team", "f0", "--program", PROGRAM)),
             ("lefence-push", (b"\xff", "s")),
+            ("lefence-journal", ("check", b"\xff")),
+            ("lefence-journal", ("verify", "nowhere")),
             ("lefence-shell", (b"\xff.def", "t.lef", "--program", PROGRAM)),
             ("lefence-summary", ("t.def", b"\xff.def", "t.lef", "--program", PROGRAM)),
             ("lefence-summary", ("t.def", "nowhere.def", "t.lef", "--program", PROGRAM)),
@@ -56,6 +63,8 @@ class Tools(FrontCase):
             ("lefence-picture", ("nowhere.def", "t.lef", "--program", PROGRAM)),
             ("lefence-picture", ("t.def", "t.lef", "--program", PROGRAM, "-o", "nowhere/x.svg")),
             ("lefence-report", ("nowhere.def", "t.lef", "--program", PROGRAM)),
+            ("lefence-farm", ("work", "nowhere.def", "t.lef", "--program", PROGRAM, "--", "true")),
+            ("lefence-farm", ("work", "--collect")),
             ("lefence-report", ("t.def", "t.lef", "--program", PROGRAM, "-o", "nowhere/x.html")),
         )
         for name, words in commands:
@@ -77,8 +86,10 @@ class Tools(FrontCase):
             ("lefence-markers", (*design, "--output", "x")),
             ("lefence-prepare", (*design, "--output", "x")),
             ("lefence-repair", (*design, "--out", "x")),
+            ("lefence-farm", ("work", *design)),
         ):
-            done = self.tool(name, *words, "--program", "./nothing")
+            more = ("--", "true") if name == "lefence-farm" else ()
+            done = self.tool(name, *words, "--program", "./nothing", *more)
             self.assertEqual((done.returncode, done.stderr.count(b"no such program")), (2, 1), done.stderr)
 
     def test_output_that_nobody_reads_ends_with_3(self) -> None:
@@ -99,6 +110,30 @@ class Tools(FrontCase):
             far.symlink_to(near.name)
             for words in ([str(near)], [str(far)], [sys.executable, str(far)]):
                 self.assertEqual(subprocess.check_output([*words, "--version"], text=True), f"{name} {lefence.__version__}\n")
+
+
+class Faults(unittest.TestCase):
+    """What a tool says where it fails."""
+
+    def told(self, work: Callable[[], int]) -> tuple[int, str]:
+        with mock.patch("sys.stderr", io.StringIO()) as told:
+            return run_tool("x", work), told.getvalue()
+
+    def test_its_own_fault_is_not_one_of_what_it_was_given(self) -> None:
+        nothing: dict[str, int] = {}
+        status, told = self.told(lambda: nothing["k"])
+        self.assertEqual((status, told.startswith("x: Traceback"), "KeyError: 'k'" in told), (3, True, True))
+
+    def test_what_would_steer_a_terminal_is_escaped(self) -> None:
+        def fail() -> int:
+            raise Fault(1, "a\x1b[2Jb\udcff\u202e\x9b é")
+
+        self.assertEqual(self.told(fail), (1, "x: a\\x1b[2Jb\\udcff\\u202e\\x9b é\n"))
+        with tempfile.NamedTemporaryFile() as file:
+            file.write(b"DESIGN t ;\nEND DESIGN\n")
+            file.flush()
+            done = subprocess.run([*tool_words("lefence-slice"), file.name, "--team", "\x1b]0;"], capture_output=True)
+        self.assertEqual((done.returncode, b"\x1b" in done.stderr, b"\\x1b]0;" in done.stderr), (1, False, True))
 
 
 class Package(FrontCase):

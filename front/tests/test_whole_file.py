@@ -5,6 +5,7 @@ from __future__ import annotations
 import os
 import unittest
 from pathlib import Path
+from unittest import mock
 
 from support import FrontCase
 
@@ -25,6 +26,14 @@ class WholeFiles(FrontCase):
             self.assertEqual(target.read_bytes(), b"one")
         self.assertEqual((target.read_bytes(), target.stat().st_mode & 0o777, link.is_symlink()), (b"two", 0o640, True))
         self.assertEqual(sorted(os.listdir(self.folder)), ["link", "t.def", "t.lef", "x", "x.partial0"])
+
+    def test_the_disk_has_it_before_it_takes_the_name(self) -> None:
+        steps, sizes = mock.Mock(), []
+        steps.replace.side_effect = os.rename
+        steps.fsync.side_effect = lambda end: sizes.append(os.fstat(end).st_size)
+        with mock.patch("os.fsync", steps.fsync), mock.patch("os.replace", steps.replace), whole_file(self.folder / "x") as file:
+            file.write(b"one")
+        self.assertEqual(([call[0] for call in steps.mock_calls], sizes[0]), (["fsync", "replace", "fsync"], 3))
 
     def test_a_fault_leaves_what_was_there(self) -> None:
         target = self.folder / "x"

@@ -1,0 +1,103 @@
+"""The clients of a hub: what they hold, and what of it one of them may have, so that nobody takes it from the others."""
+
+from __future__ import annotations
+
+import os
+import time
+from dataclasses import dataclass
+
+from .hub_client import Client, Entry
+
+# Clients of one socket.
+MOST_CLIENTS = 256
+# What of a socket's connections and of a team's sessions one user may have, who is not the hub's own, and how many sessions there are.
+_SHARE = 3 / 4
+_SESSIONS = 8
+# Bytes of replies that are left unread by all clients, above which nobody is asked for more than a short reply; how many clients
+# of a socket may leave more unread than a client may have while it is asked on.
+_MOST_UNREAD = 256 << 20
+_MOST_LONG = 2
+
+
+@dataclass
+class Holder:
+    """Who opened a session, None where that was before this start, and when."""
+
+    client: Client | None
+    since: float
+
+
+class Crowd:
+    """Those that are connected, those of them that leave much unread, and who opened which session of a team."""
+
+    def __init__(self) -> None:
+        self.most_clients = MOST_CLIENTS
+        self.clients: set[Client] = set()
+        self.clogged: set[Client] = set()
+        # Of each open session, a team and the number of its slot.
+        self.holders: dict[tuple[bytes, int], Holder] = {}
+
+    def admit(self, client: Client) -> bool:
+        """Takes a new client in; False where its socket has as many as may be, or as many of one user."""
+        crowd = [other for other in self.clients if other.team == client.team]
+        mine = sum(other.uid == client.uid for other in crowd)
+        self.clients.add(client)
+        return len(crowd) < self.most_clients and (_is_own(client) or mine < max(1, int(self.most_clients * _SHARE)))
+
+    def leave(self, client: Client) -> None:
+        """A client is gone; its sessions are still open."""
+        self.clients.discard(client)
+        self.clogged.discard(client)
+
+    def unread(self) -> int:
+        """The bytes that those leave unread that leave much."""
+        return sum(client.transport.get_write_buffer_size() for client in self.clogged)
+
+    def must_wait(self, client: Client) -> bool:
+        """Whether so much is unread, by all or by clients of its socket, that its next line must wait, since the reply may be long."""
+        if not self.clogged or not client.is_unbounded():
+            return False
+        long = sum(other.team == client.team for other in self.clogged)
+        return long >= _MOST_LONG or self.unread() >= _MOST_UNREAD
+
+    def idle(self, seconds: float) -> list[Client]:
+        """The clients that have no session, were not heard for so long, and wait for nothing."""
+        since = time.monotonic() - seconds
+        holders = {holder.client for holder in self.holders.values()}
+        found = [client for client in self.clients if client.heard < since and client not in holders]
+        return [client for client in found if not (client.waiting or client.is_busy or client.is_clogged or client.is_done)]
+
+    def orphans(self) -> list[tuple[bytes, int]]:
+        """The sessions whose clients are gone."""
+        return [session for session, holder in self.holders.items() if holder.client is None or holder.client.is_done]
+
+    def note(self, fields: list[bytes], reply: bytes, client: Client | None) -> None:
+        """Keeps who opened which session: an accepted line of a client, or of none, is answered."""
+        if fields[0] == b"open":
+            self.holders[fields[1], int(reply.split()[1])] = Holder(client, time.time())
+        elif fields[0] == b"close":
+            del self.holders[fields[1], int(fields[2])]
+
+    def above_share(self, batch: list[Entry]) -> list[Entry]:
+        """The lines of the batch by which a user would open more sessions of a team than one may have."""
+        found = []
+        asked: dict[tuple[bytes, int], int] = {}
+        for entry in batch:
+            client = entry.client
+            if entry.reply is not None or entry.verb != b"open" or len(entry.fields) != 2 or client is None or _is_own(client):
+                continue
+            key = entry.fields[1], client.uid
+            asked[key] = asked.get(key, self._held(*key)) + 1
+            if asked[key] > _SESSIONS * _SHARE:
+                found.append(entry)
+        return found
+
+    def _held(self, team: bytes, uid: int) -> int:
+        """How many sessions of a team the clients of a user have."""
+        held = [self.holders.get((team, number)) for number in range(_SESSIONS)]
+        return sum(each is not None and each.client is not None and each.client.uid == uid for each in held)
+
+
+def _is_own(client: Client) -> bool:
+    """Whether a client is of the user of the hub, who may end it anyway."""
+    return client.uid == os.geteuid()

@@ -1,0 +1,214 @@
+"""A farm's folder: which teams have work to do, the work of one of them over its slice, and all of it in one design at the end.
+
+`WORK/farm.json` is the plan. Team number I, from 1, has the folder `WORK/I`: its `slice.def`, the `journal` of a hub over it (with copies
+of its texts until the team is done), `new.def` with its committed places, a `log`, and in the end `done`, or `failed` with the
+reason. Nothing but these files goes from one machine to another.
+"""
+
+from __future__ import annotations
+
+import contextlib
+import json
+import os
+import shutil
+import signal
+import subprocess
+import sys
+import tempfile
+import time
+from collections.abc import Iterator
+from dataclasses import asdict, dataclass
+from pathlib import Path
+from types import FrameType
+
+from .client import connect
+from .design import Design, shown
+from .faults import DONE, FAILED, REFUSED, Fault, log
+from .frames import sum_of
+from .merge import merge
+from .protocol import GROUND, socket_name
+from .push import push_journal
+from .slice import slices_of
+from .texts import texts_folder
+from .whole_file import whole_file
+
+TOOL = "lefence-farm"
+# The status where the others' work is in the design, and some team's is not.
+LACKING = 4
+_MARK = b"# a slice of the text %b\n"
+# Seconds between two looks whether a hub serves, and lines in flight of a push.
+_NAP, _AHEAD = 0.05, 50
+# Seconds that a hub has for its end, and a command for what it does before its first session: the engine has bounds of its own.
+_BOUNDS = ("--grace", "1e7", "--idle", "1e7")
+
+
+@dataclass
+class Plan:
+    """What a farm is to do: the texts with the SHA-256 of the DEF text, the teams, the command, and where it is run."""
+
+    design: str
+    libraries: list[str]
+    sum: str
+    teams: list[str]
+    command: list[str]
+    folder: str
+    program: str
+    export: str
+    is_merged: bool
+
+    def save(self, work: Path) -> None:
+        with whole_file(work / "farm.json") as file:
+            file.write(json.dumps(asdict(self), indent=1).encode())
+
+    @staticmethod
+    def load(work: Path) -> Plan:
+        return Plan(**json.loads((work / "farm.json").read_bytes()))
+
+    def numbers_left(self, work: Path) -> list[int]:
+        """The numbers of the teams that are not done."""
+        return [at for at in range(1, len(self.teams) + 1) if not (work / str(at) / "done").exists()]
+
+    def refuse_another_text(self) -> None:
+        """A fault where the DEF text is another one than the slices were made of."""
+        if sum_of(Path(self.design)) != self.sum:
+            raise Fault(REFUSED, f"{self.design} is another text than the slices were made of")
+
+
+def teams_of(design: Design) -> list[str]:
+    """The teams of a design: those of its fences, and the team of the ground."""
+    return [*map(shown, design.fences), GROUND]
+
+
+def begin(work: Path, plan: Plan, design: Design) -> None:
+    """Makes a folder for each team, with its slice; a folder that was begun with another text is refused."""
+    if (work / "farm.json").exists() and Plan.load(work).sum != plan.sum:
+        raise Fault(REFUSED, f"{work} is of another text than {plan.design}: give another folder, or remove it")
+    names = [os.fsencode(team) for team in plan.teams]
+    lacking = [at for at in range(1, len(names) + 1) if not (work / str(at) / "slice.def").exists()]
+    for at, text in zip(lacking, slices_of(design, [names[at - 1] for at in lacking]), strict=True):
+        (work / str(at)).mkdir(parents=True, exist_ok=True)
+        with whole_file(work / str(at) / "slice.def") as file:
+            file.write(_MARK % plan.sum.encode())
+            file.writelines(text)
+    plan.save(work)
+
+
+def run_team(work: Path, number: int) -> int:
+    """The work of one team: the command beside a hub over the slice. Its status, which is kept in `done` or `failed`."""
+    plan, own = Plan.load(work), work / str(number)
+    if (own / "done").exists():
+        return DONE
+    (own / "failed").unlink(missing_ok=True)
+    try:
+        signal.signal(signal.SIGTERM, _end_by_signal)
+        refuse_another_slice(own, plan)
+        status = _run_command(plan, own, plan.teams[number - 1])
+        if status:
+            raise Fault(status if 0 < status < 128 else FAILED, f"the command ended with {status}")
+    except (Fault, OSError) as fault:
+        (own / "failed").write_text(f"{fault}\n", errors="backslashreplace")
+        raise Fault(fault.status if isinstance(fault, Fault) else FAILED, f"team {plan.teams[number - 1]}: {fault}") from None
+    with whole_file(own / "done") as file:
+        file.write(b"done\n")
+    _remove_texts(own / "journal")
+    return DONE
+
+
+def _end_by_signal(number: int, frame: FrameType | None) -> None:
+    raise Fault(FAILED, f"ended by signal {number}")
+
+
+def refuse_another_slice(own: Path, plan: Plan) -> None:
+    """A fault where the slice is of another text than the plan."""
+    mark = _MARK % plan.sum.encode()
+    with open(own / "slice.def", "rb") as file:
+        if file.read(len(mark)) != mark:
+            raise Fault(REFUSED, f"{own / 'slice.def'} is a slice of another text")
+
+
+def _run_command(plan: Plan, own: Path, team: str) -> int:
+    """The status of the command, which finds the team's socket by LEFENCE_SOCKET, and its name by LEFENCE_TEAM.
+
+    The engine gives a task to one machine at a time: a hub of another one that did not end the journal is gone.
+    """
+    words = ["--team", team, "--journal", str(own / "journal"), "--takeover", "--export", str(own / "new.def")]
+    with _hub(plan, own / "slice.def", words, socket_name(team)) as socket:
+        environment = {**os.environ, "LEFENCE_SOCKET": str(socket), "LEFENCE_TEAM": team, "LEFENCE_WORK": str(own)}
+        with subprocess.Popen(plan.command, cwd=plan.folder, env=environment, stdin=subprocess.DEVNULL) as command:
+            try:
+                return command.wait()
+            except BaseException:
+                command.terminate()
+                raise
+
+
+@contextlib.contextmanager
+def _hub(plan: Plan, design: Path, words: list[str], name: str) -> Iterator[Path]:
+    """A hub over a design, whose socket of that name belongs to this machine; at the end of the block it exports and ends."""
+    code = "import sys; from lefence.hub_tool import main; sys.exit(main())"
+    path = os.pathsep.join([str(Path(__file__).resolve().parents[1]), *filter(None, [os.environ.get("PYTHONPATH")])])
+    with tempfile.TemporaryDirectory(prefix="lefence-farm") as folder:
+        command = [sys.executable, "-c", code, str(design), *plan.libraries, "--program", plan.program, *_BOUNDS, "--sockets", folder, *words]
+        with subprocess.Popen(command, env={**os.environ, "PYTHONPATH": path}, stdin=subprocess.DEVNULL) as hub:
+            try:
+                _wait_served(hub, Path(folder) / name)
+                yield Path(folder) / name
+            finally:
+                hub.terminate()
+                hub.wait()
+    if hub.returncode:
+        raise Fault(hub.returncode if hub.returncode in (1, 2, 3) else FAILED, f"the hub over {design} ended with {hub.returncode}")
+
+
+def _wait_served(hub: subprocess.Popen[bytes], socket: Path) -> None:
+    """Waits until somebody listens at the socket, or a fault where the hub ends before."""
+    while hub.poll() is None:
+        with contextlib.suppress(OSError):
+            connect(socket).close()
+            return
+        time.sleep(_NAP)
+    raise Fault(hub.returncode if hub.returncode in (1, 2, 3) else FAILED, f"the hub did not start: it ended with {hub.returncode}")
+
+
+def collect(work: Path) -> int:
+    """Brings the work of all teams that are done into one design; the others are named."""
+    plan = Plan.load(work)
+    plan.refuse_another_text()
+    left = set(plan.numbers_left(work))
+    done = [number for number in range(1, len(plan.teams) + 1) if number not in left]
+    for number in done:
+        refuse_another_slice(work / str(number), plan)
+    for number in sorted(left):
+        reason = work / str(number) / "failed"
+        why = reason.read_text().strip() if reason.exists() else "it did not end"
+        log(TOOL, f"team {plan.teams[number - 1]} is not in it: {why}; {work / str(number) / 'log'} has more")
+    if plan.is_merged:
+        _merge(work, plan, done)
+    else:
+        _push(work, plan, done)
+    log(TOOL, f"{plan.export}: the work of {len(done)} of {len(plan.teams)} teams")
+    return LACKING if left else DONE
+
+
+def _merge(work: Path, plan: Plan, done: list[int]) -> None:
+    with whole_file(Path(plan.export)) as file:
+        count = merge(Path(plan.design), [work / str(number) / "new.def" for number in done], file)
+    log(TOOL, f"{count} components are as the teams' slices have them")
+
+
+def _push(work: Path, plan: Plan, done: list[int]) -> None:
+    journal = work / "whole.journal"
+    journal.unlink(missing_ok=True)
+    _remove_texts(journal)
+    words = ["--journal", str(journal), "--no-sync", "--export", plan.export]
+    with _hub(plan, Path(plan.design), words, socket_name(None)) as socket:
+        for number in done:
+            push = push_journal(work / str(number) / "journal", str(socket), _AHEAD, False)
+            log(TOOL, f"team {plan.teams[number - 1]}: {push.count} lines answered as recorded")
+    journal.unlink()
+    _remove_texts(journal)
+
+
+def _remove_texts(journal: Path) -> None:
+    """Removes the copies of the texts of a journal on which no hub is to go on."""
+    shutil.rmtree(texts_folder(journal), ignore_errors=True)

@@ -1,0 +1,220 @@
+"""lefence-journal: what a journal holds, whether it is whole, and a way on where it is not."""
+
+from __future__ import annotations
+
+import argparse
+import asyncio
+import datetime
+import os
+import shutil
+import sys
+from collections.abc import Iterator
+from dataclasses import dataclass
+from pathlib import Path
+
+from .faults import DONE, FAILED, REFUSED, Fault, Parser, log, run_tool
+from .frames import Frame, Reader, Record, body_of, frame_of, header_of, read_records
+from .journal import lock
+from .owner import Succession, own
+from .program import Program, find_program
+from .server import Server, ServerLost
+from .texts import kept_text
+from .whole_file import refuse_inputs, sync_folder, whole_file
+
+TOOL = "lefence-journal"
+
+
+@dataclass
+class Stretch:
+    """Frames that follow each other, of which the first one begins at `start`, and what stands between the last one and the next."""
+
+    start: int
+    end: int
+    frames: int = 0
+    changes: int = 0
+
+
+def stretches(reader: Reader) -> Iterator[Stretch]:
+    """The stretches of a journal; behind each but the last one is damage."""
+    start: int | None = reader.texts()[1]
+    while start is not None:
+        found = Stretch(start, start)
+        for frame in reader.frames(start):
+            found.end, found.frames, found.changes = frame.end, found.frames + 1, found.changes + frame.changes
+        yield found
+        start = reader.next_start(found.end)
+
+
+def whole_frames(reader: Reader, start: int = 0) -> Iterator[Frame]:
+    """All whole frames from a byte on, also those behind damage."""
+    for stretch in stretches(reader):
+        for frame in reader.frames(stretch.start):
+            if frame.start >= start:
+                yield frame
+
+
+def check(reader: Reader) -> int:
+    """Tells what is whole, and whether the texts are kept; refused where the journal is damaged or a text lacks."""
+    status, found = DONE, list(stretches(reader))
+    for text in reader.texts()[0]:
+        kept = kept_text(reader.path, text)
+        status = status if kept else REFUSED
+        print(f"text {text.sum} of {text.path}: {'kept' if kept else 'not kept'}")
+    for stretch, behind in zip(found, [*found[1:], None]):
+        print(f"whole from byte {stretch.start} to {stretch.end}: {stretch.changes} changes in {stretch.frames} frames")
+        if behind:
+            status = REFUSED
+            print(f"damaged from byte {stretch.end} to {behind.start}: `cut --at {stretch.end}` makes a journal of what stands before")
+    if tail := reader.tail(found[-1].end):
+        print(f"torn: {tail} bytes at byte {found[-1].end} are no whole frame; a start cuts them off")
+    return status
+
+
+def list_changes(reader: Reader, team: str | None) -> int:
+    """Tells of each change its number, time, uid, pid, line and reply, and of each note its time."""
+    number = 0
+    for frame in whole_frames(reader):
+        when = _time_of(frame)
+        if team is None:
+            for note in frame.notes():
+                _print("-", when, "-", "-", note.decode("ascii", "backslashreplace"))
+        for record in frame.records():
+            number += 1
+            if is_of(record, team):
+                uid, _, pid = record.who.decode().partition(" ")
+                _print(str(number), when, uid, pid or "-", record.line.decode(), record.reply.decode().rstrip("\n"))
+    return DONE
+
+
+def _time_of(frame: Frame) -> str:
+    when = datetime.datetime.fromtimestamp(float(frame.time), datetime.UTC)
+    return when.isoformat(timespec="milliseconds").replace("+00:00", "Z")
+
+
+def _print(*words: str) -> None:
+    sys.stdout.write("\t".join(words) + "\n")
+
+
+def is_of(record: Record, team: str | None) -> bool:
+    """Whether the change is that of a team, or of any."""
+    return team is None or record.line.split()[1] == team.encode()
+
+
+def cut(path: Path, at: int | None, takes_over: bool) -> int:
+    """Cuts a journal off at the end of a frame, or before its first damage; the whole of it is kept beside it first."""
+    with open(path, "r+b") as file:
+        lock(file.fileno(), path)
+        reader = Reader(file.fileno(), path)
+        if not takes_over:
+            _refuse_claim(reader)
+        first = next(stretches(reader))
+        at = first.end if at is None else at
+        if at not in (first.start, *(frame.end for frame in reader.frames(first.start))):
+            raise Fault(REFUSED, f"{path}: no frame of its first whole stretch, from byte {first.start} to {first.end}, ends at byte {at}")
+        aside = path.with_name(f"{path.name}.before-cut-at-{at}")
+        if aside.exists():
+            raise Fault(FAILED, f"{aside} is there already")
+        with whole_file(aside) as copy:
+            shutil.copyfileobj(file, copy, 1 << 20)
+        aside.chmod(0o600)
+        os.ftruncate(file.fileno(), at)
+        os.fsync(file.fileno())
+        sync_folder(path.absolute().parent)
+    log(TOOL, f"{path}: cut off at byte {at}; as it was it is {aside}")
+    return DONE
+
+
+def _refuse_claim(reader: Reader) -> None:
+    """A fault where a hub may be at work on the journal."""
+    succession = Succession()
+    for frame in whole_frames(reader):
+        for note in frame.notes():
+            succession.take(note)
+    succession.refuse_claim(own(), reader.path)
+
+
+def export(reader: Reader, team: str | None, start: int, output: Path | None) -> int:
+    """Writes the lines of the changes for `lefence replay`, or, with a file, a journal of them for `lefence-push`."""
+    if output is None:
+        for frame in whole_frames(reader, start):
+            sys.stdout.write("".join(f"{record.line.decode()}\n" for record in frame.records() if is_of(record, team)))
+        return DONE
+    refuse_inputs(output, [reader.path])
+    with whole_file(output) as file:
+        at = file.write(header_of(reader.texts()[0]))
+        for frame in whole_frames(reader, start):
+            if records := [record for record in frame.records() if is_of(record, team)]:
+                at += file.write(frame_of(at, body_of(records), frame.time))
+    return DONE
+
+
+def verify(path: Path, given: list[Path], wanted: str | None) -> int:
+    """Has the program answer all changes, over the kept texts or those given, and compares each reply."""
+    with open(path, "rb") as file:
+        texts = Reader(file.fileno(), path).texts()[0]
+    kept = [kept_text(path, text) for text in texts]
+    paths = given or [found for found in kept if found]
+    if len(paths) != len(texts):
+        raise Fault(REFUSED, f"{path}: {len(texts)} texts, of which {len(paths)} are {'given' if given else 'kept beside it'}")
+    server = Server(Program(find_program(wanted), paths), [text.sum for text in texts])
+
+    async def replay() -> int:
+        try:
+            await server.start()
+            return await server.restore(read_records(path))
+        except ServerLost as lost:
+            raise Fault(FAILED, f"{path}: {lost}") from None
+        finally:
+            await server.kill()
+
+    log(TOOL, f"{path}: {asyncio.run(replay())} changes are answered as recorded")
+    return DONE
+
+
+def parser() -> Parser:
+    made = Parser(
+        TOOL,
+        "Tells what a journal of lefence-hub holds, and makes one that a hub takes of one that is damaged. `check` tells what\n"
+        "is whole (status 1 where anything is damaged), `list` who changed what when, `cut` cuts it off, `export` writes\n"
+        "lines for `lefence replay` or a journal for lefence-push, and `verify` compares each reply with the program's.",
+        f"{TOOL} check chip.journal\n{TOOL} list chip.journal --team A\n{TOOL} verify chip.journal",
+    )
+    verbs = made.add_subparsers(dest="verb", metavar="VERB", required=True, parser_class=argparse.ArgumentParser)
+
+    def verb(name: str, told: str) -> argparse.ArgumentParser:
+        added = verbs.add_parser(name, help=told, description=told)
+        added.add_argument("journal", metavar="JOURNAL", type=Path, help="a journal of lefence-hub")
+        return added
+
+    one_team = "the changes of this team alone"
+    verb("check", "tell what is whole, torn or damaged, and whether the texts are kept")
+    added = verb("list", "tell number, time (UTC), uid, pid, line and reply of each change")
+    added.add_argument("--team", metavar="NAME", help=one_team)
+    added = verb("cut", "cut it off at the end of a frame; as it was it is kept beside it")
+    added.add_argument("--at", metavar="BYTE", type=int, help="where (before the first damage)")
+    added.add_argument("--takeover", action="store_true", help="also that of a hub of another host, which is gone for certain")
+    added = verb("export", "write the lines of all whole frames")
+    added.add_argument("--team", metavar="NAME", help=one_team)
+    added.add_argument("--from", dest="start", metavar="BYTE", type=int, default=0, help="from the frame on that begins there")
+    added.add_argument("--output", metavar="FILE", type=Path, help="write a journal of them for lefence-push")
+    added = verb("verify", "have the program answer all changes, and compare each reply")
+    added.add_argument("texts", metavar="TEXT", type=Path, nargs="*", help="DEF and LEF texts (those that are kept)")
+    added.add_argument("--program", metavar="PATH", help="the lefence program (that of the search path, or of this repository)")
+    return made
+
+
+def main() -> int:
+    options = parser().parse_args()
+
+    def work() -> int:
+        if options.verb == "cut":
+            return cut(options.journal, options.at, options.takeover)
+        if options.verb == "verify":
+            return verify(options.journal, options.texts, options.program)
+        with open(options.journal, "rb") as file:
+            reader = Reader(file.fileno(), options.journal)
+            if options.verb == "list":
+                return list_changes(reader, options.team)
+            return check(reader) if options.verb == "check" else export(reader, options.team, options.start, options.output)
+
+    return run_tool(TOOL, work)

@@ -1,0 +1,238 @@
+"""A farm: every team at work over its slice, by each engine, and all of it in one design."""
+
+from __future__ import annotations
+
+import io
+import os
+import subprocess
+import sys
+import unittest
+from dataclasses import replace
+from unittest import mock
+
+import cluster
+from support import CELLS, FRONT, PATIENCE, PROGRAM, FrontCase, tool_words
+
+from lefence.design import Design
+from lefence.farm import teams_of
+from lefence.faults import Fault
+from lefence.journal import Journal, texts_in
+from lefence.merge import merge
+from lefence.owner import own
+from lefence.slice import slice_of, slices_of
+
+# Two fences and the ground around them, with two cells each.
+TEAMS = ("A", "B", "-")
+TEXT = """VERSION 5.8 ;
+DESIGN t ;
+UNITS DISTANCE MICRONS 1000 ;
+ROW r0 core 0 0 N DO 40 BY 1 STEP 200 0 ;
+REGIONS 2 ;
+- A ( 0 0 ) ( 2000 2000 ) + TYPE FENCE ;
+- B ( 4000 0 ) ( 6000 2000 ) + TYPE FENCE ;
+END REGIONS
+COMPONENTS 6 ;
+- a1 INV ; - b1 BUF ; - g1 INV + UNPLACED ; # one of each
+- a2 INV ; - b2 INV ;
+- g2 INV + PLACED ( 50 0 ) N ;
+END COMPONENTS
+GROUPS 2 ;
+- A a* + REGION A ;
+- B b* + REGION B ;
+END GROUPS
+END DESIGN
+"""
+# A team's worker: it places its cells and commits; where a file of the team's name stands it ends with 7 before the commit.
+WORKER = """import os, sys
+sys.path.insert(0, FRONT)
+import lefence
+team = os.environ["LEFENCE_TEAM"]
+with lefence.connect(os.environ["LEFENCE_SOCKET"]) as connection, connection.session(team) as session:
+    print(session.first_revision, session.tidy().moved)
+    if os.path.exists(f"{team}.fails"):
+        sys.exit(7)
+    session.commit()
+"""
+# What stands for Slurm and LSF: jobs run at once, and behind one another. It knows the options that the tool gives.
+ENGINE = """import os, re, subprocess, sys
+lsf = os.path.basename(sys.argv[0]) == "bsub"
+words, array, output = sys.argv[1:], [], ""
+while words and words[0].startswith("-"):
+    word = words.pop(0)
+    name, _, value = word.partition("=")
+    if lsf and word in ("-J", "-o", "-w"):
+        name, value = word, words.pop(0)
+    if name in ("--array", "-J"):
+        array = re.sub(r"%\\d+$|[^\\d,]", "", value if not lsf else value.partition("%")[0]).split(",")
+    elif name in ("--output", "-o"):
+        output = value
+    elif name in ("--dependency", "-w"):
+        assert re.fullmatch(r"afterany:41|ended\\(41\\)", value), value
+    else:
+        assert word in ("--parsable", "--requeue", "--open-mode=append", "-r", "-K", "--mem=100", "-q"), word
+assert len(words) == 1, words
+for number in array or [""]:
+    variables = {"LSB_JOBINDEX" if lsf else "SLURM_ARRAY_TASK_ID": number}
+    with open(output.replace("%I" if lsf else "%a", number), "ab") as told:
+        subprocess.run(words, stdout=told, stderr=told, env={**os.environ, **variables})
+number = 41 if array else 42
+print(f"Job <{number}> is submitted to default queue <normal>." if lsf else number)
+"""
+
+
+class FarmCase(FrontCase):
+    """A design of two teams and the ground, and a worker."""
+
+    def setUp(self) -> None:
+        super().setUp()
+        (self.folder / "worker.py").write_text(WORKER.replace("FRONT", repr(str(FRONT))))
+        self.design.write_text(TEXT)
+        self.work = self.folder / "work"
+
+    def farm(self, *words: str, folder: str = "") -> subprocess.CompletedProcess[str]:
+        """A farm that runs to its end, and finds the engines in a folder."""
+        command = [*tool_words("lefence-farm"), "work", "t.def", "t.lef", "--program", PROGRAM, *words]
+        path = os.pathsep.join([folder, os.environ["PATH"]])
+        done = subprocess.run(
+            [*command, "--", sys.executable, "-B", "worker.py"],
+            capture_output=True,
+            text=True,
+            timeout=5 * PATIENCE,
+            cwd=self.folder,
+            env={**os.environ, "PATH": path},
+        )
+        self.assertNotIn("Traceback", done.stderr)
+        return done
+
+    def wanted(self) -> bytes:
+        """The design with all teams tidy, by the program alone."""
+        text = "".join(f"open {team}\ntidy {team} 0\ncommit {team} 0\n" for team in TEAMS)
+        self.direct(text.encode(), "--export", str(self.folder / "want.def"))
+        return (self.folder / "want.def").read_bytes()
+
+
+class Farms(FarmCase):
+    def test_a_team_that_fails_is_named_and_given_again_it_alone_is_at_work(self) -> None:
+        (self.folder / "B.fails").touch()
+        done = self.farm("--export", "new.def", "--processes", "4")
+        self.assertEqual(done.returncode, 4, done.stderr)
+        self.assertIn(f"team B is not in it: the command ended with 7; {self.work / '2' / 'log'} has more\n", done.stderr)
+        self.assertIn("the work of 2 of 3 teams\n", done.stderr)
+        text = (self.folder / "new.def").read_text()
+        self.assertEqual(("- b1 BUF ;" in text, "- b2 INV ;" in text, "- a2 INV ;" in text), (True, True, False))
+        (self.folder / "B.fails").unlink()
+        # As if the task had been at work on another machine, which is gone.
+        journal = self.work / "2/journal"
+        os.close(Journal(journal, texts_in(journal) or [], self.fail, owner=replace(own(), host="farm2"))._fd)
+        done = self.farm("--export", "new.def")
+        self.assertEqual(done.returncode, 0, done.stderr)
+        self.assertEqual([*self.work.glob("whole*"), *self.work.rglob("*.texts")], [])
+        self.assertIn("lefence-farm: 1 of 3 teams have work to do\n", done.stderr)
+        self.assertEqual((self.folder / "new.def").read_bytes(), self.wanted())
+        # The second run went on from what the first had done.
+        told = (self.work / "2/log").read_text()
+        self.assertEqual((told.count("0 2\n"), told.count("1 0\n")), (1, 1))
+        done = self.farm("--merge", "--export", "merged.def")
+        self.assertEqual((done.returncode, (self.folder / "merged.def").read_bytes()), (0, self.wanted()), done.stderr)
+        self.refused_when_the_text_changes()
+
+    def refused_when_the_text_changes(self) -> None:
+        """A text that is written anew between the slices and the end, and before a farm is given again."""
+        self.design.write_text(self.design.read_text().replace("a1 INV", "a1 BUF"))
+        done = self.tool("lefence-farm", "work", "--collect")
+        told = f"lefence-farm: {self.design.resolve()} is another text than the slices were made of\n"
+        self.assertEqual((done.returncode, done.stderr.decode()), (1, told))
+        done = self.tool("lefence-farm", "work", "t.def", "t.lef", "--program", PROGRAM, "--", "true")
+        self.assertEqual((done.returncode, done.stderr.count(b"is of another text than")), (1, 1))
+
+    def by_engine(self, name: str, engine: str, option: str, *words: str) -> str:
+        """The line of a farm by a stand-in of an engine, whose tasks and last job did their work."""
+        folder = self.folder / "engines"
+        folder.mkdir(exist_ok=True)
+        stand_in = folder / name
+        stand_in.write_text(f"#!{sys.executable}\n{ENGINE}")
+        stand_in.chmod(0o755)
+        done = self.farm("--engine", engine, f"--option={option}", "--processes", "4", *words, folder=str(folder))
+        self.assertEqual((done.returncode, done.stdout), (0, ""), done.stderr)
+        self.assertIn("the work of 3 of 3 teams\n", (self.work / "collect.log").read_text())
+        self.assertEqual((self.work / "new.def").read_bytes(), self.wanted())
+        return done.stderr
+
+    def test_a_job_array_of_slurm(self) -> None:
+        told = self.by_engine("sbatch", "slurm", "--mem=100")
+        self.assertIn("lefence-farm: 3 teams are submitted; job 42 collects what they did", told)
+
+    def test_a_job_array_of_lsf(self) -> None:
+        told = self.by_engine("bsub", "lsf", "-q", "--wait")
+        self.assertIn("3 teams are submitted; the job that collects what they did is waited for\n", told)
+        self.assertIn("the work of 3 of 3 teams\n", told)
+
+    def test_an_engine_that_is_not_there_or_refuses_is_told(self) -> None:
+        done = self.farm("--engine", "slurm", folder="nowhere") if subprocess.run(["which", "sbatch"], capture_output=True).returncode else None
+        if done:
+            self.assertEqual((done.returncode, "sbatch is not there; --engine names another engine" in done.stderr), (2, True))
+        refusing = self.folder / "bsub"
+        refusing.write_text("#!/bin/sh\necho 'no queue' >&2; exit 255\n")
+        refusing.chmod(0o755)
+        done = self.farm("--engine", "lsf", folder=str(self.folder))
+        self.assertEqual((done.returncode, "bsub ended with 255: no queue" in done.stderr), (3, True))
+
+    def test_a_command_that_is_not_there_is_told(self) -> None:
+        done = self.tool("lefence-farm", "work", "t.def", "t.lef", "--program", PROGRAM, "--merge", "--", "./nothing")
+        self.assertEqual(done.returncode, 4, done.stderr)
+        for team in TEAMS:
+            self.assertIn(f"team {team} is not in it: [Errno 2] No such file or directory: './nothing'; ", done.stderr.decode())
+        self.assertEqual((self.work / "new.def").read_text(), TEXT)
+
+    def test_words_that_lack_something(self) -> None:
+        for words in (("work",), ("work", "t.def", "t.lef"), ("work", "t.def", "--", "true")):
+            done = self.tool("lefence-farm", *words)
+            self.assertEqual((done.returncode, done.stdout), (2, b""), done.stderr)
+
+
+@unittest.skipIf(cluster.lacking(), f"a real cluster cannot be started: it lacks {cluster.lacking()} (Debian: slurm-wlm, munge)")
+class Cluster(FarmCase):
+    def test_a_real_cluster_of_slurm(self) -> None:
+        (self.folder / "B.fails").touch()
+        with cluster.cluster() as environment:
+            with mock.patch.dict(os.environ, environment):
+                done = self.farm("--engine", "slurm", "--option=--mem=100", "--wait")
+                self.assertEqual(done.returncode, 4, done.stderr)
+                self.assertIn("lefence-farm: team B is not in it: the command ended with 7", done.stderr)
+                self.assertIn("the work of 2 of 3 teams\n", done.stderr)
+                (self.folder / "B.fails").unlink()
+                done = self.farm("--engine", "slurm", "--option=--mem=100", "--wait")
+                self.assertEqual(done.returncode, 0, done.stderr)
+                self.assertIn("the work of 3 of 3 teams\n", done.stderr)
+        self.assertEqual((self.work / "new.def").read_bytes(), self.wanted())
+
+
+class Merges(FrontCase):
+    def test_all_slices_at_once_are_each_slice(self) -> None:
+        more = "COMPONENTS 2 ; # more\n- wall BUF + FIXED ( 0 6000 ) N ; - g9 INV ;\nEND COMPONENTS\nNETS 0 ;\nEND NETS\n"
+        text = self.design.read_bytes().replace(b"END DESIGN", more.encode() + b"END DESIGN")
+        design = Design(text)
+        teams = teams_of(design)
+        slices = [b"".join(pieces) for pieces in slices_of(design, [team.encode() for team in teams])]
+        self.assertEqual(slices, [slice_of(text, team) for team in teams])
+
+    def test_slices_go_back_into_the_text(self) -> None:
+        more = "COMPONENTS 3 ;\n- wall BUF + FIXED ( 0 6000 ) N ; # a\n - f0x INV ; - lid INV + COVER ( 0 0 ) N ;\nEND COMPONENTS\n"
+        whole = self.design.read_text().replace("END DESIGN", f"{more}END DESIGN")
+        self.design.write_text(whole)
+        paths = []
+        for team in ("f0", "-"):
+            paths.append(self.folder / f"slice{team}.def")
+            part = slice_of(whole.encode(), team).replace(b"- f0x INV ;", b"- f0x INV + PLACED ( 0 0 ) N ;")
+            paths[-1].write_bytes(part.replace(b"- gc3 BUF ;", b"- gc3 BUF + PLACED ( 1 2 ) S ;"))
+        merged = io.BytesIO()
+        self.assertEqual(merge(self.design, paths, merged), 2 * CELLS + 1)
+        want = whole.replace("- f0x INV ;", "- f0x INV + PLACED ( 0 0 ) N ;").replace("- gc3 BUF ;", "- gc3 BUF + PLACED ( 1 2 ) S ;")
+        self.assertEqual(merged.getvalue().decode(), want)
+        paths[0].write_bytes(paths[0].read_bytes().replace(b"- f0c4 ", b"- f0d4 "))
+        with self.assertRaisesRegex(Fault, "slicef0.def: component f0d4 is none of .*t.def"):
+            merge(self.design, paths, io.BytesIO())
+
+
+if __name__ == "__main__":
+    unittest.main()

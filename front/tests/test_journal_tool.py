@@ -1,0 +1,109 @@
+"""What lefence-journal tells of journals, and the ways on from one that is damaged."""
+
+from __future__ import annotations
+
+import os
+import re
+import unittest
+from dataclasses import replace
+from pathlib import Path
+
+from support import PROGRAM, HubCase
+
+from lefence.frames import Reader, read_records
+from lefence.journal import Journal, texts_in
+from lefence.owner import own
+
+
+class JournalTool(HubCase):
+    """A journal of three changes of f0 and two of f1, frame by frame."""
+
+    def setUp(self) -> None:
+        super().setUp()
+        self.start()
+        self.lines = ["open f0", "place f0 0 f0c1 0 0 N", "open f1", "place f1 0 f1c1 8000 0 N", "place f0 0 f0c2 2000 0 N"]
+        talker = self.talk("operator")
+        for line in self.lines:
+            self.assertRegex(talker.ask(line)[0], "^ok")
+        self.assertEqual(self.hub.end(), 0)
+
+    def told(self, *words: str | Path, status: int = 0) -> list[str]:
+        done = self.tool("lefence-journal", *words)
+        self.assertEqual(done.returncode, status, done.stderr)
+        return done.stdout.decode().splitlines()
+
+    def frames(self) -> list[tuple[int, int]]:
+        with open(self.journal, "rb") as file:
+            reader = Reader(file.fileno(), self.journal)
+            return [(frame.start, frame.end) for frame in reader.frames(reader.texts()[1])]
+
+    def spoil(self, number: int) -> tuple[int, int]:
+        """Flips a bit in the frame of that number."""
+        start, end = self.frames()[number]
+        whole = bytearray(self.journal.read_bytes())
+        whole[end - 2] ^= 4
+        self.journal.write_bytes(whole)
+        return start, end
+
+    def test_a_sound_one_is_told_whole_with_who_changed_what_when(self) -> None:
+        self.assertRegex("\n".join(self.told("check", self.journal)), r"^text \w{64} of \S+/t.def: kept\ntext .*: kept\nwhole from .*: 5 changes")
+        number = r"\d+\t20\d\d-\d\d-\d\dT\d\d:\d\d:\d\d\.\d{3}Z\t\d+\t\d+\t"
+        told = [line for line in self.told("list", self.journal) if not line.startswith("-")]
+        self.assertEqual([re.sub(f"^{number}", "", line) for line in told[:2]], ["open f0\tok 0 0", "place f0 0 f0c1 0 0 N\tok 1"])
+        self.assertEqual(len(self.told("list", self.journal, "--team", "f1")), 2)
+        self.assertIn("5 changes are answered as recorded", self.tool("lefence-journal", "verify", self.journal, "--program", PROGRAM).stderr.decode())
+
+    def test_lines_and_journals_come_out_of_it(self) -> None:
+        self.assertEqual(self.told("export", self.journal), self.lines)
+        made = self.folder / "f1.journal"
+        self.told("export", self.journal, "--team", "f1", "--output", made)
+        self.assertEqual(list(read_records(made)), [each for each in read_records(self.journal) if b"f1" in each.line.split()])
+        self.journal.rename(self.folder / "old")
+        (self.folder / "journal.texts").rename(self.folder / "old.texts")
+        self.start()
+        self.assertEqual(self.tool("lefence-push", made, self.folder / "s/f1.sock").returncode, 0)
+
+    def test_a_damaged_one_has_a_way_on(self) -> None:
+        start, end = self.spoil(2)
+        said = self.start()
+        self.assertEqual((f"damaged at byte {start}" in said, self.hub.process.wait(), "lefence-journal check" in said), (True, 1, True))
+        told = self.told("check", self.journal, status=1)
+        self.assertIn(f"damaged from byte {start} to {end}: `cut --at {start}` makes a journal of what stands before", told)
+        # What stands behind the damage can be read, listed and brought out.
+        self.assertEqual(self.told("export", self.journal), [self.lines[0], *self.lines[2:]])
+        self.assertEqual(self.told("export", self.journal, "--from", str(end)), self.lines[2:])
+        before = self.journal.read_bytes()
+        self.told("cut", self.journal, "--at", str(start + 1), status=1)
+        self.assertEqual(self.journal.read_bytes(), before)
+        self.told("cut", self.journal)
+        self.assertEqual((self.folder / f"journal.before-cut-at-{start}").read_bytes(), before)
+        self.assertIn("ready", self.start())
+        self.assertEqual(self.tool("lefence-journal", "cut", self.journal).returncode, 3)
+
+    def test_one_that_another_host_may_have_is_cut_when_that_is_said(self) -> None:
+        texts = texts_in(self.journal) or []
+        os.close(Journal(self.journal, texts, self.fail, owner=replace(own(), host="farm2"))._fd)
+        self.told("cut", self.journal, status=3)
+        self.told("cut", self.journal, "--takeover")
+
+    def test_what_is_torn_or_answered_otherwise_is_told(self) -> None:
+        whole = self.journal.read_bytes()
+        self.journal.write_bytes(whole + b"batch 1")
+        self.assertIn(f"torn: 7 bytes at byte {len(whole)} are no whole frame; a start cuts them off", self.told("check", self.journal))
+        (self.folder / "journal.texts").rename(self.folder / "away")
+        self.assertIn("not kept", self.told("check", self.journal, status=1)[0])
+        program = ("--program", PROGRAM)
+        self.told("verify", self.journal, *program, status=1)
+        self.told("verify", self.journal, self.design, self.lef, *program)
+        script = self.folder / "other"
+        script.write_text(f"#!/bin/sh\n'{PROGRAM}' \"$@\" | sed -u 's/^ok 2$/ok 3/'\n")
+        script.chmod(0o755)
+        done = self.tool("lefence-journal", "verify", self.journal, self.design, self.lef, "--program", str(script))
+        self.assertEqual((done.returncode, b"change 5: the journal has b'ok 2" in done.stderr), (1, True), done.stderr)
+        script.write_text("#!/bin/sh\nexit 9\n")
+        done = self.tool("lefence-journal", "verify", self.journal, self.design, self.lef, "--program", str(script))
+        self.assertEqual((done.returncode, done.stderr.count(b"journal: the program is lost")), (3, 1), done.stderr)
+
+
+if __name__ == "__main__":
+    unittest.main()

@@ -1,0 +1,485 @@
+"""A hub that serves for long: what stands beside its journal, and what its operator sees and bounds."""
+
+from __future__ import annotations
+
+import argparse
+import asyncio
+import contextlib
+import grp
+import itertools
+import json
+import os
+import re
+import resource
+import shutil
+import signal
+import socket
+import subprocess
+import tempfile
+import threading
+import time
+import unittest
+from collections.abc import Callable
+from pathlib import Path
+from typing import Any
+from unittest import mock
+
+from support import FRONT, PATIENCE, PROGRAM, FrontCase, Hub as RunningHub, HubCase, design_text, tool_words
+
+from lefence import crowd, exporter, hub_tool
+from lefence.calm import Calm
+from lefence.faults import Fault
+from lefence.frames import sum_of
+from lefence.hub import Bounds, Hub
+from lefence.hub_client import Client
+from lefence.journal import Journal
+from lefence.notify import notify_alive
+from lefence.sockets import bound_socket, groups_of, take_folder
+from lefence.texts import settle_texts
+
+
+class Texts(HubCase):
+    """The hub stands on the texts with which its journal was begun."""
+
+    def start_refused(self, *words: str) -> tuple[int, str]:
+        done = subprocess.run([*tool_words("lefence-hub"), *words], capture_output=True, text=True, timeout=PATIENCE)
+        return done.returncode, done.stderr
+
+    def test_a_design_that_is_written_anew_changes_nothing(self) -> None:
+        exported, kept = self.folder / "new.def", self.folder / "journal.texts"
+        self.start()
+        lines = ["open f0", "place f0 0 f0c1 0 0 N", "tidy f0 0", "commit f0 0"]
+        self.assertEqual(self.talk("f0").ask(*lines), ["ok 0 0", "ok 1", "ok 2 9", "ok 3"])
+        self.design.write_text("DESIGN other ;\nEND DESIGN\n")
+        self.lef.unlink()
+        os.kill(self.hub.server_pid(), signal.SIGKILL)
+        self.assertEqual(self.talk("f0").ask("open f0", "where f0 0 f0c1"), ["ok 1 3", "ok 0 0 N"])
+        refused = f"no 13 NotExported {self.design} is the journal or a text of the design"
+        self.assertEqual(self.talk("operator").ask(f"export {exported}", f"export {self.design}"), ["ok", refused])
+        self.assertIn("f0c1 INV + PLACED ( 0 0 ) N", exported.read_text())
+        self.hub.kill()
+        self.assertIn("ready", self.start())
+        self.assertIn("t.def is not what it was", self.hub.told())
+        self.assertEqual(self.talk("f0").ask("open f0", "where f0 0 f0c1"), ["ok 0 3", "ok 0 0 N"])
+        self.assertEqual(self.hub.end(), 0)
+        # Another file is not taken for the text, nor one of which no copy is kept.
+        self.lef.write_text("x")
+        other = self.folder / "other.def"
+        other.write_text(design_text() + "\n")
+        status, said = self.start_refused(*self.words(design=other))
+        self.assertEqual((status, "of another design" in said), (1, True), said)
+        shutil.rmtree(kept)
+        status, said = self.start_refused(*self.words())
+        self.assertEqual((status, "no copy is kept" in said), (1, True), said)
+
+    def test_copies_that_are_gone_or_spoilt_are_made_again(self) -> None:
+        self.start()
+        self.talk("f0").ask("open f0", "place f0 0 f0c1 0 0 N")
+        spoils: tuple[Callable[[Path], object], ...] = (lambda path: path.unlink(), lambda path: path.write_bytes(b"x"))
+        for spoil in spoils:
+            self.hub.kill()
+            copies = [path for path in (self.folder / "journal.texts").rglob("*") if path.is_file()]
+            self.assertEqual(sorted(path.name for path in copies), ["t.def", "t.lef"])
+            for path in copies:
+                path.chmod(0o600)
+                spoil(path)
+            self.assertIn("ready", self.start())
+        self.assertEqual(self.talk("f0").ask("open f0"), ["ok 0 1"])
+
+    def test_a_backup_is_the_journal_and_its_texts_copied_while_the_hub_runs(self) -> None:
+        self.start()
+        self.talk("f0").ask("open f0", "place f0 0 f0c1 0 0 N")
+        saved = self.folder / "saved"
+        saved.mkdir()
+        shutil.copy(self.journal, saved)
+        shutil.copytree(self.folder / "journal.texts", saved / "journal.texts")
+        self.assertEqual(self.hub.end(), 0)
+        for path in (self.journal, self.design, self.lef):
+            path.unlink()
+        shutil.rmtree(self.folder / "journal.texts")
+        # Another place and no other text: the copies may be given themselves.
+        self.design, self.lef = (next((saved / "journal.texts").rglob(name)) for name in ("t.def", "t.lef"))
+        self.hub = RunningHub(self.folder, self.words(journal="saved/journal"))
+        self.addCleanup(self.hub.kill)
+        self.assertIn("ready", self.hub.wait_ready())
+        self.assertEqual(self.talk("f0").ask("open f0", "where f0 0 f0c1"), ["ok 0 1", "ok 0 0 N"])
+
+    def test_another_program_is_told_with_the_first_reply_that_differs(self) -> None:
+        self.start()
+        self.talk("f0").ask("open f0", "place f0 0 f0c1 0 0 N")
+        self.hub.kill()
+        script = self.folder / "other"
+        script.write_text(f"#!/bin/sh\n[ $1 = replay ] || exec '{PROGRAM}' \"$@\"\n'{PROGRAM}' \"$@\" | sed -u 's/^ok 1$/ok 7/'\n")
+        script.chmod(0o755)
+        self.program = str(script)
+        self.assertIn("the journal was written with another program", self.start())
+        self.assertIn("change 2: the journal has b'ok 1", self.hub.told())
+
+    def test_a_first_start_may_be_cut_off_at_any_step(self) -> None:
+        journal, steps = self.folder / "j", ("fsync", "replace", "pwrite", "ftruncate", "mkdir", "fdatasync")
+
+        def start() -> list[Path]:
+            texts, kept = settle_texts(journal, [self.design, self.lef], self.fail)
+            Journal(journal, texts, self.fail).close()
+            return [path for text, path in zip(texts, kept) if sum_of(path) == text.sum]
+
+        def begin(last: int) -> bool:
+            """Whether a process that ends at the step of that number comes to the end of a start."""
+            if child := os.fork():
+                return os.waitpid(child, 0)[1] == 0
+            count = itertools.count()
+            for name in steps:
+                step = getattr(os, name)
+
+                def take(*words: Any, step: Callable[..., Any] = step, **more: Any) -> Any:
+                    return step(*words, **more) if next(count) < last else os._exit(7)
+
+                setattr(os, name, take)
+            start()
+            os._exit(0)
+
+        number = 0
+        while not begin(number):
+            number += 1
+            self.assertEqual([path.name for path in start()], ["t.def", "t.lef"])
+            shutil.rmtree(self.folder / "j.texts")
+            journal.unlink()
+        self.assertGreater(number, 12)
+
+    def test_a_journal_without_changes_is_begun_anew_with_another_design(self) -> None:
+        self.design.write_text("DESIGN x ;\nEND DESIGN\n")
+        self.assertIn("7 NoUnits", self.start())
+        self.design.write_text(design_text())
+        self.assertIn("ready", self.start())
+
+    def test_a_journal_that_is_moved_ends_the_hub(self) -> None:
+        self.start()
+        self.talk("f0").ask("open f0", "place f0 0 f0c1 0 0 N")
+        moved: Path = self.folder / "moved"
+        self.journal.rename(moved)
+        self.assertEqual(self.hub.process.wait(PATIENCE), 3)
+        self.assertIn("the journal is not there", self.hub.told())
+        moved.rename(self.journal)
+        self.assertIn("ready", self.start())
+        self.assertEqual(self.talk("f0").ask("open f0", "where f0 0 f0c1"), ["ok 0 1", "ok 0 0 N"])
+
+
+class Sockets(FrontCase):
+    """Whose a socket is, and its folder."""
+
+    def bound(self, *words: Any) -> tuple[int, int]:
+        path = self.folder / "A.sock"
+        bound_socket(path, 0o660, True, *words).close()
+        found = path.lstat()
+        return found.st_mode & 0o777, found.st_gid
+
+    def test_modes_are_those_of_ones_own_sockets(self) -> None:
+        path, other = self.folder / "A.sock", self.folder / "other.sock"
+        mine = os.getegid()
+        self.assertEqual(self.bound(None), (0o660, mine))
+        path.chmod(0o600)
+        self.assertEqual(self.bound(None), (0o600, mine))
+        path.rename(other)
+        other.chmod(0o777)
+        path.symlink_to(other)
+        with self.assertRaises(Fault):
+            self.bound(None)
+        path.unlink()
+        if os.geteuid() == 0:
+            os.chown(other, 12345, 12345)
+            other.chmod(0o777)
+            other.rename(path)
+            self.assertEqual(self.bound(None), (0o660, mine))
+            self.assertEqual(self.bound(12345), (0o660, 12345))
+            self.assertEqual(self.bound(None), (0o660, 12345))
+
+    def test_a_group_that_cannot_be_set_is_a_fault(self) -> None:
+        with mock.patch("os.chown", side_effect=PermissionError(1, "x")), self.assertRaises(Fault):
+            self.bound(os.getegid() + 1)
+        self.assertFalse((self.folder / "A.sock").exists())
+        self.assertEqual(groups_of(["a=b=7", f"A={grp.getgrgid(0).gr_name}"]), {"a=b": 7, "A": 0})
+        for word in ("A", "=7", "A=no such group"):
+            with self.assertRaises(Fault):
+                groups_of([word])
+
+    def test_a_folder_that_others_may_write_to_is_refused(self) -> None:
+        folder = self.folder / "s"
+        folder.mkdir()
+        for mode in (0o777, 0o775, 0o757, 0o1777):
+            folder.chmod(mode)
+            with self.assertRaises(Fault) as caught:
+                take_folder(folder)
+            self.assertEqual(caught.exception.status, 1)
+        folder.chmod(0o755)
+        if os.geteuid() == 0:
+            os.chown(folder, 12345, 12345)
+            with self.assertRaises(Fault):
+                take_folder(folder)
+        before = os.umask(0o002)
+        self.addCleanup(os.umask, before)
+        take_folder(self.folder / "made")
+
+
+class Shares(unittest.TestCase):
+    """Nobody takes all there is: a hub with clients by hand, and a program that accepts."""
+
+    def setUp(self) -> None:
+        def ask(lines: list[bytes]) -> list[bytes]:
+            self.asked += lines
+            return [b"ok %d 0\n" % number if line.startswith(b"open") else b"ok\n" for number, line in enumerate(lines)]
+
+        self.asked: list[bytes] = []
+        self.said: list[str] = []
+        server = mock.Mock(**{"ask": mock.AsyncMock(side_effect=ask), "pid": None})
+        journal = Journal(Path(self.enterContext(tempfile.TemporaryDirectory())) / "j", [], self.said.append)
+        self.hub = Hub(server, journal, Bounds(), self.said.append)
+        self.hub.teams, self.hub.nobody, self.hub.crowd.most_clients = ["f0", "f1"], b"~", 8
+
+    def client(self, team: bytes, uid: int = 4242) -> Client:
+        made = Client(self.hub, team)
+        made.uid = uid
+        self.transport = mock.Mock(**{"is_closing.return_value": False, "get_write_buffer_size.return_value": 100000})
+        made.transport = self.transport
+        return made
+
+    def send(self, client: Client, text: bytes) -> None:
+        client.get_buffer(len(text))[: len(text)] = text
+        client.buffer_updated(len(text))
+
+    def answer_all(self) -> list[bytes]:
+        """The lines that the program is asked."""
+        self.asked.clear()
+
+        async def answer() -> None:
+            while batch := self.hub.take():
+                await self.hub.answer(batch)
+
+        asyncio.run(answer())
+        return self.asked[:]
+
+    def test_one_user_has_a_part_of_a_sockets_connections(self) -> None:
+        self.assertEqual([self.hub.admit(self.client(b"f0")) for _ in range(7)], [True] * 6 + [False])
+        self.assertEqual((self.hub.admit(self.client(b"f0", 7)), self.hub.admit(self.client(b"f1"))), (True, True))
+        self.assertEqual([self.hub.admit(self.client(b"f1", os.geteuid())) for _ in range(7)], [True] * 7)
+
+    def test_one_user_has_a_part_of_a_teams_sessions(self) -> None:
+        other, many = self.client(b"f0", 7), self.client(b"f0")
+        self.send(many, b"open f0\n" * 4)
+        self.answer_all()
+        self.send(many, b"open f1\n" + b"open f0\n" * 5)
+        self.send(other, b"open f0\n")
+        self.assertEqual(self.answer_all().count(b"open f0"), 3)
+        replies = b"".join(call.args[0] for call in self.transport.write.mock_calls)
+        self.assertEqual(replies.count(b"no 10 SessionsFull\n"), 3)
+        # That another team is not his is the program's to say, however often he asks.
+        self.send(self.client(b"f0", 9), b"open f1\n" * 8)
+        self.assertEqual(self.answer_all(), [b"open ~"] * 8)
+
+    def test_long_replies_wait_for_those_that_are_not_read(self) -> None:
+        first, second, third, other = (self.client(team) for team in (b"f0", b"f0", b"f0", b"f1"))
+        for client in (first, second):
+            client.is_clogged = True
+            self.hub.clog(client)
+        self.send(third, b"where f0 0 x\ncheck f0 0\nwhere f0 0 y\n")
+        self.send(other, b"def f1 0\n")
+        self.assertEqual(self.answer_all(), [b"where f0 0 x", b"def f1 0"])
+        first.is_clogged = False
+        self.hub.unclog(first)
+        self.assertEqual(self.answer_all(), [b"check f0 0", b"where f0 0 y"])
+        with mock.patch.object(crowd, "_MOST_UNREAD", 50000):
+            self.send(other, b"def f1 0\n")
+            self.assertEqual(self.answer_all(), [])
+            self.hub.leave(second)
+            self.assertEqual(self.answer_all(), [b"def f1 0"])
+
+    def test_an_export_is_told_when_the_disk_has_its_name(self) -> None:
+        steps, target = mock.Mock(), Path(self.hub.journal.path).with_name("new.def")
+        second = mock.Mock(start=mock.AsyncMock(), restore=mock.AsyncMock(), kill=mock.AsyncMock())
+        second.end = mock.AsyncMock(side_effect=lambda: [steps.end(), 0][1])
+        self.hub.server.program.texts = []
+        with mock.patch.object(exporter, "Server", return_value=second), mock.patch.object(exporter, "sync_folder", steps.sync):
+            self.assertIsNone(asyncio.run(self.hub.exporter.write(str(target), 0)))
+        self.assertEqual([str(call) for call in steps.mock_calls], ["call.end()", f"call.sync({target.parent!r})"])
+
+    def test_a_slow_reader_is_not_dropped_and_one_that_reads_nothing_is(self) -> None:
+        near, far = socket.socketpair()
+        self.addCleanup(near.close)
+        self.addCleanup(far.close)
+        near.setblocking(False)
+        with contextlib.suppress(BlockingIOError):
+            while near.send(bytes(1 << 16)):
+                pass
+        client = self.client(b"f0")
+        self.transport.get_extra_info.return_value = near
+
+        async def judge() -> list[bool]:
+            found = []
+            with mock.patch.object(asyncio.get_running_loop(), "call_later") as later:
+                client.pause_writing()
+                for count in (50000, 50000, 0):
+                    if count:
+                        far.recv(count)
+                    _, again, before = later.call_args.args
+                    again(before)
+                    found.append(self.transport.abort.called)
+            return found
+
+        self.assertEqual(asyncio.run(judge()), [False, False, True])
+
+
+class Faults(FrontCase):
+    def test_behind_a_fault_nothing_more_is_answered(self) -> None:
+        ended = []
+
+        async def pump() -> None:
+            try:
+                await asyncio.Event().wait()
+            finally:
+                ended.append(True)
+
+        async def watch() -> None:
+            while not (self.folder / "operator.sock").exists():
+                await asyncio.sleep(0.01)
+            raise Fault(3, "the journal is lost")
+
+        async def run() -> None:
+            hub = mock.Mock(teams=[], clients=set(), start=mock.AsyncMock(return_value=[]), pump=pump, watch=watch)
+            with self.assertRaisesRegex(Fault, "is lost"), mock.patch.object(hub_tool, "say"):
+                await hub_tool.serve(hub, argparse.Namespace(group=[], team=[], sockets=self.folder), asyncio.Event())
+            await asyncio.sleep(0)
+            self.assertEqual(ended, [True])
+
+        asyncio.run(run())
+
+
+class Floods(unittest.TestCase):
+    def test_a_line_of_each_kind_is_said_once_a_minute(self) -> None:
+        said: list[str] = []
+        calm = Calm(said.append)
+        with mock.patch("time.monotonic", side_effect=[0, 1, 2, 3, 61, 61.5]):
+            for kind in "aabaab":
+                calm(kind, kind)
+        self.assertEqual(said, ["a", "b", "a (and 2 times more since this was told last)"])
+
+
+class Operator(HubCase):
+    """What the operator sees and bounds."""
+
+    def ask_hub(self, option: str) -> str:
+        return subprocess.check_output([*tool_words("lefence-hub"), option, str(self.folder / "s")], text=True, timeout=PATIENCE)
+
+    def send_end(self, path: Path) -> None:
+        with socket.socket(socket.AF_UNIX, socket.SOCK_DGRAM) as end, contextlib.suppress(OSError):
+            end.sendto(b"end", str(path))
+
+    def test_a_socket_of_systemd_that_takes_nothing_holds_nobody(self) -> None:
+        path = self.folder / "told"
+        with socket.socket(socket.AF_UNIX, socket.SOCK_DGRAM) as systemd, mock.patch.dict(os.environ, {"NOTIFY_SOCKET": str(path)}):
+            systemd.bind(str(path))
+            for _ in range(2000):
+                notify_alive(True)
+            self.assertEqual(systemd.recv(100), b"WATCHDOG=1")
+
+    def test_status_metrics_and_what_is_not_committed(self) -> None:
+        told, words = self.folder / "told", bytearray()
+
+        def hear(systemd: socket.socket) -> None:
+            while (piece := systemd.recv(1 << 12)) != b"end":
+                words.extend(piece + b"\n")
+
+        with socket.socket(socket.AF_UNIX, socket.SOCK_DGRAM) as systemd:
+            systemd.bind(str(told))
+            listener = threading.Thread(target=hear, args=(systemd,))
+            listener.start()
+            self.addCleanup(listener.join)
+            self.addCleanup(self.send_end, told)
+            with mock.patch.dict(os.environ, {"NOTIFY_SOCKET": str(told)}):
+                self.start()
+            talker = self.talk("f0")
+            talker.ask("open f0", "place f0 0 f0c1 0 0 N", "place f0 0 f0c2 2000 0 N")
+            self.talk("f1").ask("open f1", "tidy f1 0", "commit f1 0")
+            status = json.loads(self.ask_hub("--status"))
+            teams = {each["team"]: each for each in status["teams"]}
+            self.assertEqual([teams["f0"][key] for key in ("revision", "uncommitted", "clients")], [2, 2, 1])
+            [session] = teams["f0"]["sessions"]
+            self.assertEqual((session["number"], session["uid"], session["pid"]), (0, os.geteuid(), os.getpid()))
+            self.assertEqual((teams["f1"]["revision"], teams["f1"]["uncommitted"], status["changes_total"]), (2, 0, 6))
+            self.assertTrue(status["sync_seconds_p99"] > 0 and status["program_bytes"] > 1 << 20 and status["journal_bytes"] > 300)
+            metrics = self.ask_hub("--metrics")
+            self.assertIn('lefence_team_revision{team="f0"} 2\n', metrics)
+            for line in metrics.splitlines():
+                self.assertRegex(line, r"^(# (HELP|TYPE) )?lefence_[a-z0-9_]+(\{team=\"[^ ]+\"\})? ([-0-9.e]+|counter|gauge|[A-Z].*)$")
+            self.assertEqual(talker.ask("status"), ["no 1 BadRequest"])
+            last = time.monotonic() + PATIENCE
+            while b"WATCHDOG=1" not in words:
+                self.assertLess(time.monotonic(), last)
+                time.sleep(0.01)
+            self.assertEqual(self.hub.end(), 0)
+            self.send_end(told)
+            listener.join()
+        self.assertEqual([b"READY=1\nSTATUS=ready" in words, b"STOPPING=1" in words], [True] * 2)
+        self.assertIn("changes that are not committed: 2 of f0\n", self.hub.told())
+        done = subprocess.run([*tool_words("lefence-hub"), "--status", str(self.folder / "s")], capture_output=True, timeout=PATIENCE)
+        refusal = f"lefence-hub: {self.folder / 's/operator.sock'}: Connection refused\n"
+        self.assertEqual((done.returncode, done.stderr.decode()), (3, refusal))
+
+    def test_a_program_that_hangs_is_restored_and_cannot_hold_the_end(self) -> None:
+        self.start("--deadline", "2", "--idle", "2", "--grace", "1")
+        talker, idle = self.talk("f0"), self.talk("f1")
+        self.assertEqual(talker.ask("open f0", "place f0 0 f0c1 0 0 N"), ["ok 0 0", "ok 1"])
+        os.kill(self.hub.server_pid(), signal.SIGSTOP)
+        self.assertEqual(talker.ask("where f0 0 f0c1"), ["ok 0 0 N"])
+        self.assertIn("has said nothing for 2 seconds", self.hub.told())
+        # Who has no session and says nothing is dropped.
+        self.assertEqual(idle.replies.read(), b"")
+        self.assertEqual(talker.ask("where f0 0 f0c1"), ["ok 0 0 N"])
+        self.hub.kill()
+        self.start("--grace", "1")
+        talker = self.talk("f0")
+        self.assertEqual(talker.ask("open f0"), ["ok 0 1"])
+        os.kill(self.hub.server_pid(), signal.SIGSTOP)
+        talker.socket.sendall(b"sync f0 0\n")
+        time.sleep(0.1)
+        self.assertEqual(self.hub.end(), 3)
+        self.assertIn("given up", self.hub.told())
+
+    def test_spent_descriptors_make_no_flood_of_lines(self) -> None:
+        self.start()
+        pid = self.hub.process.pid
+        resource.prlimit(pid, resource.RLIMIT_NOFILE, (len(os.listdir(f"/proc/{pid}/fd")) + 2, 4096))
+        ends = [socket.socket(socket.AF_UNIX) for _ in range(40)]
+        for end in ends:
+            self.addCleanup(end.close)
+            end.setblocking(False)
+            with contextlib.suppress(BlockingIOError):
+                end.connect(str(self.folder / "s/f0.sock"))
+        self.hub.wait_for("accept")
+        time.sleep(1.5)
+        self.assertLess(len(self.hub.told().splitlines()), 8)
+        for end in ends:
+            end.close()
+        resource.prlimit(pid, resource.RLIMIT_NOFILE, (4096, 4096))
+        self.assertEqual(self.talk("f1").ask("open f1"), ["ok 0 0"])
+
+
+class Unit(unittest.TestCase):
+    """The example of a systemd unit, as far as systemd's own tools can tell."""
+
+    def analyze(self, *words: str) -> str:
+        done = subprocess.run(["systemd-analyze", *words], stdout=subprocess.PIPE, stderr=subprocess.STDOUT, text=True)
+        return done.stdout
+
+    @unittest.skipUnless(shutil.which("systemd-analyze"), "systemd-analyze is not installed")
+    def test_it_is_sound_and_hardened(self) -> None:
+        with tempfile.TemporaryDirectory() as folder:
+            unit = Path(folder) / "lefence-hub.service"
+            text = (FRONT / "lefence-hub.service").read_text()
+            unit.write_text(text.replace("/usr/local/bin/lefence-hub ", "/bin/true "))
+            self.assertEqual(self.analyze("verify", str(unit)), "")
+            told = self.analyze("security", "--offline=yes", "--no-pager", str(unit))
+        found = re.search(r"Overall exposure level for lefence-hub.service: ([0-9.]+)", told)
+        self.assertTrue(found and float(found[1]) < 1, told)
+
+
+if __name__ == "__main__":
+    unittest.main()

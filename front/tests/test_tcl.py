@@ -1,0 +1,155 @@
+"""The client library for Tcl, over a hub's socket and over TCP, where tclsh is installed."""
+
+from __future__ import annotations
+
+import os
+import shutil
+import subprocess
+import unittest
+from pathlib import Path
+
+from support import CELLS, FRONT, PATIENCE, HubCase
+
+import lefence
+from lefence.protocol import OPENACCESS
+
+TCLSH = shutil.which("tclsh")
+
+
+@unittest.skipIf(TCLSH is None, "tclsh is not here; Debian has it as the package tcl")
+class Tcl(HubCase):
+    def run_tcl(self, script: str, *words: str | Path, told: str = "") -> list[str]:
+        """What a script prints; on standard error it prints what is told."""
+        path = self.folder / "script.tcl"
+        path.write_text(script)
+        done = subprocess.run(
+            [str(TCLSH), path, *words],
+            stdin=subprocess.DEVNULL,
+            capture_output=True,
+            text=True,
+            timeout=PATIENCE,
+            cwd=self.folder,
+            env={**os.environ, "TCLLIBPATH": str(FRONT / "tcl")},
+        )
+        self.assertEqual((done.returncode, done.stderr), (0, told), done.stdout)
+        return done.stdout.splitlines()
+
+    def test_each_verb_has_a_proc_that_says_what_its_reply_says(self) -> None:
+        self.start()
+        told = self.run_tcl(
+            """package require lefence
+            set c [lefence::connect [lindex $argv 0]]
+            set s [lefence::open $c f0]
+            puts [lefence::place $s f0c1 400 0 N]
+            puts [lefence::where $s f0c1]
+            puts [lefence::find $s f0c2 400 0]
+            puts [lefence::legalize $s f0c2 400 0]
+            puts [lefence::swap $s f0c1 f0c2]
+            puts [lefence::unplace $s f0c1]
+            puts [lefence::undo $s]
+            puts [lefence::tidy $s]
+            puts [lefence::commit $s]
+            puts [lefence::pad $s 2]
+            set report [lefence::check $s]
+            puts [dict get $report cells],[dict get $report unplaced],[lsort -unique [lmap v [dict get $report violations] {dict get $v rule}]]
+            puts [lindex [dict get $report violations] 0]
+            puts [lefence::revert $s]
+            puts [lindex [split [lefence::def $s] \\n] end-1]
+            puts [lefence::sync $s]
+            lefence::close $s
+            lefence::bye $c
+            puts [list [array names lefence::sessions] [array names lefence::connections]]
+            """,
+            self.folder / "s/f0.sock",
+        )
+        head = ["1", "400 0 N", "0 0 N", "2 0 0 N", "3", "4", "5", f"6 {CELLS - 2}", "7", "8", f"{CELLS},0,8"]
+        self.assertEqual(told[: len(head)], head)
+        self.assertRegex(told[len(head)], r"^cell f0c\d rule 8 other f0c\d$")
+        self.assertEqual(told[len(head) + 1 :], ["9", "END DESIGN", "9", "{} {}"])
+
+    def test_refusals_are_error_codes(self) -> None:
+        self.start()
+        told = self.run_tcl(
+            """package require lefence
+            set c [lefence::connect [lindex $argv 0]]
+            set s [lefence::open $c f0]
+            lefence::place $s f0c1 400 0 N
+            foreach line {
+                {lefence::place $s f0c2 600 0 N} {lefence::where $s f0c2} {lefence::where $s nobody} {lefence::pad $s 17}
+                {lefence::place $s "f0c1 0 0 N\\nbye" 0 0 N} {lefence::place $s f0c2 0.5 0 N} {lefence::where nothing f0c2}
+                {lefence::export $c /tmp/x} {lefence::open $c f1} {lefence::connect /no/such.sock}
+            } {
+                catch $line message options
+                puts [dict get $options -errorcode]
+            }
+            try {lefence::undo $s; lefence::undo $s} trap {LEFENCE NothingToUndo} {} {puts trapped}
+            puts [catch {lefence::place $s f0c2 0 0}]
+            puts [lsearch -all -inline -not [file channels] std*]
+            puts $c
+            """,
+            self.folder / "s/f0.sock",
+            told="lefence-shell: /no/such.sock: No such file or directory\n",
+        )
+        codes = ["Illegal 7 8 f0c2 f0c1", "Unplaced 6 f0c2", "NoCell 5", "BadRequest 1", "BadName", "BadLength", "NoSession", "BadRequest 1"]
+        codes += ["NoTeam 2", "ConnectionLost"]
+        self.assertEqual(told[:-2], [*(f"LEFENCE {code}" for code in codes), "trapped", "1"])
+        # No channel is left open but that of the connection.
+        self.assertEqual(told[-2], told[-1])
+
+    def test_microns_and_retries_where_asked(self) -> None:
+        self.start()
+        script = """package require lefence
+            set c [lefence::connect [lindex $argv 0]]
+            set s [lefence::open $c f0 -microns 1 -retries 1]
+            set other [lefence::open $c f0]
+            lefence::place $other f0c1 0 0 N
+            puts [lefence::place $s f0c2 0.6 2 FS]
+            puts [list [lefence::where $s f0c2] [lefence::where $other f0c2] [lefence::legalize $s f0c3 1.5 0.3]]
+            catch {lefence::place $other f0c1 0 0 N} message options
+            puts [dict get $options -errorcode]
+            """
+        told = ["2", "{0.6 2.0 FS} {600 2000 FS} {3 1.4 0.0 N}", "LEFENCE Stale 4 3"]
+        self.assertEqual(self.run_tcl(script, self.folder / "s/f0.sock"), told)
+        with self.service(1) as port:
+            self.assertEqual(self.run_tcl(script, f"localhost:{port}"), told)
+
+    def test_orientations_of_openaccess_where_asked(self) -> None:
+        self.start()
+        told = self.run_tcl(
+            """package require lefence
+            set c [lefence::connect [lindex $argv 0]]
+            set s [lefence::open $c f0 -openaccess 1]
+            foreach {y orient} {0 R0 0 MY 2000 MX 2000 R180} {
+                lefence::place $s f0c1 0 $y $orient
+                puts [lefence::where $s f0c1]
+            }
+            puts [lindex [lefence::find $s f0c2 400 0] end]
+            set plain [lefence::open $c f0]
+            puts [lefence::where $plain f0c1]
+            foreach line {{lefence::place $plain f0c1 0 0 R0} {lefence::open $c f0 -micron 1}} {
+                catch $line message options
+                puts [dict get $options -errorcode]
+            }
+            """,
+            self.folder / "s/f0.sock",
+        )
+        places = ["0 0 R0", "0 0 MY", "0 2000 MX", "0 2000 R180"]
+        self.assertEqual(told, [*places, "R0", "0 2000 S", "LEFENCE BadOrient", "LEFENCE BadOption"])
+
+    def test_the_example_of_the_page_runs(self) -> None:
+        self.start()
+        page = (FRONT.parent / "docs/FRONT.md").read_text()
+        code = page.partition("```tcl\n")[2].partition("```")[0].replace("/run/lefence/A.sock", str(self.folder / "s/f0.sock"))
+        told = self.run_tcl(code.replace("$connection A", "$connection f0").replace("session u", "session f0c"))
+        self.assertEqual(told, ["f0c2 f0c1", "0.4 0.0 N", "2"])
+
+    def test_orientations_are_those_of_the_library_for_python(self) -> None:
+        [told] = self.run_tcl("package require lefence; puts $lefence::ORIENTS")
+        self.assertEqual(told.split(), [word for pair in OPENACCESS.items() for word in pair])
+
+    def test_the_version_is_that_of_the_package_which_leaves_variables_as_they_are(self) -> None:
+        self.assertEqual(self.run_tcl("set verb mine; puts [package require lefence]; puts $verb"), [lefence.__version__, "mine"])
+
+
+if __name__ == "__main__":
+    unittest.main()
