@@ -5,8 +5,9 @@ A row is made of a verb's name, the fields of its shape, and the comment at its 
 That comment says what the verb does, then its reply and the numbers of its refusals. The rows are in the order of VERBS; the row of
 open is before them and the row of bye after them, and these two are made of the comments in src/request.rt.
 
-front/tcl/tables.tcl has the verbs for Tcl. front/lefence/tables.py has the verbs of the same sources: one changes the floor if it is no look by `is_look` of lf_teams, and
-makes a revision if it is a Change; the refusals of src/reply.rt, with the numbers and names of src/text.rt; the rules of lf_rules, and the orientations.
+front/tcl/tables.tcl has the verbs for Tcl. front/lefence/tables.py has the verbs of the same sources: one changes the floor if it is
+no look by `is_look` of lf_teams, and makes a revision if it is a Change; the refusals of src/reply.rt, with the numbers and names of
+src/text.rt; the rules of lf_rules, and the orientations.
 
 usage: tools/verbs.py            (from the top) prints the table
        tools/verbs.py --check    prints the lines in which the page and the front's tables differ, and which verb or refusal the
