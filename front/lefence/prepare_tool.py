@@ -185,6 +185,8 @@ def look(program: str, options: argparse.Namespace) -> int:
     text = options.design.read_bytes()
     judged = judge(program, text, options.libraries, str(options.design))
     lines = [_located(options.design, text, remark.place, remark.text) for remark in judged.remarks]
+    if not Preparation(text).has_rows:
+        lines.append("there is no ROW; a run with --output makes rows")
     print("\n".join([*lines, *judged.lines]).encode("utf-8", "backslashreplace").decode())
     return judged.status or (NOT_LEGAL if lines else DONE)
 

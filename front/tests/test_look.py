@@ -116,6 +116,10 @@ class Looks(FrontCase):
         self.assertEqual(done.returncode, 1)
         self.assertIn(b"+ PLAECD of component a1", done.stdout)
         self.assertTrue(done.stdout.endswith(b"it does not load: 7 NoUnits t; t.def\n"), done.stdout)
+        self.design.write_text("VERSION 5.8 ; DESIGN t ; UNITS DISTANCE MICRONS 1000 ; END DESIGN\n")
+        done = self.run_on("--look")
+        told = b"there is no ROW; a run with --output makes rows\nit does not load: 9 NoRows t; t.def\n"
+        self.assertEqual((done.returncode, done.stdout), (1, told))
 
     def test_a_look_goes_with_nothing_that_prepares(self) -> None:
         for words in (("--output", "x"), ("--rows",), ("--fence", "A", *"0011"), ("--fillers", "x"), ("--group", "A", "x")):
