@@ -103,20 +103,20 @@ places_same (Some p) (Some q) e = ap (λ (z : Place). Some z) (one_place p q (sa
 
 -- ---- cells
 
-team_is_one : (regions : List Region) (groups : List Group) (name : List ℕ) (s t : ℕ) → IsTeamOf regions groups name s → IsTeamOf regions groups name t → s ≡ t
+pub team_is_one : (regions : List Region) (groups : List Group) (name : List ℕ) (s t : ℕ) → IsTeamOf regions groups name s → IsTeamOf regions groups name t → s ≡ t
 team_is_one regions groups name s t (inl a) (inl b) = let fence : b.fence ≡ a.fence = a.only b.fence b.claimed in cc (a.place, b.place)
 team_is_one regions groups name s t (inl a) (inr b) = absurd (b.0 a.fence a.claimed)
 team_is_one regions groups name s t (inr a) (inl b) = absurd (a.0 b.fence b.claimed)
 team_is_one regions groups name s t (inr a) (inr b) = a.1 ∙ sym b.1
 
 -- the cell of a component, without its position among all
-record Makes (i : Inputs) (c : Component) (cell : LoadedCell) : Type 0 where
-  name : cell.name ≡ c.name
-  team : IsOwn i cell.team c
-  mac : position_of (macro_names i.library.macros) c.mac ≡ Some cell.mac
-  place : option_map as_location cell.place ≡ location c
+pub record Makes (i : Inputs) (c : Component) (cell : LoadedCell) : Type 0 where
+  pub name : cell.name ≡ c.name
+  pub team : IsOwn i cell.team c
+  pub mac : position_of (macro_names i.library.macros) c.mac ≡ Some cell.mac
+  pub place : option_map as_location cell.place ≡ location c
 
-without_positions : (i : Inputs) (n : ℕ) (cs : List Component) (cells : List LoadedCell) → AllZip (IsCellOf i) (movables_from n cs) cells
+pub without_positions : (i : Inputs) (n : ℕ) (cs : List Component) (cells : List LoadedCell) → AllZip (IsCellOf i) (movables_from n cs) cells
     → AllZip (Makes i) (filter is_movable cs) cells
 without_positions i n [] [] z = tt
 without_positions i n [] (cell ∷ cells) z = absurd z

@@ -1,6 +1,6 @@
 -- What the inputs of a slice have of those of the whole, so that the two load as designs that are alike (LEF MACRO; DEF ROW,
 -- REGIONS, BLOCKAGES, GROUPS and COMPONENTS).
-use Rattle.std.specs.Prelude.{◌≡◌, ℕ, Bool, List, All, Decides, Some, filter, map}
+use Rattle.std.specs.Prelude.{◌≡◌, ℕ, Bool, not, ◌||◌, List, All, Decides, Some, filter, map}
 use Rattle.std.specs.List.{AllZip}
 use Rattle.lf_def.specs.declared.components.Component.{Component}
 use Rattle.lf_def.specs.Kinds.{is_movable}
@@ -47,3 +47,14 @@ SlicesLoadAlike =
     (team : List ℕ) (number : ℕ) (whole slice : Inputs) (a b : Loaded)
     → IsCutFrom number whole slice → IsLoadedFrom whole a → IsLoadedFrom slice b → team_number a.frame team ≡ Some number
     → AreDesignsAlike team a b
+
+-- ---- cuts are there
+
+-- the inputs without the movable components that do not pass
+abbrev pub without_others : (Component → Bool) → Inputs → Inputs
+without_others own i = record i { document = record i.document { components = filter (λ c. not (is_movable c) || own c) i.document.components } }
+
+-- the inputs of each loaded design without the components of other teams are those of a slice
+abbrev pub CutsAreThere : Type 0
+CutsAreThere =
+    (number : ℕ) (whole : Inputs) (a : Loaded) → IsLoadedFrom whole a → (own : Component → Bool) × IsCutFrom number whole (without_others own whole)

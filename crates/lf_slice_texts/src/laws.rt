@@ -1,6 +1,6 @@
 //! Laws of slices as they are loaded, and of lines and their replies.
 
-ghost use Rattle.lf_slice_texts.specs.Cuts.{SlicesLoadAlike};
+ghost use Rattle.lf_slice_texts.specs.Cuts.{CutsAreThere, SlicesLoadAlike};
 ghost use Rattle.lf_slice_texts.specs.Lines.{TextsAreAlike, SliceTextsAreAlike};
 
 use lf_rules::{choice_is_one, verdict_is_one};
@@ -9,6 +9,11 @@ use lf_rules::{choice_is_one, verdict_is_one};
 /// those of the team.
 pub fn slices_load_alike()
     ensures { SlicesLoadAlike }
+{}
+
+/// The inputs of each loaded design without the components of other teams are those of a slice.
+pub fn cuts_are_there()
+    ensures { CutsAreThere }
 {}
 
 /// In two connections, to floors that are alike for a team, however they end, the same commands to that team get the same texts, byte for

@@ -15,4 +15,4 @@
 
 mod laws;
 
-pub use laws::{slice_texts_are_alike, slices_load_alike, texts_are_alike};
+pub use laws::{cuts_are_there, slice_texts_are_alike, slices_load_alike, texts_are_alike};
