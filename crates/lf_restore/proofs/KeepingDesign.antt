@@ -1,5 +1,5 @@
 -- A run stays with its design.
-use Rattle.std.proofs.Common.{◌≡◌, ℕ, zero, suc, List, [], ◌∷◌, map, Bool, true, false, Option, Some, None, ◌⊎◌, inl, inr, refl, ap, sym, ◌∙◌}
+use Rattle.std.proofs.Common.{◌≡◌, ℕ, zero, suc, List, [], ◌∷◌, map, Bool, true, false, Option, Some, None, inl, inr, refl, ap, sym, ◌∙◌}
 use Rattle.std.specs.Prelude.{slice_get, slice_set, MatchBool}
 use Rattle.lf_floorplan.specs.declared.place.Place.{Place}
 use Rattle.lf_rules.specs.Legalizer.{Legalizer}
@@ -13,7 +13,7 @@ use Rattle.lf_teams.specs.States.{FloorState, TeamState}
 use Rattle.lf_teams.specs.Teams.{Setting, setting, team_number}
 use Rattle.lf_teams.specs.Outcomes.{Outcome, is_short}
 use Rattle.lf_teams.specs.Verbs.{outcome_of}
-use Rattle.lf_teams.specs.Steps.{Answers, RunsShort, Step, answer_at, answer_by, answer_of, ruled}
+use Rattle.lf_teams.specs.Steps.{Answers, RunsShort, answer_at, answer_by, answer_of, ruled}
 use Rattle.lf_teams.specs.Runs.{Run}
 use Rattle.lf_teams.proofs.Cases.{Facts, order_facts, part_stays}
 use Rattle.lf_teams.proofs.Standing.{some_one}

@@ -1,7 +1,6 @@
 -- What was saved of a floor restores it.
 use Rattle.std.proofs.Common.{◌≡◌, ℕ, List, [], ◌∷◌, map, Option, Ok, refl, ap, sym, subst, ◌∙◌}
 use Rattle.std.specs.Prelude.{drop, slice_index_or}
-use Rattle.lf_floorplan.specs.declared.place.Place.{Place}
 use Rattle.lf_floorplan.specs.declared.frame.Frame.{Frame}
 use Rattle.lf_cells.specs.declared.cell.Cell.{Cell}
 use Rattle.lf_undo.specs.Entries.{Places, entries_of}
@@ -15,7 +14,7 @@ use Rattle.lf_state.specs.Designs.{NamedDesign, NamedTeam}
 use Rattle.lf_state.specs.Saved.{Both, SavedTeam, state_text}
 use Rattle.lf_state.specs.Reading.{state_of}
 use Rattle.lf_state.proofs.Again.{state-again}
-use Rattle.lf_restore.specs.Saved.{AreOfOneDesign, IsStateText, SavedRestores, StateAndTail, Tells, TellsTeam, fixed_cells, fixed_of, map_two, named, named_team, restored, restored_cell, restored_team, saved_cell}
+use Rattle.lf_restore.specs.Saved.{AreOfOneDesign, SavedRestores, StateAndTail, TellsTeam, fixed_cells, fixed_of, map_two, named, named_team, restored_cell, restored_team, saved_cell}
 
 -- ---- equal lists
 

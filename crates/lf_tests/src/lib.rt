@@ -20,8 +20,6 @@ mod sessions;
 #[cfg(test)]
 mod spans;
 #[cfg(test)]
-mod states;
-#[cfg(test)]
 mod tokens;
 #[cfg(test)]
 mod undo;
