@@ -16,6 +16,8 @@ mod names;
 #[cfg(test)]
 mod orientations;
 #[cfg(test)]
+mod packing;
+#[cfg(test)]
 mod sessions;
 #[cfg(test)]
 mod spans;

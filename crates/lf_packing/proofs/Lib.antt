@@ -1,0 +1,4 @@
+pub mod Grown
+pub mod Looking
+pub mod Packed
+pub mod Shapes
