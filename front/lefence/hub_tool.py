@@ -124,8 +124,8 @@ def end_by_signals(hub: Hub, stopped: asyncio.Event, grace: float) -> None:
         last.start()
 
     for number in (signal.SIGTERM, signal.SIGINT, signal.SIGHUP):
-        # (one that `nohup` has this process pass over stays so)
-        if signal.getsignal(number) != signal.SIG_IGN:
+        # (by `nohup` it passes over SIGHUP)
+        if number != signal.SIGHUP or signal.getsignal(number) != signal.SIG_IGN:
             asyncio.get_running_loop().add_signal_handler(number, stop)
 
 

@@ -310,8 +310,9 @@ class Ends(HubCase):
 
     def test_a_signal_ends_it_with_everything_told(self) -> None:
         target = self.folder / "end.def"
-        # (a hub passes over what it is told to, as by nohup)
-        self.addCleanup(signal.signal, signal.SIGHUP, signal.signal(signal.SIGHUP, signal.SIG_DFL))
+        # A hub passes over SIGHUP where nohup started it, but not over SIGINT, which a shell has its jobs in the background ignore.
+        for number, how in ((signal.SIGHUP, signal.SIG_DFL), (signal.SIGINT, signal.SIG_IGN)):
+            self.addCleanup(signal.signal, number, signal.signal(number, how))
         for number in (signal.SIGTERM, signal.SIGINT, signal.SIGHUP):
             self.start("--export", str(target))
             talker, idle, operator = self.talk("f0"), self.talk("f1"), self.talk("operator")
