@@ -115,10 +115,10 @@ class Looks(FrontCase):
         done = self.run_on("--look")
         self.assertEqual(done.returncode, 1)
         self.assertIn(b"+ PLAECD of component a1", done.stdout)
-        self.assertTrue(done.stdout.endswith(b"it does not load: 7 NoUnits t; t.def\n"), done.stdout)
-        self.design.write_text("VERSION 5.8 ; DESIGN t ; UNITS DISTANCE MICRONS 1000 ; END DESIGN\n")
+        self.assertTrue(done.stdout.endswith(b"it does not load: 7 NoUnits t; t.def, line 2: DESIGN t ;\n"), done.stdout)
+        self.design.write_text("DESIGN t ;\nUNITS DISTANCE MICRONS 1000 ;\nEND DESIGN\n")
         done = self.run_on("--look")
-        told = b"there is no ROW; a run with --output makes rows\nit does not load: 9 NoRows t; t.def\n"
+        told = b"there is no ROW; a run with --output makes rows\nit does not load: 9 NoRows t; t.def, line 1: DESIGN t ;\n"
         self.assertEqual((done.returncode, done.stdout), (1, told))
 
     def test_a_look_goes_with_nothing_that_prepares(self) -> None:
