@@ -8,7 +8,7 @@ cp "$front"/tests/data/day* .
 # The text has no rows and no fences, but fillers.
 lefence check day.def day.lef
 #> lefence: 9 NoRows day
-#> lefence: DEF file day.def
+#> lefence: DEF file day.def, line 4: DESIGN day ;
 lefence-prepare day.def day.lef -o in.def --fillers FILL --fence A 0 0 4 8 --group A 'ua/*' --fence B 8 0 12 8 --group B 'ub/*'
 #> lefence-prepare: 4 rows of site core added: 60 sites each, the first at 0 0 is N
 #> lefence-prepare: the rows follow the 11 placed cells: 9 of them fit along x, 11 along y, and 11 face as their row
