@@ -1,0 +1,21 @@
+//! Where the cells of a team go, planned over all of its rows at once.
+//!
+//! A plan knows no floor. It is given the free ground in sites, the cells of one row's height and where each of them is wanted, and
+//! it has for each cell a place or none, so that no cell has two. Each cell in turn goes to where the ways of all together grow
+//! least; those beside it make room. No contract says how good a plan is: a floor tests each place that it is asked for.
+//!
+//! ```
+//! let plan = plan_cells(Global, &land, &wishes, &Steps { passes: 2, rounds: 2 })?; // for each wish a spot or none
+//! ```
+#![tactic(auto)]
+
+mod board;
+mod costs;
+mod land;
+mod order;
+mod passes;
+mod plan;
+mod search;
+
+pub use land::{Kinds, Land, Row, RowKind, Sites};
+pub use plan::{Spot, Steps, Wish, plan_cells};

@@ -1,0 +1,190 @@
+//! The first places of all cells, and passes that improve them.
+
+use crate::board::{Board, Gap, empty_segments};
+use crate::costs::{How, apart, cost_of, number_of};
+use crate::land::Land;
+use crate::plan::Wish;
+use crate::search::{Best, Search, best_gap};
+use lf_packing::Curve;
+use std::alloc::{AllocError, Global};
+
+/// What all steps read.
+#[derive(Clone, Copy)]
+pub(crate) struct Given<'a> {
+    pub(crate) land: &'a Land,
+    pub(crate) wishes: &'a [Wish],
+    pub(crate) height: u32,
+}
+
+/// The y of the row in which a span lies: the last one whose spans begin at its position or before.
+fn row_y(land: &Land, span: usize) -> Option<i32> {
+    let after = land.rows.partition_point(|row| row.first <= span);
+    if after == 0 {
+        return None;
+    }
+    Some(land.rows.get(after - 1)?.y)
+}
+
+/// The way of a cell that stands there.
+fn way_at(given: &Given, wish: &Wish, gap: &Gap) -> i64 {
+    let (Some(sites), Some(y)) = (given.land.spans.get(gap.span), row_y(given.land, gap.span))
+    else {
+        return i64::MAX;
+    };
+    let pitch = sites.pitch();
+    let x = (sites.first as i64).saturating_add(pitch.saturating_mul(gap.cell.at as i64));
+    let dx = x.saturating_sub(wish.x as i64).saturating_abs();
+    dx.saturating_add(apart(y, wish.y))
+}
+
+/// The best gap; where it costs more than one and a half rows, the best if more cells may be pushed.
+fn find_gap(
+    search: &Search,
+    limit: i64,
+    height: u32,
+    curve: &mut Curve,
+) -> Result<Best, AllocError> {
+    let best = best_gap(search, limit, curve)?;
+    let far = (height as i64) * 3 / 2;
+    if best.cost <= far || search.how.most == 160 {
+        return Ok(best);
+    }
+    let how = How {
+        most: 80,
+        ..*search.how
+    };
+    let wider = Search {
+        how: &how,
+        ..*search
+    };
+    let second = best_gap(&wider, best.cost, curve)?;
+    if second.gap.is_some() {
+        return Ok(second);
+    }
+    Ok(best)
+}
+
+/// For each cell what its nearest place costs if no other cell is there; 0 where there is none.
+pub(crate) fn nearest_alone(
+    alloc: Global,
+    given: &Given,
+    how: &How,
+    curve: &mut Curve,
+) -> Result<Vec<i64>, AllocError> {
+    let segments = empty_segments(alloc, given.land)?;
+    let mut away = Vec::with_capacity(alloc, given.wishes.len())?;
+    for (number, wish) in given.wishes.iter().enumerate() {
+        let search = Search {
+            land: given.land,
+            segments: segments.as_slice(),
+            number: number_of(number),
+            wish,
+            how,
+        };
+        let best = best_gap(&search, i64::MAX, curve)?;
+        away.push(if best.gap.is_some() { best.cost } else { 0 })?;
+    }
+    Ok(away)
+}
+
+/// Each cell in turn to where the ways grow least.
+pub(crate) fn place_all(
+    given: &Given,
+    order: &[u32],
+    how: &How,
+    board: &mut Board,
+    curve: &mut Curve,
+) -> Result<(), AllocError> {
+    for number in order {
+        let Some(wish) = given.wishes.get(*number as usize) else {
+            continue;
+        };
+        let search = Search {
+            land: given.land,
+            segments: board.segments.as_slice(),
+            number: *number,
+            wish,
+            how,
+        };
+        let best = find_gap(&search, i64::MAX, given.height, curve)?;
+        if let Some(gap) = best.gap {
+            board.put(&gap)?;
+        }
+    }
+    Ok(())
+}
+
+/// Takes a cell out and puts it in where that costs less than its own way, and else back.
+fn place_again(
+    given: &Given,
+    number: u32,
+    how: &How,
+    board: &mut Board,
+    curve: &mut Curve,
+) -> Result<(), AllocError> {
+    let Some(wish) = given.wishes.get(number as usize) else {
+        return Ok(());
+    };
+    let old = board.place_of(number);
+    let mut limit = i64::MAX;
+    if let Some(gap) = &old {
+        limit = cost_of(way_at(given, wish, gap), how);
+        board.take(gap);
+    }
+    let search = Search {
+        land: given.land,
+        segments: board.segments.as_slice(),
+        number,
+        wish,
+        how,
+    };
+    let best = find_gap(&search, limit, given.height, curve)?;
+    if let Some(gap) = best.gap {
+        return board.put(&gap);
+    }
+    if let Some(gap) = old {
+        return board.put(&gap);
+    }
+    Ok(())
+}
+
+/// Each cell whose way is longer than this again, in this order.
+pub(crate) fn pass(
+    given: &Given,
+    order: &[u32],
+    longer: i64,
+    how: &How,
+    board: &mut Board,
+    curve: &mut Curve,
+) -> Result<(), AllocError> {
+    for number in order {
+        let Some(wish) = given.wishes.get(*number as usize) else {
+            continue;
+        };
+        let far = match board.place_of(*number) {
+            Some(gap) => longer < way_at(given, wish, &gap),
+            None => true,
+        };
+        if far {
+            place_again(given, *number, how, board, curve)?;
+        }
+    }
+    Ok(())
+}
+
+/// The way that 99.9 % of the cells do not pass.
+pub(crate) fn long_way(alloc: Global, given: &Given, board: &Board) -> Result<i64, AllocError> {
+    let mut ways = Vec::with_capacity(alloc, given.wishes.len())?;
+    for (number, wish) in given.wishes.iter().enumerate() {
+        if let Some(gap) = board.place_of(number_of(number)) {
+            ways.push(way_at(given, wish, &gap))?;
+        }
+    }
+    ways.sort_unstable();
+    let last = ways.len().saturating_sub(1);
+    let place = last - last / 1000;
+    match ways.get(place) {
+        Some(way) => Ok(*way),
+        None => Ok(0),
+    }
+}
