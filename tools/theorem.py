@@ -144,8 +144,8 @@ def row_of(title: str, roots: list[Name], shown: tuple[set[Name], set[str]]) -> 
     depth, (quoted, words) = depth_of(roots), shown
     here = depth.definitions & quoted
     named = [name for name in depth.definitions - quoted if name.name in words]
-    cells = [len(depth.definitions), depth.lines, len(depth.types), f"{len(here)} ({sum(map(lines_of, here))} lines)", len(named)]
-    return f"| {title} | {' | '.join(f'{cell:,}' if isinstance(cell, int) else cell for cell in cells)} |"
+    counts = f"{len(depth.definitions):,} | {depth.lines:,} | {len(depth.types):,}"
+    return f"| {title} | {counts} | {len(here):,} ({sum(map(lines_of, here)):,} lines) | {len(named):,} |"
 
 
 def shown_on(page: list[str]) -> tuple[set[Name], set[str]]:
