@@ -42,7 +42,7 @@ def report_lines(report: Report) -> list[str]:
         wide = max(4, *(len(each.cell) for each in shown))
         lines.append(f"{'cell':<{wide}}  rule  what")
         for each in shown:
-            what = broken_in_words(each.rule, each.cell, each.other, is_there=True)
+            what = broken_in_words(each.rule, each.cell, each.other, is_there=True, is_padded=True)
             lines.append(f"{each.cell:<{wide}}  {each.rule:>4}  {what}")
     if len(report.violations) > len(shown):
         lines.append(f"and {len(report.violations) - len(shown)} more")
