@@ -217,12 +217,11 @@ class InABrowser(ReportCase):
         self.browser.open((self.folder / "x.html").as_uri())
         self.browser.click("tr[data-go='m=one']")
         self.assertEqual(self.where()[:2], [65000, 1000])
-        # The arrow is drawn, in the colour of short ways, until it is hidden.
+        # The arrow is drawn in the colour of short ways; a button hides it.
         line = "pen.getImageData(across(65200) - 1, down(2000) - 1, 3, 3).data"
-        dark = f"[...{line}].some((v, n) => n % 4 == 0 && v < 90)"
-        self.assertTrue(self.browser.value(dark))
+        self.assertTrue(self.browser.value(f"[...{line}].some((v, n) => n % 4 == 0 && v < 90)"))
         self.browser.click("#ways")
-        self.assertFalse(self.browser.value(dark))
+        self.assertFalse(self.browser.value("arrowsShown"))
         self.assertEqual(self.browser.faults(), [])
 
     def test_an_address_leads_to_a_place(self) -> None:
