@@ -12,9 +12,11 @@ from collections import Counter
 from collections.abc import Iterator
 from contextlib import ExitStack
 from dataclasses import dataclass
+from datetime import datetime, timezone
 from pathlib import Path
 from urllib.parse import quote
 
+from . import __version__
 from .description import Box, Cell, Description, Frame, Obstacle
 from .drawing import number, shortened, text_of
 from .faults import DONE, Parser, log, run_tool
@@ -308,6 +310,7 @@ def _facts(scene: Scene) -> str:
         "Obstacles": f"{fixed:,} FIXED, {number(len(frame.obstacles) - fixed, 'rectangle')} of blockages",
         "Soft blockages": number(len(frame.soft), "rectangle"),
         "Cells": f"{scene.sum_of('cells'):,}",
+        "Made": f"{datetime.now(timezone.utc):%Y-%m-%d %H:%M} UTC, by {TOOL} {__version__}",
     }
     return "".join(f"<div><dt>{key}</dt><dd>{text_of(value)}</dd></div>" for key, value in told.items())
 

@@ -12,6 +12,7 @@ from urllib.parse import quote
 from browser import CHROMIUM, Browser
 from support import FrontCase
 
+import lefence
 from lefence.description import Box, Cell
 from lefence.report import Near
 
@@ -118,6 +119,9 @@ class Reports(ReportCase):
         self.assertEqual([near.has(cell) for cell in (huge, beside, far)], [False, True, False])
         self.assertTrue(near.has(beside._replace(name="x" * 3_000_000)))
         self.assertFalse(near.has(beside))
+
+    def test_when_and_by_what_it_was_made(self) -> None:
+        self.assertRegex(self.page(), rf"<dd>\d{{4}}-\d\d-\d\d \d\d:\d\d UTC, by lefence-report {re.escape(lefence.__version__)}</dd>")
 
     def test_before_and_after(self) -> None:
         early = self.design.read_text()
