@@ -226,6 +226,8 @@ class InABrowser(ReportCase):
         self.assertTrue(self.browser.value(f"[...{line}].some((v, n) => n % 4 == 0 && v < 90)"))
         self.browser.click("#ways")
         self.assertFalse(self.browser.value("arrowsShown"))
+        self.browser.screen(360)
+        self.assertLessEqual(self.browser.value("document.documentElement.scrollWidth"), 360)
         self.assertEqual(self.browser.faults(), [])
 
     def test_an_address_leads_to_a_place(self) -> None:
