@@ -71,6 +71,15 @@ class Words(HubCase):
         for rule in RULES:
             self.assertTrue(broken_in_words(rule, "a", "b").startswith("a "))
 
+    def test_where_tidy_finds_no_place_the_way_out_is_told(self) -> None:
+        # Four rows of forty sites have room for eighty cells of two sites; of three, less.
+        parts = "".join(f"- f0d{at} BUF ;\n" for at in range(60))
+        self.design.write_text(self.design.read_text().replace("END COMPONENTS", f"{parts}END COMPONENTS").replace("f0c*", "f0*"))
+        said = self.say("team f0", "tidy", "check")
+        self.assertRegex(said[1], r"^no: there is no legal place for f0d\d+$")
+        self.assertIn("nothing has moved", said[2])
+        self.assertEqual(said[3], "70 cells, 70 without a place, 0 break a rule")
+
     def test_help_tells_each_verb(self) -> None:
         said = self.say("help", "help place", "help nonsense")
         place = ["place CELL X Y O", "  sets the cell's working place, if the place breaks no rule"]
