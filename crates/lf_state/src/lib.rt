@@ -1,7 +1,7 @@
 //! State texts: what is saved of the teams of a floor, as it is written and as it is read again.
 //!
-//! A text has of each team of a design its revision, its padding, what each of its session slots has seen, where its cells stand
-//! and its undo entries. The names are the design's (`Design`): they are compared, byte by byte, and not kept. All of it lies
+//! A text tells of each team of a design its revision, its padding, what each of its session slots has seen, where its cells stand
+//! and its undo entries. The names are the design's (`Design`): they are compared, byte by byte, and not kept. What is told is so
 //! within the design's limits (`AreOf`). Contracts see the rows of teams as saved teams (`SavedTeam`), whose text is `state_text`.
 //!
 //! `rewind_all` takes the undo entries of a team back on a list of its places, and leaves in their moves the places that they led to: so
