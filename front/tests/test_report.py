@@ -140,7 +140,8 @@ class Reports(ReportCase):
         self.assertIsNone(self.data(Text(self.page()))["since"])
 
     def test_texts_of_other_units_are_not_compared(self) -> None:
-        (self.folder / "early.def").write_text(self.design.read_text().replace("MICRONS 1000", "MICRONS 2000").replace("- one", "- ein"))
+        text = "DESIGN t ;\nUNITS DISTANCE MICRONS 2000 ;\nROW r0 core 0 0 N DO 10 BY 1 STEP 400 0 ;\nEND DESIGN\n"
+        (self.folder / "early.def").write_text(text)
         done = self.tool("lefence-report", "t.def", "t.lef", "--program", self.program, "-o", "x.html", "--before", "early.def")
         self.assertEqual((done.returncode, (self.folder / "x.html").exists()), (1, False), done.stderr)
         self.assertIn(b"2000 database units in a micron", done.stderr)
