@@ -33,7 +33,7 @@ pub struct TextFile<'a> {
     pub path: &'a str,
 }
 
-/// Why a task was not done, with all that is printed of it.
+/// Why a task was not done, with all that is told of it.
 #[derive(Drop)]
 pub enum Fault<'a> {
     /// The text of this file, or the design that it makes with the LEF texts, was refused, or an allocation for it failed.
@@ -78,7 +78,7 @@ impl<'a> From<AllocError> for Fault<'a> {
 pub struct Exit {
     /// The exit status.
     pub status: u8,
-    /// Whether all that is to be printed of the fault was written; true if there was no fault.
+    /// Whether all that is told of the fault was written; true if there was no fault.
     pub is_told: bool,
 }
 
@@ -207,7 +207,7 @@ pub(crate) fn done(status: u8) -> Exit
     }
 }
 
-/// Writes all that is printed of a fault: its line, and a second one where a file, a line of it or a port is at fault.
+/// Writes all that is told of a fault: its line, and a second one where a file, a line of it or a port is at fault.
 fn put_told<W: Sink>(sink: &mut W, fault: &Fault<'_>) -> Result<(), DeviceFault>
     ensures ok { OnOk result (Appends (W.contents sink.old) (W.contents sink.new) (told_text fault.now)) }
     ensures failed { OnErr result (W.has_failed sink.new ≡ true) }

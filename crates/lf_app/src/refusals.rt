@@ -1,4 +1,4 @@
-//! What is printed of a refused text: it is taken from the text, which may then go.
+//! What is told of a refused text: it is taken from the text, which may then go.
 
 ghost use Rattle.std.specs.Prelude.{◌≡◌, ◌⊎◌, ◌<◌, IfOk, IfSome, length, option_map, position, take};
 ghost use Rattle.lf_lex.specs.Tokens.{is_line_feed};
@@ -15,7 +15,7 @@ use std::alloc::{AllocError, Global};
 /// How many bytes of a line are shown.
 const SHOWN: usize = 80;
 
-/// What is printed of a refused text.
+/// What is told of a refused text.
 #[derive(Drop)]
 pub struct Refusal {
     pub number: FaultNumber,
@@ -110,7 +110,7 @@ fn copied(alloc: Global, name: Option<&[u8]>) -> Result<Option<Vec<u8>>, AllocEr
     }
 }
 
-/// What is printed of the text that is refused so.
+/// What is told of the text that is refused so.
 fn told_of(
     alloc: Global,
     kind: TextKind,
@@ -133,7 +133,7 @@ fn told_of(
     })
 }
 
-/// What is printed of a failed allocation.
+/// What is told of a failed allocation.
 fn told_of_memory(alloc: Global, kind: TextKind, text: &[u8]) -> Refusal
     ensures { Tells kind text.now (load_fault_of Memory) result }
 {
@@ -149,7 +149,7 @@ fn told_of_memory(alloc: Global, kind: TextKind, text: &[u8]) -> Refusal
 }
 
 impl Refusal {
-    /// What is printed of the text, read as this, that is refused so: that an allocation failed, if there is no memory for more.
+    /// What is told of the text, read as this, that is refused so: that an allocation failed, if there is no memory to tell more.
     pub fn new(alloc: Global, kind: TextKind, text: &[u8], fault: &LoadFault<'_>) -> Refusal
         ensures { (told : LoadFault) × ((told ≡ fault.now) ⊎ (told ≡ load_fault_of Memory)) × Tells kind text.now told result }
     {

@@ -3,7 +3,7 @@
 ghost use Rattle.std.specs.Prelude.{◌≡◌, ◌∷◌, [], map};
 ghost use Rattle.lf_command.specs.Help.{help_asked, topic_named};
 
-/// What the words ask to be shown.
+/// What the words ask to be told.
 #[derive(Clone, Copy, Debug, PartialEq, Eq)]
 pub enum Help {
     /// What the program can be asked.
@@ -36,7 +36,7 @@ fn topic_named(word: &str) -> Option<Help>
     }
 }
 
-/// What the one word behind the program's name asks to be shown.
+/// What the one word behind the program's name asks to be told.
 fn program_topic(word: &str) -> Option<Help>
     ensures { result ≡ help_asked ([] ∷ word.now ∷ []) }
 {
@@ -47,7 +47,7 @@ fn program_topic(word: &str) -> Option<Help>
     }
 }
 
-/// What the words ask to be shown, of which the first is the program's name: it is followed by `--help` or `--version` alone,
+/// What the words ask to be told, of which the first is the program's name: it is followed by `--help` or `--version` alone,
 /// or by a subcommand and `--help`. None for all other words.
 pub fn help_of(words: &[&str]) -> Option<Help>
     ensures { result ≡ help_asked (map (λ word. word.now) words.now) }

@@ -1,4 +1,4 @@
-//! The words of the command line: the task that they name, or what they ask to be shown.
+//! The words of the command line: the task that they name, or what they ask to be told.
 //!
 //! The first word is the program's name. `lefence` alone and `lefence demo` are the demo; `replay`, `serve`, `check` and
 //! `describe` take the path of a DEF text, then those of one LEF text or more, and their options. Paths are taken as they are
