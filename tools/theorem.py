@@ -1,8 +1,8 @@
 #!/usr/bin/env python3
-"""Compares the quotes of docs/THEOREM.md with the sources that they name.
+"""Compares the quotes of docs/THEOREM.md, and its table of depth, with the sources that they name.
 
-usage: tools/theorem.py            (from the top) prints each quote that differs; status 1 where one does
-       tools/theorem.py --write    writes the texts of the sources into the quotes
+usage: tools/theorem.py            (from the top) prints each quote that differs, and whether the table does; status 1 where one does
+       tools/theorem.py --write    writes the texts of the sources into the quotes, and the table
 
 A quote is a comment that names what is quoted, and the fenced block behind it:
 
@@ -10,6 +10,12 @@ A quote is a comment that names what is quoted, and the fenced block behind it:
     <!-- crates/lf_floor/src/floor.rt: pub fn step: step, others -->    the signature and these clauses
     <!-- crates/lf_cells/src/cell.rt: pub struct Cell -->               a type, or likewise some of its fields
     <!-- crates/lf_teams/specs/Runs.antt: own_replies, own_state -->    definitions, with the comments above them
+
+A row of the table says how many definitions a statement rests on, and how many of them the page quotes, or names between backticks.
+What the statement is made of stands in a comment above the table, one for each row; behind a + beside that of the row before:
+
+    <!-- depth: one command: lf_teams.Steps.Step -->
+    <!-- depth: the headline: + lf_teams.Runs.Run, lf_teams.Runs.IsIsolated -->
 """
 
 from __future__ import annotations
@@ -18,6 +24,8 @@ import re
 import sys
 from dataclasses import dataclass
 from pathlib import Path
+
+from depth import Name, depth_of, lines_of, module
 
 PAGE = Path("docs/THEOREM.md")
 QUOTE = re.compile(r"<!-- (crates/\S+?):? (.*?) ?-->")
@@ -28,6 +36,10 @@ SAID = re.compile(r"--(?! ----)")
 # The first line of a clause of a function, and of a field of a type.
 CLAUSE = re.compile(r"\s*(?:requires|ensures)\b *(\w*)")
 FIELD = re.compile(r"\s*pub (?:ghost )?(\w+):")
+# The comment of a row of the table of depth, and the head of the table.
+ROW = re.compile(r"<!-- depth: (.*?): (\+ )?(.*) -->")
+HEADING = ["| what it rests on | definitions | their lines | types of the code | quoted here | named here |", "|---|---|---|---|---|---|"]
+WORDS = re.compile(r"`([^`\n]+)`")
 
 
 class NotThere(Exception):
@@ -125,6 +137,46 @@ def source_of(quote: Quote) -> list[str]:
     return [line for text in texts for line in ["", *text]][1:]
 
 
+def row_of(title: str, roots: list[Name], shown: tuple[set[Name], set[str]]) -> str:
+    """A row of the table of depth; `shown` are the definitions that the page quotes, and the words that it has between backticks."""
+    if any(root.name not in module(root.crate, root.module).texts for root in roots):
+        raise NotThere
+    depth, (quoted, words) = depth_of(roots), shown
+    here = depth.definitions & quoted
+    named = [name for name in depth.definitions - quoted if name.name in words]
+    counts = f"{len(depth.definitions):,} | {depth.lines:,} | {len(depth.types):,}"
+    return f"| {title} | {counts} | {len(here):,} ({sum(map(lines_of, here)):,} lines) | {len(named):,} |"
+
+
+def shown_on(page: list[str]) -> tuple[set[Name], set[str]]:
+    """The definitions that the page quotes, and the words between backticks outside of its quotes."""
+    quoted: set[Name] = set()
+    prose = [*page]
+    for quote in reversed(quotes_in(page)):
+        del prose[quote.start : quote.stop]
+        _, crate, folder, file = quote.file.split("/", 3)
+        if folder == "specs":
+            quoted |= {Name(crate, file.removesuffix(".antt"), name) for name in quote.name.split(", ")}
+    return quoted, {word for text in WORDS.findall("\n".join(prose)) for word in re.findall(r"\w+", text)}
+
+
+def tabled(page: list[str]) -> list[str]:
+    """The page with its table of depth as it is to be."""
+    rows = {at: found for at, line in enumerate(page) if (found := ROW.match(line))}
+    if not rows:
+        return page
+    start = stop = max(rows) + 1
+    while stop < len(page) and page[stop].startswith("|"):
+        stop += 1
+    shown = shown_on(page)
+    made: list[str] = []
+    roots: list[Name] = []
+    for row in rows.values():
+        roots = [*(roots if row[2] else []), *(Name(*name.split(".")) for name in row[3].split(", "))]
+        made.append(row_of(row[1], roots, shown))
+    return [*page[:start], *HEADING, *made, *page[stop:]]
+
+
 def main(words: list[str]) -> int:
     if words not in ([], ["--write"]):
         print(__doc__, file=sys.stderr)
@@ -148,8 +200,18 @@ def main(words: list[str]) -> int:
             print(f"{PAGE}:{quote.number}: {said} {quote.file}: {quote.name}")
         else:
             agree += 1
+    written += page[done:]
+    try:
+        whole = tabled(written)
+    except NotThere:
+        whole = written
+        differ += 1
+        print(f"{PAGE}: the table of depth names a definition that is not there")
     if words:
-        PAGE.write_text("\n".join([*written, *page[done:]]), encoding="utf-8")
+        PAGE.write_text("\n".join(whole), encoding="utf-8")
+    elif whole != written:
+        differ += 1
+        print(f"{PAGE}: the table of depth differs from the sources")
     print(f"{agree} quotes agree, {differ} differ")
     return 1 if differ else 0
 

@@ -64,6 +64,15 @@ def number(count: int, one: str, many: str | None = None) -> str:
     return f"{count:,} {one if count == 1 else many or one + 's'}"
 
 
+def by_length(moves: list[Move], row_height: int) -> Iterator[tuple[str, str, list[Move]]]:
+    """The moves by their lengths, the shortest first: how far, the colour of their arrows, and which they are."""
+    least = 0.0
+    for most, colour in WAYS:
+        label = f"up to {most} rows" if most < math.inf else f"over {least:g} rows"
+        yield label, colour, [move for move in moves if least < move.length / row_height <= most]
+        least = most
+
+
 class Drawing:
     """A scene that is drawn, with arrows for moves; `moved` tells how many moves there are in all."""
 
@@ -150,16 +159,8 @@ class Drawing:
             style = f'fill="none" stroke-opacity="0.85" {self._line(1.1)}'
             yield from self._group("moves", style, self._arrows())
 
-    def _moves_of(self, moves: list[Move]) -> Iterator[tuple[str, str, list[Move]]]:
-        """The moves by their lengths, the shortest first: how far, the colour, and which they are."""
-        height, least = self.scene.frame.facts.site_height, 0.0
-        for most, colour in WAYS:
-            label = f"up to {most} rows" if most < math.inf else f"over {least:g} rows"
-            yield label, colour, [move for move in moves if least < move.length / height <= most]
-            least = most
-
     def _arrows(self) -> Iterator[str]:
-        for _, colour, moves in self._moves_of(self.moves or []):
+        for _, colour, moves in by_length(self.moves or [], self.scene.frame.facts.site_height):
             if moves:
                 yield f'<g stroke="{colour}">\n{"".join(map(self._arrow, moves))}</g>\n'
 
@@ -270,7 +271,7 @@ class Drawing:
             yield _note(f"→ {self.moved:,} moved")
             if len(self.moves) < self.moved:
                 yield _note(f"the {len(self.moves):,} longest drawn:")
-            for label, colour, moves in self._moves_of(self.moves):
+            for label, colour, moves in by_length(self.moves, frame.facts.site_height):
                 if moves:
                     yield _entry(f'y="5" height="3" fill="{colour}"', label, f"{len(moves):,}")
         yield from self._notes()

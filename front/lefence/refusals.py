@@ -21,12 +21,15 @@ _BROKEN = {
     7: "{} {stand} in an obstacle: a FIXED component or a placement blockage",
     8: "{} {overlap} {}",
 }
+# The same of rule 8 where the team may have a padding.
+_NEAR = "{} {overlap} {} or {be} too near to it"
 
 
-def broken_in_words(rule: int, cell: str, other: str | None = None, is_there: bool = False) -> str:
-    """Which rule a cell breaks at its place or, if it is not there yet, would break."""
+def broken_in_words(rule: int, cell: str, other: str | None = None, is_there: bool = False, is_padded: bool = False) -> str:
+    """Which rule a cell breaks at its place or, if it is not there yet, would break; its team may have a padding, or has none."""
     verbs = {verb: f"{verb}s" if is_there else f"would {verb}" for verb in ("stand", "lack", "leave", "overlap")}
-    return _BROKEN.get(rule, f"{{}} breaks rule {rule}").format(cell, other or "another cell", **verbs)
+    words = _NEAR if rule == 8 and is_padded else _BROKEN.get(rule, f"{{}} breaks rule {rule}")
+    return words.format(cell, other or "another cell", be="is" if is_there else "be", **verbs)
 
 
 class Refusal(Exception):
@@ -140,11 +143,11 @@ class Illegal(Refusal):
 
     @property
     def other(self) -> str | None:
-        """For rule 8, the first cell of the team that the place overlaps; else None."""
+        """For rule 8, the first cell of the team that the place overlaps, or is nearer to than the padding; else None."""
         return self._field(2) or None
 
     def words(self) -> str:
-        return broken_in_words(self.rule, self.cell, self.other)
+        return broken_in_words(self.rule, self.cell, self.other, is_padded=True)
 
 
 class NoPlace(Refusal):

@@ -23,6 +23,7 @@ from typing import BinaryIO
 
 from .bulk import Bulk
 from .description import Cell, Description, Frame
+from .drawing import number
 from .faults import DONE, FAILED, REFUSED, Fault, Parser, log, run_tool
 from .program import find_program
 from .progress import Progress
@@ -335,7 +336,8 @@ def repair_design(options: argparse.Namespace) -> int:
     if not repair.outcomes:
         log(TOOL, "nothing moves" + (", and the output is the text itself" if output else ""))
     if left or beside:
-        log(TOOL, f"not fully legal: {left} cells are left, and {beside} of other teams have a fault")
+        others = f", and {number(beside, 'cell')} of other teams with a fault" if beside else ""
+        log(TOOL, f"not fully legal: {number(left, 'cell')} left{others}")
         return NOT_LEGAL
     log(TOOL, "every cell is legal" if output or not repair.outcomes else "every cell would be legal")
     return DONE

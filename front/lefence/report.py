@@ -10,10 +10,13 @@ import re
 import sys
 from collections import Counter
 from collections.abc import Iterator
+from contextlib import ExitStack
 from dataclasses import dataclass
+from datetime import datetime, timezone
 from pathlib import Path
 from urllib.parse import quote
 
+from . import __version__
 from .description import Box, Cell, Description, Frame, Obstacle
 from .drawing import number, shortened, text_of
 from .faults import DONE, Parser, log, run_tool
@@ -23,7 +26,9 @@ from .program import find_program
 from .progress import Progress
 from .protocol import GROUND, RULES
 from .refusals import broken_in_words
+from .report_moves import Since, data_of, legend_of, section_of, since
 from .scene import BROKEN, LIMIT, SHADES, Bins, Scene, colour_of, row_blocks
+from .summary_tool import refuse_other_units
 
 TOOL = "lefence-report"
 # How many violations are listed, if nothing else is asked for.
@@ -44,6 +49,8 @@ class Report:
     cells: list[Cell]
     obstacles: list[Obstacle]
     design: Path
+    # What became of the cells since an earlier placement, if one was given.
+    since: Since | None = None
     # Whether cells near to violations are left out.
     lacks: bool = False
 
@@ -83,13 +90,30 @@ class Near:
         return cell.box is not None and cell.name not in self._broken and self.holds(cell.name, cell.box)
 
 
-def report_of(program: str, design: Path, libraries: list[Path], limit: int = LIMIT, most: int = MOST_LISTED) -> Report:
-    """What there is to tell of a design; at most so many violations are listed."""
-    with Description(program, design, libraries) as description:
+def _taken(scene: Scene, cells: Iterator[Cell]) -> Iterator[Cell]:
+    """The cells, which the scene takes as they pass."""
+    for cell in cells:
+        scene.take(cell)
+        yield cell
+
+
+def report_of(
+    program: str, design: Path, libraries: list[Path], limit: int = LIMIT, most: int = MOST_LISTED, before: Path | None = None
+) -> Report:
+    """What there is to tell of a design, and of what became of its cells since another text; at most so many violations are listed."""
+    with ExitStack() as both:
+        description = both.enter_context(Description(program, design, libraries))
         scene = Scene(description.frame, limit, most)
-        for cell in Progress(TOOL, "cells").over(description.cells()):
-            scene.take(cell)
-    report = Report(scene, areas_of(scene.frame), [], scene.obstacles, design)
+        cells = _taken(scene, Progress(TOOL, "cells").over(description.cells()))
+        changes = None
+        if before is None:
+            for _ in cells:
+                pass
+        else:
+            early = both.enter_context(Description(program, before, libraries))
+            refuse_other_units((before, early.frame), (design, description.frame))
+            changes = since(before, early, description, cells)
+    report = Report(scene, areas_of(scene.frame), [], scene.obstacles, design, changes)
     if scene.map is None:
         report.cells = [cell for cell in scene.cells if cell.rule is None]
     elif scene.broken:
@@ -111,9 +135,10 @@ def page_of(report: Report) -> str:
         "NAME": text_of(facts.name),
         "SOURCE": text_of(f"{report.design.name} · {number(report.scene.sum_of('cells'), 'cell')}"),
         "BADGES": _badges(report.scene),
-        "LEGEND": _legend(report.scene),
+        "LEGEND": _legend(report),
         "VIOLATIONS_NOTE": _violations_note(report),
         "VIOLATIONS": _violations(report.scene),
+        "SINCE": section_of(report.since) if report.since else "",
         "TEAMS": _teams(report),
         "FACTS": _facts(report.scene),
         "DATA": _embedded(_data(report)),
@@ -153,6 +178,7 @@ def _data(report: Report) -> dict[str, object]:
         "shades": SHADES,
         "broken_colour": BROKEN,
         "macros": list(macros),
+        "since": None if report.since is None else data_of(report.since),
     }
 
 
@@ -186,13 +212,14 @@ def _badges(scene: Scene) -> str:
     return "".join(f'<span class="badge {kind}">{text}</span>' for kind, text in told or [("good", "fully legal")])
 
 
-def _legend(scene: Scene) -> str:
-    frame = scene.frame
+def _legend(report: Report) -> str:
+    scene, frame = report.scene, report.scene.frame
     kinds = {obstacle.name is None for obstacle in frame.obstacles}
     named = [("var(--fixed)", "FIXED")] * (False in kinds) + [("var(--blocked)", "blockage")] * (True in kinds)
     named += [(BROKEN, "breaks a rule; from afar: more cells than room" if scene.map and scene.shows_too_full else "breaks a rule")] * bool(scene.broken)
     teams = [(colour_of(at, team), shortened(team)) for at, team in enumerate(frame.teams[:-1])][:12]
     teams.append((colour_of(len(frame.fences), GROUND), "- (ground)"))
+    named += legend_of(report.since) if report.since else []
     text = [f'<span><i class="swatch" style="background:{colour}"></i>{text_of(name)}</span>' for colour, name in teams + named]
     if len(frame.teams) > len(teams):
         text.append(f"<span>and {number(len(frame.teams) - len(teams), 'team')} more</span>")
@@ -283,6 +310,7 @@ def _facts(scene: Scene) -> str:
         "Obstacles": f"{fixed:,} FIXED, {number(len(frame.obstacles) - fixed, 'rectangle')} of blockages",
         "Soft blockages": number(len(frame.soft), "rectangle"),
         "Cells": f"{scene.sum_of('cells'):,}",
+        "Made": f"{datetime.now(timezone.utc):%Y-%m-%d %H:%M} UTC, by {TOOL} {__version__}",
     }
     return "".join(f"<div><dt>{key}</dt><dd>{text_of(value)}</dd></div>" for key, value in told.items())
 
@@ -292,11 +320,12 @@ def parser() -> Parser:
         TOOL,
         "Writes a page about a design: its picture, in which one moves and zooms, the cells that break a rule, each with\n"
         "a link to its place, and each team's cells and utilization. The page is one file that needs no network.",
-        f"{TOOL} chip.def tech.lef cells.lef -o report.html",
+        f"{TOOL} chip.def tech.lef cells.lef -o report.html\n{TOOL} new.def tech.lef cells.lef --before chip.def -o report.html",
     )
     made.add_design()
     add = made.add_argument
     add("-o", "--output", metavar="FILE", type=Path, help="where the page is written (standard output)")
+    add("--before", metavar="DEF", type=Path, help="tell also which cells stand elsewhere than in this DEF text, and how far they went")
     add("--most", metavar="N", type=int, default=MOST_LISTED, help=f"list so many violations at most ({MOST_LISTED})")
     add("--limit", metavar="N", type=int, default=LIMIT, help=f"above so many cells a map is drawn ({LIMIT})")
     made.add_program()
@@ -308,9 +337,9 @@ def main() -> int:
 
     def work() -> int:
         if options.output is not None:
-            refuse_inputs(options.output, [options.design, *options.libraries])
+            refuse_inputs(options.output, [options.design, *options.libraries, *([options.before] if options.before else [])])
         program = find_program(options.program)
-        report = report_of(program, options.design, options.libraries, max(0, options.limit), max(0, options.most))
+        report = report_of(program, options.design, options.libraries, max(0, options.limit), max(0, options.most), options.before)
         page = page_of(report).encode()
         if options.output is None:
             sys.stdout.buffer.write(page)

@@ -14,11 +14,13 @@ from .client import Connection, Session
 from .endpoint import Endpoint, connect_to, start_program
 from .faults import DONE, FAILED, REFUSED, Fault, Parser, printable, run_tool
 from .protocol import OPENACCESS, ORIENTS, VERBS
-from .refusals import Refusal, broken_in_words
+from .refusals import NoPlace, Refusal, broken_in_words
 from .verbs import Legalized, Place, ProtocolError, Report, Tidied
 
 TOOL = "lefence-shell"
 _NAME_IN_ENTRY = re.compile(rb"^- (\S+)", re.M)
+# What to do where `tidy` finds no place (docs/PROTOCOL.md).
+_WAY_OUT = "nothing has moved; cells that break a rule may stand where there is room: `check` names them, `unplace` takes one away"
 # The most rows of a report that are printed.
 _MOST_ROWS = 200
 
@@ -42,7 +44,7 @@ def report_lines(report: Report) -> list[str]:
         wide = max(4, *(len(each.cell) for each in shown))
         lines.append(f"{'cell':<{wide}}  rule  what")
         for each in shown:
-            what = broken_in_words(each.rule, each.cell, each.other, is_there=True)
+            what = broken_in_words(each.rule, each.cell, each.other, is_there=True, is_padded=True)
             lines.append(f"{each.cell:<{wide}}  {each.rule:>4}  {what}")
     if len(report.violations) > len(shown):
         lines.append(f"and {len(report.violations) - len(shown)} more")
@@ -97,6 +99,8 @@ class Shell(cmd.Cmd):
             self._answer(verb, fields, line)
         except (Refusal, ValueError, ProtocolError) as error:
             self._print([f"no: {error.words() if isinstance(error, Refusal) else error}"])
+            if verb == "tidy" and isinstance(error, NoPlace):
+                self._print([_WAY_OUT])
         return False
 
     def _answer(self, verb: str, fields: list[str], line: str) -> None:

@@ -11,7 +11,15 @@ _NAMED, _BAR = 10, 40
 
 
 def object_of(summary: Summary) -> dict[str, object]:
-    """The summary as a JSON object; docs/FRONT.md tells its keys."""
+    """The summary as a JSON object, with lengths in microns.
+
+    Its keys are `design`, `units`, `row_height`; `bins`, in rows; `teams`, a list, and `all`, objects with counts of cells (`cells`,
+    `moved`, `turned`, `kept`, `newly_placed`, `newly_unplaced`, `only_before`, `only_after`), `displacement` and `displacement_rows`
+    (each with `total`, `mean`, `median`, `largest`), `histogram` (cells that went up to each of the `bins`, and further), `violations`
+    and `unplaced` (each with `before`, `after`), and `utilization` (null without ground); `only_before` and `only_after`, lists of
+    names; `farthest`, objects with `name`, `team`, `before` and `after` (x, y, orientation), `displacement` and `displacement_rows`;
+    `notes`.
+    """
     facts = summary.frame.facts
     return {
         "design": facts.name,

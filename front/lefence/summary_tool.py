@@ -6,7 +6,7 @@ import json
 import sys
 from pathlib import Path
 
-from .description import Description
+from .description import Description, Frame
 from .faults import DONE, REFUSED, Fault, Parser, run_tool
 from .program import find_program
 from .progress import Progress
@@ -19,13 +19,18 @@ TOOL = "lefence-summary"
 def summary_of_files(program: str, before: Path, after: Path, libraries: list[Path], most_far: int) -> Summary:
     """The summary of two DEF texts over the same LEF texts, with so many of the farthest movers; both are read at once."""
     with Description(program, before, libraries) as early, Description(program, after, libraries) as late:
-        units = early.frame.facts.units, late.frame.facts.units
-        if units[0] != units[1]:
-            raise Fault(REFUSED, f"{before} has {units[0]} database units in a micron, and {after} has {units[1]}")
+        refuse_other_units((before, early.frame), (after, late.frame))
         cells = Progress(TOOL, "cells").over(late.cells())
         summary = summary_of(early.cells(), cells, late.frame, most_far)
         summary.notes[:0] = notes_of(early.frame, late.frame)
         return summary
+
+
+def refuse_other_units(before: tuple[Path, Frame], after: tuple[Path, Frame]) -> None:
+    """A fault where two DEF texts have other database units: their places cannot be compared."""
+    units = [frame.facts.units for _, frame in (before, after)]
+    if units[0] != units[1]:
+        raise Fault(REFUSED, f"{before[0]} has {units[0]} database units in a micron, and {after[0]} has {units[1]}")
 
 
 def parser() -> Parser:

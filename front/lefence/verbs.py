@@ -56,7 +56,7 @@ class Tidied:
 
 @dataclass(frozen=True)
 class Violation:
-    """A placed cell, the number of the first rule that it breaks, and for rule 8 the first cell that it overlaps."""
+    """A placed cell, the number of the first rule that it breaks, and for rule 8 the first cell that it overlaps or is too near to."""
 
     cell: str
     rule: int

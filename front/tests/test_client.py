@@ -60,7 +60,7 @@ class Verbs(HubCase):
                 session.place(cell, 200, 0, "N")
             illegal = caught.exception
             self.assertEqual((illegal.number, illegal.name, illegal.rule, illegal.rule_name), (7, "Illegal", rule, "Overlap"))
-            self.assertEqual((illegal.cell, illegal.other, illegal.words()), (cell, other, f"{cell} would overlap {other}"))
+            self.assertEqual((illegal.cell, illegal.other, illegal.words()), (cell, other, f"{cell} would overlap {other} or be too near to it"))
         with self.assertRaises(lefence.Illegal) as caught:
             session.place("f0c2", 100, 0, "N")
         self.assertEqual((caught.exception.rule, caught.exception.other), (2, None))
@@ -183,7 +183,7 @@ class Verbs(HubCase):
         self.assertEqual(told.getvalue(), "Overlap f0c1\nPlace(x=1400, y=0, orient='N')\n()\n")
         refused = names["refused"]
         assert isinstance(refused, list)
-        self.assertEqual([str(each) for each in refused], ["7 Illegal: f0c2 would overlap f0c1"])
+        self.assertEqual([str(each) for each in refused], ["7 Illegal: f0c2 would overlap f0c1 or be too near to it"])
 
     def test_no_name_smuggles_another_line_in(self) -> None:
         self.start()

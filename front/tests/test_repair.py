@@ -102,6 +102,8 @@ class Repairs(FrontCase):
         self.assertEqual(done.returncode, 4)
         self.assertIn(f"team f2: no place for high, HIGH, which is left at {2 * WIDTH + 1000} 0 N".encode(), done.stderr)
         self.assertIn(b"team f2: no place for new, HIGH, which is left unplaced", done.stderr)
+        # (nothing is said of other teams where all were repaired)
+        self.assertIn(b"not fully legal: 2 cells left\n", done.stderr)
         check = subprocess.run([PROGRAM, "check", self.target, self.lef], capture_output=True)
         self.assertEqual(json.loads(check.stdout), {"cells": 92, "unplaced": 1, "violations": [{"cell": "high", "rule": 3}]})
 

@@ -12,6 +12,7 @@ from urllib.parse import quote
 from browser import CHROMIUM, Browser
 from support import FrontCase
 
+import lefence
 from lefence.description import Box, Cell
 from lefence.report import Near
 
@@ -119,6 +120,32 @@ class Reports(ReportCase):
         self.assertTrue(near.has(beside._replace(name="x" * 3_000_000)))
         self.assertFalse(near.has(beside))
 
+    def test_when_and_by_what_it_was_made(self) -> None:
+        self.assertRegex(self.page(), rf"<dd>\d{{4}}-\d\d-\d\d \d\d:\d\d UTC, by lefence-report {re.escape(lefence.__version__)}</dd>")
+
+    def test_before_and_after(self) -> None:
+        early = self.design.read_text()
+        (self.folder / "early.def").write_text(early)
+        self.design.write_text(early.replace("one INV + PLACED ( 64000 0 ) N", "one INV + PLACED ( 66000 2000 ) FS"))
+        page = self.page("--before", "early.def")
+        text = Text(page)
+        self.assertIn("1 cell moved, 0 only turned, 4 stayed.", page)
+        # Two overlap no more; the cell that is far outside is illegal still.
+        self.assertIn(["-", "1", "0", "0", "0", "4.00", "4.00", "3 → 1", "10 → 10"], text.lines)
+        self.assertIn(["f0", "0", "0", "0", "0", "–", "–", "1 → 1", "10 → 10"], text.lines)
+        self.assertIn(["one", "-", "64, 0", "66, 2", "4.00", "2.0"], text.lines)
+        self.assertIn("#m=one", text.links)
+        found = self.data(text)["since"]
+        self.assertEqual((found["arrows"], found["far"]), ([[64200, 1000, 66200, 3000, 0, "one"]], [["one", 64000, 0, 66000, 2000]]))
+        self.assertIsNone(self.data(Text(self.page()))["since"])
+
+    def test_texts_of_other_units_are_not_compared(self) -> None:
+        text = "DESIGN t ;\nUNITS DISTANCE MICRONS 2000 ;\nROW r0 core 0 0 N DO 10 BY 1 STEP 400 0 ;\nEND DESIGN\n"
+        (self.folder / "early.def").write_text(text)
+        done = self.tool("lefence-report", "t.def", "t.lef", "--program", self.program, "-o", "x.html", "--before", "early.def")
+        self.assertEqual((done.returncode, (self.folder / "x.html").exists()), (1, False), done.stderr)
+        self.assertIn(b"2000 database units in a micron", done.stderr)
+
     def test_nothing_comes_from_elsewhere(self) -> None:
         self.assertIsNone(re.search(r"""(?:src|href)=["'](?!#|data:)|https?:|@import|url[(]""", self.page()))
 
@@ -186,6 +213,23 @@ class InABrowser(ReportCase):
         browser.click("#out")
         browser.click("#all")
         self.assertEqual(self.where()[:2], [36000, 4000])
+
+    def test_moves_in_a_browser(self) -> None:
+        early = self.design.read_text()
+        (self.folder / "early.def").write_text(early)
+        self.design.write_text(early.replace("one INV + PLACED ( 64000 0 ) N", "one INV + PLACED ( 66000 2000 ) FS"))
+        self.page("--before", "early.def")
+        self.browser.open((self.folder / "x.html").as_uri())
+        self.browser.click("tr[data-go='m=one']")
+        self.assertEqual(self.where()[:2], [65000, 1000])
+        # The arrow is drawn in the colour of short ways; a button hides it.
+        line = "pen.getImageData(across(65200) - 1, down(2000) - 1, 3, 3).data"
+        self.assertTrue(self.browser.value(f"[...{line}].some((v, n) => n % 4 == 0 && v < 90)"))
+        self.browser.click("#ways")
+        self.assertFalse(self.browser.value("arrowsShown"))
+        self.browser.screen(360)
+        self.assertLessEqual(self.browser.value("document.documentElement.scrollWidth"), 360)
+        self.assertEqual(self.browser.faults(), [])
 
     def test_an_address_leads_to_a_place(self) -> None:
         for hash_, chosen in (("#v=one", 0), ("#v=nobody", -1), ("#%", -1), ("#v=%", -1)):

@@ -33,7 +33,7 @@ class Words(HubCase):
             "teams": " ".join([f"f{team}" for team in range(TEAMS)] + ["-"]),
             "team f0": "session 0 of team f0, revision 0",
             "place f0c1 0 0 N ": "done; revision 1",
-            "place f0c2 200 0 N": "no: f0c2 would overlap f0c1",
+            "place f0c2 200 0 N": "no: f0c2 would overlap f0c1 or be too near to it",
             "place f1c1 0 0 N": "no: the team has no such cell",
             "place f0c2 100 0 N": "no: f0c2 would stand on no core row, off its x grid or beyond its ends",
             "where f0c1": "f0c1 stands at (0, 0), N",
@@ -65,9 +65,20 @@ class Words(HubCase):
     def test_a_report_is_a_table(self) -> None:
         said = self.say("team f0", "place f0c1 0 0 N", "place f0c2 400 0 N", "pad 1", "check")
         head = ["10 cells, 8 without a place, 2 break a rule", "cell  rule  what"]
-        self.assertEqual(said[-4:], [*head, "f0c1     8  f0c1 overlaps f0c2", "f0c2     8  f0c2 overlaps f0c1"])
+        near = "overlaps {} or is too near to it"
+        self.assertEqual(said[-4:], [*head, f"f0c1     8  f0c1 {near.format('f0c2')}", f"f0c2     8  f0c2 {near.format('f0c1')}"])
+        self.assertEqual(broken_in_words(8, "a", "b", is_there=True), "a overlaps b")
         for rule in RULES:
             self.assertTrue(broken_in_words(rule, "a", "b").startswith("a "))
+
+    def test_where_tidy_finds_no_place_the_way_out_is_told(self) -> None:
+        # Four rows of forty sites have room for eighty cells of two sites; of three, less.
+        parts = "".join(f"- f0d{at} BUF ;\n" for at in range(60))
+        self.design.write_text(self.design.read_text().replace("END COMPONENTS", f"{parts}END COMPONENTS").replace("f0c*", "f0*"))
+        said = self.say("team f0", "tidy", "check")
+        self.assertRegex(said[1], r"^no: there is no legal place for f0d\d+$")
+        self.assertIn("nothing has moved", said[2])
+        self.assertEqual(said[3], "70 cells, 70 without a place, 0 break a rule")
 
     def test_help_tells_each_verb(self) -> None:
         said = self.say("help", "help place", "help nonsense")

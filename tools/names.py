@@ -1,0 +1,87 @@
+#!/usr/bin/env python3
+"""Looks up what the documents name between backticks: each name of more than one word (`team_def`, `IsApart`) must stand in a source,
+and each path that begins with a folder of the repository or with a crate must be there.
+
+usage: tools/names.py     (from the top) prints what is nowhere, with its page and line; status 1 where there is such a thing
+"""
+
+from __future__ import annotations
+
+import re
+import sys
+from collections.abc import Iterator
+from pathlib import Path
+
+PAGES = [Path("README.md"), *sorted(Path("docs").glob("*.md"))]
+FOLDERS = ("crates", "front", "tools", "tests", "bench")
+ENDINGS = {".rt", ".antt", ".py", ".tcl", ".c", ".sh", ".rows", ".edit", ""}
+CODE = re.compile(r"`([^`\n]+)`")
+# A name of several words, as `team_def` or `teamDef`, or one that begins with a capital.
+NAME = re.compile(r"[A-Za-z]\w*_\w*[A-Za-z0-9]|\w*[a-z][A-Z]\w*|[A-Z][a-z]\w+")
+PATH = re.compile(r"(\w+)/[\w./-]*\w")
+# What stands for many names.
+PATTERN = re.compile(r"\*|\bNAME\b")
+
+
+def sources() -> Iterator[Path]:
+    """The files of the repository's folders, those that are made left out."""
+    for folder in FOLDERS:
+        for path in Path(folder).rglob("*"):
+            if path.suffix in ENDINGS and "out" not in path.parts and path.is_file():
+                yield path
+
+
+def known() -> set[str]:
+    """The words of all sources, and the names of the files and folders."""
+    words: set[str] = set()
+    for path in sources():
+        words |= {part for whole in path.parts for part in (whole, whole.partition(".")[0])}
+        try:
+            words |= set(re.findall(r"\w+", path.read_text(encoding="utf-8")))
+        except UnicodeDecodeError:
+            continue
+    return words
+
+
+def is_there(path: str) -> bool:
+    """Whether there is such a file or folder; those of crates stand there without their ending."""
+    return any(Path(folder, path + ending).exists() for folder in (".", "crates") for ending in ("", ".rt", ".antt"))
+
+
+def named(page: Path) -> Iterator[tuple[int, str]]:
+    """What stands between backticks on the page, with its line; blocks of code left out."""
+    is_block = False
+    for at, line in enumerate(page.read_text(encoding="utf-8").split("\n"), start=1):
+        if line.startswith("```"):
+            is_block = not is_block
+        elif not is_block:
+            yield from ((at, code) for code in CODE.findall(line))
+
+
+def lacking(code: str, words: set[str], firsts: set[str]) -> list[str]:
+    """What of it is nowhere."""
+    if PATTERN.search(code):
+        return []
+    found = [path[0] for path in PATH.finditer(code) if path[1] in firsts and not is_there(path[0])]
+    return found or [name for name in re.findall(r"\w+", code) if NAME.fullmatch(name) and name not in words]
+
+
+def main(words: list[str]) -> int:
+    if words:
+        print(__doc__, file=sys.stderr)
+        return 2
+    there = known()
+    firsts = {*FOLDERS, *(path.name for path in Path("crates").iterdir())}
+    count = missing = 0
+    for page in PAGES:
+        for at, code in named(page):
+            count += 1
+            for name in lacking(code, there, firsts):
+                missing += 1
+                print(f"{page}:{at}: {name} is nowhere")
+    print(f"{count} names looked up, {missing or 'none'} nowhere")
+    return 1 if missing else 0
+
+
+if __name__ == "__main__":
+    sys.exit(main(sys.argv[1:]))
