@@ -44,6 +44,7 @@ class Mistakes(unittest.TestCase):
                 ["invalid value '99999' for '--port <port>': 99999 is not in 1..=65535"],
             ),
             (["check", W_DEF], ["the following required arguments were not provided:", "<lef>..."]),
+            (["replay", *DESIGN, "--save", "a", "--save", "b"], ["the argument '--save <save>' cannot be used multiple times"]),
         ):
             with self.subTest(" ".join(words)):
                 status, written, said = run(words)
@@ -71,11 +72,16 @@ class Mistakes(unittest.TestCase):
             self.said(["serve", *DESIGN, "--port", "5800", "--connections", "1", "--lines", "5"], 2, USAGE)
             self.said(["replay", *DESIGN, "--port", "5800"], 2, USAGE)
             self.said(["replay", *DESIGN, "--exprt", str(target)], 2, USAGE)
+            self.said(["check", *DESIGN, "--save", str(target)], 2, USAGE)
+            self.said(["describe", *DESIGN, "--state", str(target)], 2, USAGE)
             self.assertEqual(os.listdir(folder), [])
 
     def test_an_option_without_its_value_or_twice(self) -> None:
         self.said(["replay", *DESIGN, "--export"], 2, USAGE)
         self.said(["replay", *DESIGN, "--export", "a", "--export", "b"], 2, USAGE)
+        for option in ("--state", "--save"):
+            self.said(["replay", *DESIGN, option], 2, USAGE)
+            self.said(["replay", *DESIGN, option, "a", f"{option}=a"], 2, USAGE)
         self.said(["replay", *DESIGN, "--lines"], 2, USAGE)
         self.said(["replay", *DESIGN, "--lines", "5", "--lines=5"], 2, USAGE)
         self.said(["serve", *DESIGN, "--port", "--connections", "1"], 2, USAGE)

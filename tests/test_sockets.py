@@ -7,6 +7,7 @@ from __future__ import annotations
 
 import contextlib
 import select
+import signal
 import socket
 import sys
 import tempfile
@@ -203,6 +204,24 @@ class Cut(unittest.TestCase):
             client.send(b"where B 0 b1\n" * 5_000)
             client.reset()
             self.probe(service)
+            self.assertEqual(service.end(), (0, LISTENING, ""))
+
+    def test_replies_go_on_after_the_service_was_stopped_and_continued(self) -> None:
+        # That interrupts a send that waits, if there is a bound on how long it may.
+        count = 1_000_000
+        with Service(1) as service, service.client() as client:
+            client.socket.setsockopt(socket.SOL_SOCKET, socket.SO_RCVBUF, 4_096)
+            sender = threading.Thread(target=client.send, args=(b"\n" * count,))
+            sender.start()
+            for _ in range(5):
+                time.sleep(0.3)
+                service.process.send_signal(signal.SIGSTOP)
+                time.sleep(0.05)
+                service.process.send_signal(signal.SIGCONT)
+            replies = client.replies.read(count * len(b"no 1 BadRequest\n"))
+            sender.join()
+            self.assertTrue(replies == b"no 1 BadRequest\n" * count, len(replies))
+            client.close()
             self.assertEqual(service.end(), (0, LISTENING, ""))
 
     def test_a_client_that_leaves_its_replies_unread_is_given_up(self) -> None:

@@ -1,6 +1,6 @@
 //! What the program says of itself.
 
-use lf_app::Help;
+use lf_app::{Help, Subcommand};
 
 /// What the program can be asked.
 pub(crate) const USAGE: &str =
@@ -8,10 +8,10 @@ pub(crate) const USAGE: &str =
   lefence check DEF LEF...      writes a report of the design
   lefence describe DEF LEF...   writes the design as JSON Lines: rows, fences, obstacles, cells with boxes and
                                 broken rules
-  lefence replay DEF LEF... [--export FILE] [--lines N]
+  lefence replay DEF LEF... [--state FILE] [--save FILE] [--export FILE] [--lines N]
                                 answers the lines of standard input over the design, N at most; then its text,
                                 with the committed places in it, goes to FILE
-  lefence serve DEF LEF... --port P --connections N [--export FILE]
+  lefence serve DEF LEF... --port P --connections N [--state FILE] [--save FILE] [--export FILE]
                                 answers the lines of N connections to port P of this machine, one after the other
   (a path that begins with '-' stands behind '--'; docs/PROTOCOL.md says more)
 ";
@@ -49,34 +49,45 @@ example:
   lefence describe chip.def tech.lef cells.lef > chip.jsonl
 ";
 
-const REPLAY: &str = "lefence replay DEF LEF... [--export FILE] [--lines N]
+const REPLAY: &str =
+    "lefence replay DEF LEF... [--state FILE] [--save FILE] [--export FILE] [--lines N]
 
 Answers the lines of standard input over the design, one reply to each line, to the end of the input or a line
 'bye'. N is the most lines that are answered (1 to 4294967295; 1000000 if not given). With --export, the DEF text
-with the committed places in it then goes to FILE; all else in it stays.
+with the committed places in it then goes to FILE; all else in it stays. With --save, the state at the end is saved
+to FILE, and with --state the lines go on from a state so saved.
 
 example:
   lefence replay chip.def tech.lef cells.lef --export new.def < session.txt
 ";
 
-const SERVE: &str = "lefence serve DEF LEF... --port P --connections N [--export FILE]
+const SERVE: &str =
+    "lefence serve DEF LEF... --port P --connections N [--state FILE] [--save FILE] [--export FILE]
 
 Listens on port P (1 to 65535) of 127.0.0.1, writes a line 'listening', and answers the lines of N connections
 (1 to 1000000), one after the other. With --export, the DEF text with the committed places in it then goes to FILE.
+With --save, the state at the end is saved to FILE, and with --state the lines go on from a state so saved.
 
 example:
   lefence serve chip.def tech.lef cells.lef --port 5800 --connections 100 --export new.def
 ";
+
+/// What a subcommand does.
+fn text_of(chosen: Subcommand) -> &'static str {
+    match chosen {
+        Subcommand::Demo => DEMO,
+        Subcommand::Check => CHECK,
+        Subcommand::Describe => DESCRIBE,
+        Subcommand::Replay => REPLAY,
+        Subcommand::Serve => SERVE,
+    }
+}
 
 /// The texts of what was asked, one behind the other.
 pub(crate) fn texts_of(help: Help) -> [&'static str; 2] {
     match help {
         Help::Program => [USAGE, MORE],
         Help::Version => [VERSION, ""],
-        Help::Demo => [DEMO, ""],
-        Help::Check => [CHECK, ""],
-        Help::Describe => [DESCRIBE, ""],
-        Help::Replay => [REPLAY, ""],
-        Help::Serve => [SERVE, ""],
+        Help::Of(chosen) => [text_of(chosen), ""],
     }
 }

@@ -1,6 +1,6 @@
 //! The program `lefence`: it passes its words and the standard streams to `lf_app`.
 //!
-//! Its exit status is that of the task (`lf_app::perform`). Words that name no task are answered with the help that they ask for, and
+//! Its exit status is that of the task (`lf_app::perform_over`). Words that name no task are answered with the help that they ask for, and
 //! status 0, or else with the usage and status 2; it is 1 where an allocation for the words fails, and 3 where the help cannot be
 //! written.
 #![tactic(auto)]
@@ -8,7 +8,10 @@
 mod help;
 
 use crate::help::{USAGE, texts_of};
-use lf_app::{Help, UsageFault};
+use lf_app::{
+    Exit, FileExports, FileTexts, FromRead, Help, NetServices, Surroundings, Task, ToWrite,
+    UsageFault, perform_over,
+};
 use std::alloc::{AllocError, Global};
 use std::io;
 use std::io::Write;
@@ -96,6 +99,22 @@ fn answer(rt: &HostRuntime, words: &[&str], fault: UsageFault) -> u8 {
     }
 }
 
+/// Does the task over the files, the network and the standard streams.
+fn perform(rt: &HostRuntime, task: &Task<'_>) -> Exit {
+    let mut reader = rt.reader();
+    let mut writer = io::writer(rt);
+    let mut faults = rt.stderr();
+    let mut around = Surroundings {
+        texts: FileTexts::new(rt),
+        exports: FileExports::new(rt),
+        services: NetServices::new(rt),
+        reader: FromRead::new(&mut reader),
+        writer: ToWrite::new(&mut writer),
+        faults: ToWrite::new(&mut faults),
+    };
+    perform_over(rt.alloc(), &mut around, task)
+}
+
 /// Does the task that the words name, and returns the exit status.
 fn run(rt: &HostRuntime) -> Result<u8, UsageFault> {
     let words = words(rt)?;
@@ -104,10 +123,7 @@ fn run(rt: &HostRuntime) -> Result<u8, UsageFault> {
         Ok(task) => task,
         Err(fault) => return Ok(answer(rt, texts.as_slice(), fault)),
     };
-    let mut reader = rt.reader();
-    let mut writer = io::writer(rt);
-    let mut faults = rt.stderr();
-    Ok(lf_app::perform(rt, &task, &mut reader, &mut writer, &mut faults))
+    Ok(perform(rt, &task).status)
 }
 
 /// Prints a usage fault of these words, and what the program can be asked; a failure to write it is no further fault.

@@ -1,11 +1,13 @@
 //! What the program itself answers of a row: the report of `lefence check`, and the replies and the exported text of
 //! `lefence replay`, over texts in memory.
 
-use lf_app::{Offer, Services, Surroundings, Task, Texts, Unbound, Unread, Unserved, perform_over};
-use lf_devices::{FromRead, Sink, ToWrite};
+ghost use Rattle.std.specs.Prelude.{false};
+
+use lf_app::{
+    Acceptor, Connection, Offer, Services, Surroundings, Task, Texts, Unbound, Unread, perform_over,
+};
+use lf_devices::{DeviceFault, FromRead, ToWrite};
 use lf_files::{Exports, Pieces, Unwritten};
-use lf_floor::Floor;
-use lf_legalize::IndexSeeker;
 use lf_units::Sequence;
 use std::alloc::{AllocError, Global};
 
@@ -37,7 +39,9 @@ struct KeptExport {
 }
 
 impl Exports for KeptExport {
-    fn try_path(&self, _path: &str) -> Result<(), Unwritten> {
+    ghost has_failed = { λ _. false };
+
+    fn try_path(&mut self, _path: &str) -> Result<(), Unwritten> {
         Ok(())
     }
 
@@ -52,16 +56,27 @@ impl Exports for KeptExport {
 
 /// No services: none can be offered.
 #[derive(Clone, Copy)]
-struct NoServices;
+struct NoServices {
+    failed: bool,
+}
+
+impl Acceptor for NoServices {
+    type Reader = &'static [u8];
+
+    type Writer = Vec<u8>;
+
+    ghost has_failed = { λ s. s.failed };
+
+    fn accept(&mut self) -> Result<Connection<&'static [u8], Vec<u8>>, DeviceFault> {
+        self.failed = true;
+        Err(DeviceFault)
+    }
+}
 
 impl Services for NoServices {
-    fn offer<W: Sink>(
-        &mut self,
-        _offer: &Offer,
-        _floor: &mut Floor<IndexSeeker>,
-        _writer: &mut W,
-    ) -> Result<(), Unserved> {
-        Err(Unserved::Bind(Unbound::Other))
+    fn listen(&mut self, _offer: &Offer) -> Result<(), Unbound> {
+        self.failed = true;
+        Err(Unbound::Other)
     }
 }
 
@@ -82,7 +97,7 @@ fn performed(texts: &RowTexts<'_>, task: &Task<'_>, lines: &[u8]) -> Result<Ship
         exports: KeptExport {
             text: Vec::new(texts.alloc),
         },
-        services: NoServices,
+        services: NoServices { failed: false },
         reader: FromRead::new(&mut reader),
         writer: ToWrite::new(&mut written),
         faults: ToWrite::new(&mut faults),
@@ -114,7 +129,9 @@ pub fn replay(texts: &RowTexts<'_>, lines: &[u8]) -> Result<Shipped, AllocError>
     let task = Task::Replay {
         def: "row.def",
         lefs: lef_alone(texts.alloc)?,
+        state: None,
         lines: 1_000,
+        save: None,
         export: Some("row.out"),
     };
     performed(texts, &task, lines)

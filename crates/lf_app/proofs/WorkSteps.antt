@@ -1,6 +1,6 @@
 -- Work on a design, step by step: what the steps after one give is what the whole gives.
-use Rattle.std.proofs.Common.{◌≡◌, ◌⊎◌, inl, inr, subst, sym, ℕ, List, [], ◌∷◌, None, Ok, Option, Some}
-use Rattle.std.specs.Prelude.{IfErr, IfOk, Result}
+use Rattle.std.proofs.Common.{◌≡◌, ◌⊎◌, ap, inl, inr, refl, subst, sym, true, Bool, ℕ, List, [], ◌∷◌, None, Ok, Option, Some}
+use Rattle.std.specs.Prelude.{Err, IfErr, IfOk, OnErr, Result}
 use Rattle.std.proofs.lemmas.Result.{IfErr-weaker, IfOk-weaker}
 use Rattle.lf_lex.specs.declared.fault.LoadFault.{LoadFault}
 use Rattle.lf_lef.specs.Contents.{Contents}
@@ -8,17 +8,22 @@ use Rattle.lf_def.specs.Document.{Document, document_of}
 use Rattle.lf_files.specs.Shelf.{Put}
 use Rattle.lf_floorplan.specs.declared.loaded.Loaded.{Loaded}
 use Rattle.lf_app.specs.declared.faults.Fault.{Fault}
-use Rattle.lf_app.specs.declared.faults.Fault.TheVariants.{Refused, File, ReadFault, WriteFault, TooManyLines, OutOfMemory, Output, Bind, Accept, Unwritten, NoMemory, NoRoom}
+use Rattle.lf_app.specs.declared.faults.Fault.TheVariants.{Refused, File, NoState, ReadFault, WriteFault, TooManyLines, OutOfMemory, Output, Bind, Accept, Unwritten, Unsaved, NoMemory, NoRoom}
 use Rattle.lf_app.specs.declared.faults.TextKind.{TextKind}
-use Rattle.lf_app.specs.declared.faults.TextKind.TheVariants.{Lef, Def}
-use Rattle.lf_app.specs.Designs.{Gives, IsDefRefusal, IsDesignFault, IsDesignIn, IsDesignOf, IsFileDesign, IsFileFault, IsLefRefusal, IsLibraryFault, IsLibraryOf}
+use Rattle.lf_app.specs.declared.faults.TextKind.TheVariants.{Lef, Def, State}
+use Rattle.lf_app.specs.Designs.{Gives, IsDefRefusal, IsDesignFault, IsDesignOf, IsFileFault, IsLefRefusal, IsLibraryFault, IsLibraryOf}
 use Rattle.lf_app.specs.Designs.{IsLoadRefusal, IsLoadedIn, IsRefused, IsUnread, no_library}
-use Rattle.lf_app.specs.Exits.{Streams, streams}
-use Rattle.lf_app.specs.Faults.{Blames, IsEarly, IsExportFault}
-use Rattle.lf_app.specs.Work.{IsDone, IsStopped}
+use Rattle.lf_app.specs.Exits.{IsExported, IsOpenUndescribed, IsOpened, IsUndescribed, IsUndone, Streams, streams}
+use Rattle.lf_app.specs.Faults.{Blames, BlamesWriter, ExportFails, IsEarly, IsExportFault, IsSaveFault}
+use Rattle.lf_app.specs.Surroundings.{IsSound}
+use Rattle.lf_app.specs.States.{IsBegun, IsStateFault, IsStateRefused, IsStateTextFault, IsUnbegun}
+use Rattle.lf_app.specs.Work.{IsDone, IsFault, IsUnfinished, IsUnworked}
+use Rattle.lf_app.specs.declared.surroundings.Surroundings.{Surroundings}
 use Rattle.lf_app.specs.declared.work.Lines.{Lines}
 use Rattle.lf_app.specs.declared.work.Lines.TheVariants.{Stream, Port}
+use Rattle.lf_state.specs.declared.fault.StateFault.{StateFault}
 use Rattle.lf_teams.specs.States.{FloorState}
+use Rattle.lf_teams.specs.Designs.{opening}
 
 -- what holds of a status gives what is asked of it
 pub weaker_ok : (r : Result ℕ Fault) (P Q : ℕ → Type 0) → IfOk r P → ((status : ℕ) → P status → Q status) → IfOk r Q
@@ -36,6 +41,7 @@ IsRoom _ = ⊥
 
 abbrev IsPath : Fault → Type 0
 IsPath (Unwritten path) = Unit {0}
+IsPath (Unsaved path) = Unit {0}
 IsPath _ = ⊥
 
 -- what more is said of the same fault
@@ -44,50 +50,74 @@ pub also_fails : (r : Result ℕ Fault) (why also more : Fault → Type 0) → I
 also_fails r why also more is gives =
     IfErr-weaker r (λ fault. why fault × also fault) (λ fault. why fault × more fault) (λ fault both. (both.0, gives fault both.1)) is
 
--- where the reader cannot be blamed, a fault of it would say anything
-pub blames_more : (kept reader writer : Type 0) (fault : Fault) → Blames fault kept ⊥ writer → Blames fault kept reader writer
-blames_more kept reader writer fault blames =
-    record { early = blames.early; reading = λ same. absurd (blames.reading same); writing = blames.writing }
+-- what is blamed, said in other words
+pub blames_as : (fault : Fault) (kept kept' reader reader' writer writer' export export' service service' sound sound' : Type 0)
+    → Blames fault kept reader writer export service sound
+    → (kept → kept') → (reader → reader') → (writer → writer') → (export → export') → (service → service') → (sound → sound')
+    → Blames fault kept' reader' writer' export' service' sound'
+blames_as fault kept kept' reader reader' writer writer' export export' service service' sound sound' blames k r w e s n = record {
+  early = λ is. k (blames.early is);
+  reading = λ is. r (blames.reading is);
+  writing = λ is. w (blames.writing is);
+  exporting = λ is. e (blames.exporting is);
+  serving = λ is. s (blames.serving is);
+  sparing = λ is. n (blames.sparing is);
+}
 
--- an early fault blames neither the reader nor the writer
-pub early_blames : (kept reader writer : Type 0) (fault : Fault) → kept → IsEarly fault → Blames fault kept reader writer
-early_blames kept reader writer (Refused file its) keeps early = record { early = λ _. keeps; reading = λ same. absurd (subst IsEarly same tt); writing = λ is. absurd is }
-early_blames kept reader writer (File file why) keeps early = record { early = λ _. keeps; reading = λ same. absurd (subst IsEarly same tt); writing = λ is. absurd is }
-early_blames kept reader writer ReadFault keeps early = absurd early
-early_blames kept reader writer WriteFault keeps early = absurd early
-early_blames kept reader writer TooManyLines keeps early = absurd early
-early_blames kept reader writer OutOfMemory keeps early = absurd early
-early_blames kept reader writer Output keeps early = absurd early
-early_blames kept reader writer (Bind port why) keeps early = absurd early
-early_blames kept reader writer Accept keeps early = absurd early
-early_blames kept reader writer (Unwritten path) keeps early = absurd early
-early_blames kept reader writer NoMemory keeps early = record { early = λ _. keeps; reading = λ same. absurd (subst IsEarly same tt); writing = λ is. absurd is }
-early_blames kept reader writer NoRoom keeps early = absurd early
+-- where a writer alone is worked on, a fault of anything else would say anything
+pub writer_blames : (fault : Fault) (kept kept' reader export service sound : Type 0) (before now : Bool) → BlamesWriter fault kept before now
+    → (kept → kept') → (now ≡ before → sound) → Blames fault kept' reader (now ≡ true) export service sound
+writer_blames fault kept kept' reader export service sound before now blames keeps sounds =
+    blames_as fault _ _ _ _ _ _ _ _ _ _ _ _ blames keeps (λ none. absurd none) (λ is. is) (λ none. absurd none) (λ none. absurd none) sounds
 
--- nor does one of the export
-pub export_blames : (export : Option (List ℕ)) (kept reader writer : Type 0) (fault : Fault) → IsExportFault export fault → Blames fault kept reader writer
-export_blames None kept reader writer fault is = absurd is
-export_blames (Some path) kept reader writer fault (inl is) =
-    subst (λ (f : Fault). Blames f kept reader writer) (sym is)
-    record { early = λ early. absurd early; reading = λ same. absurd (subst IsRoom same tt); writing = λ of. absurd of }
-export_blames (Some path) kept reader writer (Refused file its) (inr is) = absurd is
-export_blames (Some path) kept reader writer (File file why) (inr is) = absurd is
-export_blames (Some path) kept reader writer ReadFault (inr is) = absurd is
-export_blames (Some path) kept reader writer WriteFault (inr is) = absurd is
-export_blames (Some path) kept reader writer TooManyLines (inr is) = absurd is
-export_blames (Some path) kept reader writer OutOfMemory (inr is) = absurd is
-export_blames (Some path) kept reader writer Output (inr is) = absurd is
-export_blames (Some path) kept reader writer (Bind port why) (inr is) = absurd is
-export_blames (Some path) kept reader writer Accept (inr is) = absurd is
-export_blames (Some path) kept reader writer (Unwritten its) (inr is) =
-    record { early = λ early. absurd early; reading = λ same. absurd (subst IsPath same tt); writing = λ of. absurd of }
-export_blames (Some path) kept reader writer NoMemory (inr is) = absurd is
-export_blames (Some path) kept reader writer NoRoom (inr is) = absurd is
+-- an early fault blames nothing
+pub early_blames : (kept reader writer export service sound : Type 0) (fault : Fault) → kept → sound → IsEarly fault
+    → Blames fault kept reader writer export service sound
+early_blames kept reader writer export service sound (Refused file its) keeps sounds early =
+    record { early = λ _. keeps; reading = λ same. absurd (subst IsEarly same tt); writing = λ of. absurd of; exporting = λ of. absurd of; serving = λ of. absurd of; sparing = λ _. sounds }
+early_blames kept reader writer export service sound (File file why) keeps sounds early =
+    record { early = λ _. keeps; reading = λ same. absurd (subst IsEarly same tt); writing = λ of. absurd of; exporting = λ of. absurd of; serving = λ of. absurd of; sparing = λ _. sounds }
+early_blames kept reader writer export service sound (NoState path its) keeps sounds early =
+    record { early = λ _. keeps; reading = λ same. absurd (subst IsEarly same tt); writing = λ of. absurd of; exporting = λ of. absurd of; serving = λ of. absurd of; sparing = λ _. sounds }
+early_blames kept reader writer export service sound ReadFault keeps sounds early = absurd early
+early_blames kept reader writer export service sound WriteFault keeps sounds early = absurd early
+early_blames kept reader writer export service sound TooManyLines keeps sounds early = absurd early
+early_blames kept reader writer export service sound OutOfMemory keeps sounds early = absurd early
+early_blames kept reader writer export service sound Output keeps sounds early = absurd early
+early_blames kept reader writer export service sound (Bind port why) keeps sounds early = absurd early
+early_blames kept reader writer export service sound Accept keeps sounds early = absurd early
+early_blames kept reader writer export service sound (Unwritten path) keeps sounds early = absurd early
+early_blames kept reader writer export service sound (Unsaved path) keeps sounds early = absurd early
+early_blames kept reader writer export service sound NoMemory keeps sounds early =
+    record { early = λ _. keeps; reading = λ same. absurd (subst IsEarly same tt); writing = λ of. absurd of; exporting = λ of. absurd of; serving = λ of. absurd of; sparing = λ _. sounds }
+early_blames kept reader writer export service sound NoRoom keeps sounds early = absurd early
+
+-- a fault of the export blames its file, or nothing
+pub export_blames : (kept reader writer export service sound : Type 0) (fault : Fault) (before now : Bool) → ExportFails fault before now
+    → (now ≡ true → export) → (now ≡ before → sound) → Blames fault kept reader writer export service sound
+export_blames kept reader writer export service sound (Refused file its) before now is fails sounds = absurd is
+export_blames kept reader writer export service sound (File file why) before now is fails sounds = absurd is
+export_blames kept reader writer export service sound (NoState path its) before now is fails sounds = absurd is
+export_blames kept reader writer export service sound ReadFault before now is fails sounds = absurd is
+export_blames kept reader writer export service sound WriteFault before now is fails sounds = absurd is
+export_blames kept reader writer export service sound TooManyLines before now is fails sounds = absurd is
+export_blames kept reader writer export service sound OutOfMemory before now is fails sounds = absurd is
+export_blames kept reader writer export service sound Output before now is fails sounds = absurd is
+export_blames kept reader writer export service sound (Bind port why) before now is fails sounds = absurd is
+export_blames kept reader writer export service sound Accept before now is fails sounds = absurd is
+export_blames kept reader writer export service sound (Unwritten path) before now is fails sounds =
+    record { early = λ of. absurd of; reading = λ same. absurd (subst IsPath same tt); writing = λ of. absurd of; exporting = λ _. fails is; serving = λ of. absurd of; sparing = λ of. absurd of }
+export_blames kept reader writer export service sound (Unsaved path) before now is fails sounds =
+    record { early = λ of. absurd of; reading = λ same. absurd (subst IsPath same tt); writing = λ of. absurd of; exporting = λ _. fails is; serving = λ of. absurd of; sparing = λ of. absurd of }
+export_blames kept reader writer export service sound NoMemory before now is fails sounds = absurd is
+export_blames kept reader writer export service sound NoRoom before now is fails sounds =
+    record { early = λ of. absurd of; reading = λ same. absurd (subst IsRoom same tt); writing = λ of. absurd of; exporting = λ of. absurd of; serving = λ of. absurd of; sparing = λ _. sounds is }
 
 -- a refusal of a text is early
 pub refused_early : (kind : TextKind) (path text : List ℕ) (why : LoadFault → Type 0) (fault : Fault) → IsRefused kind path text why fault → IsEarly fault
 refused_early kind path text why (Refused file its) is = tt
 refused_early kind path text why (File file cause) is = absurd is
+refused_early kind path text why (NoState its_path its) is = absurd is
 refused_early kind path text why ReadFault is = absurd is
 refused_early kind path text why WriteFault is = absurd is
 refused_early kind path text why TooManyLines is = absurd is
@@ -96,6 +126,7 @@ refused_early kind path text why Output is = absurd is
 refused_early kind path text why (Bind port cause) is = absurd is
 refused_early kind path text why Accept is = absurd is
 refused_early kind path text why (Unwritten its_path) is = absurd is
+refused_early kind path text why (Unsaved its_path) is = absurd is
 refused_early kind path text why NoMemory is = absurd is
 refused_early kind path text why NoRoom is = absurd is
 
@@ -103,6 +134,7 @@ refused_early kind path text why NoRoom is = absurd is
 pub unread_early : (gives : Gives) (kind : TextKind) (path : List ℕ) (fault : Fault) → IsUnread gives kind path fault → IsEarly fault
 unread_early gives kind path (Refused file its) is = absurd is
 unread_early gives kind path (File file why) is = tt
+unread_early gives kind path (NoState its_path its) is = absurd is
 unread_early gives kind path ReadFault is = absurd is
 unread_early gives kind path WriteFault is = absurd is
 unread_early gives kind path TooManyLines is = absurd is
@@ -111,6 +143,7 @@ unread_early gives kind path Output is = absurd is
 unread_early gives kind path (Bind port why) is = absurd is
 unread_early gives kind path Accept is = absurd is
 unread_early gives kind path (Unwritten its_path) is = absurd is
+unread_early gives kind path (Unsaved its_path) is = absurd is
 unread_early gives kind path NoMemory is = tt
 unread_early gives kind path NoRoom is = absurd is
 
@@ -132,16 +165,18 @@ design_early gives path lefs fault (inl library) = library_early gives no_librar
 design_early gives path lefs fault (inr file) = file_early gives Def path (IsDefRefusal file.0) fault file.2
 
 -- a fault before anything is written is one of the whole
-pub first_fails : (why all : Fault → Type 0) (kept reader writer : Type 0) (fault : Fault) → kept → why fault
-    → ((fault : Fault) → why fault → IsEarly fault) → ((fault : Fault) → why fault → all fault) → all fault × Blames fault kept reader writer
-first_fails why all kept reader writer fault keeps is early gives =
-    (gives fault is, early_blames kept reader writer fault keeps (early fault is))
+pub first_fails : (why all : Fault → Type 0) (kept reader writer export service sound : Type 0) (fault : Fault) → kept → sound → why fault
+    → ((fault : Fault) → why fault → IsEarly fault) → ((fault : Fault) → why fault → all fault)
+    → all fault × Blames fault kept reader writer export service sound
+first_fails why all kept reader writer export service sound fault keeps sounds is early gives =
+    (gives fault is, early_blames kept reader writer export service sound fault keeps sounds (early fault is))
 
 -- a refusal of one kind is one of another that takes them all in
 pub refused_as : (kind : TextKind) (path text : List ℕ) (P Q : LoadFault → Type 0) (fault : Fault) → IsRefused kind path text P fault
     → ((refusal : LoadFault) → P refusal → Q refusal) → IsRefused kind path text Q fault
 refused_as kind path text P Q (Refused file its) is gives = (is.0, (is.1.0, gives is.1.0 is.1.1, is.1.2))
 refused_as kind path text P Q (File file why) is gives = absurd is
+refused_as kind path text P Q (NoState its_path its) is gives = absurd is
 refused_as kind path text P Q ReadFault is gives = absurd is
 refused_as kind path text P Q WriteFault is gives = absurd is
 refused_as kind path text P Q TooManyLines is gives = absurd is
@@ -150,6 +185,7 @@ refused_as kind path text P Q Output is gives = absurd is
 refused_as kind path text P Q (Bind port why) is gives = absurd is
 refused_as kind path text P Q Accept is gives = absurd is
 refused_as kind path text P Q (Unwritten its_path) is gives = absurd is
+refused_as kind path text P Q (Unsaved its_path) is gives = absurd is
 refused_as kind path text P Q NoMemory is gives = absurd is
 refused_as kind path text P Q NoRoom is gives = absurd is
 
@@ -165,43 +201,138 @@ text_refused library path text document fault is refused =
     refused_as Def path text (IsLoadRefusal library document) (IsDefRefusal library text) fault refused
     (λ refusal why. load_refused library text document refusal is why)
 
--- why the design of a text is not worked on to its end is why that of its document is not
-pub text_fails : (library : Contents) (path text : List ℕ) (document : Document) (why : Loaded → Type 0) (fault : Fault) → document_of text ≡ Ok document
-    → IsRefused Def path text (IsLoadRefusal library document) fault ⊎ ((loaded : Loaded) × IsLoadedIn library document loaded × why loaded)
-    → IsRefused Def path text (IsDefRefusal library text) fault ⊎ ((loaded : Loaded) × IsDesignIn library text loaded × why loaded)
+-- why the design of a text is not described is why that of its document is not
+pub text_fails : (library : Contents) (path text : List ℕ) (document : Document) (why : Document → Loaded → Type 0) (fault : Fault) → document_of text ≡ Ok document
+    → IsRefused Def path text (IsLoadRefusal library document) fault ⊎ ((loaded : Loaded) × IsLoadedIn library document loaded × why document loaded)
+    → IsRefused Def path text (IsDefRefusal library text) fault
+    ⊎ ((d : Document) × (document_of text ≡ Ok d) × ((loaded : Loaded) × IsLoadedIn library d loaded × why d loaded))
 text_fails library path text document why fault is (inl refused) = inl (text_refused library path text document fault is refused)
-text_fails library path text document why fault is (inr work) = inr (work.0, (document, is, work.1), work.2)
+text_fails library path text document why fault is (inr work) = inr (document, is, work)
 
 -- the same of a file with this text
-pub file_fails : (gives : Gives) (path : List ℕ) (library : Contents) (text : List ℕ) (why : Loaded → Type 0) (fault : Fault) → gives path (Some text)
-    → IsRefused Def path text (IsDefRefusal library text) fault ⊎ ((loaded : Loaded) × IsDesignIn library text loaded × why loaded)
-    → IsFileFault gives Def path (IsDefRefusal library) fault ⊎ ((loaded : Loaded) × IsFileDesign gives path library loaded × why loaded)
+pub file_fails : (gives : Gives) (path : List ℕ) (library : Contents) (text : List ℕ) (why : Document → Loaded → Type 0) (fault : Fault) → gives path (Some text)
+    → IsRefused Def path text (IsDefRefusal library text) fault
+    ⊎ ((d : Document) × (document_of text ≡ Ok d) × ((loaded : Loaded) × IsLoadedIn library d loaded × why d loaded))
+    → IsFileFault gives Def path (IsDefRefusal library) fault
+    ⊎ ((t : List ℕ) × gives path (Some t) × ((d : Document) × (document_of t ≡ Ok d) × ((loaded : Loaded) × IsLoadedIn library d loaded × why d loaded)))
 file_fails gives path library text why fault given (inl refused) = inl (inr (text, given, refused))
-file_fails gives path library text why fault given (inr work) = inr (work.0, record { text = text; given = given; design = work.1 }, work.2)
+file_fails gives path library text why fault given (inr work) = inr (text, given, work)
 
 -- and of a file over LEF files that make this library
-pub files_fail : (gives : Gives) (path : List ℕ) (lefs : List (List ℕ)) (library : Contents) (why : Loaded → Type 0) (fault : Fault)
+pub files_fail : (gives : Gives) (path : List ℕ) (lefs : List (List ℕ)) (library : Contents) (before after : Option (List ℕ)) (fault : Fault)
     → IsLibraryOf gives no_library lefs library
-    → IsFileFault gives Def path (IsDefRefusal library) fault ⊎ ((loaded : Loaded) × IsFileDesign gives path library loaded × why loaded)
-    → IsDesignFault gives path lefs fault ⊎ ((loaded : Loaded) × IsDesignOf gives path lefs loaded × why loaded)
-files_fail gives path lefs library why fault is (inl file) = inl (inr (library, is, file))
-files_fail gives path lefs library why fault is (inr work) = inr (work.0, (library, is, work.1), work.2)
+    → IsFileFault gives Def path (IsDefRefusal library) fault
+    ⊎ ((t : List ℕ) × gives path (Some t) × ((d : Document) × (document_of t ≡ Ok d)
+    × ((loaded : Loaded) × IsLoadedIn library d loaded × IsUndescribed d loaded before after fault)))
+    → IsDesignFault gives path lefs fault ⊎ IsOpenUndescribed gives path lefs before after fault
+files_fail gives path lefs library before after fault is (inl file) = inl (inr (library, is, file))
+files_fail gives path lefs library before after fault is (inr work) = inr record {
+  text = work.0;
+  document = work.2.0;
+  loaded = work.2.2.0;
+  opened = record { library = library; lefs_are = is; given = work.1; read = work.2.1; loads = work.2.2.1 };
+  undescribed = work.2.2.2;
+}
 
 -- lines are done whatever is put into files beside them
-pub done_beside : (lines : Lines) (loaded : Loaded) (floor : FloorState) (input left before after : Option (List ℕ))
-    (old_puts new_puts other_old other_new : Option (List Put)) → IsDone lines loaded floor (streams input left before after old_puts new_puts)
-    → IsDone lines loaded floor (streams input left before after other_old other_new)
-done_beside (Stream limit) loaded floor input left before after old_puts new_puts other_old other_new is = is
-done_beside (Port port connections) loaded floor input left before after old_puts new_puts other_old other_new is = is
+pub done_beside : (lines : Lines) (begin floor : FloorState) (input left before after : Option (List ℕ))
+    (old_puts new_puts other_old other_new : Option (List Put)) (old_accepted new_accepted : Option (List (Option (List ℕ))))
+    → IsDone lines begin floor (streams input left before after old_puts new_puts old_accepted new_accepted)
+    → IsDone lines begin floor (streams input left before after other_old other_new old_accepted new_accepted)
+done_beside (Stream limit) begin floor input left before after old_puts new_puts other_old other_new old_accepted new_accepted is = is
+done_beside (Port port connections) begin floor input left before after old_puts new_puts other_old other_new old_accepted new_accepted is = is
 
--- and a fault of the export that was asked for, if the lines are done
-pub export_stopped : (export : Option (List ℕ)) (lines : Lines) (loaded : Loaded) (floor : FloorState) (io : Streams) (fault : Fault)
-    → IsExportFault export fault → IsDone lines loaded floor io → IsStopped export lines loaded fault io
-export_stopped None lines loaded floor io fault is done = absurd is
-export_stopped (Some path) lines loaded floor io fault is done = inr (is, inr (floor, done))
+-- and so is a fault of them one
+pub fault_beside : (lines : Lines) (begin : FloorState) (fault : Fault) (input left before after : Option (List ℕ))
+    (old_puts new_puts other_old other_new : Option (List Put)) (old_accepted new_accepted : Option (List (Option (List ℕ))))
+    → IsFault lines begin fault (streams input left before after old_puts new_puts old_accepted new_accepted)
+    → IsFault lines begin fault (streams input left before after other_old other_new old_accepted new_accepted)
+fault_beside (Stream limit) begin fault input left before after old_puts new_puts other_old other_new old_accepted new_accepted is = is
+fault_beside (Port port connections) begin fault input left before after old_puts new_puts other_old other_new old_accepted new_accepted is = is
 
--- a fault of the export, if the lines are done, stops the work on a design
-pub export_ends : (export : Option (List ℕ)) (lines : Lines) (loaded : Loaded) (floor : FloorState) (io : Streams) (kept reader writer : Type 0) (fault : Fault)
-    → IsDone lines loaded floor io → IsExportFault export fault → IsStopped export lines loaded fault io × Blames fault kept reader writer
-export_ends export lines loaded floor io kept reader writer fault done is =
-    (export_stopped export lines loaded floor io fault is done, export_blames export kept reader writer fault is)
+-- what is said of a fault, and what holds where there is one, give what is asked of it
+pub fails_and : {A : Type 0} (r : Result A Fault) (P R : Fault → Type 0) (Q : Type 0) → IfErr r P → OnErr r Q → ((fault : Fault) → P fault → Q → R fault)
+    → IfErr r R
+fails_and (Ok value) P R Q is also gives = tt
+fails_and (Err fault) P R Q is also gives = gives fault is also
+
+-- where no fault can be there is none
+pub never_fails : {A : Type 0} (r : Result A Fault) (P : Fault → Type 0) (Q : Type 0) → IfErr r P → ((fault : Fault) → P fault → ⊥) → OnErr r Q
+never_fails (Ok value) P Q is none = tt
+never_fails (Err fault) P Q is none = absurd (none fault is)
+
+-- where no state is asked for none fails to be saved
+pub none_unsaved : (save : Option (List ℕ)) (fault : Fault) → save ≡ None → IsSaveFault save fault → ⊥
+none_unsaved save fault none is = subst (λ (s : Option (List ℕ)). IsSaveFault s fault) none is
+
+-- a text that tells no state is refused before anything is written
+refused_state_early : (path text : List ℕ) (why : StateFault) (fault : Fault) → IsStateRefused path text why fault → IsEarly fault
+refused_state_early path text why (Refused file its) is = absurd is
+refused_state_early path text why (File file cause) is = absurd is
+refused_state_early path text why (NoState its_path its) is = tt
+refused_state_early path text why ReadFault is = absurd is
+refused_state_early path text why WriteFault is = absurd is
+refused_state_early path text why TooManyLines is = absurd is
+refused_state_early path text why OutOfMemory is = absurd is
+refused_state_early path text why Output is = absurd is
+refused_state_early path text why (Bind port cause) is = absurd is
+refused_state_early path text why Accept is = absurd is
+refused_state_early path text why (Unwritten its_path) is = absurd is
+refused_state_early path text why (Unsaved its_path) is = absurd is
+refused_state_early path text why NoMemory is = tt
+refused_state_early path text why NoRoom is = absurd is
+
+-- so is each fault of its text
+state_text_early : (opened : FloorState) (path text : List ℕ) (fault : Fault) → IsStateTextFault opened path text fault → IsEarly fault
+state_text_early opened path text fault (inl memory) = subst IsEarly (sym memory) tt
+state_text_early opened path text fault (inr refused) = refused_state_early path text refused.0 fault refused.2
+
+-- and of its file
+state_early : (gives : Gives) (state : Option (List ℕ)) (opened : FloorState) (fault : Fault) → IsStateFault gives state opened fault → IsEarly fault
+state_early gives None opened fault is = absurd is
+state_early gives (Some path) opened fault (inl unread) = unread_early gives State path fault unread
+state_early gives (Some path) opened fault (inr refused) = state_text_early opened path refused.0 fault refused.2
+
+-- and of the floor with which work begins
+pub unbegun_early : (gives : Gives) (state : Option (List ℕ)) (loaded : Loaded) (fault : Fault) → IsUnbegun gives state loaded fault → IsEarly fault
+unbegun_early gives state loaded fault (inl memory) = subst IsEarly (sym memory) tt
+unbegun_early gives state loaded fault (inr state_fault) = state_early gives state (opening loaded) fault state_fault
+
+-- a design that is opened is that of its files
+design_opened : (gives : Gives) (def : List ℕ) (lefs : List (List ℕ)) (text : List ℕ) (document : Document) (loaded : Loaded)
+    → IsOpened gives def lefs text document loaded → IsDesignOf gives def lefs loaded
+design_opened gives def lefs text document loaded is =
+    (is.library, is.lefs_are, record { text = text; given = is.given; design = (document, is.read, is.loads) })
+
+-- why the work on the design of a text is not done is why the work on that of its files is not
+pub undone : (gives : Gives) (def : List ℕ) (lefs : List (List ℕ)) (state save export : Option (List ℕ)) (lines : Lines) (text : List ℕ)
+    (document : Document) (loaded : Loaded) (fault : Fault) (io : Streams) → IsOpened gives def lefs text document loaded
+    → IsUnworked gives state save export lines loaded text document fault io
+    → IsUndone gives def lefs state save export (IsFault lines) (IsDone lines) fault io
+undone gives def lefs state save export lines text document loaded fault io is (inl unbegun) =
+    inl (inl (inr (loaded, design_opened gives def lefs text document loaded is, unbegun.0)), unbegun.1)
+undone gives def lefs state save export lines text document loaded fault io is (inr (begin, begins, inl stopped)) =
+    inl (inr (begin, (loaded, design_opened gives def lefs text document loaded is, begins), stopped.0), stopped.1)
+undone gives def lefs state save export lines text document loaded fault io is (inr (begin, begins, inr unsaved)) =
+    inr (unsaved.0, record { text = text; document = document; loaded = loaded; opened = is; begin = begin; begins = begins; finished = unsaved.1 })
+
+-- a fault of what is written once the lines are done leaves the work unfinished
+pub outputs_unfinished : (save export : Option (List ℕ)) (lines : Lines) (begin floor : FloorState) (text : List ℕ) (document : Document) (fault : Fault) (io : Streams)
+    → IsDone lines begin floor io
+    → (IsExportFault export fault × (io.new_puts ≡ io.old_puts)) ⊎ (IsSaveFault save fault × IsExported export text document floor io.old_puts io.new_puts)
+    → IsUnfinished save export lines begin text document fault io
+outputs_unfinished save export lines begin floor text document fault io done (inl unexported) =
+    inl (inr (inr (unexported.0, (floor, done))), unexported.1)
+outputs_unfinished save export lines begin floor text document fault io done (inr unsaved) =
+    inr (unsaved.0, record { floor = floor; work = done; between = io.new_puts; exports = unsaved.1; saves = refl })
+
+-- the cells of a floor with which work begins are those of its design
+pub begun_components : (gives : Gives) (state : Option (List ℕ)) (opened begin : FloorState) → IsBegun gives state opened begin
+    → begin.components ≡ opened.components
+begun_components gives None opened begin is = ap (λ (f : FloorState). f.components) is
+begun_components gives (Some path) opened begin is = ap (λ (f : FloorState). f.components) is.2.2
+
+-- nothing fails where nothing is changed
+pub still_sound : {T E V R W F : Type 0} (e : E → Bool) (v : V → Bool) (r : R → Bool) (w : W → Bool) (around : Surroundings T E V R W F)
+    → IsSound e v r w around around
+still_sound e v r w around = record { exports = refl; services = refl; reader = refl; writer = refl }

@@ -1,5 +1,5 @@
 -- How tasks end.
-use Rattle.std.specs.Prelude.{◌≡◌, ◌⊎◌, ◌++◌, ℕ, Bool, true, false, List, [], ◌∷◌, Option, Some, None, IsTrue, Ok, codes, map}
+use Rattle.std.specs.Prelude.{◌≡◌, ◌<◌, ◌⊎◌, ◌++◌, ℕ, Bool, true, false, List, [], ◌∷◌, Option, Some, None, IsTrue, Ok, codes, map, take}
 use Rattle.std.specs.Io.KnownBytes.{Appends}
 use Rattle.lf_floorplan.specs.declared.loaded.Loaded.{Loaded}
 use Rattle.lf_floorplan.specs.declared.place.Place.{Place}
@@ -14,17 +14,18 @@ use Rattle.lf_describe.specs.Description.{description}
 use Rattle.lf_teams.specs.States.{FloorState}
 use Rattle.lf_teams.specs.Designs.{opening}
 use Rattle.lf_teams.specs.Places.{AreCommittedPlaces}
-use Rattle.lf_server.specs.Connections.{Connects}
+use Rattle.lf_server.specs.Connections.{AreServed}
 use Rattle.lf_server.specs.declared.serving.Ending.{Ending}
 use Rattle.lf_command.specs.Command.{Job, demo, replay, serve, check, describe}
 use Rattle.lf_app.specs.declared.opened.Opened.{Opened}
 use Rattle.lf_app.specs.declared.faults.Fault.{Fault}
-use Rattle.lf_app.specs.declared.faults.Fault.TheVariants.{NoMemory}
+use Rattle.lf_app.specs.declared.faults.Fault.TheVariants.{Accept, Bind, NoMemory, Output}
 use Rattle.lf_app.specs.declared.faults.Exit.{Exit}
 use Rattle.lf_app.specs.Checks.{IsLegalDesign, report_line}
 use Rattle.lf_app.specs.Designs.{Gives, IsDesignFault, IsDesignOf, IsLibraryOf, IsLoadedIn, IsTextDesign, IsTextFault, no_library}
-use Rattle.lf_app.specs.Faults.{IsDescriptionFault, IsDone, IsExportFault, IsReportFault, IsServiceFault, ending_fault, status_of, told_text}
+use Rattle.lf_app.specs.Faults.{IsDescriptionFault, IsDone, IsExportFault, IsReportFault, IsSaveFault, ending_fault, status_of, told_text}
 use Rattle.lf_app.specs.Lines.{IsServed, most_lines}
+use Rattle.lf_app.specs.States.{IsBegun, IsFloorFault, IsFloorOf, IsSaved}
 
 -- a task ends with the fault: with its status, and what is told of it is appended to the faults, unless these have failed
 pub record EndsWith (fault : Fault) (old new : Option (List ℕ)) (failed : Bool) (exit : Exit) : Type 0 where
@@ -38,7 +39,8 @@ Ends why old new failed exit = (fault : Fault) × why fault × EndsWith fault ol
 
 -- ---- what a task leaves
 
--- what a task was given and what it left: the input and the output, each before and after, and the texts that were put into files
+-- what a task was given and what it left: the input and the output, each before and after, the texts that were put into files, and
+-- what the clients of the connections that were accepted send
 pub record Streams : Type 0 where
   pub input : Option (List ℕ)
   pub left : Option (List ℕ)
@@ -46,10 +48,26 @@ pub record Streams : Type 0 where
   pub after : Option (List ℕ)
   pub old_puts : Option (List Put)
   pub new_puts : Option (List Put)
+  pub old_accepted : Option (List (Option (List ℕ)))
+  pub new_accepted : Option (List (Option (List ℕ)))
 
-abbrev pub streams : Option (List ℕ) → Option (List ℕ) → Option (List ℕ) → Option (List ℕ) → Option (List Put) → Option (List Put) → Streams
-streams input left before after old_puts new_puts =
-    record { input = input; left = left; before = before; after = after; old_puts = old_puts; new_puts = new_puts }
+abbrev pub streams : Option (List ℕ) → Option (List ℕ) → Option (List ℕ) → Option (List ℕ) → Option (List Put) → Option (List Put)
+    → Option (List (Option (List ℕ))) → Option (List (Option (List ℕ))) → Streams
+streams input left before after old_puts new_puts old_accepted new_accepted =
+    record {
+      input = input;
+      left = left;
+      before = before;
+      after = after;
+      old_puts = old_puts;
+      new_puts = new_puts;
+      old_accepted = old_accepted;
+      new_accepted = new_accepted;
+    }
+
+-- the input and the output alone, where nothing is known of files and connections
+abbrev pub alone : Option (List ℕ) → Option (List ℕ) → Option (List ℕ) → Option (List ℕ) → Streams
+alone input left before after = streams input left before after None None None None
 
 -- a report of the design and a line feed are appended to the output, and the status says whether the design is fully legal
 pub record IsReported (loaded : Loaded) (old new : Option (List ℕ)) (status : ℕ) : Type 0 where
@@ -58,16 +76,21 @@ pub record IsReported (loaded : Loaded) (old new : Option (List ℕ)) (status : 
   pub legal : status ≡ 0 → IsLegalDesign loaded
   pub illegal : status ≡ 4 → ¬ IsLegalDesign loaded
 
--- the lines of the input, at most this many, were served on the floor of the design, up to their end or to a bye
-pub record IsAnswered (limit : ℕ) (loaded : Loaded) (floor : FloorState) (input left before after : Option (List ℕ)) : Type 0 where
+-- the lines of the input, at most this many, were served on the floor, up to their end or to a bye
+pub record IsAnswered (limit : ℕ) (begin floor : FloorState) (input left before after : Option (List ℕ)) : Type 0 where
   pub ending : Ending
   pub well : ending_fault ending ≡ None
-  pub served : (l : Legalizer) → IsServed l limit (opening loaded) floor input left before after ending
+  pub served : (l : Legalizer) → IsServed l limit begin floor input left before after ending
 
--- this many connections were served on the floor of the design, after 'listening' was written
-pub record IsOffered (loaded : Loaded) (floor : FloorState) (connections : ℕ) (before after : Option (List ℕ)) : Type 0 where
-  pub told : Appends before after (codes "listening" ++ 10 ∷ [])
-  pub connects : (l : Legalizer) → Connects l most_lines connections (opening loaded) floor
+-- what is written once a port is listened on
+abbrev pub listening : List ℕ
+listening = codes "listening" ++ 10 ∷ []
+
+-- this many connections were accepted and served on the floor, after 'listening' was written
+pub record IsOffered (begin floor : FloorState) (connections : ℕ) (before after : Option (List ℕ))
+    (old_accepted new_accepted : Option (List (Option (List ℕ)))) : Type 0 where
+  pub told : Appends before after listening
+  pub served : AreServed most_lines connections old_accepted new_accepted begin floor
 
 -- the document's text with the committed places of the floor is put into the file of that path; without a path no file is written
 abbrev pub IsExported : Option (List ℕ) → List ℕ → Document → FloorState → Option (List Put) → Option (List Put) → Type 0
@@ -89,29 +112,40 @@ IsOpenedOf gives def lefs opened =
     (document : Document) × IsOpened gives def lefs opened.original.text.items document opened.loaded
     × (opened.original.clauses ≡ map (clause_of opened.original.text.items) document.components)
 
--- this work led to the state of the floor, and the exported text of the document was written if one was asked for
-pub record IsFinished (Work : FloorState → Streams → Type 0) (export : Option (List ℕ)) (text : List ℕ) (document : Document) (io : Streams) : Type 0 where
+-- this work led to the state of the floor; then the exported text of the document was put where one was asked for, and then the state
+pub record IsFinished (Work : FloorState → Streams → Type 0) (save export : Option (List ℕ)) (text : List ℕ) (document : Document) (io : Streams) : Type 0 where
   pub floor : FloorState
   pub work : Work floor io
-  pub exports : IsExported export text document floor io.old_puts io.new_puts
+  pub between : Option (List Put)
+  pub exports : IsExported export text document floor io.old_puts between
+  pub saves : IsSaved save floor between io.new_puts
 
--- the design was opened, and this work on it finished
-pub record IsWorked (gives : Gives) (def : List ℕ) (lefs : List (List ℕ)) (export : Option (List ℕ)) (Work : Loaded → FloorState → Streams → Type 0) (io : Streams) : Type 0 where
+-- the design was opened, its floor was brought into the state that was asked for, and this work on it finished
+pub record IsWorked (gives : Gives) (def : List ℕ) (lefs : List (List ℕ)) (state save export : Option (List ℕ))
+    (Work : FloorState → FloorState → Streams → Type 0) (io : Streams) : Type 0 where
   pub text : List ℕ
   pub document : Document
   pub loaded : Loaded
   pub opened : IsOpened gives def lefs text document loaded
-  pub finished : IsFinished (Work loaded) export text document io
+  pub begin : FloorState
+  pub begins : IsBegun gives state (opening loaded) begin
+  pub finished : IsFinished (Work begin) save export text document io
 
--- a job that asks for no exported text
+-- a job that asks for no state at the end
+abbrev pub AsksForNoState : Job → Type 0
+AsksForNoState (replay def lefs state lines save export) = save ≡ None
+AsksForNoState (serve def lefs state port connections save export) = save ≡ None
+AsksForNoState job = Unit {0}
+
+-- a job that asks for no text to be put into a file
 abbrev pub AsksForNoFile : Job → Type 0
-AsksForNoFile (replay def lefs lines (Some path)) = ⊥
-AsksForNoFile (serve def lefs port connections (Some path)) = ⊥
+AsksForNoFile (replay def lefs state lines save export) = (save ≡ None) × (export ≡ None)
+AsksForNoFile (serve def lefs state port connections save export) = (save ≡ None) × (export ≡ None)
 AsksForNoFile job = Unit {0}
 
 -- the most lines of its input that a job answers
 abbrev pub reads_of : Job → ℕ
-reads_of (replay def lefs lines export) = lines
+reads_of (replay def lefs state lines save export) = lines
 reads_of _ = most_lines
 
 -- the description of the design is appended to the output, and the status says whether the design is fully legal
@@ -122,67 +156,108 @@ pub record IsDescribed (document : Document) (loaded : Loaded) (old new : Option
   pub illegal : status ≡ 4 → ¬ IsLegalDesign loaded
 
 -- the design was opened, and its description written
-pub record IsOpenDescribed (gives : Gives) (def : List ℕ) (lefs : List (List ℕ)) (io : Streams) (status : ℕ) : Type 0 where
+pub record IsOpenDescribed (gives : Gives) (def : List ℕ) (lefs : List (List ℕ)) (before after : Option (List ℕ)) (status : ℕ) : Type 0 where
   pub text : List ℕ
   pub document : Document
   pub loaded : Loaded
   pub opened : IsOpened gives def lefs text document loaded
-  pub described : IsDescribed document loaded io.before io.after status
+  pub described : IsDescribed document loaded before after status
 
 -- the outcome of a job that is done, with this status
 abbrev pub IsOutcome : Gives → Job → Streams → ℕ → Type 0
 IsOutcome gives demo io status =
-    (loaded : Loaded) × IsTextDesign W_DEF.now W_LEF.now loaded × ((floor : FloorState) × IsAnswered most_lines loaded floor io.input io.left io.before io.after) × (status ≡ 0)
-IsOutcome gives (replay def lefs lines export) io status =
-    IsWorked gives def lefs export (λ loaded floor io. IsAnswered lines loaded floor io.input io.left io.before io.after) io × (status ≡ 0)
-IsOutcome gives (serve def lefs port connections export) io status =
-    IsWorked gives def lefs export (λ loaded floor io. IsOffered loaded floor connections io.before io.after) io × (status ≡ 0)
+    (loaded : Loaded) × IsTextDesign W_DEF.now W_LEF.now loaded × ((floor : FloorState) × IsAnswered most_lines (opening loaded) floor io.input io.left io.before io.after)
+    × (status ≡ 0)
+IsOutcome gives (replay def lefs state lines save export) io status =
+    IsWorked gives def lefs state save export (λ begin floor io. IsAnswered lines begin floor io.input io.left io.before io.after) io × (status ≡ 0)
+IsOutcome gives (serve def lefs state port connections save export) io status =
+    IsWorked gives def lefs state save export
+    (λ begin floor io. IsOffered begin floor connections io.before io.after io.old_accepted io.new_accepted) io × (status ≡ 0)
 IsOutcome gives (check def lefs) io status = (loaded : Loaded) × IsDesignOf gives def lefs loaded × IsReported loaded io.before io.after status
-IsOutcome gives (describe def lefs) io status = IsOpenDescribed gives def lefs io status
+IsOutcome gives (describe def lefs) io status = IsOpenDescribed gives def lefs io.before io.after status
 
 -- ---- faults
 
--- the lines of the input were served on the floor of the design, up to an end that is this fault
-pub record IsBrokenOff (limit : ℕ) (loaded : Loaded) (fault : Fault) (input left before after : Option (List ℕ)) : Type 0 where
+-- the lines of the input were served on the floor, up to an end that is this fault
+pub record IsBrokenOff (limit : ℕ) (begin : FloorState) (fault : Fault) (input left before after : Option (List ℕ)) : Type 0 where
   pub floor : FloorState
   pub ending : Ending
   pub is : ending_fault ending ≡ Some fault
-  pub served : (l : Legalizer) → IsServed l limit (opening loaded) floor input left before after ending
+  pub served : (l : Legalizer) → IsServed l limit begin floor input left before after ending
 
--- why lines are not answered up to their end: an allocation for the floor failed, or serving them ended so
-abbrev pub IsLinesFault : ℕ → Loaded → Fault → Option (List ℕ) → Option (List ℕ) → Option (List ℕ) → Option (List ℕ) → Type 0
-IsLinesFault limit loaded fault input left before after = (fault ≡ NoMemory) ⊎ IsBrokenOff limit loaded fault input left before after
+-- why the lines of a demo are not answered up to their end: an allocation for the floor failed, or serving them ended so
+abbrev pub IsLinesFault : ℕ → FloorState → Fault → Option (List ℕ) → Option (List ℕ) → Option (List ℕ) → Option (List ℕ) → Type 0
+IsLinesFault limit begin fault input left before after = (fault ≡ NoMemory) ⊎ IsBrokenOff limit begin fault input left before after
 
--- nothing was read, written or put
+-- why a service ends early: the port cannot be listened on, and nothing is written; or the line of that is not written, or only a
+-- front of it; or a connection is not accepted, and those before it were served
+abbrev pub IsServiceFault : ℕ → ℕ → FloorState → Fault → Option (List ℕ) → Option (List ℕ) → Option (List (Option (List ℕ))) → Option (List (Option (List ℕ))) → Type 0
+IsServiceFault port connections begin (Bind its why) before after old_accepted new_accepted =
+    (its ≡ port) × (after ≡ before) × (new_accepted ≡ old_accepted)
+IsServiceFault port connections begin Output before after old_accepted new_accepted =
+    ((n : ℕ) × Appends before after (take n listening)) × (new_accepted ≡ old_accepted)
+IsServiceFault port connections begin Accept before after old_accepted new_accepted =
+    (floor : FloorState) × ((count : ℕ) × (count < connections) × IsOffered begin floor count before after old_accepted new_accepted)
+IsServiceFault port connections begin _ before after old_accepted new_accepted = ⊥
+
+-- a report of the design is not written, or only a front of it
+pub record IsUnreported (loaded : Loaded) (before after : Option (List ℕ)) (fault : Fault) : Type 0 where
+  pub why : IsReportFault fault
+  pub front : (l : Legalizer) → ((n : ℕ) × Appends before after (take n (report_line l loaded)))
+
+-- the description of the design is not written, or only a front of it
+pub record IsUndescribed (document : Document) (loaded : Loaded) (before after : Option (List ℕ)) (fault : Fault) : Type 0 where
+  pub why : IsDescriptionFault fault
+  pub front : (l : Legalizer) → ((n : ℕ) × Appends before after (take n (description l loaded document)))
+
+-- the design was opened, and its description is not written, or only a front of it
+pub record IsOpenUndescribed (gives : Gives) (def : List ℕ) (lefs : List (List ℕ)) (before after : Option (List ℕ)) (fault : Fault) : Type 0 where
+  pub text : List ℕ
+  pub document : Document
+  pub loaded : Loaded
+  pub opened : IsOpened gives def lefs text document loaded
+  pub undescribed : IsUndescribed document loaded before after fault
+
+-- nothing was read, written, put or accepted
 pub record IsUntouched (io : Streams) : Type 0 where
   pub unread : io.left ≡ io.input
   pub unwritten : io.after ≡ io.before
   pub unput : io.new_puts ≡ io.old_puts
+  pub unaccepted : io.new_accepted ≡ io.old_accepted
 
--- why the work on a design is not done: it fails itself; or the text to export cannot be written, which is told before anything
--- is done, or after the work is finished
-abbrev pub IsWorkFault : Option (List ℕ) → (Fault → Streams → Type 0) → (FloorState → Streams → Type 0) → Fault → Streams → Type 0
-IsWorkFault None why Work fault io = why fault io
-IsWorkFault (Some path) why Work fault io = why fault io ⊎ (IsExportFault (Some path) fault × (IsUntouched io ⊎ ((floor : FloorState) × Work floor io)))
+-- why the work on a floor is not done: it fails itself; or a text that was asked for cannot be put, which is told before anything
+-- is done; or the exported text is not put after the work
+abbrev pub IsWorkFault : Option (List ℕ) → Option (List ℕ) → (Fault → Streams → Type 0) → (FloorState → Streams → Type 0) → Fault → Streams → Type 0
+IsWorkFault save export why Work fault io =
+    why fault io
+    ⊎ (((IsExportFault export fault ⊎ IsSaveFault save fault) × IsUntouched io) ⊎ (IsExportFault export fault × ((floor : FloorState) × Work floor io)))
 
--- there is no design for this reason, or there is one, and this is why the work on it is not done
-abbrev pub IsJobStop : (Fault → Type 0) → (Loaded → Type 0) → (Loaded → Fault → Streams → Type 0) → Fault → Streams → Type 0
-IsJobStop no_design IsDesign why fault io = no_design fault ⊎ ((loaded : Loaded) × IsDesign loaded × why loaded fault io)
+-- there is nothing to work on for this reason, or there is, and this is why the work on it is not done
+abbrev pub IsJobStop : {A : Type 0} → (Fault → Type 0) → (A → Type 0) → (A → Fault → Streams → Type 0) → Fault → Streams → Type 0
+IsJobStop {A} nothing IsWorkedOn why fault io = nothing fault ⊎ ((on : A) × IsWorkedOn on × why on fault io)
 
--- why a job is not done: there is no design; or there is one, and the lines, the service, the export or the report fail
+-- why a job on lines is not done: it is stopped, and no text is put; or all is done but that the state is not saved
+abbrev pub IsUndone : Gives → List ℕ → List (List ℕ) → Option (List ℕ) → Option (List ℕ) → Option (List ℕ)
+    → (FloorState → Fault → Streams → Type 0) → (FloorState → FloorState → Streams → Type 0) → Fault → Streams → Type 0
+IsUndone gives def lefs state save export why Work fault io =
+    (IsJobStop (IsFloorFault gives def lefs state) (IsFloorOf gives def lefs state) (λ begin. IsWorkFault save export (why begin) (Work begin)) fault io
+    × (io.new_puts ≡ io.old_puts))
+    ⊎ (IsSaveFault save fault × IsWorked gives def lefs state None export Work io)
+
+-- why a job is not done: there is no design, or no floor in the state that was asked for; or there is, and the lines, the service,
+-- what is put, the report or the description fails
 abbrev pub IsJobFault : Gives → Job → Fault → Streams → Type 0
 IsJobFault gives demo fault io =
     IsJobStop (IsTextFault W_DEF.now W_LEF.now) (IsTextDesign W_DEF.now W_LEF.now)
-    (λ loaded fault io. IsLinesFault most_lines loaded fault io.input io.left io.before io.after) fault io
-IsJobFault gives (replay def lefs lines export) fault io =
-    IsJobStop (IsDesignFault gives def lefs) (IsDesignOf gives def lefs)
-    (λ loaded. IsWorkFault export (λ fault io. IsLinesFault lines loaded fault io.input io.left io.before io.after)
-    (λ floor io. IsAnswered lines loaded floor io.input io.left io.before io.after)) fault io
-IsJobFault gives (serve def lefs port connections export) fault io =
-    IsJobStop (IsDesignFault gives def lefs) (IsDesignOf gives def lefs)
-    (λ loaded. IsWorkFault export (λ fault io. (fault ≡ NoMemory) ⊎ IsServiceFault port fault)
-    (λ floor io. IsOffered loaded floor connections io.before io.after)) fault io
+    (λ loaded fault io. IsLinesFault most_lines (opening loaded) fault io.input io.left io.before io.after) fault io
+IsJobFault gives (replay def lefs state lines save export) fault io =
+    IsUndone gives def lefs state save export
+    (λ begin fault io. IsBrokenOff lines begin fault io.input io.left io.before io.after)
+    (λ begin floor io. IsAnswered lines begin floor io.input io.left io.before io.after) fault io
+IsJobFault gives (serve def lefs state port connections save export) fault io =
+    IsUndone gives def lefs state save export
+    (λ begin fault io. IsServiceFault port connections begin fault io.before io.after io.old_accepted io.new_accepted)
+    (λ begin floor io. IsOffered begin floor connections io.before io.after io.old_accepted io.new_accepted) fault io
 IsJobFault gives (check def lefs) fault io =
-    IsJobStop (IsDesignFault gives def lefs) (IsDesignOf gives def lefs) (λ loaded fault io. IsReportFault fault) fault io
-IsJobFault gives (describe def lefs) fault io =
-    IsJobStop (IsDesignFault gives def lefs) (IsDesignOf gives def lefs) (λ loaded fault io. IsDescriptionFault fault) fault io
+    IsJobStop (IsDesignFault gives def lefs) (IsDesignOf gives def lefs) (λ loaded fault io. IsUnreported loaded io.before io.after fault) fault io
+IsJobFault gives (describe def lefs) fault io = IsDesignFault gives def lefs fault ⊎ IsOpenUndescribed gives def lefs io.before io.after fault

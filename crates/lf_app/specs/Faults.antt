@@ -4,24 +4,26 @@ use Rattle.std.specs.Prelude.{nat_le}
 use Rattle.std.specs.Char.{digit_char}
 use Rattle.lf_lex.specs.declared.fault.FaultNumber.{FaultNumber}
 use Rattle.lf_lex.specs.declared.fault.FaultNumber.TheVariants as number
+use Rattle.lf_state.specs.declared.fault.FaultNumber.{FaultNumber as StateNumber}
+use Rattle.lf_state.specs.declared.fault.FaultNumber.TheVariants as state
 use Rattle.lf_server.specs.declared.serving.Ending.{Ending}
 use Rattle.lf_server.specs.declared.serving.Ending.TheVariants as ending
 use Rattle.lf_app.specs.declared.faults.Fault.{Fault}
-use Rattle.lf_app.specs.declared.faults.Fault.TheVariants.{Refused, File, ReadFault, WriteFault, TooManyLines, OutOfMemory, Output, Bind, Accept, Unwritten, NoMemory, NoRoom}
+use Rattle.lf_app.specs.declared.faults.Fault.TheVariants.{Refused, File, NoState, ReadFault, WriteFault, TooManyLines, OutOfMemory, Output, Bind, Accept, Unwritten, Unsaved, NoMemory, NoRoom}
 use Rattle.lf_app.specs.declared.faults.TextFile.{TextFile}
 use Rattle.lf_app.specs.declared.faults.TextKind.{TextKind}
-use Rattle.lf_app.specs.declared.faults.TextKind.TheVariants.{Lef, Def}
+use Rattle.lf_app.specs.declared.faults.TextKind.TheVariants.{Lef, Def, State}
 use Rattle.lf_app.specs.declared.hints.Hint.{Hint}
 use Rattle.lf_app.specs.declared.hints.Hint.TheVariants.{Compressed, OtherKind}
 use Rattle.lf_app.specs.declared.refusals.Refusal.{Refusal}
+use Rattle.lf_app.specs.declared.refusals.StateRefusal.{StateRefusal}
 use Rattle.lf_app.specs.declared.services.Unbound.{Unbound}
 use Rattle.lf_app.specs.declared.services.Unbound.TheVariants as unbound
-use Rattle.lf_app.specs.declared.services.Unserved.{Unserved}
-use Rattle.lf_app.specs.declared.services.Unserved.TheVariants as unserved
 use Rattle.lf_app.specs.declared.texts.Unreadable.{Unreadable}
 use Rattle.lf_app.specs.declared.texts.Unreadable.TheVariants as unreadable
 use Rattle.lf_app.specs.declared.texts.Unread.{Unread}
 use Rattle.lf_app.specs.declared.texts.Unread.TheVariants as unread
+use Rattle.lf_app.specs.Lines.{ReadsFail}
 
 -- the number and the name of a refusal of reading or loading
 abbrev pub numbered : FaultNumber → List ℕ
@@ -50,6 +52,15 @@ numbered number.TwoFences = codes "22 TwoFences"
 numbered number.TooMany = codes "23 TooMany"
 numbered number.OutOfMemory = codes "24 OutOfMemory"
 
+-- the number and the name of a refusal of a state text
+abbrev pub state_numbered : StateNumber → List ℕ
+state_numbered state.UnexpectedEnd = codes "2 UnexpectedEnd"
+state_numbered state.Unexpected = codes "3 Unexpected"
+state_numbered state.BadNumber = codes "4 BadNumber"
+state_numbered state.OtherVersion = codes "25 OtherVersion"
+state_numbered state.OtherDesign = codes "26 OtherDesign"
+state_numbered state.OutOfRange = codes "27 OutOfRange"
+
 -- the line that a refusal is about
 abbrev pub line_words : Option ℕ → List ℕ
 line_words None = []
@@ -64,10 +75,15 @@ name_words (Some name) = codes " " ++ name
 abbrev pub refusal_text : Refusal → List ℕ
 refusal_text refusal = numbered refusal.number ++ line_words refusal.line ++ name_words (option_map (λ name. name.items) refusal.name)
 
+-- the text of a refusal of a state text: its number, its name and its line
+abbrev pub state_refusal_text : StateRefusal → List ℕ
+state_refusal_text refusal = state_numbered refusal.number ++ line_words (Some refusal.line)
+
 -- the text of a fault: a refusal's own, or one word
 abbrev pub fault_text : Fault → List ℕ
 fault_text (Refused file refusal) = refusal_text refusal
 fault_text (File file why) = codes "File"
+fault_text (NoState path refusal) = state_refusal_text refusal
 fault_text ReadFault = codes "ReadFault"
 fault_text WriteFault = codes "WriteFault"
 fault_text TooManyLines = codes "TooManyLines"
@@ -76,6 +92,7 @@ fault_text Output = codes "Output"
 fault_text (Bind port why) = codes "Bind"
 fault_text Accept = codes "Accept"
 fault_text (Unwritten path) = codes "File"
+fault_text (Unsaved path) = codes "File"
 fault_text NoMemory = codes "24 OutOfMemory"
 fault_text NoRoom = codes "24 OutOfMemory"
 
@@ -96,6 +113,7 @@ shown bytes = flat_map shown_byte bytes
 abbrev pub kind_words : TextKind → List ℕ
 kind_words Lef = codes "LEF file "
 kind_words Def = codes "DEF file "
+kind_words State = codes "state file "
 
 -- what a file is read as, and its path
 abbrev pub file_words : TextFile → List ℕ
@@ -125,6 +143,14 @@ shown_line refusal = line_shown refusal.at refusal.earlier refusal.shown.items
 abbrev pub export_words : List ℕ → List ℕ
 export_words path = codes "export file " ++ shown path
 
+-- the path of a saved state
+abbrev pub state_words : List ℕ → List ℕ
+state_words path = codes "state file " ++ shown path
+
+-- where a state text is refused
+abbrev pub state_line : List ℕ → StateRefusal → List ℕ
+state_line path refusal = codes "lefence: " ++ state_words path ++ number_words refusal.line None ++ shown refusal.shown.items ++ 10 ∷ []
+
 -- a port of this machine
 abbrev pub port_words : ℕ → List ℕ
 port_words port = codes "port " ++ decimal port ++ codes " of 127.0.0.1"
@@ -140,6 +166,7 @@ hint_words kind None = []
 hint_words kind (Some Compressed) = codes " (it looks compressed)"
 hint_words Lef (Some OtherKind) = codes " (read as LEF: is the DEF text first?)"
 hint_words Def (Some OtherKind) = codes " (read as DEF: is the DEF text first?)"
+hint_words State (Some OtherKind) = []
 
 -- where a text is refused: nowhere if only memory ran out
 abbrev pub refusal_words : TextFile → Refusal → List ℕ
@@ -150,6 +177,7 @@ refusal_words file refusal =
 abbrev pub subject_words : Fault → List ℕ
 subject_words (File file why) = file_words file
 subject_words (Unwritten path) = export_words path.now
+subject_words (Unsaved path) = state_words path.now
 subject_words (Bind port why) = port_words port
 subject_words _ = []
 
@@ -157,6 +185,7 @@ subject_words _ = []
 abbrev pub complaint_words : Fault → List ℕ
 complaint_words (File file why) = codes " cannot be read"
 complaint_words (Unwritten path) = codes " cannot be written"
+complaint_words (Unsaved path) = codes " cannot be written"
 complaint_words (Bind port why) = codes " cannot be listened on"
 complaint_words _ = []
 
@@ -187,7 +216,9 @@ complaint_line fault = codes "lefence: " ++ subject_words fault ++ complaint_wor
 abbrev pub second_line : Fault → List ℕ
 second_line (Refused file refusal) = refusal_words file refusal
 second_line (File file why) = complaint_line (File file why)
+second_line (NoState path refusal) = state_line path.now refusal
 second_line (Unwritten path) = complaint_line (Unwritten path)
+second_line (Unsaved path) = complaint_line (Unsaved path)
 second_line (Bind port why) = complaint_line (Bind port why)
 second_line _ = []
 
@@ -200,6 +231,7 @@ told_text fault = fault_line fault ++ second_line fault
 -- the exit status of a fault
 abbrev pub status_of : Fault → ℕ
 status_of (Refused file refusal) = 1
+status_of (NoState path refusal) = 1
 status_of NoMemory = 1
 status_of NoRoom = 1
 status_of _ = 3
@@ -249,15 +281,15 @@ abbrev pub IsExportFault : Option (List ℕ) → Fault → Type 0
 IsExportFault None fault = ⊥
 IsExportFault (Some path) fault = (fault ≡ NoRoom) ⊎ IsUnwritten path fault
 
--- the fault of a service that ended early
-abbrev pub unserved_fault : ℕ → Unserved → Fault
-unserved_fault port (unserved.Bind why) = Bind port why
-unserved_fault port unserved.Output = Output
-unserved_fault port unserved.Accept = Accept
+-- the state is not written to that path
+abbrev pub IsNotSaved : List ℕ → Fault → Type 0
+IsNotSaved path (Unsaved its) = its.now ≡ path
+IsNotSaved path _ = ⊥
 
--- why a service ends early: the port cannot be listened on, the line of that cannot be written, or no connection is accepted
-abbrev pub IsServiceFault : ℕ → Fault → Type 0
-IsServiceFault port fault = ((why : Unbound) × (fault ≡ Bind port why)) ⊎ ((fault ≡ Output) ⊎ (fault ≡ Accept))
+-- why the state that was asked for is not put into its file: an allocation for it failed, or the file cannot be written
+abbrev pub IsSaveFault : Option (List ℕ) → Fault → Type 0
+IsSaveFault None fault = ⊥
+IsSaveFault (Some path) fault = (fault ≡ NoRoom) ⊎ IsNotSaved path fault
 
 -- ---- who is to blame
 
@@ -265,6 +297,7 @@ IsServiceFault port fault = ((why : Unbound) × (fault ≡ Bind port why)) ⊎ (
 abbrev pub IsEarly : Fault → Type 0
 IsEarly (Refused file refusal) = Unit {0}
 IsEarly (File file why) = Unit {0}
+IsEarly (NoState path refusal) = Unit {0}
 IsEarly NoMemory = Unit {0}
 IsEarly _ = ⊥
 
@@ -274,9 +307,52 @@ IsOfWriter WriteFault = Unit {0}
 IsOfWriter Output = Unit {0}
 IsOfWriter _ = ⊥
 
--- what a fault says of reader and writer: the writer is kept if it is early, and has failed if it is the writer's own; the reader
--- has failed, or was read as often as is allowed, if it is the reader's
-pub record Blames (fault : Fault) (kept reader writer : Type 0) : Type 0 where
+-- the faults of the file of the exported text, and of that of the state
+abbrev pub IsOfExport : Fault → Type 0
+IsOfExport (Unwritten path) = Unit {0}
+IsOfExport (Unsaved path) = Unit {0}
+IsOfExport _ = ⊥
+
+-- the faults of a service
+abbrev pub IsOfService : Fault → Type 0
+IsOfService (Bind port why) = Unit {0}
+IsOfService Accept = Unit {0}
+IsOfService _ = ⊥
+
+-- the faults of nothing that a task works on: of a text, of memory, or of too many lines
+abbrev pub IsOfNone : Fault → Type 0
+IsOfNone (Refused file refusal) = Unit {0}
+IsOfNone (File file why) = Unit {0}
+IsOfNone (NoState path refusal) = Unit {0}
+IsOfNone TooManyLines = Unit {0}
+IsOfNone OutOfMemory = Unit {0}
+IsOfNone NoMemory = Unit {0}
+IsOfNone NoRoom = Unit {0}
+IsOfNone _ = ⊥
+
+-- what a fault says of what a task works on: the writer is kept if it is early, and has failed if it is the writer's own; the reader
+-- has failed, or was read as often as is allowed, if it is the reader's; the file of the exported text or of the state, or the service, has failed
+-- if it is that one's; and if it is the fault of none of them, nothing has failed
+pub record Blames (fault : Fault) (kept reader writer export service sound : Type 0) : Type 0 where
   pub early : IsEarly fault → kept
   pub reading : fault ≡ ReadFault → reader
   pub writing : IsOfWriter fault → writer
+  pub exporting : IsOfExport fault → export
+  pub serving : IsOfService fault → service
+  pub sparing : IsOfNone fault → sound
+
+-- the same where only a writer is worked on, which had failed before or not, and has now or not
+abbrev pub BlamesWriter : Fault → Type 0 → Bool → Bool → Type 0
+BlamesWriter fault kept before now = Blames fault kept ⊥ (now ≡ true) ⊥ ⊥ (now ≡ before)
+
+-- the same where this many lines of a reader are answered to a writer, neither of which had failed
+abbrev pub BlamesStreams : ℕ → Fault → Type 0 → Bool → ℕ → ℕ → Bool → Type 0
+BlamesStreams limit fault kept read_failed old_reads new_reads write_failed =
+    Blames fault kept (ReadsFail limit read_failed old_reads new_reads) (write_failed ≡ true) ⊥ ⊥ ((read_failed ≡ false) × (write_failed ≡ false))
+
+-- the file of the exported text or of the state has failed if it is not written for its own fault, and not if memory ran out
+abbrev pub ExportFails : Fault → Bool → Bool → Type 0
+ExportFails (Unwritten path) before now = now ≡ true
+ExportFails (Unsaved path) before now = now ≡ true
+ExportFails NoRoom before now = now ≡ before
+ExportFails _ before now = ⊥

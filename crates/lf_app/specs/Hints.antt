@@ -6,7 +6,7 @@ use Rattle.lf_lex.specs.declared.fault.FaultNumber.TheVariants.{SecondName, Seco
 use Rattle.lf_lex.specs.declared.fault.LoadFault.{LoadFault}
 use Rattle.lf_lex.specs.Tokens.{Lexeme, tokens_of}
 use Rattle.lf_app.specs.declared.faults.TextKind.{TextKind}
-use Rattle.lf_app.specs.declared.faults.TextKind.TheVariants.{Lef, Def}
+use Rattle.lf_app.specs.declared.faults.TextKind.TheVariants.{Lef, Def, State}
 use Rattle.lf_app.specs.declared.hints.Hint.{Hint}
 use Rattle.lf_app.specs.declared.hints.Hint.TheVariants.{Compressed, OtherKind}
 
@@ -29,6 +29,7 @@ is_compressed text =
 abbrev pub is_of_other_kind : TextKind → List ℕ → Bool
 is_of_other_kind Lef text = has_word text (codes "DESIGN")
 is_of_other_kind Def text = has_word text (codes "MACRO") || has_word text (codes "LIBRARY")
+is_of_other_kind State text = false
 
 -- what a text that was read as this, and refused, rather seems to be
 abbrev pub hint_of : TextKind → List ℕ → Option Hint

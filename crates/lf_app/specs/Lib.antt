@@ -7,6 +7,7 @@ pub mod Lines
 pub mod Refusals
 pub mod Reporting
 pub mod Services
+pub mod States
 pub mod Surroundings
 pub mod Texts
 pub mod Work

@@ -2,8 +2,10 @@
 use Rattle.std.specs.Prelude.{◌≡◌, ◌+◌, ◌-◌, ℕ, zero, suc, List, [], drop, position, take, Option, Some, None, option_map}
 use Rattle.lf_lex.specs.declared.fault.LoadFault.{LoadFault}
 use Rattle.lf_lex.specs.Tokens.{is_line_feed}
+use Rattle.lf_state.specs.declared.fault.StateFault.{StateFault}
 use Rattle.lf_app.specs.declared.faults.TextKind.{TextKind}
 use Rattle.lf_app.specs.declared.refusals.Refusal.{Refusal}
+use Rattle.lf_app.specs.declared.refusals.StateRefusal.{StateRefusal}
 use Rattle.lf_app.specs.Hints.{earlier_line, hint_of, line_told}
 
 -- what follows a line feed there; no byte if there is none
@@ -48,3 +50,9 @@ pub record Tells (kind : TextKind) (text : List ℕ) (fault : LoadFault) (refusa
   pub shown : refusal.shown.items ≡ line_front text (line_told text fault)
   pub earlier : refusal.earlier ≡ earlier_line text fault
   pub hint : refusal.hint ≡ hint_of kind text
+
+-- this is told of the fault of a state text: its number and its line, with the first bytes of that
+pub record TellsState (text : List ℕ) (fault : StateFault) (refusal : StateRefusal) : Type 0 where
+  pub number : refusal.number ≡ fault.number
+  pub line : refusal.line ≡ fault.line
+  pub shown : refusal.shown.items ≡ line_front text (Some fault.line)

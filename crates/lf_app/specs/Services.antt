@@ -2,7 +2,7 @@
 use Rattle.std.specs.Prelude.{◌≡◌, ◌*◌, ℕ, List, [], ◌∷◌, Option, Some, None}
 use Rattle.std.specs.Net.Addr.{ipv4_octets}
 use Rattle.lf_command.specs.Command.{Job, serve}
-use Rattle.lf_app.specs.declared.services.Offer.{Offer}
+use Rattle.lf_server.specs.declared.accepting.Offer.{Offer}
 use Rattle.lf_app.specs.Lines.{most_lines}
 
 -- this service was offered, and no other one, if what is offered is known
@@ -24,5 +24,5 @@ OffersLocal port connections old new = (offer : Offer) × IsLocal port connectio
 
 -- what a job offers: the service that it is, and nothing if it is none
 abbrev pub IsOfferOf : Job → Option (List Offer) → Option (List Offer) → Type 0
-IsOfferOf (serve def lefs port connections export) old new = OffersLocal port connections old new
+IsOfferOf (serve def lefs state port connections save export) old new = OffersLocal port connections old new
 IsOfferOf _ old new = new ≡ old

@@ -1,10 +1,10 @@
 //! The check of a design of files.
 
-ghost use Rattle.std.specs.Prelude.{◌≡◌, ◌⊎◌, map, true, IfErr, IfOk};
+ghost use Rattle.std.specs.Prelude.{◌≡◌, ◌⊎◌, map, IfErr, IfOk};
 ghost use Rattle.lf_floorplan.specs.declared.loaded.Loaded.{Loaded};
 ghost use Rattle.lf_app.specs.Designs.{IsDesignFault, IsDesignOf};
-ghost use Rattle.lf_app.specs.Exits.{IsReported};
-ghost use Rattle.lf_app.specs.Faults.{Blames, IsReportFault};
+ghost use Rattle.lf_app.specs.Exits.{IsReported, IsUnreported};
+ghost use Rattle.lf_app.specs.Faults.{BlamesWriter};
 
 use crate::designs::design_of_files;
 use crate::faults::Fault;
@@ -22,7 +22,8 @@ fn check_design<'a, W: Sink>(
     writer: &mut W,
 ) -> Result<u8, Fault<'a>>
     ensures ok { IfOk result (IsReported loaded.now (W.contents writer.old) (W.contents writer.new)) }
-    ensures err { IfErr result (λ fault. IsReportFault fault × Blames fault (writer.new ≡ writer.old) ⊥ (W.has_failed writer.new ≡ true)) }
+    ensures err { IfErr result (λ fault. IsUnreported loaded.now (W.contents writer.old) (W.contents writer.new) fault
+        × BlamesWriter fault (writer.new ≡ writer.old) (W.has_failed writer.old) (W.has_failed writer.new)) }
     ensures held { W.holds writer.new ≡ W.holds writer.old }
 {
     match report_design(alloc, loaded, writer) {
@@ -43,8 +44,9 @@ pub(crate) fn check<'a, T: Texts, W: Sink>(
     ensures ok { IfOk result (λ status. (loaded : Loaded) × IsDesignOf (T.gives texts.now) def.now (map (λ lef. lef.now) lefs.now) loaded
         × IsReported loaded (W.contents writer.old) (W.contents writer.new) status) }
     ensures err { IfErr result (λ fault. (IsDesignFault (T.gives texts.now) def.now (map (λ lef. lef.now) lefs.now) fault
-        ⊎ ((loaded : Loaded) × IsDesignOf (T.gives texts.now) def.now (map (λ lef. lef.now) lefs.now) loaded × IsReportFault fault))
-        × Blames fault (writer.new ≡ writer.old) ⊥ (W.has_failed writer.new ≡ true)) }
+        ⊎ ((loaded : Loaded) × IsDesignOf (T.gives texts.now) def.now (map (λ lef. lef.now) lefs.now) loaded
+        × IsUnreported loaded (W.contents writer.old) (W.contents writer.new) fault))
+        × BlamesWriter fault (writer.new ≡ writer.old) (W.has_failed writer.old) (W.has_failed writer.new)) }
     ensures held { W.holds writer.new ≡ W.holds writer.old }
 {
     let loaded = design_of_files(alloc, texts, def, lefs)?;

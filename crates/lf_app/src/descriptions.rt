@@ -1,14 +1,13 @@
 //! The description of a design of files.
 
-ghost use Rattle.std.specs.Prelude.{◌≡◌, ◌⊎◌, List, ℕ, Ok, Option, Some, IfErr, IfOk, map, true};
-ghost use Rattle.lf_files.specs.Shelf.{Put};
+ghost use Rattle.std.specs.Prelude.{◌≡◌, ◌⊎◌, List, ℕ, Ok, Some, IfErr, IfOk, map};
 ghost use Rattle.lf_def.specs.Contents.{contents};
 ghost use Rattle.lf_def.specs.Document.{Document, document_of};
 ghost use Rattle.lf_floorplan.specs.declared.loaded.Loaded.{Loaded};
 ghost use Rattle.lf_app.specs.declared.faults.TextKind.TheVariants.{Def};
-ghost use Rattle.lf_app.specs.Designs.{IsDefRefusal, IsDesignFault, IsDesignIn, IsDesignOf, IsFileDesign, IsFileFault, IsLoadRefusal, IsLoadedIn, IsRefused};
-ghost use Rattle.lf_app.specs.Exits.{IsDescribed, IsOpenDescribed, streams};
-ghost use Rattle.lf_app.specs.Faults.{Blames, IsDescriptionFault};
+ghost use Rattle.lf_app.specs.Designs.{IsDefRefusal, IsDesignFault, IsFileFault, IsLoadRefusal, IsLoadedIn, IsRefused};
+ghost use Rattle.lf_app.specs.Exits.{IsDescribed, IsOpenDescribed, IsOpenUndescribed, IsUndescribed};
+ghost use Rattle.lf_app.specs.Faults.{BlamesWriter};
 
 use crate::designs::{def_file, library_of, load_document, read_document, read_text};
 use crate::faults::Fault;
@@ -29,7 +28,8 @@ fn describe_loaded<'a, W: Sink>(
     writer: &mut W,
 ) -> Result<u8, Fault<'a>>
     ensures ok { IfOk result (IsDescribed (contents document.now) loaded.now (W.contents writer.old) (W.contents writer.new)) }
-    ensures err { IfErr result (λ fault. IsDescriptionFault fault × Blames fault (writer.new ≡ writer.old) ⊥ (W.has_failed writer.new ≡ true)) }
+    ensures err { IfErr result (λ fault. IsUndescribed (contents document.now) loaded.now (W.contents writer.old) (W.contents writer.new) fault
+        × BlamesWriter fault (writer.new ≡ writer.old) (W.has_failed writer.old) (W.has_failed writer.new)) }
     ensures held { W.holds writer.new ≡ W.holds writer.old }
 {
     match describe(alloc, loaded, document, writer) {
@@ -53,8 +53,9 @@ fn describe_document<'a, W: Sink>(
     ensures ok { IfOk result (λ status. (loaded : Loaded) × IsLoadedIn library.now (contents document.now) loaded
         × IsDescribed (contents document.now) loaded (W.contents writer.old) (W.contents writer.new) status) }
     ensures err { IfErr result (λ fault. (IsRefused Def def.now text.now (IsLoadRefusal library.now (contents document.now)) fault
-        ⊎ ((loaded : Loaded) × IsLoadedIn library.now (contents document.now) loaded × IsDescriptionFault fault))
-        × Blames fault (writer.new ≡ writer.old) ⊥ (W.has_failed writer.new ≡ true)) }
+        ⊎ ((loaded : Loaded) × IsLoadedIn library.now (contents document.now) loaded
+        × IsUndescribed (contents document.now) loaded (W.contents writer.old) (W.contents writer.new) fault))
+        × BlamesWriter fault (writer.new ≡ writer.old) (W.has_failed writer.old) (W.has_failed writer.new)) }
     ensures held { W.holds writer.new ≡ W.holds writer.old }
 {
     let loaded = load_document(alloc, library, def, text, document)?;
@@ -72,8 +73,9 @@ fn describe_text<'a, W: Sink>(
     ensures ok { IfOk result (λ status. (document : Document) × (document_of text.now ≡ Ok document) × ((loaded : Loaded)
         × IsLoadedIn library.now document loaded × IsDescribed document loaded (W.contents writer.old) (W.contents writer.new) status)) }
     ensures err { IfErr result (λ fault. (IsRefused Def def.now text.now (IsDefRefusal library.now text.now) fault
-        ⊎ ((loaded : Loaded) × IsDesignIn library.now text.now loaded × IsDescriptionFault fault))
-        × Blames fault (writer.new ≡ writer.old) ⊥ (W.has_failed writer.new ≡ true)) }
+        ⊎ ((document : Document) × (document_of text.now ≡ Ok document) × ((loaded : Loaded) × IsLoadedIn library.now document loaded
+        × IsUndescribed document loaded (W.contents writer.old) (W.contents writer.new) fault)))
+        × BlamesWriter fault (writer.new ≡ writer.old) (W.has_failed writer.old) (W.has_failed writer.new)) }
     ensures held { W.holds writer.new ≡ W.holds writer.old }
 {
     let document = read_document(alloc, def, text)?;
@@ -92,8 +94,10 @@ fn describe_file<'a, T: Texts, W: Sink>(
         × (document_of text ≡ Ok document) × ((loaded : Loaded) × IsLoadedIn library.now document loaded
         × IsDescribed document loaded (W.contents writer.old) (W.contents writer.new) status))) }
     ensures err { IfErr result (λ fault. (IsFileFault (T.gives texts.now) Def def.now (IsDefRefusal library.now) fault
-        ⊎ ((loaded : Loaded) × IsFileDesign (T.gives texts.now) def.now library.now loaded × IsDescriptionFault fault))
-        × Blames fault (writer.new ≡ writer.old) ⊥ (W.has_failed writer.new ≡ true)) }
+        ⊎ ((text : List ℕ) × T.gives texts.now def.now (Some text) × ((document : Document) × (document_of text ≡ Ok document)
+        × ((loaded : Loaded) × IsLoadedIn library.now document loaded
+        × IsUndescribed document loaded (W.contents writer.old) (W.contents writer.new) fault))))
+        × BlamesWriter fault (writer.new ≡ writer.old) (W.has_failed writer.old) (W.has_failed writer.new)) }
     ensures held { W.holds writer.new ≡ W.holds writer.old }
 {
     let text = read_text(texts, def_file(def))?;
@@ -108,11 +112,11 @@ pub(crate) fn describe_files<'a, T: Texts, W: Sink>(
     lefs: &[&'a str],
     writer: &mut W,
 ) -> Result<u8, Fault<'a>>
-    ensures ok { (input left : Option (List ℕ)) (old_puts new_puts : Option (List Put)) → IfOk result (IsOpenDescribed (T.gives texts.now) def.now
-        (map (λ lef. lef.now) lefs.now) (streams input left (W.contents writer.old) (W.contents writer.new) old_puts new_puts)) }
+    ensures ok { IfOk result (IsOpenDescribed (T.gives texts.now) def.now (map (λ lef. lef.now) lefs.now)
+        (W.contents writer.old) (W.contents writer.new)) }
     ensures err { IfErr result (λ fault. (IsDesignFault (T.gives texts.now) def.now (map (λ lef. lef.now) lefs.now) fault
-        ⊎ ((loaded : Loaded) × IsDesignOf (T.gives texts.now) def.now (map (λ lef. lef.now) lefs.now) loaded × IsDescriptionFault fault))
-        × Blames fault (writer.new ≡ writer.old) ⊥ (W.has_failed writer.new ≡ true)) }
+        ⊎ IsOpenUndescribed (T.gives texts.now) def.now (map (λ lef. lef.now) lefs.now) (W.contents writer.old) (W.contents writer.new) fault)
+        × BlamesWriter fault (writer.new ≡ writer.old) (W.has_failed writer.old) (W.has_failed writer.new)) }
     ensures held { W.holds writer.new ≡ W.holds writer.old }
 {
     let library = library_of(alloc, texts, lefs)?;

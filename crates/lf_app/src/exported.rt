@@ -1,12 +1,13 @@
 //! The text that is exported: that of the design, with the committed places of a floor in it.
 
-ghost use Rattle.std.specs.Prelude.{◌≡◌, ℕ, List, None, Option, Some, IfErr, OnErr, OnOk, map, option_map};
+ghost use Rattle.std.specs.Prelude.{◌≡◌, ◌||◌, ℕ, Bool, List, None, Option, Some, IfErr, OnErr, OnOk, map, option_map};
+ghost use Rattle.lf_files.specs.Shelf.{is_file};
 ghost use Rattle.lf_def.specs.Document.{Document};
 ghost use Rattle.lf_floorplan.specs.declared.place.Place.{Place};
 ghost use Rattle.lf_teams.specs.Places.{AreCommittedPlaces};
 ghost use Rattle.lf_write.specs.Export.{CanBeRenewed, clause_of, renewed};
 ghost use Rattle.lf_app.specs.Exits.{IsExported};
-ghost use Rattle.lf_app.specs.Faults.{IsExportFault};
+ghost use Rattle.lf_app.specs.Faults.{ExportFails, IsExportFault};
 
 use crate::faults::Fault;
 use crate::opened::Original;
@@ -80,7 +81,8 @@ fn exported_text<'a>(
 
 /// The fault of a text that is not put into its file.
 fn export_fault<'f>(path: &'f str, unwritten: Unwritten) -> Fault<'f>
-    ensures { IsExportFault (Some path.now) result }
+    ensures fault { IsExportFault (Some path.now) result }
+    ensures fails { (before now : Bool) → now ≡ (is_file unwritten || before) → ExportFails result before now }
 {
     match unwritten {
         Unwritten::File => Fault::Unwritten(path),
@@ -91,9 +93,13 @@ fn export_fault<'f>(path: &'f str, unwritten: Unwritten) -> Fault<'f>
 /// Makes sure, as far as that shows beforehand, that a text can be written to the file of that path, if one is given.
 pub(crate) fn try_export<'a, E: Exports>(
     path: Option<&'a str>,
-    exports: &E,
+    exports: &mut E,
 ) -> Result<(), Fault<'a>>
     ensures err { IfErr result (IsExportFault (option_map (λ path. path.now) path.entry)) }
+    ensures fails { IfErr result (λ fault. ExportFails fault (E.has_failed exports.old) (E.has_failed exports.new)) }
+    ensures sound { OnOk result (E.has_failed exports.new ≡ E.has_failed exports.old) }
+    ensures unput { E.puts exports.new ≡ E.puts exports.old }
+    ensures unasked { option_map (λ path. path.now) path.entry ≡ None → exports.new ≡ exports.old }
 {
     match path {
         None => Ok(()),
@@ -117,6 +123,8 @@ pub(crate) fn export_to<'a, E: Exports>(
         → OnOk result (IsExported (option_map (λ path. path.now) path.entry) original.now.text.items document floor.now
         (E.puts exports.old) (E.puts exports.new)) }
     ensures err { IfErr result (IsExportFault (option_map (λ path. path.now) path.entry)) }
+    ensures fails { IfErr result (λ fault. ExportFails fault (E.has_failed exports.old) (E.has_failed exports.new)) }
+    ensures sound { OnOk result (E.has_failed exports.new ≡ E.has_failed exports.old) }
     ensures unput { OnErr result (E.puts exports.new ≡ E.puts exports.old) }
     ensures unasked { option_map (λ path. path.now) path.entry ≡ None → exports.new ≡ exports.old }
 {

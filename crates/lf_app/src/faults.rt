@@ -3,17 +3,19 @@
 ghost use Rattle.std.specs.Prelude.{◌≡◌, true, IsTrue, OnErr, OnOk, option_map};
 ghost use Rattle.std.specs.Io.KnownBytes.{Appends};
 ghost use Rattle.lf_app.specs.Exits.{EndsWith};
-ghost use Rattle.lf_app.specs.Faults.{ending_fault, fault_line, fault_text, line_words, name_words, numbered, refusal_text, status_of, told_text, unread_fault};
+ghost use Rattle.lf_app.specs.Faults.{ending_fault, fault_line, fault_text, line_words, name_words, numbered, refusal_text, state_numbered, state_refusal_text};
+ghost use Rattle.lf_app.specs.Faults.{status_of, told_text, unread_fault};
 ghost use Rattle.lf_app.specs.declared.faults.Fault.TheVariants.{NoMemory};
 
 use crate::origins::put_second;
-use crate::refusals::Refusal;
+use crate::refusals::{Refusal, StateRefusal};
 use crate::services::Unbound;
 use crate::texts::{Unread, Unreadable};
 use itoa::Buffer;
 use lf_devices::{DeviceFault, Sink, send};
 use lf_lex::FaultNumber;
 use lf_server::Ending;
+use lf_state::FaultNumber as StateNumber;
 use std::alloc::AllocError;
 
 /// What a file is read as.
@@ -23,6 +25,8 @@ pub enum TextKind {
     Lef,
     /// The DEF text.
     Def,
+    /// The text of a saved state.
+    State,
 }
 
 /// A file of the command line whose text is read.
@@ -33,7 +37,7 @@ pub struct TextFile<'a> {
     pub path: &'a str,
 }
 
-/// Why a task was not done, with all that is told of it.
+/// Why a task was not done, with all that is printed of it.
 #[derive(Drop)]
 pub enum Fault<'a> {
     /// The text of this file, or the design that it makes with the LEF texts, was refused, or an allocation for it failed.
@@ -43,6 +47,8 @@ pub enum Fault<'a> {
     },
     /// A file could not be read.
     File(TextFile<'a>, Unreadable),
+    /// The text of the file of that path was refused: it tells no state of the design.
+    NoState(&'a str, StateRefusal),
     /// Standard input could not be read.
     ReadFault,
     /// A reply could not be written.
@@ -59,9 +65,11 @@ pub enum Fault<'a> {
     Accept,
     /// The file of that path could not be written; it was to get the exported text.
     Unwritten(&'a str),
+    /// The file of that path could not be written; it was to get the state.
+    Unsaved(&'a str),
     /// An allocation failed before the first line, or for a report.
     NoMemory,
-    /// An allocation for the exported text, or for a line of a description, failed.
+    /// An allocation for the exported text, for the state, or for a line of a description, failed.
     NoRoom,
 }
 
@@ -78,7 +86,7 @@ impl<'a> From<AllocError> for Fault<'a> {
 pub struct Exit {
     /// The exit status.
     pub status: u8,
-    /// Whether all that is told of the fault was written; true if there was no fault.
+    /// Whether all that is to be printed of the fault was written; true if there was no fault.
     pub is_told: bool,
 }
 
@@ -111,6 +119,20 @@ fn numbered(number: FaultNumber) -> &'static [u8]
         FaultNumber::TwoFences => b"22 TwoFences",
         FaultNumber::TooMany => b"23 TooMany",
         FaultNumber::OutOfMemory => b"24 OutOfMemory",
+    }
+}
+
+/// The number and the name of a refusal of a state text.
+fn state_numbered(number: StateNumber) -> &'static [u8]
+    ensures { result.now ≡ state_numbered number }
+{
+    match number {
+        StateNumber::UnexpectedEnd => b"2 UnexpectedEnd",
+        StateNumber::Unexpected => b"3 Unexpected",
+        StateNumber::BadNumber => b"4 BadNumber",
+        StateNumber::OtherVersion => b"25 OtherVersion",
+        StateNumber::OtherDesign => b"26 OtherDesign",
+        StateNumber::OutOfRange => b"27 OutOfRange",
     }
 }
 
@@ -151,6 +173,16 @@ fn put_refusal<W: Sink>(sink: &mut W, refusal: &Refusal) -> Result<(), DeviceFau
     put_name(sink, &refusal.name)
 }
 
+/// Writes the text of a refusal of a state text.
+fn put_state_refusal<W: Sink>(sink: &mut W, refusal: &StateRefusal) -> Result<(), DeviceFault>
+    ensures ok { OnOk result (Appends (W.contents sink.old) (W.contents sink.new) (state_refusal_text refusal.now)) }
+    ensures failed { OnErr result (W.has_failed sink.new ≡ true) }
+    ensures held { W.holds sink.new ≡ W.holds sink.old }
+{
+    send(sink, state_numbered(refusal.number))?;
+    put_line(sink, Some(refusal.line))
+}
+
 /// Writes the text of a fault.
 fn put_fault<W: Sink>(sink: &mut W, fault: &Fault<'_>) -> Result<(), DeviceFault>
     ensures ok { OnOk result (Appends (W.contents sink.old) (W.contents sink.new) (fault_text fault.now)) }
@@ -160,6 +192,7 @@ fn put_fault<W: Sink>(sink: &mut W, fault: &Fault<'_>) -> Result<(), DeviceFault
     match fault {
         Fault::Refused { refusal, .. } => put_refusal(sink, refusal),
         Fault::File(_, _) => send(sink, b"File"),
+        Fault::NoState(_, refusal) => put_state_refusal(sink, refusal),
         Fault::ReadFault => send(sink, b"ReadFault"),
         Fault::WriteFault => send(sink, b"WriteFault"),
         Fault::TooManyLines => send(sink, b"TooManyLines"),
@@ -168,6 +201,7 @@ fn put_fault<W: Sink>(sink: &mut W, fault: &Fault<'_>) -> Result<(), DeviceFault
         Fault::Bind(_, _) => send(sink, b"Bind"),
         Fault::Accept => send(sink, b"Accept"),
         Fault::Unwritten(_) => send(sink, b"File"),
+        Fault::Unsaved(_) => send(sink, b"File"),
         Fault::NoMemory => send(sink, b"24 OutOfMemory"),
         Fault::NoRoom => send(sink, b"24 OutOfMemory"),
     }
@@ -184,12 +218,13 @@ pub fn write_fault<W: Sink>(sink: &mut W, fault: &Fault<'_>) -> Result<(), Devic
     send(sink, b"\n")
 }
 
-/// The exit status of a fault: 1 for `Refused`, `NoMemory` and `NoRoom`, else 3.
+/// The exit status of a fault: 1 for `Refused`, `NoState`, `NoMemory` and `NoRoom`, else 3.
 pub fn status_of(fault: &Fault<'_>) -> u8
     ensures { result ≡ status_of fault.now }
 {
     match fault {
         Fault::Refused { .. } => 1,
+        Fault::NoState(_, _) => 1,
         Fault::NoMemory => 1,
         Fault::NoRoom => 1,
         _ => 3,
@@ -207,7 +242,7 @@ pub(crate) fn done(status: u8) -> Exit
     }
 }
 
-/// Writes all that is told of a fault: its line, and a second one where a file, a line of it or a port is at fault.
+/// Writes all that is printed of a fault: its line, and a second one where a file, a line of it or a port is at fault.
 fn put_told<W: Sink>(sink: &mut W, fault: &Fault<'_>) -> Result<(), DeviceFault>
     ensures ok { OnOk result (Appends (W.contents sink.old) (W.contents sink.new) (told_text fault.now)) }
     ensures failed { OnErr result (W.has_failed sink.new ≡ true) }

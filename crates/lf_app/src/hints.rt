@@ -58,6 +58,7 @@ fn is_of_other_kind(kind: TextKind, text: &[u8]) -> bool
     match kind {
         TextKind::Lef => has_word(text, b"DESIGN"),
         TextKind::Def => has_word(text, b"MACRO") || has_word(text, b"LIBRARY"),
+        TextKind::State => false,
     }
 }
 

@@ -1,6 +1,6 @@
 //! The program: its commands, its messages of faults, and the loop that answers lines.
 //!
-//! `perform` does a `Task` over the files and the network of a runtime, and returns the exit status. `perform_over` does it over any
+//! `perform` does a `Task` over the files and the network of a runtime. `perform_over` does it over any
 //! files that are read (`Texts`) and written (`Exports`), services (`Services`) and devices, and its contract says of each what was
 //! done. `Task`, `UsageFault`, `command_of`, `Help` and `help_of` are those of `lf_command`.
 //!
@@ -21,7 +21,7 @@
 //!
 //! ```
 //! let task = command_of(rt.alloc(), &words)?;
-//! let status = perform(rt, &task, &mut reader, &mut writer, &mut faults);
+//! let exit = perform(rt, &task, &mut reader, &mut writer, &mut faults);
 //! ```
 #![tactic(auto)]
 
@@ -34,9 +34,12 @@ mod hints;
 mod lines;
 mod opened;
 mod origins;
+mod outputs;
 mod refusals;
 mod reports;
+mod saved;
 mod services;
+mod states;
 mod surroundings;
 mod tasks;
 mod texts;
@@ -44,10 +47,13 @@ mod work;
 
 pub use faults::{Exit, Fault, TextFile, TextKind, status_of, write_fault};
 pub use hints::Hint;
-pub use lf_command::{Help, Task, UsageFault, command_of, complaint_of, help_of};
+pub use lf_command::{Help, Subcommand, Task, UsageFault, command_of, complaint_of, help_of};
+pub use lf_devices::{FromRead, ToWrite};
+pub use lf_files::FileExports;
+pub use lf_server::{Acceptor, Connection, Offer};
 pub use lines::answer_lines;
-pub use refusals::Refusal;
-pub use services::{NetServices, Offer, Services, Unbound, Unserved};
+pub use refusals::{Refusal, StateRefusal};
+pub use services::{NetServices, Services, Unbound};
 pub use surroundings::Surroundings;
 pub use tasks::{perform, perform_over};
 pub use texts::{FileTexts, Texts, Unread, Unreadable};

@@ -4,11 +4,12 @@ ghost use Rattle.std.specs.Prelude.{◌≡◌, ◌<◌, OnErr, OnOk, true};
 ghost use Rattle.std.specs.Io.KnownBytes.{Appends};
 ghost use Rattle.std.specs.Char.{digit_char};
 ghost use Rattle.lf_app.specs.Faults.{complaint_line, complaint_words, earlier_words, export_words, file_words, first_words, hint_words, is_memory, number_words};
-ghost use Rattle.lf_app.specs.Faults.{port_words, reason_words, refusal_words, second_line, shown, shown_byte, shown_line, subject_words, unbound_words, unreadable_words};
+ghost use Rattle.lf_app.specs.Faults.{port_words, reason_words, refusal_words, second_line, shown, shown_byte, shown_line, state_line, state_words};
+ghost use Rattle.lf_app.specs.Faults.{subject_words, unbound_words, unreadable_words};
 
 use crate::faults::{Fault, TextFile, TextKind};
 use crate::hints::Hint;
-use crate::refusals::Refusal;
+use crate::refusals::{Refusal, StateRefusal};
 use crate::services::Unbound;
 use crate::texts::Unreadable;
 use itoa::Buffer;
@@ -64,6 +65,7 @@ fn put_file<W: Sink>(sink: &mut W, file: &TextFile<'_>) -> Result<(), DeviceFaul
     match file.kind {
         TextKind::Lef => send(sink, b"LEF file ")?,
         TextKind::Def => send(sink, b"DEF file ")?,
+        TextKind::State => send(sink, b"state file ")?,
     }
     put_shown(sink, file.path.as_bytes())
 }
@@ -129,6 +131,7 @@ fn hint_words(kind: TextKind, hint: Option<Hint>) -> &'static [u8]
         (Some(Hint::Compressed), _) => b" (it looks compressed)",
         (Some(Hint::OtherKind), TextKind::Lef) => b" (read as LEF: is the DEF text first?)",
         (Some(Hint::OtherKind), TextKind::Def) => b" (read as DEF: is the DEF text first?)",
+        (Some(Hint::OtherKind), TextKind::State) => b"",
     }
 }
 
@@ -169,6 +172,33 @@ fn put_export_path<W: Sink>(sink: &mut W, path: &str) -> Result<(), DeviceFault>
     put_shown(sink, path.as_bytes())
 }
 
+/// Writes the path of a saved state.
+fn put_state_path<W: Sink>(sink: &mut W, path: &str) -> Result<(), DeviceFault>
+    ensures ok { OnOk result (Appends (W.contents sink.old) (W.contents sink.new) (state_words path.now)) }
+    ensures failed { OnErr result (W.has_failed sink.new ≡ true) }
+    ensures held { W.holds sink.new ≡ W.holds sink.old }
+{
+    send(sink, b"state file ")?;
+    put_shown(sink, path.as_bytes())
+}
+
+/// Writes where a state text is refused: the number of its line, and that line's first bytes.
+fn put_no_state<W: Sink>(
+    sink: &mut W,
+    path: &str,
+    refusal: &StateRefusal,
+) -> Result<(), DeviceFault>
+    ensures ok { OnOk result (Appends (W.contents sink.old) (W.contents sink.new) (state_line path.now refusal.now)) }
+    ensures failed { OnErr result (W.has_failed sink.new ≡ true) }
+    ensures held { W.holds sink.new ≡ W.holds sink.old }
+{
+    send(sink, b"lefence: ")?;
+    put_state_path(sink, path)?;
+    put_number(sink, refusal.line, None)?;
+    put_shown(sink, refusal.shown.as_slice())?;
+    send(sink, b"\n")
+}
+
 /// Writes a port of this machine.
 fn put_port<W: Sink>(sink: &mut W, port: u16) -> Result<(), DeviceFault>
     ensures ok { OnOk result (Appends (W.contents sink.old) (W.contents sink.new) (port_words port)) }
@@ -189,6 +219,7 @@ fn put_subject<W: Sink>(sink: &mut W, fault: &Fault<'_>) -> Result<(), DeviceFau
     match fault {
         Fault::File(file, _) => put_file(sink, file),
         Fault::Unwritten(path) => put_export_path(sink, path),
+        Fault::Unsaved(path) => put_state_path(sink, path),
         Fault::Bind(port, _) => put_port(sink, *port),
         _ => Ok(()),
     }
@@ -201,6 +232,7 @@ fn complaint_of(fault: &Fault<'_>) -> &'static [u8]
     match fault {
         Fault::File(_, _) => b" cannot be read",
         Fault::Unwritten(_) => b" cannot be written",
+        Fault::Unsaved(_) => b" cannot be written",
         Fault::Bind(_, _) => b" cannot be listened on",
         _ => b"",
     }
@@ -262,7 +294,9 @@ pub(crate) fn put_second<W: Sink>(sink: &mut W, fault: &Fault<'_>) -> Result<(),
     match fault {
         Fault::Refused { file, refusal } => put_refused(sink, file, refusal),
         Fault::File(_, _) => put_complaint(sink, fault),
+        Fault::NoState(path, refusal) => put_no_state(sink, path, refusal),
         Fault::Unwritten(_) => put_complaint(sink, fault),
+        Fault::Unsaved(_) => put_complaint(sink, fault),
         Fault::Bind(_, _) => put_complaint(sink, fault),
         _ => Ok(()),
     }

@@ -1,21 +1,22 @@
-//! What is told of a refused text: it is taken from the text, which may then go.
+//! What is printed of a refused text: it is taken from the text, which may then go.
 
 ghost use Rattle.std.specs.Prelude.{◌≡◌, ◌⊎◌, ◌<◌, IfOk, IfSome, length, option_map, position, take};
 ghost use Rattle.lf_lex.specs.Tokens.{is_line_feed};
 ghost use Rattle.lf_lex.specs.declared.fault.LoadFault.{LoadFault};
 ghost use Rattle.lf_lex.specs.declared.fault.ReadError.TheVariants.{Memory};
 ghost use Rattle.lf_lex.specs.Faults.{load_fault_of};
-ghost use Rattle.lf_app.specs.Refusals.{Tells, behind_line, behind_lines, first_line, line_at, line_front};
+ghost use Rattle.lf_app.specs.Refusals.{Tells, TellsState, behind_line, behind_lines, first_line, line_at, line_front};
 
 use crate::faults::TextKind;
 use crate::hints::{Hint, earlier_line, hint_of, line_told};
 use lf_lex::{FaultNumber, LoadFault};
+use lf_state::{FaultNumber as StateNumber, StateFault};
 use std::alloc::{AllocError, Global};
 
 /// How many bytes of a line are shown.
 const SHOWN: usize = 80;
 
-/// What is told of a refused text.
+/// What is printed of a refused text.
 #[derive(Drop)]
 pub struct Refusal {
     pub number: FaultNumber,
@@ -110,7 +111,7 @@ fn copied(alloc: Global, name: Option<&[u8]>) -> Result<Option<Vec<u8>>, AllocEr
     }
 }
 
-/// What is told of the text that is refused so.
+/// What is printed of the text that is refused so.
 fn told_of(
     alloc: Global,
     kind: TextKind,
@@ -133,7 +134,7 @@ fn told_of(
     })
 }
 
-/// What is told of a failed allocation.
+/// What is printed of a failed allocation.
 fn told_of_memory(alloc: Global, kind: TextKind, text: &[u8]) -> Refusal
     ensures { Tells kind text.now (load_fault_of Memory) result }
 {
@@ -148,8 +149,32 @@ fn told_of_memory(alloc: Global, kind: TextKind, text: &[u8]) -> Refusal
     }
 }
 
+/// What is told of a refused state text.
+#[derive(Drop)]
+pub struct StateRefusal {
+    pub number: StateNumber,
+    /// The line on which the fault is, the first of which is 1.
+    pub line: usize,
+    /// The first bytes of that line.
+    pub shown: Vec<u8>,
+}
+
+impl StateRefusal {
+    /// What is told of the text that is refused so; `Err` if an allocation fails.
+    pub fn new(alloc: Global, text: &[u8], fault: StateFault) -> Result<StateRefusal, AllocError>
+        ensures { IfOk result (TellsState text.now fault) }
+    {
+        let shown = Vec::from_slice(alloc, line_front(text, Some(fault.line)))?;
+        Ok(StateRefusal {
+            number: fault.number,
+            line: fault.line,
+            shown,
+        })
+    }
+}
+
 impl Refusal {
-    /// What is told of the text, read as this, that is refused so: that an allocation failed, if there is no memory to tell more.
+    /// What is printed of the text, read as this, that is refused so: that an allocation failed, if there is no memory for more.
     pub fn new(alloc: Global, kind: TextKind, text: &[u8], fault: &LoadFault<'_>) -> Refusal
         ensures { (told : LoadFault) × ((told ≡ fault.now) ⊎ (told ≡ load_fault_of Memory)) × Tells kind text.now told result }
     {

@@ -1,25 +1,22 @@
 //! The report of a loaded design.
 
-ghost use Rattle.std.specs.Prelude.{◌≡◌, ◌++◌, [], ◌∷◌, ◌↔◌, All, IfErr, IfOk, IsTrue, List, OnErr, OnOk, Option, count_by, false, is_none, is_some, length, map, option_and_then, true};
+ghost use Rattle.std.specs.Prelude.{◌≡◌, ◌++◌, [], ◌∷◌, ◌↔◌, IfErr, IfOk, IsTrue, List, OnErr, OnOk, Option, count_by, false, is_none, is_some, length, map, take, true, ℕ};
 ghost use Rattle.std.specs.Io.KnownBytes.{Appends};
-ghost use Rattle.std.specs.List.{cons_option};
 ghost use Rattle.lf_floorplan.specs.declared.place.Place.{Place};
-ghost use Rattle.lf_floorplan.specs.Bounds.{IsName};
-ghost use Rattle.lf_rules.specs.declared.report.Violation.{Violation};
 ghost use Rattle.lf_rules.specs.Legalizer.{Legalizer};
 ghost use Rattle.lf_reports.specs.Reports.{AreVerdicts, IsFaultless, violations_in};
 ghost use Rattle.lf_proto.specs.ReportText.{report_text, violations_text};
 ghost use Rattle.lf_app.specs.Checks.{IsLegalDesign, def_places, design_report, report_line};
-ghost use Rattle.lf_app.specs.Faults.{Blames, IsReportFault};
-ghost use Rattle.lf_app.specs.Reporting.{listed_of, name_at, violation_by};
+ghost use Rattle.lf_app.specs.Exits.{IsUnreported};
+ghost use Rattle.lf_app.specs.Faults.{BlamesWriter};
+ghost use Rattle.lf_app.specs.Reporting.{listed_of, names_of};
 
 use crate::faults::Fault;
 use lf_devices::{DeviceFault, Sink, send};
 use lf_frame::{Loaded, LoadedCells, Place};
-use lf_proto::{Text, put_violation, report_begun, report_closed};
+use lf_proto::{Names, Text, put_verdict, report_begun, report_closed};
 use lf_reports::verdicts_of_all;
-use lf_rules::{Broken, Violation};
-use lf_units::Name;
+use lf_rules::Broken;
 use std::alloc::{AllocError, Global};
 
 /// The report of a design.
@@ -63,84 +60,18 @@ fn is_faultless(unplaced: usize, verdicts: &[Option<Broken>]) -> bool
     unplaced == 0 && illegal_in(verdicts) == 0
 }
 
-/// A copy of the name of the cell of that number; none if there is no such cell.
-fn name_of(alloc: Global, cells: &LoadedCells, own: usize) -> Result<Option<Name>, AllocError>
-    ensures { IfOk result (λ name. name ≡ name_at cells.now own) }
-{
-    match cells.get(own) {
-        Some(cell) => Ok(Some(Name::from_slice(alloc, cell.name)?)),
-        None => Ok(None),
+/// The names of a design's cells.
+#[derive(Clone, Copy)]
+struct DesignNames<'a> {
+    cells: &'a LoadedCells,
+}
+
+impl<'a> Names for DesignNames<'a> {
+    ghost names = { λ s. names_of s.cells.now };
+
+    fn name(&self, own: usize) -> Option<&[u8]> {
+        Some(self.cells.get(own)?.name)
     }
-}
-
-/// A copy of the name of the other cell, if there is another.
-fn other_name(
-    alloc: Global,
-    cells: &LoadedCells,
-    other: Option<u32>,
-) -> Result<Option<Name>, AllocError>
-    ensures { IfOk result (λ name. name ≡ option_and_then (name_at cells.now) other) }
-{
-    match other {
-        Some(own) => name_of(alloc, cells, own as usize),
-        None => Ok(None),
-    }
-}
-
-/// The violation of the cell of that number, which breaks this rule first; none if there is no such cell.
-fn violation_of(
-    alloc: Global,
-    cells: &LoadedCells,
-    own: usize,
-    broken: Broken,
-) -> Result<Option<Violation>, AllocError>
-    ensures { IfOk result (λ violation. violation ≡ violation_by cells.now own broken) }
-{
-    let Some(cell) = name_of(alloc, cells, own)? else {
-        return Ok(None);
-    };
-    let other = other_name(alloc, cells, broken.other)?;
-    Ok(Some(Violation {
-        cell,
-        rule: broken.rule,
-        other,
-    }))
-}
-
-/// The violation of the cell of that number by its verdict; none if it breaks no rule.
-fn violation_told(
-    alloc: Global,
-    cells: &LoadedCells,
-    own: usize,
-    verdict: Option<Broken>,
-) -> Result<Option<Violation>, AllocError>
-    ensures { IfOk result (λ violation. violation ≡ option_and_then (violation_by cells.now own) verdict) }
-{
-    match verdict {
-        Some(broken) => violation_of(alloc, cells, own, broken),
-        None => Ok(None),
-    }
-}
-
-/// Puts the violation of the cell of that number behind the text, if its verdict says that it breaks a rule, and returns
-/// whether there is a violation in the text then; `later` is whether there was one before.
-fn put_cell(
-    alloc: Global,
-    cells: &LoadedCells,
-    own: usize,
-    verdict: Option<Broken>,
-    text: &mut Vec<u8>,
-    later: bool,
-) -> Result<bool, AllocError>
-    requires { All (λ c. IsName c.name) cells.now }
-    ensures { (rest : List Violation) → IfOk result (λ now. text.new.items ++ violations_text now rest
-        ≡ text.old.items ++ violations_text later (cons_option (option_and_then (violation_by cells.now own) verdict) rest)) }
-{
-    let Some(violation) = violation_told(alloc, cells, own, verdict)? else {
-        return Ok(later);
-    };
-    put_violation(alloc, text, later, &violation)?;
-    Ok(true)
 }
 
 /// Puts the violations of the cells behind the text, in loading order, one at a time.
@@ -154,9 +85,12 @@ fn put_cells(
     ensures { (l : Legalizer) → AreVerdicts l loaded.now.frame 0 (map listed_of loaded.now.cells) verdicts.now → OnOk result (text.new.items ++ violations_text true []
         ≡ text.old.items ++ violations_text false (violations_in l loaded.now.frame 0 (map listed_of loaded.now.cells))) }
 {
+    let names = DesignNames {
+        cells: &loaded.cells,
+    };
     let mut later = false;
     for own in 0..verdicts.len() {
-        later = put_cell(alloc, &loaded.cells, own, verdicts[own], text, later)?;
+        later = put_verdict(alloc, &names, own, verdicts[own], text, later)?;
     }
     Ok(())
 }
@@ -194,6 +128,7 @@ fn design_report(alloc: Global, loaded: &Loaded) -> Result<DesignReport, AllocEr
 /// Writes the text and a line feed.
 fn put_line<W: Sink>(writer: &mut W, text: &[u8]) -> Result<(), DeviceFault>
     ensures ok { OnOk result (Appends (W.contents writer.old) (W.contents writer.new) (text.now ++ 10 ∷ [])) }
+    ensures front { OnErr result ((n : ℕ) × Appends (W.contents writer.old) (W.contents writer.new) (take n (text.now ++ 10 ∷ []))) }
     ensures failed { OnErr result (W.has_failed writer.new ≡ true) }
     ensures writer_held { W.holds writer.new ≡ W.holds writer.old }
 {
@@ -212,8 +147,8 @@ pub(crate) fn report_design<'f, W: Sink>(
 ) -> Result<bool, Fault<'f>>
     ensures text { (l : Legalizer) → OnOk result (Appends (W.contents writer.old) (W.contents writer.new) (report_line l loaded.now)) }
     ensures legal { IfOk result (λ legal. IsTrue legal ↔ IsLegalDesign loaded.now) }
-    ensures err { IfErr result IsReportFault }
-    ensures blames { IfErr result (λ fault. Blames fault (writer.new ≡ writer.old) ⊥ (W.has_failed writer.new ≡ true)) }
+    ensures err { IfErr result (IsUnreported loaded.now (W.contents writer.old) (W.contents writer.new)) }
+    ensures blames { IfErr result (λ fault. BlamesWriter fault (writer.new ≡ writer.old) (W.has_failed writer.old) (W.has_failed writer.new)) }
     ensures writer_held { W.holds writer.new ≡ W.holds writer.old }
 {
     let Ok(report) = design_report(alloc, loaded) else {

@@ -1,31 +1,14 @@
 //! Where connections come from.
 
-ghost use Rattle.std.specs.Prelude.{◌≡◌, ◌++◌, ◌∷◌, [], List, Option, None, IfErr, OnOk, codes, true};
-ghost use Rattle.std.specs.Io.KnownBytes.{Appends};
-ghost use Rattle.lf_rules.specs.Legalizer.{Legalizer};
-ghost use Rattle.lf_server.specs.Connections.{Connects, Stays};
+ghost use Rattle.std.specs.Prelude.{◌≡◌, ◌||◌, false, is_err};
 ghost use Rattle.lf_app.specs.Services.{IsLocal, Offers};
 
 use crate::lines::{MOST_LINES, limits_of};
-use lf_devices::{Sink, send};
-use lf_floor::Floor;
-use lf_legalize::IndexSeeker;
-use lf_server::{ServeLimits, serve_tcp};
+use lf_devices::DeviceFault;
+use lf_server::{Acceptor, Connection, Offer, accept_from};
 use std::io;
 use std::io::ErrorKind;
 use std::net::{Ipv4Addr, Net, SocketAddr};
-
-/// A service: where it listens, how many connections it serves, and within which limits.
-#[derive(Clone, Copy, Debug, PartialEq, Eq)]
-pub struct Offer {
-    /// The address that is listened on.
-    pub ip: Ipv4Addr,
-    pub port: u16,
-    /// How many connections are served, one after the other.
-    pub connections: u32,
-    /// The limits on each connection.
-    pub limits: ServeLimits,
-}
 
 /// Why a port cannot be listened on, where the system says it.
 #[derive(Clone, Copy, Debug, PartialEq, Eq)]
@@ -38,37 +21,13 @@ pub enum Unbound {
     Other,
 }
 
-/// Why a service ended before its last connection.
-#[derive(Clone, Copy, Debug, PartialEq, Eq)]
-pub enum Unserved {
-    /// The port could not be listened on.
-    Bind(Unbound),
-    /// The line that says that it is listened on could not be written.
-    Output,
-    /// A connection could not be accepted.
-    Accept,
-}
-
-/// Where services are offered.
-pub trait Services {
-    ghost use Rattle.lf_app.specs.declared.services.Offer.{Offer};
-
-    // The services that were offered, the last one first, if they are known.
-    ghost offers: { Self → Option (List Offer) } = { λ _. None };
-
-    /// Listens on the port, writes the line `listening`, and serves the connections to the floor, each to its end before the next.
-    fn offer<W: Sink>(
-        &mut self,
-        offer: &Offer,
-        floor: &mut Floor<IndexSeeker>,
-        writer: &mut W,
-    ) -> Result<(), Unserved>
-        ensures offered { Offers (offers self.old) (offers self.new) offer.now }
-        ensures told { OnOk result (Appends (W.contents writer.old) (W.contents writer.new) (codes "listening" ++ 10 ∷ [])) }
-        ensures served { (l : Legalizer) → OnOk result (Connects l offer.now.limits.lines offer.now.connections floor.old floor.new) }
-        ensures stays { Stays floor.old floor.new }
-        ensures output { IfErr result (λ unserved. unserved ≡ Unserved.Output → W.has_failed writer.new ≡ true) }
-        ensures held { W.holds writer.new ≡ W.holds writer.old };
+/// Where services are offered: ports are listened on, and connections accepted there.
+pub trait Services: Acceptor {
+    /// Listens on the port of the service, of which connections are accepted from then on; `Err` if it cannot be listened on.
+    fn listen(&mut self, offer: &Offer) -> Result<(), Unbound>
+        ensures offered { Offers (Self.offers self.old) (Self.offers self.new) offer.now }
+        ensures unaccepted { Self.accepted self.new ≡ Self.accepted self.old }
+        ensures failed { Self.has_failed self.new ≡ (is_err result || Self.has_failed self.old) };
 }
 
 /// The service of this machine's own port, to this many connections.
@@ -83,16 +42,24 @@ pub(crate) fn local_offer(port: u16, connections: u32) -> Offer
     }
 }
 
-/// The network of a runtime. Contracts know nothing of who connects.
-#[derive(Clone, Copy)]
-pub struct NetServices<'a, T> {
+/// The network of a runtime, and the port of it that is listened on. Contracts know nothing of who connects.
+#[derive(Drop)]
+pub struct NetServices<'a, T: Net> {
     net: &'a T,
+    listener: Option<T::Listener>,
+    failed: bool,
 }
 
-impl<'a, T> NetServices<'a, T> {
-    /// Services over this network.
-    pub fn new(net: &'a T) -> Self {
-        NetServices { net }
+impl<'a, T: Net> NetServices<'a, T> {
+    /// Services over this network; no port is listened on yet.
+    pub fn new(net: &'a T) -> Self
+        ensures fresh { ⟦<NetServices<'a, T> as Acceptor>⟧.has_failed result ≡ false }
+    {
+        NetServices {
+            net,
+            listener: None,
+            failed: false,
+        }
     }
 }
 
@@ -105,24 +72,48 @@ fn unbound_of(error: &io::Error) -> Unbound {
     }
 }
 
-impl<'a, T: Net + AllocGlobal> Services for NetServices<'a, T> {
-    fn offer<W: Sink>(
-        &mut self,
-        offer: &Offer,
-        floor: &mut Floor<IndexSeeker>,
-        writer: &mut W,
-    ) -> Result<(), Unserved> {
-        let listener = match self.net.bind(SocketAddr::from((offer.ip, offer.port))) {
-            Ok(listener) => listener,
-            Err(error) => return Err(Unserved::Bind(unbound_of(&error))),
-        };
-        if send(writer, b"listening\n").is_err() {
-            return Err(Unserved::Output);
+/// The next connection of the listener; `Err` if there is no listener, or nothing can be accepted there.
+fn accepted<T: Net>(
+    listener: &Option<T::Listener>,
+) -> Result<Connection<T::Stream, T::Stream>, DeviceFault> {
+    let Some(listener) = listener else {
+        return Err(DeviceFault);
+    };
+    match accept_from::<T>(listener) {
+        Ok(connection) => Ok(connection),
+        Err(_) => Err(DeviceFault),
+    }
+}
+
+impl<'a, T: Net> Acceptor for NetServices<'a, T> {
+    type Reader = T::Stream;
+
+    type Writer = T::Stream;
+
+    ghost has_failed = { λ s. s.failed };
+
+    fn accept(&mut self) -> Result<Connection<T::Stream, T::Stream>, DeviceFault> {
+        match accepted::<T>(&self.listener) {
+            Ok(connection) => Ok(connection),
+            Err(fault) => {
+                self.failed = true;
+                Err(fault)
+            }
         }
-        let served = serve_tcp(self.net, floor, &listener, offer.connections, offer.limits);
-        if served.accept_fault {
-            return Err(Unserved::Accept);
+    }
+}
+
+impl<'a, T: Net> Services for NetServices<'a, T> {
+    fn listen(&mut self, offer: &Offer) -> Result<(), Unbound> {
+        match self.net.bind(SocketAddr::from((offer.ip, offer.port))) {
+            Ok(listener) => {
+                self.listener = Some(listener);
+                Ok(())
+            }
+            Err(error) => {
+                self.failed = true;
+                Err(unbound_of(&error))
+            }
         }
-        Ok(())
     }
 }

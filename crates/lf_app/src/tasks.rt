@@ -1,25 +1,26 @@
 //! What the program does for a task.
 
-ghost use Rattle.std.specs.Prelude.{◌≡◌, ◌⊎◌, Bool, None, false, true, ⊤, IfErr, IfOk, IsTrue, OnErr, OnOk};
+ghost use Rattle.std.specs.Prelude.{◌≡◌, ◌⊎◌, false, not, ⊤, IfErr, IfOk, IsTrue, OnErr, OnOk};
 ghost use Rattle.lf_command.specs.Command.{ReadsNone, as_job};
 ghost use Rattle.lf_floorplan.specs.declared.loaded.Loaded.{Loaded};
+ghost use Rattle.lf_teams.specs.Designs.{opening};
 ghost use Rattle.lf_teams.specs.States.{FloorState};
 ghost use Rattle.lf_app.specs.Designs.{IsTextDesign, IsTextFault};
-ghost use Rattle.lf_app.specs.declared.faults.Exit.{Exit};
-ghost use Rattle.lf_app.specs.Exits.{AsksForNoFile, Ends, IsAnswered, IsJobFault, IsJobStop, IsLinesFault, IsOutcome, reads_of, streams};
-ghost use Rattle.lf_app.specs.Faults.{Blames, IsDone, IsEarly, IsFailure};
-ghost use Rattle.lf_app.specs.Lines.{ReadsFail, most_lines};
+ghost use Rattle.lf_app.specs.Exits.{AsksForNoFile, AsksForNoState, Ends, IsAnswered, IsJobFault, IsJobStop, IsLinesFault, IsOutcome, alone, reads_of};
+ghost use Rattle.lf_app.specs.Faults.{BlamesStreams, IsDone, IsEarly, IsFailure};
+ghost use Rattle.lf_app.specs.Lines.{most_lines};
 ghost use Rattle.lf_app.specs.Services.{IsOfferOf};
-ghost use Rattle.lf_app.specs.Surroundings.{IsReady, Keeps, io_of};
+ghost use Rattle.lf_app.specs.Surroundings.{BlamesOver, IsReady, Keeps, io_of};
 
 use crate::checks::check;
 use crate::descriptions::describe_files;
 use crate::designs::design_of_texts;
 use crate::faults::{Exit, Fault, done, tell};
+use crate::outputs::Outputs;
 use crate::services::{NetServices, Services};
 use crate::surroundings::Surroundings;
 use crate::texts::{FileTexts, Texts};
-use crate::work::{Lines, answer_over, work};
+use crate::work::{Inputs, Lines, answer_over, work};
 use lf_command::Task;
 use lf_def::W_DEF;
 use lf_devices::{FromRead, Sink, Source, ToWrite};
@@ -44,14 +45,14 @@ fn demo<'a, R: Source, W: Sink>(
 ) -> Result<u8, Fault<'a>>
     requires ready { IsReady R.has_failed R.reads W.has_failed reader.old writer.old }
     ensures ok { IfOk result (λ status. (loaded : Loaded) × IsTextDesign W_DEF.now W_LEF.now loaded × ((floor : FloorState)
-        × IsAnswered most_lines loaded floor (R.remaining reader.old) (R.remaining reader.new) (W.contents writer.old) (W.contents writer.new))
+        × IsAnswered most_lines (opening loaded) floor (R.remaining reader.old) (R.remaining reader.new) (W.contents writer.old) (W.contents writer.new))
         × (status ≡ 0)) }
     ensures err { IfErr result (λ fault.
         IsJobStop (IsTextFault W_DEF.now W_LEF.now) (IsTextDesign W_DEF.now W_LEF.now)
-        (λ loaded fault io. IsLinesFault most_lines loaded fault io.input io.left io.before io.after) fault
-        (streams (R.remaining reader.old) (R.remaining reader.new) (W.contents writer.old) (W.contents writer.new) None None)
-        × Blames fault (writer.new ≡ writer.old) (ReadsFail most_lines (R.has_failed reader.new) (R.reads reader.old) (R.reads reader.new))
-        (W.has_failed writer.new ≡ true)) }
+        (λ loaded fault io. IsLinesFault most_lines (opening loaded) fault io.input io.left io.before io.after) fault
+        (alone (R.remaining reader.old) (R.remaining reader.new) (W.contents writer.old) (W.contents writer.new))
+        × BlamesStreams most_lines fault (writer.new ≡ writer.old) (R.has_failed reader.new) (R.reads reader.old) (R.reads reader.new)
+        (W.has_failed writer.new)) }
     ensures reader_held { R.holds reader.new ≡ R.holds reader.old }
     ensures writer_held { W.holds writer.new ≡ W.holds writer.old }
 {
@@ -66,14 +67,12 @@ fn outcome<'a, T: Texts, E: Exports, V: Services, R: Source, W: Sink, F>(
     task: &'a Task<'_>,
 ) -> Result<u8, Fault<'a>>
     requires ready { IsReady R.has_failed R.reads W.has_failed around.old.reader around.old.writer }
-    ensures ok { IfOk result (IsOutcome (T.gives around.old.texts) (as_job task.now) (io_of R.remaining W.contents E.puts around.old around.new)) }
+    ensures ok { IfOk result (IsOutcome (T.gives around.old.texts) (as_job task.now) (io_of R.remaining W.contents E.puts V.accepted around.old around.new)) }
     ensures err { IfErr result (λ fault. IsJobFault (T.gives around.old.texts) (as_job task.now) fault
-        (io_of R.remaining W.contents E.puts around.old around.new)
-        × Blames fault (around.new.writer ≡ around.old.writer)
-        (ReadsFail (reads_of (as_job task.now)) (R.has_failed around.new.reader) (R.reads around.old.reader) (R.reads around.new.reader))
-        (W.has_failed around.new.writer ≡ true)) }
+        (io_of R.remaining W.contents E.puts V.accepted around.old around.new)
+        × BlamesOver E.has_failed V.has_failed R.has_failed R.reads W.has_failed (reads_of (as_job task.now)) around.old around.new fault) }
     ensures unread { ReadsNone task.now → around.new.reader ≡ around.old.reader }
-    ensures unput { OnErr result (E.puts around.new.exports ≡ E.puts around.old.exports) }
+    ensures unput { AsksForNoState (as_job task.now) → OnErr result (E.puts around.new.exports ≡ E.puts around.old.exports) }
     ensures unasked { AsksForNoFile (as_job task.now) → around.new.exports ≡ around.old.exports }
     ensures offered { OnOk result (IsOfferOf (as_job task.now) (V.offers around.old.services) (V.offers around.new.services)) }
     ensures unoffered { (V.offers around.new.services ≡ V.offers around.old.services)
@@ -85,24 +84,46 @@ fn outcome<'a, T: Texts, E: Exports, V: Services, R: Source, W: Sink, F>(
         Task::Replay {
             def,
             lefs,
+            state,
             lines,
+            save,
             export,
         } => {
+            let inputs = Inputs {
+                def: *def,
+                lefs: lefs.as_slice(),
+                state: *state,
+            };
             let lines = Lines::Stream { most: *lines };
-            work(alloc, around, def, lefs.as_slice(), lines, *export)
+            let outputs = Outputs {
+                export: *export,
+                save: *save,
+            };
+            work(alloc, around, inputs, lines, outputs)
         }
         Task::Serve {
             def,
             lefs,
+            state,
             port,
             connections,
+            save,
             export,
         } => {
+            let inputs = Inputs {
+                def: *def,
+                lefs: lefs.as_slice(),
+                state: *state,
+            };
             let lines = Lines::Port {
                 port: *port,
                 connections: *connections,
             };
-            work(alloc, around, def, lefs.as_slice(), lines, *export)
+            let outputs = Outputs {
+                export: *export,
+                save: *save,
+            };
+            work(alloc, around, inputs, lines, outputs)
         }
         Task::Check { def, lefs } => check(
             alloc,
@@ -122,15 +143,16 @@ fn outcome<'a, T: Texts, E: Exports, V: Services, R: Source, W: Sink, F>(
 }
 
 /// Does the task and returns how it ended: with status 0 if it is done, 1 if a text or the design was refused, or an
-/// allocation failed before the first line, for the report or for the exported text, 3 if a file, the reader, the writer, the
-/// port or a connection failed, too many lines came, or an allocation for the lines failed; 4 if a check or a description is
-/// done and the design is not fully legal. A fault is told once, here: in a line of its own, and then in a second line that
-/// names the file and its line, the path or the port that is at fault, and why, where that is known.
+/// allocation failed before the first line, for the report, for the exported text or for the state, 3 if a file, the reader, the
+/// writer, the port or a connection failed, too many lines came, or an allocation for the lines failed; 4 if a check or a
+/// description is done and the design is not fully legal. A fault is told once, here: in a line of its own, and then in a second
+/// line that names the file and its line, the path or the port that is at fault, and why, where that is known.
 ///
-/// The LEF files are read in the order of the words, then the DEF file, then the design is loaded, then the exported text's
-/// path is tried, then the port is listened on, up to the first fault; only then is the first line read, or the report made.
-/// A check and a description read no line. After all that has ended without a fault the exported text is written, to
-/// `exports`: no other text ever is. What is served is the port of this machine that is asked for, and nothing else.
+/// The LEF files are read in the order of the words, then the DEF file, then the design is loaded, then the saved state is read and
+/// its floor restored, then the paths of the exported text and of the state at the end are tried, then the port is listened on, up
+/// to the first fault; only then is the first line read, or the report made. A check and a description read no line. After all that
+/// has ended without a fault the exported text is written, and then the state, to `exports`: no other text ever is. What is served
+/// is the port of this machine that is asked for, and nothing else.
 pub fn perform_over<T: Texts, E: Exports, V: Services, R: Source, W: Sink, F: Sink>(
     alloc: Global,
     around: &mut Surroundings<T, E, V, R, W, F>,
@@ -141,18 +163,16 @@ pub fn perform_over<T: Texts, E: Exports, V: Services, R: Source, W: Sink, F: Si
     requires writable { W.has_failed around.old.writer ≡ false }
     ensures status { IsDone result.status ⊎ IsFailure result.status }
     ensures outcome { IsDone result.status → IsOutcome (T.gives around.old.texts) (as_job task.now)
-        (io_of R.remaining W.contents E.puts around.old around.new) result.status }
+        (io_of R.remaining W.contents E.puts V.accepted around.old around.new) result.status }
     ensures done { IsDone result.status → around.new.faults ≡ around.old.faults }
     ensures told { IsDone result.status → IsTrue result.is_told }
     ensures fault { IsFailure result.status → Ends (λ fault. IsJobFault (T.gives around.old.texts) (as_job task.now) fault
-        (io_of R.remaining W.contents E.puts around.old around.new)
-        × Blames fault (around.new.writer ≡ around.old.writer)
-        (ReadsFail (reads_of (as_job task.now)) (R.has_failed around.new.reader) (R.reads around.old.reader) (R.reads around.new.reader))
-        (W.has_failed around.new.writer ≡ true))
+        (io_of R.remaining W.contents E.puts V.accepted around.old around.new)
+        × BlamesOver E.has_failed V.has_failed R.has_failed R.reads W.has_failed (reads_of (as_job task.now)) around.old around.new fault)
         (F.contents around.old.faults) (F.contents around.new.faults) (F.has_failed around.new.faults) result }
     ensures checked { result.status ≡ 4 → ReadsNone task.now }
     ensures unread { ReadsNone task.now → around.new.reader ≡ around.old.reader }
-    ensures unput { IsFailure result.status → E.puts around.new.exports ≡ E.puts around.old.exports }
+    ensures unput { AsksForNoState (as_job task.now) → IsFailure result.status → E.puts around.new.exports ≡ E.puts around.old.exports }
     ensures unasked { AsksForNoFile (as_job task.now) → around.new.exports ≡ around.old.exports }
     ensures offered { IsDone result.status → IsOfferOf (as_job task.now) (V.offers around.old.services) (V.offers around.new.services) }
     ensures unoffered { (V.offers around.new.services ≡ V.offers around.old.services)
@@ -168,37 +188,90 @@ pub fn perform_over<T: Texts, E: Exports, V: Services, R: Source, W: Sink, F: Si
     }
 }
 
-/// Does the task over the files and the network of a runtime, as `perform_over` does, and returns the exit status alone.
+/// How a task ended, and the devices that it was given.
+#[derive(Drop)]
+struct Performed<R, W, F> {
+    exit: Exit,
+    reader: R,
+    writer: W,
+    faults: F,
+}
+
+/// Does the task over the files and the network of a runtime and over these devices, which it gives back: what else it works on is
+/// let go here, so that `perform` has one end.
+fn perform_with<T: Files + Net + AllocGlobal, R: Source + Drop, W: Sink + Drop, F: Sink + Drop>(
+    rt: &T,
+    task: &Task<'_>,
+    reader: R,
+    writer: W,
+    faults: F,
+) -> Performed<R, W, F>
+    requires readable { R.has_failed reader ≡ false }
+    requires fresh { R.reads reader ≡ 0 }
+    requires writable { W.has_failed writer ≡ false }
+    ensures status { IsDone result.exit.status ⊎ IsFailure result.exit.status }
+    ensures outcome { IsDone result.exit.status → IsOutcome (λ path text. ⊤) (as_job task.now)
+        (alone (R.remaining reader) (R.remaining result.reader) (W.contents writer) (W.contents result.writer)) result.exit.status }
+    ensures done { IsDone result.exit.status → result.faults ≡ faults }
+    ensures told { IsDone result.exit.status → IsTrue result.exit.is_told }
+    ensures fault { IsFailure result.exit.status → Ends (λ fault. IsJobFault (λ path text. ⊤) (as_job task.now) fault
+        (alone (R.remaining reader) (R.remaining result.reader) (W.contents writer) (W.contents result.writer))
+        × (IsEarly fault → result.writer ≡ writer))
+        (F.contents faults) (F.contents result.faults) (not result.exit.is_told) result.exit }
+    ensures checked { result.exit.status ≡ 4 → ReadsNone task.now }
+    ensures unread { ReadsNone task.now → result.reader ≡ reader }
+    ensures reader_held { R.holds result.reader ≡ R.holds reader }
+    ensures writer_held { W.holds result.writer ≡ W.holds writer }
+    ensures faults_held { F.holds result.faults ≡ F.holds faults }
+{
+    let mut around = Surroundings {
+        texts: FileTexts::new(rt),
+        exports: FileExports::new(rt),
+        services: NetServices::new(rt),
+        reader,
+        writer,
+        faults,
+    };
+    let exit = perform_over(rt.alloc(), &mut around, task);
+    let Surroundings {
+        services,
+        reader,
+        writer,
+        faults,
+        ..
+    } = around;
+    drop(services);
+    Performed {
+        exit,
+        reader,
+        writer,
+        faults,
+    }
+}
+
+/// Does the task over the files and the network of a runtime, as `perform_over` does.
 pub fn perform<T: Files + Net + AllocGlobal, R: Read, W: Write, F: Write>(
     rt: &T,
     task: &Task<'_>,
     reader: &mut R,
     writer: &mut W,
     faults: &mut F,
-) -> u8
-    ensures status { IsDone result ⊎ IsFailure result }
-    ensures outcome { IsDone result → IsOutcome (λ path text. ⊤) (as_job task.now)
-        (streams (R.remaining reader.old) (R.remaining reader.new) (W.contents writer.old) (W.contents writer.new) None None) result }
-    ensures done { IsDone result → faults.new ≡ faults.old }
-    ensures fault { IsFailure result → (exit : Exit) × (exit.status ≡ result) × ((failed : Bool) × Ends (λ fault.
-        IsJobFault (λ path text. ⊤) (as_job task.now) fault
-        (streams (R.remaining reader.old) (R.remaining reader.new) (W.contents writer.old) (W.contents writer.new) None None)
+) -> Exit
+    ensures status { IsDone result.status ⊎ IsFailure result.status }
+    ensures outcome { IsDone result.status → IsOutcome (λ path text. ⊤) (as_job task.now)
+        (alone (R.remaining reader.old) (R.remaining reader.new) (W.contents writer.old) (W.contents writer.new)) result.status }
+    ensures done { IsDone result.status → faults.new ≡ faults.old }
+    ensures told { IsDone result.status → IsTrue result.is_told }
+    ensures fault { IsFailure result.status → Ends (λ fault. IsJobFault (λ path text. ⊤) (as_job task.now) fault
+        (alone (R.remaining reader.old) (R.remaining reader.new) (W.contents writer.old) (W.contents writer.new))
         × (IsEarly fault → writer.new ≡ writer.old))
-        (F.contents faults.old) (F.contents faults.new) failed exit) }
-    ensures checked { result ≡ 4 → ReadsNone task.now }
+        (F.contents faults.old) (F.contents faults.new) (not result.is_told) result }
+    ensures checked { result.status ≡ 4 → ReadsNone task.now }
     ensures unread { ReadsNone task.now → reader.new ≡ reader.old }
 {
     let source = FromRead::new(reader);
     let sink = ToWrite::new(writer);
     let told = ToWrite::new(faults);
-    let mut around = Surroundings {
-        texts: FileTexts::new(rt),
-        exports: FileExports::new(rt),
-        services: NetServices::new(rt),
-        reader: source,
-        writer: sink,
-        faults: told,
-    };
-    let exit = perform_over(rt.alloc(), &mut around, task);
-    exit.status
+    let performed = perform_with(rt, task, source, sink, told);
+    performed.exit
 }

@@ -9,15 +9,6 @@ use Rattle.lf_claims.proofs.KeyLemmas.{no_claim_no_pattern}
 use Rattle.lf_claims.proofs.Tellings.{claims_parts, claims_old, claims_new, tells_same, tells_merged}
 use Rattle.lf_units.proofs.Any.{none_of_nothing}
 
-pub has_none : (starred : StarredPatterns) → HasAtEnd starred.fronts [] → HasAtEnd starred.backs [] → HasStarred starred []
-has_none starred front back = record {
-  fronts = [];
-  backs = [];
-  by_front = front;
-  by_back = back;
-  together = λ name fence. (λ c. inl c, λ u. elim u [ inl c ↦ c | inr c ↦ c ]);
-}
-
 claims_none : (bounds : List Bound) (name : List ℕ) (fence : ℕ) → bounds ≡ [] → ClaimsBy bounds name fence → ⊥
 claims_none bounds name fence none c = none_of_nothing (λ b. (b.fence ≡ fence) × Matches b.pattern name) (rw none at c)
 

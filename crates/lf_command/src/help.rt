@@ -1,42 +1,22 @@
 //! Words that ask what the program can be asked.
 
 ghost use Rattle.std.specs.Prelude.{◌≡◌, ◌∷◌, [], map};
-ghost use Rattle.lf_command.specs.Help.{help_asked, topic_named};
+ghost use Rattle.lf_command.specs.Help.{help_asked};
 
-/// What the words ask to be told.
+use crate::subcommand::{Subcommand, subcommand_named};
+
+/// What the words ask to be shown.
 #[derive(Clone, Copy, Debug, PartialEq, Eq)]
 pub enum Help {
     /// What the program can be asked.
     Program,
     /// Its version.
     Version,
-    /// What `demo` does.
-    Demo,
-    /// What `check` does.
-    Check,
-    /// What `describe` does.
-    Describe,
-    /// What `replay` does.
-    Replay,
-    /// What `serve` does.
-    Serve,
+    /// What a subcommand does.
+    Of(Subcommand),
 }
 
-/// What the subcommand of that word does.
-fn topic_named(word: &str) -> Option<Help>
-    ensures { result ≡ topic_named word.now }
-{
-    match word {
-        "demo" => Some(Help::Demo),
-        "check" => Some(Help::Check),
-        "describe" => Some(Help::Describe),
-        "replay" => Some(Help::Replay),
-        "serve" => Some(Help::Serve),
-        _ => None,
-    }
-}
-
-/// What the one word behind the program's name asks to be told.
+/// What the one word behind the program's name asks to be shown.
 fn program_topic(word: &str) -> Option<Help>
     ensures { result ≡ help_asked ([] ∷ word.now ∷ []) }
 {
@@ -47,7 +27,7 @@ fn program_topic(word: &str) -> Option<Help>
     }
 }
 
-/// What the words ask to be told, of which the first is the program's name: it is followed by `--help` or `--version` alone,
+/// What the words ask to be shown, of which the first is the program's name: it is followed by `--help` or `--version` alone,
 /// or by a subcommand and `--help`. None for all other words.
 pub fn help_of(words: &[&str]) -> Option<Help>
     ensures { result ≡ help_asked (map (λ word. word.now) words.now) }
@@ -56,7 +36,7 @@ pub fn help_of(words: &[&str]) -> Option<Help>
         return program_topic(words[1]);
     }
     if words.len() == 3 && words[2] == "--help" {
-        return topic_named(words[1]);
+        return Some(Help::Of(subcommand_named(words[1])?));
     }
     None
 }

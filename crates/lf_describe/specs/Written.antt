@@ -1,6 +1,10 @@
 -- A text that is written piece by piece.
-use Rattle.std.specs.Prelude.{◌≡◌, ℕ, List, ◌++◌, Option}
+use Rattle.std.specs.Prelude.{◌≡◌, ℕ, Bool, List, ◌++◌, Option, Result, Ok, Err, false, true}
 use Rattle.std.specs.Io.KnownBytes.{Appends}
+use Rattle.lf_describe.specs.declared.description.Undescribed.{Undescribed}
+use Rattle.lf_describe.specs.declared.description.Undescribed.TheVariants as undescribed
+use Rattle.lf_describe.specs.declared.output.LineFault.{LineFault}
+use Rattle.lf_describe.specs.declared.output.LineFault.TheVariants as line
 
 -- of the text a front is appended, and this rest waits
 abbrev pub Leaves : Option (List ℕ) → Option (List ℕ) → List ℕ → List ℕ → Type 0
@@ -9,3 +13,22 @@ Leaves old new text rest = (front : List ℕ) × (text ≡ front ++ rest) × App
 -- a front of the text is appended
 abbrev pub AppendsFront : Option (List ℕ) → Option (List ℕ) → List ℕ → Type 0
 AppendsFront old new text = (rest : List ℕ) × Leaves old new text rest
+
+-- the fault is the writer's
+abbrev pub is_line_writers : LineFault → Bool
+is_line_writers line.OutOfMemory = false
+is_line_writers line.Output = true
+
+abbrev pub is_writers : Undescribed → Bool
+is_writers undescribed.OutOfMemory = false
+is_writers undescribed.LineOutOfMemory = false
+is_writers undescribed.Output = true
+
+-- it is not done, since the writer failed
+abbrev pub is_line_output : {T : Type 0} → Result T LineFault → Bool
+is_line_output (Ok value) = false
+is_line_output (Err fault) = is_line_writers fault
+
+abbrev pub is_output : {T : Type 0} → Result T Undescribed → Bool
+is_output (Ok value) = false
+is_output (Err fault) = is_writers fault

@@ -1,6 +1,6 @@
 //! Writes the description of a loaded design.
 
-ghost use Rattle.std.specs.Prelude.{◌≡◌, ◌≤◌, ◌↔◌, ℕ, All, IfErr, IfOk, IsTrue, OnErr, OnOk, length, map, take, true};
+ghost use Rattle.std.specs.Prelude.{◌≡◌, ◌≤◌, ◌↔◌, ◌||◌, ℕ, All, IfErr, IfOk, IsTrue, OnErr, OnOk, length, map, take};
 ghost use Rattle.std.specs.Io.KnownBytes.{Appends};
 ghost use Rattle.lf_def.specs.Contents.{contents};
 ghost use Rattle.lf_rules.specs.declared.report.Report.{Report};
@@ -10,7 +10,7 @@ ghost use Rattle.lf_rules.specs.Reports.{IsClean};
 ghost use Rattle.lf_reports.specs.Reports.{IsListed, named, report_of};
 ghost use Rattle.lf_describe.specs.Description.{description, fixed_names as names_of, lines_text, places_of};
 ghost use Rattle.lf_describe.specs.Parts.{Counts, parts_text};
-ghost use Rattle.lf_describe.specs.Written.{AppendsFront};
+ghost use Rattle.lf_describe.specs.Written.{AppendsFront, is_line_writers, is_output, is_writers};
 
 use crate::cells::{is_clean, listed, verdicts_of};
 use crate::output::LineFault;
@@ -52,7 +52,7 @@ fn fixed_names<'a>(
 /// What is told of a fault of the lines.
 fn late(fault: LineFault) -> Undescribed
     ensures late { result ≡ Undescribed.OutOfMemory → ⊥ }
-    ensures output { result ≡ Undescribed.Output → fault ≡ LineFault.Output }
+    ensures output { is_writers result ≡ is_line_writers fault }
 {
     match fault {
         LineFault::OutOfMemory => Undescribed::LineOutOfMemory,
@@ -70,7 +70,7 @@ fn describe_told<W: Sink>(
     ensures clean { (report : Report) → Counts told.now report → IfOk result (λ clean. IsTrue clean ↔ IsClean report) }
     ensures cut { OnErr result (AppendsFront (W.contents writer.old) (W.contents writer.new) (parts_text told.now)) }
     ensures late { IfErr result (λ fault. fault ≡ Undescribed.OutOfMemory → ⊥) }
-    ensures output { IfErr result (λ fault. fault ≡ Undescribed.Output → W.has_failed writer.new ≡ true) }
+    ensures failed { W.has_failed writer.new ≡ (is_output result || W.has_failed writer.old) }
     ensures held { W.holds writer.new ≡ W.holds writer.old }
 {
     match put_parts(alloc, told, writer) {
@@ -94,7 +94,7 @@ fn describe_cells<W: Sink>(
     ensures clean { (l : Legalizer) → IfOk result (λ clean. IsTrue clean ↔ IsClean (report_of l frame.now 0 (map named cells.now))) }
     ensures cut { (l : Legalizer) → OnErr result (AppendsFront (W.contents writer.old) (W.contents writer.new) (lines_text l frame.now (map (λ n. n.now) names.now) (map named cells.now))) }
     ensures unwritten { IfErr result (λ fault. fault ≡ Undescribed.OutOfMemory → writer.new ≡ writer.old) }
-    ensures output { IfErr result (λ fault. fault ≡ Undescribed.Output → W.has_failed writer.new ≡ true) }
+    ensures failed { W.has_failed writer.new ≡ (is_output result || W.has_failed writer.old) }
     ensures held { W.holds writer.new ≡ W.holds writer.old }
 {
     let Ok(verdicts) = verdicts_of(alloc, frame, cells) else {
@@ -129,7 +129,7 @@ pub fn describe<W: Sink>(
     ensures legal { IfOk result (λ legal. IsTrue legal ↔ IsFullyLegal loaded.now.frame (standing_at loaded.now.cells (places_of loaded.now.cells))) }
     ensures cut { (l : Legalizer) → OnErr result ((n : ℕ) × Appends (W.contents writer.old) (W.contents writer.new) (take n (description l loaded.now (contents document.now)))) }
     ensures unwritten { IfErr result (λ fault. fault ≡ Undescribed.OutOfMemory → writer.new ≡ writer.old) }
-    ensures output { IfErr result (λ fault. fault ≡ Undescribed.Output → W.has_failed writer.new ≡ true) }
+    ensures failed { W.has_failed writer.new ≡ (is_output result || W.has_failed writer.old) }
     ensures held { W.holds writer.new ≡ W.holds writer.old }
 {
     cell_is_sized();

@@ -1,11 +1,11 @@
 //! Lines on their way to a writer.
 
-ghost use Rattle.std.specs.Prelude.{◌≡◌, ◌++◌, [], false, IfErr, OnErr, OnOk, true};
+ghost use Rattle.std.specs.Prelude.{◌≡◌, ◌++◌, ◌||◌, [], false, OnErr, OnOk};
 ghost use Rattle.std.specs.Io.KnownBytes.{Appends};
 ghost use Rattle.serde_json.specs.View.{view};
 ghost use Rattle.serde_json.specs.Written.{has_float};
 ghost use Rattle.lf_describe.specs.Description.{line_text};
-ghost use Rattle.lf_describe.specs.Written.{AppendsFront, Leaves};
+ghost use Rattle.lf_describe.specs.Written.{AppendsFront, Leaves, is_line_output};
 
 use lf_devices::{Sink, send};
 use serde_json::Value;
@@ -27,7 +27,7 @@ pub(crate) enum LineFault {
 fn put_bytes<W: Sink>(writer: &mut W, bytes: &[u8]) -> Result<(), LineFault>
     ensures ok { OnOk result (Appends (W.contents writer.old) (W.contents writer.new) bytes.now) }
     ensures err { OnErr result (AppendsFront (W.contents writer.old) (W.contents writer.new) bytes.now) }
-    ensures output { IfErr result (λ fault. fault ≡ LineFault.Output → W.has_failed writer.new ≡ true) }
+    ensures failed { W.has_failed writer.new ≡ (is_line_output result || W.has_failed writer.old) }
     ensures held { W.holds writer.new ≡ W.holds writer.old }
 {
     match send(writer, bytes) {
@@ -41,7 +41,7 @@ fn put_waiting<W: Sink>(writer: &mut W, waiting: &mut Vec<u8>) -> Result<(), Lin
     ensures ok { OnOk result (Leaves (W.contents writer.old) (W.contents writer.new) waiting.old.items waiting.new.items) }
     ensures none { OnOk result (waiting.new.items ≡ []) }
     ensures err { OnErr result (AppendsFront (W.contents writer.old) (W.contents writer.new) waiting.old.items) }
-    ensures output { IfErr result (λ fault. fault ≡ LineFault.Output → W.has_failed writer.new ≡ true) }
+    ensures failed { W.has_failed writer.new ≡ (is_line_output result || W.has_failed writer.old) }
     ensures held { W.holds writer.new ≡ W.holds writer.old }
 {
     put_bytes(writer, waiting.as_slice())?;
@@ -70,7 +70,7 @@ pub(crate) fn put_line<W: Sink>(
     requires { has_float (view value.now) ≡ false }
     ensures ok { OnOk result (Leaves (W.contents writer.old) (W.contents writer.new) (waiting.old.items ++ line_text (view value.now)) waiting.new.items) }
     ensures err { OnErr result (AppendsFront (W.contents writer.old) (W.contents writer.new) (waiting.old.items ++ line_text (view value.now))) }
-    ensures output { IfErr result (λ fault. fault ≡ LineFault.Output → W.has_failed writer.new ≡ true) }
+    ensures failed { W.has_failed writer.new ≡ (is_line_output result || W.has_failed writer.old) }
     ensures held { W.holds writer.new ≡ W.holds writer.old }
 {
     let Ok(()) = push_line(alloc, waiting, value) else {
@@ -86,7 +86,7 @@ pub(crate) fn put_line<W: Sink>(
 pub(crate) fn put_last<W: Sink>(writer: &mut W, waiting: &Vec<u8>) -> Result<(), LineFault>
     ensures ok { OnOk result (Appends (W.contents writer.old) (W.contents writer.new) waiting.now.items) }
     ensures err { OnErr result (AppendsFront (W.contents writer.old) (W.contents writer.new) waiting.now.items) }
-    ensures output { IfErr result (λ fault. fault ≡ LineFault.Output → W.has_failed writer.new ≡ true) }
+    ensures failed { W.has_failed writer.new ≡ (is_line_output result || W.has_failed writer.old) }
     ensures held { W.holds writer.new ≡ W.holds writer.old }
 {
     put_bytes(writer, waiting.as_slice())

@@ -1,13 +1,13 @@
 //! The parts of a description: the lines of one kind.
 
-ghost use Rattle.std.specs.Prelude.{◌≡◌, ◌<◌, ◌++◌, IfOk, OnErr, OnOk, Some, count_by, flat_map, is_none, is_some, length, map, option_map, slice_get, IfErr, true};
+ghost use Rattle.std.specs.Prelude.{◌≡◌, ◌<◌, ◌++◌, IfOk, OnErr, OnOk, Some, count_by, flat_map, is_none, is_some, length, map, option_map, slice_get, ◌||◌};
 ghost use Rattle.std.specs.Io.KnownBytes.{Appends};
 ghost use Rattle.serde_json.specs.Data.{Data};
 ghost use Rattle.serde_json.specs.View.{view};
 ghost use Rattle.lf_reports.specs.Reports.{IsListed, named, verdict_at};
 ghost use Rattle.lf_describe.specs.Description.{fence_data, line_text, obstacle_lines, row_data, soft_data};
 ghost use Rattle.lf_describe.specs.Parts.{cells_in, part_lines, part_text, parts_text};
-ghost use Rattle.lf_describe.specs.Written.{AppendsFront, Leaves};
+ghost use Rattle.lf_describe.specs.Written.{AppendsFront, Leaves, is_line_output};
 
 use crate::cells::{Counts, counts_of};
 use crate::output::{LineFault, put_last, put_line};
@@ -180,7 +180,7 @@ fn put_number<W: Sink>(
     requires { number < length (part_lines told.now part) }
     ensures ok { (d : Data) → slice_get (part_lines told.now part) number ≡ Some d → OnOk result (Leaves (W.contents writer.old) (W.contents writer.new) (waiting.old.items ++ line_text d) waiting.new.items) }
     ensures err { (d : Data) → slice_get (part_lines told.now part) number ≡ Some d → OnErr result (AppendsFront (W.contents writer.old) (W.contents writer.new) (waiting.old.items ++ line_text d)) }
-    ensures output { IfErr result (λ fault. fault ≡ LineFault.Output → W.has_failed writer.new ≡ true) }
+    ensures failed { W.has_failed writer.new ≡ (is_line_output result || W.has_failed writer.old) }
     ensures held { W.holds writer.new ≡ W.holds writer.old }
 {
     let Ok(value) = line_in(alloc, told, part, number) else {
@@ -199,7 +199,7 @@ fn put_part<W: Sink>(
 ) -> Result<(), LineFault>
     ensures ok { OnOk result (Leaves (W.contents writer.old) (W.contents writer.new) (waiting.old.items ++ part_text told.now part) waiting.new.items) }
     ensures err { OnErr result (AppendsFront (W.contents writer.old) (W.contents writer.new) (waiting.old.items ++ part_text told.now part)) }
-    ensures output { IfErr result (λ fault. fault ≡ LineFault.Output → W.has_failed writer.new ≡ true) }
+    ensures failed { W.has_failed writer.new ≡ (is_line_output result || W.has_failed writer.old) }
     ensures held { W.holds writer.new ≡ W.holds writer.old }
 {
     for number in 0..count_in(told, part) {
@@ -218,7 +218,7 @@ fn put_each<W: Sink>(
 ) -> Result<(), LineFault>
     ensures ok { OnOk result (Leaves (W.contents writer.old) (W.contents writer.new) (waiting.old.items ++ flat_map (part_text told.now) parts.now) waiting.new.items) }
     ensures err { OnErr result (AppendsFront (W.contents writer.old) (W.contents writer.new) (waiting.old.items ++ flat_map (part_text told.now) parts.now)) }
-    ensures output { IfErr result (λ fault. fault ≡ LineFault.Output → W.has_failed writer.new ≡ true) }
+    ensures failed { W.has_failed writer.new ≡ (is_line_output result || W.has_failed writer.old) }
     ensures held { W.holds writer.new ≡ W.holds writer.old }
 {
     for part in parts {
@@ -237,7 +237,7 @@ fn put_whole<W: Sink>(
 ) -> Result<(), LineFault>
     ensures ok { OnOk result (Appends (W.contents writer.old) (W.contents writer.new) (waiting.old.items ++ flat_map (part_text told.now) parts.now)) }
     ensures err { OnErr result (AppendsFront (W.contents writer.old) (W.contents writer.new) (waiting.old.items ++ flat_map (part_text told.now) parts.now)) }
-    ensures output { IfErr result (λ fault. fault ≡ LineFault.Output → W.has_failed writer.new ≡ true) }
+    ensures failed { W.has_failed writer.new ≡ (is_line_output result || W.has_failed writer.old) }
     ensures held { W.holds writer.new ≡ W.holds writer.old }
 {
     put_each(alloc, told, parts, writer, waiting)?;
@@ -252,7 +252,7 @@ pub(crate) fn put_parts<W: Sink>(
 ) -> Result<(), LineFault>
     ensures ok { OnOk result (Appends (W.contents writer.old) (W.contents writer.new) (parts_text told.now)) }
     ensures err { OnErr result (AppendsFront (W.contents writer.old) (W.contents writer.new) (parts_text told.now)) }
-    ensures output { IfErr result (λ fault. fault ≡ LineFault.Output → W.has_failed writer.new ≡ true) }
+    ensures failed { W.has_failed writer.new ≡ (is_line_output result || W.has_failed writer.old) }
     ensures held { W.holds writer.new ≡ W.holds writer.old }
 {
     let mut waiting = Vec::new(alloc);

@@ -1,11 +1,63 @@
-//! Devices over std's readers and writers.
+//! Devices over std's readers and writers. A call that a signal interrupts is made again.
 
 ghost use Rattle.std.specs.Prelude.{◌≡◌, false, true};
+ghost use Rattle.std.specs.Io.{ReadsAtMost, WritesAtMost};
+ghost use Rattle.std.specs.Io.KnownBytes.{ReadConsumes, WriteAppends, Keeps};
 
 use crate::device::{DeviceFault, Sink, Source};
-use std::io::{Read, Write};
+use std::io;
+use std::io::{ErrorKind, Read, Write};
 
-/// A source over a reader, which it borrows.
+/// How often a call is made at most, if a signal interrupts it each time.
+const TRIES: u32 = 1_000;
+
+/// Whether a signal interrupted the call.
+fn is_interrupted(error: &io::Error) -> bool {
+    error.kind() == ErrorKind::Interrupted
+}
+
+/// A read, made again where a signal interrupts it.
+fn read_through<R: Read>(reader: &mut R, buffer: &mut [u8]) -> io::Result<usize>
+    ensures bound { ReadsAtMost result buffer.new }
+    ensures bytes { ReadConsumes (R.remaining reader.old) (R.remaining reader.new) result buffer.new }
+{
+    for _ in 1..TRIES {
+        match reader.read(buffer) {
+            Err(error) if is_interrupted(&error) => {}
+            ended => return ended,
+        }
+    }
+    reader.read(buffer)
+}
+
+/// A write, made again where a signal interrupts it.
+fn write_through<W: Write>(writer: &mut W, bytes: &[u8]) -> io::Result<usize>
+    ensures bound { WritesAtMost result bytes.now }
+    ensures bytes { WriteAppends (W.contents writer.old) (W.contents writer.new) result bytes.now }
+{
+    for _ in 1..TRIES {
+        match writer.write(bytes) {
+            Err(error) if is_interrupted(&error) => {}
+            ended => return ended,
+        }
+    }
+    writer.write(bytes)
+}
+
+/// A flush, made again where a signal interrupts it.
+fn flush_through<W: Write>(writer: &mut W) -> io::Result<()>
+    ensures { Keeps (W.contents writer.old) (W.contents writer.new) }
+{
+    for _ in 1..TRIES {
+        match writer.flush() {
+            Err(error) if is_interrupted(&error) => {}
+            ended => return ended,
+        }
+    }
+    writer.flush()
+}
+
+/// A source over a reader, which it borrows. A read that a signal interrupts is made again, up to 999 times.
 #[derive(Drop)]
 pub struct FromRead<'a, R> {
     reader: &'a mut R,
@@ -41,7 +93,7 @@ impl<'a, R: Read> Source for FromRead<'a, R> {
 
     fn read(&mut self, buffer: &mut [u8]) -> Result<usize, DeviceFault> {
         self.reads += 1;
-        match self.reader.read(buffer) {
+        match read_through(self.reader, buffer) {
             Ok(count) => Ok(count),
             Err(_) => {
                 self.failed = true;
@@ -51,7 +103,8 @@ impl<'a, R: Read> Source for FromRead<'a, R> {
     }
 }
 
-/// A sink over a writer, which it borrows. A write that takes no byte fails.
+/// A sink over a writer, which it borrows. A write that takes no byte fails; a call that a signal interrupts is made again, up
+/// to 999 times.
 #[derive(Drop)]
 pub struct ToWrite<'a, W> {
     writer: &'a mut W,
@@ -87,7 +140,7 @@ impl<'a, W: Write> Sink for ToWrite<'a, W> {
 
     fn write(&mut self, bytes: &[u8]) -> Result<usize, DeviceFault> {
         self.flushed = false;
-        match self.writer.write(bytes) {
+        match write_through(self.writer, bytes) {
             Ok(count) if count > 0 => Ok(count),
             _ => {
                 self.failed = true;
@@ -97,7 +150,7 @@ impl<'a, W: Write> Sink for ToWrite<'a, W> {
     }
 
     fn flush(&mut self) -> Result<(), DeviceFault> {
-        match self.writer.flush() {
+        match flush_through(self.writer) {
             Ok(()) => {
                 self.flushed = true;
                 Ok(())

@@ -1,5 +1,7 @@
 -- Texts that were put into files.
-use Rattle.std.specs.Prelude.{◌≡◌, ℕ, List, ◌∷◌, Option, Some, None}
+use Rattle.std.specs.Prelude.{◌≡◌, ℕ, Bool, List, ◌∷◌, Option, Some, None, Result, Ok, Err, false, true}
+use Rattle.lf_files.specs.declared.exports.Unwritten.{Unwritten}
+use Rattle.lf_files.specs.declared.exports.Unwritten.TheVariants.{File, OutOfMemory}
 
 -- a path, and the text that was put there
 pub record Put : Type 0 where
@@ -10,3 +12,13 @@ pub record Put : Type 0 where
 abbrev pub Puts : Option (List Put) → Option (List Put) → List ℕ → List ℕ → Type 0
 Puts None new path text = Unit {0}
 Puts (Some old) new path text = new ≡ Some (record { path = path; text = text } ∷ old)
+
+-- the file cannot be written
+abbrev pub is_file : Unwritten → Bool
+is_file File = true
+is_file OutOfMemory = false
+
+-- it is not done, since the file cannot be written
+abbrev pub is_of_file : {T : Type 0} → Result T Unwritten → Bool
+is_of_file (Ok value) = false
+is_of_file (Err why) = is_file why

@@ -1,7 +1,8 @@
 //! Where exported texts go.
 
-ghost use Rattle.std.specs.Prelude.{◌≡◌, ◌↔◌, ℕ, List, Option, None, IsOk, OnErr, OnOk};
-ghost use Rattle.lf_files.specs.Shelf.{Put, Puts};
+ghost use Rattle.std.specs.Prelude.{◌≡◌, ◌↔◌, ◌||◌, ℕ, Bool, List, Option, None, IfErr, IsOk, OnErr, OnOk, false, true};
+ghost use Rattle.std.specs.IoError.{error_kind};
+ghost use Rattle.lf_files.specs.Shelf.{Put, Puts, is_of_file};
 
 use crate::pieces::Pieces;
 use crate::replacing::{is_special, replace, try_path, write_through};
@@ -19,7 +20,9 @@ pub enum Unwritten {
 }
 
 /// Why a file was not written.
-fn unwritten_of(error: &io::Error) -> Unwritten {
+fn unwritten_of(error: &io::Error) -> Unwritten
+    ensures { result ≡ Unwritten.OutOfMemory ↔ error_kind error.now ≡ ErrorKind.OutOfMemory }
+{
     if error.kind() == ErrorKind::OutOfMemory {
         return Unwritten::OutOfMemory;
     }
@@ -49,36 +52,61 @@ pub trait Exports {
     // The texts that were put, the last one first, if they are known.
     ghost puts: { Self → Option (List Put) } = { λ _. None };
 
+    // Whether a file could not be written.
+    ghost has_failed: { Self → Bool };
+
     /// Tries, before there is a text, whether one can be put into the file of that path, as far as that shows; it puts nothing.
-    /// `Ok` is no promise, and no clause says when it may be `Err`.
-    fn try_path(&self, path: &str) -> Result<(), Unwritten>;
+    /// `Ok` is no promise.
+    fn try_path(&mut self, path: &str) -> Result<(), Unwritten>
+        ensures unput { puts self.new ≡ puts self.old }
+        ensures failed { has_failed self.new ≡ (is_of_file result || has_failed self.old) };
 
     /// Puts the whole text into the file of that path, in place of what was there, and nothing else; `Err` if it could not, and
     /// then nothing was put.
     fn put<P: Pieces>(&mut self, path: &str, text: &P) -> Result<(), Unwritten>
         ensures ok { OnOk result (Puts (puts self.old) (puts self.new) path.now (P.text text.now)) }
-        ensures err { OnErr result (puts self.new ≡ puts self.old) };
+        ensures err { OnErr result (puts self.new ≡ puts self.old) }
+        ensures failed { has_failed self.new ≡ (is_of_file result || has_failed self.old) };
 }
 
 /// The files of a runtime. Contracts know nothing of what they hold, nor of what was put into them.
 #[derive(Clone, Copy)]
 pub struct FileExports<'a, T> {
     files: &'a T,
+    failed: bool,
 }
 
-impl<'a, T> FileExports<'a, T> {
-    /// The files of this runtime.
-    pub fn new(files: &'a T) -> Self {
-        FileExports { files }
+impl<'a, T: Files + AllocGlobal> FileExports<'a, T> {
+    /// The files of this runtime, none of which has failed.
+    pub fn new(files: &'a T) -> Self
+        ensures fresh { ⟦<FileExports<'a, T> as Exports>⟧.has_failed result ≡ false }
+    {
+        FileExports {
+            files,
+            failed: false,
+        }
     }
+}
+
+/// Notes whether a file could not be written.
+fn noted(failed: &mut bool, written: io::Result<()>) -> Result<(), Unwritten>
+    ensures { failed.new ≡ (is_of_file result || failed.old) }
+{
+    let result = put_result(written);
+    if let Err(Unwritten::File) = result {
+        *failed = true;
+    }
+    result
 }
 
 impl<'a, T: Files + AllocGlobal> Exports for FileExports<'a, T> {
-    fn try_path(&self, path: &str) -> Result<(), Unwritten> {
-        put_result(try_path(self.files, path))
+    ghost has_failed = { λ e. e.failed };
+
+    fn try_path(&mut self, path: &str) -> Result<(), Unwritten> {
+        noted(&mut self.failed, try_path(self.files, path))
     }
 
     fn put<P: Pieces>(&mut self, path: &str, text: &P) -> Result<(), Unwritten> {
-        put_result(write_to(self.files, path, text))
+        noted(&mut self.failed, write_to(self.files, path, text))
     }
 }

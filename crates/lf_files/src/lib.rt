@@ -5,7 +5,7 @@
 //! or a device is written to as it is. Where standard output goes to the target, the text goes behind what is there.
 //!
 //! Contracts see of an `Exports` its `puts`: the paths and texts that were put so far, the last one first, or none if the
-//! implementation does not make them known. Of `FileExports` nothing is known.
+//! implementation does not make them known, and whether a file could not be written (`has_failed`). Of `FileExports` no put is known.
 //!
 //! ```
 //! let mut exports = FileExports::new(rt);

@@ -17,3 +17,5 @@ pub mod Marking
 pub mod Ends
 pub mod Places
 pub mod Asked
+pub mod Saving
+pub mod Numbered

@@ -1,11 +1,12 @@
 -- What is reported of a team's cells is what the report of their list says.
-use Rattle.std.proofs.Common.{◌≡◌, ◌∙◌, ℕ, ◌+◌, List, [], ◌∷◌, ◌++◌, length, map, Option, Some, None, cond, refl, sym, ap, subst, append_assoc}
+use Rattle.std.proofs.Common.{◌≡◌, ◌∙◌, ℕ, ◌+◌, List, [], ◌∷◌, ◌++◌, length, map, Option, Some, None, cond, refl, sym, ap, append_assoc}
 use Rattle.std.specs.Prelude.{All, count_by, filter_map, is_none, slice_get, option_map, option_and_then}
 use Rattle.std.specs.List.{range_with_len, cons_option}
-use Rattle.std.specs.Option.{ForSome}
 use Rattle.std.proofs.Math.ListN.{length-map}
+use Rattle.std.proofs.lemmas.List.Elements.{All-map}
 use Rattle.std.proofs.lemmas.List.Sums.{sum_by-cons}
 use Rattle.std.proofs.lemmas.Option.{slice_get-map}
+use Rattle.lf_floorplan.specs.declared.frame.Frame.{Frame}
 use Rattle.lf_floorplan.specs.declared.place.Place.{Place}
 use Rattle.lf_floorplan.specs.Bounds.{IsName}
 use Rattle.lf_floorplan.specs.Boxes.{macro_of}
@@ -13,18 +14,17 @@ use Rattle.lf_rules.specs.declared.rule.Broken.{Broken}
 use Rattle.lf_rules.specs.declared.report.Listed.{Listed}
 use Rattle.lf_rules.specs.declared.report.Violation.{Violation}
 use Rattle.lf_rules.specs.Legality.{trial_of}
-use Rattle.lf_rules.specs.Reports.{IsTold}
+use Rattle.lf_rules.specs.Legalizer.{Legalizer}
 use Rattle.lf_rules.specs.Team.{Member, boxes_beside}
-use Rattle.lf_reports.specs.Reports.{broken_among, member_of as listed_member, name_among, violation_at, violation_by as violation_listed, violation_of, violations_in}
+use Rattle.lf_reports.specs.Reports.{broken_among, member_of as listed_member, name_among, violation_at, violation_by, violation_of, violations_in}
 use Rattle.lf_reports.proofs.ReportLemmas.{told_more}
 use Rattle.lf_cells.specs.declared.cell.Cell.{Cell}
 use Rattle.lf_legalize.specs.Members.{member_of}
-use Rattle.lf_teams.specs.Outcomes.{name_at}
 use Rattle.lf_teams.specs.Teams.{Setting, broken_by, listed_of}
 use Rattle.lf_teams.specs.Changes.{broken_where}
 use Rattle.lf_teams.proofs.Standing.{some_one}
-use Rattle.lf_floor.specs.Reporting.{violation_by, violation_named, violation_where}
-use Rattle.lf_floor.proofs.Seeking.{name_printed}
+use Rattle.lf_proto.specs.ReportText.{violation_in, violation_named}
+use Rattle.lf_floor.specs.Reporting.{names_of, violation_where}
 
 found_alike : {X Y : Type 0} (g h : X → Option Y) → ((x : X) → h x ≡ g x) → (xs : List X) → filter_map h xs ≡ filter_map g xs
 found_alike g h alike [] = refl
@@ -50,45 +50,56 @@ broken_listed t cells own c =
 
 -- ---- violations
 
-name_listed : (number : ℕ) (cells : List Cell) (own : ℕ) → name_at cells own ≡ name_among (map (listed_of number) cells) own
-name_listed number cells own =
-    go (slice_get cells own) ∙ sym (ap (option_map (λ (c : Listed (List ℕ)). c.name)) (slice_get-map (listed_of number) cells own))
+abbrev listed_names : List (Listed (List ℕ)) → List (List ℕ)
+listed_names listed = map (λ c. c.name) listed
+
+other_listed : (listed : List (Listed (List ℕ))) (other : Option ℕ) →
+    option_and_then (slice_get (listed_names listed)) other ≡ option_and_then (name_among listed) other
+other_listed listed None = refl
+other_listed listed (Some own) = slice_get-map (λ (c : Listed (List ℕ)). c.name) listed own
+
+-- what the names and the verdict of a listed cell say is its violation
+pub violation_listed : (l : Legalizer) (f : Frame) (padding : ℕ) (listed : List (Listed (List ℕ))) (own : ℕ) (verdict : Option Broken) →
+    ((c : Listed (List ℕ)) → slice_get listed own ≡ Some c → verdict ≡ broken_among l f padding listed own c) →
+    option_and_then (violation_in (listed_names listed) own) verdict ≡ violation_at l f padding listed own
+violation_listed l f padding listed own verdict is =
+    ap (λ (o : Option (List ℕ)). told o verdict) (slice_get-map (λ (c : Listed (List ℕ)). c.name) listed own) ∙ go (slice_get listed own) refl
   where
-    go : (o : Option Cell) → option_map (λ (c : Cell). c.name) o ≡ option_map (λ (c : Listed (List ℕ)). c.name) (option_map (listed_of number) o)
-    go None = refl
-    go (Some c) = refl
+    told : Option (List ℕ) → Option Broken → Option Violation
+    told o v = option_and_then (λ (b : Broken). option_map (violation_named (listed_names listed) b) o) v
 
-other_listed : (number : ℕ) (cells : List Cell) (other : Option ℕ) →
-    option_and_then (name_at cells) other ≡ option_and_then (name_among (map (listed_of number) cells)) other
-other_listed number cells None = refl
-other_listed number cells (Some own) = name_listed number cells own
+    none : (v : Option Broken) → told None v ≡ None
+    none None = refl
+    none (Some b) = refl
 
-violation_same : (number : ℕ) (cells : List Cell) (c : Cell) (b : Broken) →
-    violation_named cells b c.name ≡ violation_of (map (listed_of number) cells) (listed_of number c) b
-violation_same number cells c b =
-    ap {B = Violation} (λ (other : Option (List ℕ)). record { cell = c.name; rule = b.rule; other = other }) (other_listed number cells b.other)
+    some : (c : Listed (List ℕ)) (v : Option Broken) → told (Some c.name) v ≡ option_map (violation_of listed c) v
+    some c None = refl
+    some c (Some b) = ap (λ (other : Option (List ℕ)). Some (record { cell = c.name; rule = b.rule; other = other })) (other_listed listed b.other)
+
+    go : (o : Option (Listed (List ℕ))) → slice_get listed own ≡ o →
+        told (option_map (λ (c : Listed (List ℕ)). c.name) o) verdict ≡ option_and_then (violation_by l f padding listed own) o
+    go None there = none verdict
+    go (Some c) there = some c verdict ∙ ap (option_map (violation_of listed c)) (is c there)
+
+names_listed : (number : ℕ) (cells : List Cell) → names_of cells ≡ listed_names (map (listed_of number) cells)
+names_listed number [] = refl
+names_listed number (c ∷ cells) = ap (λ (names : List (List ℕ)). c.name ∷ names) (names_listed number cells)
 
 -- the violation of a cell is that of the list
 where_listed : (t : Setting) (cells : List Cell) (own : ℕ) →
     violation_where t cells own ≡ violation_at t.legalizer t.frame t.padding (map (listed_of t.number) cells) own
 where_listed t cells own =
-    go (slice_get cells own)
-    ∙ sym (ap (option_and_then (violation_listed t.legalizer t.frame t.padding (map (listed_of t.number) cells) own)) (slice_get-map (listed_of t.number) cells own))
+    ap (λ (names : List (List ℕ)). option_and_then (violation_in names own) (broken_where t cells own)) (names_listed t.number cells)
+    ∙ violation_listed t.legalizer t.frame t.padding (map (listed_of t.number) cells) own (broken_where t cells own)
+    (λ c there. go (slice_get cells own) c (sym (slice_get-map (listed_of t.number) cells own) ∙ there))
   where
-    by : (c : Cell) (broken : Option Broken) →
-        option_and_then (λ (b : Broken). option_map (violation_named cells b) (Some c.name)) broken
-        ≡ option_map (violation_of (map (listed_of t.number) cells) (listed_of t.number c)) broken
-    by c None = refl
-    by c (Some b) = ap (λ (v : Violation). Some v) (violation_same t.number cells c b)
-
-    go : (o : Option Cell) →
-        option_and_then (λ (b : Broken). option_map (violation_named cells b) (option_map (λ (c : Cell). c.name) o))
-        (option_and_then (λ (place : Place). broken_by o t cells own place) (option_and_then (λ (c : Cell). c.working) o))
-        ≡ option_and_then (violation_listed t.legalizer t.frame t.padding (map (listed_of t.number) cells) own) (option_map (listed_of t.number) o)
-    go None = refl
-    go (Some c) =
-        by c (option_and_then (λ (place : Place). broken_by (Some c) t cells own place) c.working)
-        ∙ ap (option_map (violation_of (map (listed_of t.number) cells) (listed_of t.number c))) (sym (broken_listed t cells own c))
+    go : (o : Option Cell) (c : Listed (List ℕ)) → option_map (listed_of t.number) o ≡ Some c →
+        option_and_then (λ (place : Place). broken_by o t cells own place) (option_and_then (λ (c : Cell). c.working) o)
+        ≡ broken_among t.legalizer t.frame t.padding (map (listed_of t.number) cells) own c
+    go None c e = absurd cc
+    go (Some k) c e =
+        sym (broken_listed t cells own k)
+        ∙ ap (broken_among t.legalizer t.frame t.padding (map (listed_of t.number) cells) own) (some_one e)
 
 -- so are those of all cells
 pub violations_listed : (t : Setting) (cells : List Cell) →
@@ -108,21 +119,9 @@ unplaced_listed number (c ∷ cells) =
     ∙ ap (λ (n : ℕ). cond (is_none c.working) 1 0 + n) (unplaced_listed number cells)
     ∙ sym (sum_by-cons (λ (x : Listed (List ℕ)). cond (is_none x.place) 1 0) (listed_of number c) (map (listed_of number) cells))
 
-other_printed : (cells : List Cell) (other : Option ℕ) → All (λ c. IsName c.name) cells → ForSome (option_and_then (name_at cells) other) IsName
-other_printed cells None printed = λ name e. absurd cc
-other_printed cells (Some k) printed = λ name e. name_printed cells k name printed (sym e)
-
--- the names in a violation are names of a text
-pub told_where : (t : Setting) (cells : List Cell) (own : ℕ) (v : Violation) → All (λ c. IsName c.name) cells → Some v ≡ violation_where t cells own → IsTold v
-told_where t cells own v printed is = go (broken_where t cells own) is where
-  named : (b : Broken) (o : Option (List ℕ)) → name_at cells own ≡ o → Some v ≡ option_map (violation_named cells b) o → IsTold v
-  named b None at e = absurd cc
-  named b (Some name) at e =
-      subst IsTold (sym (some_one e)) (record { cell_printed = name_printed cells own name printed (sym at); other_printed = other_printed cells b.other printed })
-
-  go : (o : Option Broken) → Some v ≡ option_and_then (violation_by cells own) o → IsTold v
-  go None e = absurd cc
-  go (Some b) e = named b (name_at cells own) refl e
+-- the names of cells that have names of a text
+pub names_printed : (cells : List Cell) → All (λ c. IsName c.name) cells → All IsName (names_of cells)
+names_printed cells printed = All-map IsName (λ (c : Cell). c.name) cells printed
 
 -- ---- the text
 

@@ -6,3 +6,4 @@ pub mod Tidying
 pub mod Marking
 pub mod Reporting
 pub mod Responses
+pub mod Saving

@@ -1,13 +1,14 @@
 //! Changes: from a change to its method, and those of one cell (`place`, `legalize` and `unplace`).
 
-ghost use Rattle.std.specs.Prelude.{◌≡◌, IfOk, OnErr, true};
+ghost use Rattle.std.specs.Prelude.{◌≡◌, IfOk, OnErr, false, true};
 ghost use Rattle.lf_rules.specs.Legalizer.{Legalizer};
 ghost use Rattle.lf_proto.specs.declared.request.Order.TheVariants.{Within};
 ghost use Rattle.lf_proto.specs.declared.verb.Action.TheVariants.{Change as Changing};
+ghost use Rattle.lf_proto.specs.declared.verb.Change.TheVariants.{Place as PlaceAt};
 ghost use Rattle.lf_proto.specs.Verbs.{change_of};
 ghost use Rattle.lf_teams.specs.Outcomes.{Reaches, RunsOut};
 ghost use Rattle.lf_teams.specs.Changes.{legalized, outcome_of_change, placed, unplaced};
-ghost use Rattle.lf_teams.specs.Verbs.{takes_memory};
+ghost use Rattle.lf_teams.specs.Verbs.{is_tested, takes_memory};
 ghost use Rattle.lf_floor.specs.Tables.{CanChange, EntriesFit, OthersStay, frame_of, setting_in, team_in};
 
 use crate::cell::{best_place, broken_at};
@@ -37,6 +38,8 @@ impl Tables {
         ensures others { OthersStay around.now.number self.old self.new }
         ensures fit { EntriesFit around.now.number self.new }
         ensures takes { OnErr result (takes_memory (Within session (Changing (change_of change.now))) ≡ true) }
+        ensures untested { (l : Legalizer) → OnErr result (is_tested (Within session (Changing (change_of change.now)))
+            (outcome_of_change (setting_in l around.now self.old) session (change_of change.now) (team_in around.now self.old)).reply ≡ false) }
     {
         match change {
             Change::Place { cell, place } => self.place(around, session, cell, place),
@@ -68,6 +71,8 @@ impl Tables {
         ensures err { (l : Legalizer) → OnErr result (RunsOut
             (placed (setting_in l around.now self.old) session name.now place.now (team_in around.now self.old))
             (team_in around.now self.old) (team_in around.now self.new)) }
+        ensures untested { (l : Legalizer) → OnErr result (is_tested (Within session (Changing (PlaceAt name.now place.now)))
+            (placed (setting_in l around.now self.old) session name.now place.now (team_in around.now self.old)).reply ≡ false) }
         ensures others { OthersStay around.now.number self.old self.new }
         ensures fit { EntriesFit around.now.number self.new }
     {

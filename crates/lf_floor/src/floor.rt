@@ -1,7 +1,7 @@
 //! The floor of all teams.
 
 ghost use Rattle.std.specs.Prelude.{◌≡◌, ◌↔◌, ◌<◌, ◌≤◌, ◌+◌, ◌++◌, ◌∷◌, [], bytes_eq, position, ℕ, List, All};
-ghost use Rattle.std.specs.Prelude.{IfOk, IfSome, OnOk, OnErr, Some, option_and_then, option_map, replicate, true, length, vec_len, vec_capacity};
+ghost use Rattle.std.specs.Prelude.{IfOk, IfSome, OnOk, OnErr, Some, false, option_and_then, option_map, replicate, true, length, vec_len, vec_capacity};
 ghost use Rattle.lf_floorplan.specs.Bounds.{IsName};
 ghost use Rattle.lf_floorplan.specs.Fences.{ground_name};
 ghost use Rattle.lf_rules.specs.Legalizer.{Legalizer};
@@ -13,7 +13,7 @@ ghost use Rattle.lf_floor.specs.Tables.{AreTables, floor_in, frame_of};
 ghost use Rattle.lf_teams.specs.Teams.{IsTeamOf, team_number, state_of};
 ghost use Rattle.lf_teams.specs.Outcomes.{name_at};
 ghost use Rattle.lf_cells.specs.Cells.{working_at};
-ghost use Rattle.lf_teams.specs.Verbs.{takes_memory};
+ghost use Rattle.lf_teams.specs.Verbs.{is_tested, takes_memory};
 ghost use Rattle.lf_teams.specs.Designs.{opening};
 ghost use Rattle.lf_teams.specs.Runs.{Run, IsIsolated};
 ghost use Rattle.lf_teams.specs.Journals.{IsBackup, MayBeLeftOut, lasting, lasting_replies};
@@ -43,7 +43,7 @@ use std::marker::Model;
 /// cell, and that no session has seen a later revision than the team's.
 #[derive(Drop)]
 pub struct Floor<S: Seeker> {
-    alloc: Global,
+    pub(crate) alloc: Global,
     seeker: S,
     pub(crate) tables: Tables,
 }
@@ -110,6 +110,8 @@ fn serve_at<S: Seeker>(
     ensures err { (l : Legalizer) → OnErr result (StaysShort
         (answer_at (Some number) l (floor_in tables.old) (order_of order.now)) (floor_in tables.old) (floor_in tables.new)) }
     ensures takes { OnErr result (takes_memory (order_of order.now) ≡ true) }
+    ensures untested { (l : Legalizer) → OnErr result (is_tested (order_of order.now)
+        (answer_at (Some number) l (floor_in tables.old) (order_of order.now)).reply ≡ false) }
     ensures frame { frame_of tables.new ≡ frame_of tables.old }
     ensures tables { AreTables tables.new }
 {
@@ -228,7 +230,7 @@ impl<S: Seeker + Drop> Floor<S> {
     ///
     /// `NoTeam` comes before any refusal of a team. `OutOfMemory` only replaces the reply to an accepted
     /// change, a broken rule, a best place, the lack of one, a report or a DEF text, and never that to
-    /// an undo or a pad; the floor is then unchanged. A refusal leaves the whole floor unchanged; after an
+    /// an undo or a pad, nor to a place that breaks a rule; the floor is then unchanged. A refusal leaves the whole floor unchanged; after an
     /// accepted place or legalize the cell is team-legal, after
     /// a swap both cells are, and after a tidy or a commit every cell of the team. A committed design
     /// that is fully legal stays so after any command.

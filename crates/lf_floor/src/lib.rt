@@ -24,11 +24,15 @@ mod committed;
 mod floor;
 mod keeping;
 mod legal;
+mod looking;
 mod looks;
 mod order;
 mod report;
 mod response;
+mod restored;
+mod saved;
 mod sessions;
+mod state_text;
 mod surroundings;
 mod swap;
 mod tables;
@@ -50,3 +54,4 @@ pub use lf_teams::{
     teams_in_any_order, tidy_makes_legal, undo_brings_back, verb_keeps_team, verb_rows,
 };
 pub use response::Response;
+pub use state_text::SavedState;

@@ -3,11 +3,12 @@
 ghost use Rattle.std.specs.Prelude.{◌≡◌, IfNone, IfSome, List, ℕ, length};
 ghost use Rattle.lf_rules.specs.Legalizer.{Legalizer};
 ghost use Rattle.lf_proto.specs.Commands.{command_of, order_of};
+ghost use Rattle.lf_proto.specs.declared.reply.Reply.{Reply};
 ghost use Rattle.lf_proto.specs.declared.reply.Reply.TheVariants.{Def};
 ghost use Rattle.lf_proto.specs.declared.request.Order.TheVariants.{Within};
 ghost use Rattle.lf_proto.specs.declared.verb.Action.TheVariants.{Def as AskDef};
 ghost use Rattle.lf_teams.specs.Committed.{IsCommittedLegal};
-ghost use Rattle.lf_teams.specs.Steps.{Answers, IsTo, Step, TakesNone};
+ghost use Rattle.lf_teams.specs.Steps.{Answers, IsTested, IsTo, Step, TakesNone};
 ghost use Rattle.lf_teams.specs.Teams.{state_of};
 ghost use Rattle.lf_texts.specs.Output.{IsLengthOf, Puts};
 ghost use Rattle.lf_floor.specs.Responses.{AsksForText, AsksText, GivesText, def_text, reply_in, team_of};
@@ -77,6 +78,7 @@ impl<S: Seeker + Drop> Floor<S> {
         ensures asked { (l : Legalizer) → IfSome result (λ team. Answers l self.now (command_of request.now) (Def (def_text self.now team.now)) self.now) }
         ensures team { IfSome result (λ team. team.now ≡ team_of (command_of request.now)) }
         ensures takes { IfSome result (λ team. TakesNone (command_of request.now) → ⊥) }
+        ensures untested { (reply : Reply) → IfSome result (λ team. IsTested (command_of request.now) reply → ⊥) }
         ensures none { (l : Legalizer) (text : List ℕ) → IfNone result (AsksForText (command_of request.now) → Answers l self.now (command_of request.now) (Def text) self.now → ⊥) }
     {
         let Command::To { team, order } = request else {

@@ -1,6 +1,6 @@
 //! From an order to a team to the verb that answers it.
 
-ghost use Rattle.std.specs.Prelude.{◌≡◌, ◌≢◌, IfOk, None, OnErr, true};
+ghost use Rattle.std.specs.Prelude.{◌≡◌, ◌≢◌, IfOk, None, OnErr, false, true};
 ghost use Rattle.lf_rules.specs.Legalizer.{Legalizer};
 ghost use Rattle.lf_proto.specs.declared.request.Order.TheVariants.{Within};
 ghost use Rattle.lf_proto.specs.declared.verb.Action.TheVariants.{Change as Changing};
@@ -8,7 +8,7 @@ ghost use Rattle.lf_proto.specs.Commands.{order_of};
 ghost use Rattle.lf_proto.specs.Verbs.{action_of, change_of};
 ghost use Rattle.lf_sessions.specs.Slots.{seen_at, slots_of};
 ghost use Rattle.lf_teams.specs.Outcomes.{Reaches, RunsOut};
-ghost use Rattle.lf_teams.specs.Verbs.{outcome_by_slot, outcome_of, outcome_within, takes_memory, unless_spent, unless_stale};
+ghost use Rattle.lf_teams.specs.Verbs.{is_tested, outcome_by_slot, outcome_of, outcome_within, takes_memory, unless_spent, unless_stale};
 ghost use Rattle.lf_floor.specs.Tables.{EntriesFit, IsServed, OthersStay, frame_of, setting_in, team_in};
 
 use crate::surroundings::Surroundings;
@@ -39,6 +39,8 @@ impl Tables {
         ensures others { OthersStay around.now.number self.old self.new }
         ensures fit { EntriesFit around.now.number self.new }
         ensures takes { OnErr result (takes_memory (Within session (Changing (change_of change.now))) ≡ true) }
+        ensures untested { (l : Legalizer) → OnErr result (is_tested (Within session (Changing (change_of change.now)))
+            (unless_stale seen (setting_in l around.now self.old) session (change_of change.now) (team_in around.now self.old)).reply ≡ false) }
     {
         let revision = self.revision(around.number);
         if seen != revision {
@@ -69,6 +71,8 @@ impl Tables {
         ensures others { OthersStay around.now.number self.old self.new }
         ensures fit { EntriesFit around.now.number self.new }
         ensures takes { OnErr result (takes_memory (Within session (action_of action.now)) ≡ true) }
+        ensures untested { (l : Legalizer) → OnErr result (is_tested (Within session (action_of action.now))
+            (outcome_within seen (setting_in l around.now self.old) session (action_of action.now) (team_in around.now self.old)).reply ≡ false) }
     {
         match action {
             Action::Close => Ok(self.close(around.number, session)),
@@ -100,6 +104,8 @@ impl Tables {
         ensures others { OthersStay around.now.number self.old self.new }
         ensures fit { EntriesFit around.now.number self.new }
         ensures takes { OnErr result (takes_memory (order_of order.now) ≡ true) }
+        ensures untested { (l : Legalizer) → OnErr result (is_tested (order_of order.now)
+            (outcome_of (setting_in l around.now self.old) (order_of order.now) (team_in around.now self.old)).reply ≡ false) }
     {
         match order {
             Order::Open => Ok(self.open(around.number)),

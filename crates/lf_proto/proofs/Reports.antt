@@ -1,13 +1,18 @@
 -- A report's text in pieces.
-use Rattle.std.proofs.Common.{◌≡◌, ℕ, false, List, [], ◌∷◌, ◌++◌, Option, Some, None, refl, sym, ap, ◌∙◌, append_assoc, length, take, ◌-◌, arith}
-use Rattle.std.specs.Prelude.{codes, decimal, map}
+use Rattle.std.proofs.Common.{◌≡◌, ℕ, false, List, [], ◌∷◌, ◌++◌, Option, Some, None, refl, sym, ap, subst, ◌∙◌, append_assoc, length, take, ◌-◌, arith}
+use Rattle.std.specs.Prelude.{All, codes, decimal, map, option_and_then, option_map, slice_get}
+use Rattle.std.specs.Option.{ForSome}
+use Rattle.std.proofs.lemmas.Option.{get_or_from_slice_get, slice_get_within}
 use Rattle.std.proofs.Math.Seq.{take-append_seam}
 use Rattle.std.proofs.lemmas.List.{length-append}
 use Rattle.serde_json.proofs.OnLiterals.{serde_json_on_literals}
 use Rattle.serde_json.specs.Data.{Items, no_items}
 use Rattle.serde_json.specs.Written.{has_float, compact_text, items_text}
+use Rattle.lf_floorplan.specs.Bounds.{IsName}
+use Rattle.lf_rules.specs.declared.rule.Broken.{Broken}
 use Rattle.lf_rules.specs.declared.rule.Rule.{Rule}
-use Rattle.lf_proto.specs.ReportText.{violation_by, violation_data, report_by, report_front, report_text}
+use Rattle.lf_rules.specs.Reports.{IsTold}
+use Rattle.lf_proto.specs.ReportText.{violation_by, violation_data, violation_in, violation_named, report_by, report_front, report_text}
 use Rattle.lf_rules.specs.declared.report.Report.{Report}
 use Rattle.lf_rules.specs.declared.report.Violation.{Violation}
 use Rattle.serde_json.specs.View.{items_of}
@@ -41,3 +46,28 @@ in_parts r violations front listed text same first then last =
     let text_of = λ (vs : List Violation). items_text false (items_of (map violation_data vs)) in
     let parts : listed ≡ report_front r.cells r.unplaced ++ text_of r.violations = then ∙ (ap (λ l. l ++ text_of violations) first ∙ ap (λ vs. report_front r.cells r.unplaced ++ text_of vs) same) in
     last ∙ (ap (λ l. l ++ 125 ∷ []) parts ∙ (append_assoc (report_front r.cells r.unplaced) (text_of r.violations) (125 ∷ []) ∙ sym (closes r.cells r.unplaced (items_of (map violation_data r.violations)))))
+
+-- ---- names
+
+name_printed : (names : List (List ℕ)) (own : ℕ) (name : List ℕ) → All IsName names → slice_get names own ≡ Some name → IsName name
+name_printed names own name printed there =
+    subst IsName (get_or_from_slice_get names own name name there) (printed own name (slice_get_within names own name there))
+
+other_printed : (names : List (List ℕ)) (other : Option ℕ) → All IsName names → ForSome (option_and_then (slice_get names) other) IsName
+other_printed names None printed = λ name e. absurd cc
+other_printed names (Some own) printed = λ name e. name_printed names own name printed e
+
+-- the names in a violation are names of a text
+pub names_told : (names : List (List ℕ)) (own : ℕ) (verdict : Option Broken) (v : Violation) → All IsName names →
+    Some v ≡ option_and_then (violation_in names own) verdict → IsTold v
+names_told names own verdict v printed is = go verdict is
+  where
+    named : (b : Broken) (o : Option (List ℕ)) → slice_get names own ≡ o → Some v ≡ option_map (violation_named names b) o → IsTold v
+    named b None at e = absurd cc
+    named b (Some name) at e =
+        let same : violation_named names b name ≡ v = cc in
+        subst IsTold same (record { cell_printed = name_printed names own name printed at; other_printed = other_printed names b.other printed })
+
+    go : (o : Option Broken) → Some v ≡ option_and_then (violation_in names own) o → IsTold v
+    go None e = absurd cc
+    go (Some b) e = named b (slice_get names own) refl e

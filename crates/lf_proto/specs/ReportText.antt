@@ -1,12 +1,21 @@
 -- A report as JSON.
-use Rattle.std.specs.Prelude.{ℕ, Bool, List, ◌++◌, map, Option, Some, None, codes, decimal}
+use Rattle.std.specs.Prelude.{ℕ, Bool, List, ◌++◌, map, Option, Some, None, codes, decimal, option_and_then, option_map, slice_get}
 use Rattle.serde_json.specs.Data.{Data, Items, number, unsigned, string, array, object, member, no_members}
 use Rattle.serde_json.specs.View.{items_of}
 use Rattle.serde_json.specs.Written.{compact_text, items_text}
+use Rattle.lf_rules.specs.declared.rule.Broken.{Broken}
 use Rattle.lf_rules.specs.declared.rule.Rule.{Rule}
 use Rattle.lf_rules.specs.declared.report.Violation.{Violation}
 use Rattle.lf_rules.specs.declared.report.Report.{Report}
 use Rattle.lf_rules.specs.Legality.{number_of}
+
+-- a cell of that name breaks this rule first, and for Overlap meets that other one of these cells first
+abbrev pub violation_named : List (List ℕ) → Broken → List ℕ → Violation
+violation_named names b name = record { cell = name; rule = b.rule; other = option_and_then (slice_get names) b.other }
+
+-- the violation of the cell of that number, which breaks this rule first; None if there is no such cell
+abbrev pub violation_in : List (List ℕ) → ℕ → Broken → Option Violation
+violation_in names own b = option_map (violation_named names b) (slice_get names own)
 
 -- the cell, the other cell if there is one, and the number of the rule
 abbrev pub violation_by : List ℕ → Option (List ℕ) → Rule → Data

@@ -20,6 +20,7 @@ mod line;
 mod number;
 mod reply;
 mod report;
+mod reported;
 mod request;
 mod request_list;
 mod text;
@@ -31,6 +32,7 @@ pub use line::{
 };
 pub use reply::{Refusal, Reply, Text};
 pub use report::{put_violation, report_begun, report_closed, report_json};
+pub use reported::{Names, put_verdict};
 pub use request::{Command, Order, Request};
 pub use request_list::RequestList;
 pub use text::reply_text;

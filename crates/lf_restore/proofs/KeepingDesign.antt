@@ -19,7 +19,7 @@ use Rattle.lf_teams.proofs.Cases.{Facts, order_facts, part_stays}
 use Rattle.lf_teams.proofs.Standing.{some_one}
 use Rattle.lf_restore.specs.Saved.{AreOfOneDesign, RunKeepsDesign, fixed_cells, fixed_of}
 
-committed_fixed : (cells : List Cell) → map fixed_of (map as_committed cells) ≡ map fixed_of cells
+pub committed_fixed : (cells : List Cell) → map fixed_of (map as_committed cells) ≡ map fixed_of cells
 committed_fixed [] = refl
 committed_fixed (c ∷ cs) = ap (λ (xs : List (List ℕ × ℕ)). fixed_of c ∷ xs) (committed_fixed cs)
 

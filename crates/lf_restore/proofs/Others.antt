@@ -1,14 +1,12 @@
 -- What a change of one team leaves as it was.
-use Rattle.std.proofs.Common.{◌≡◌, ℕ, List, [], map, refl, sym, ap, subst, ◌∙◌, arith}
+use Rattle.std.proofs.Common.{◌≡◌, ◌≢◌, ℕ, List, [], refl, sym, ap, subst, ◌∙◌, arith}
 use Rattle.std.specs.Prelude.{slice_index_or, slice_set}
 use Rattle.std.proofs.lemmas.List.{get_or-set_other}
-use Rattle.lf_cells.specs.declared.cell.Cell.{Cell}
 use Rattle.lf_cells.specs.Cells.{Cells, cells_of}
 use Rattle.lf_undo.specs.declared.moves.Move.{Move}
-use Rattle.lf_undo.specs.Stacks.{Stacks}
+use Rattle.lf_undo.specs.Stacks.{Stacks, stack_of}
 use Rattle.lf_occupancy.specs.Occupied.{NoLess}
-use Rattle.lf_placement.specs.Placings.{KeepsRest, OtherCellsStay, Placing, SameButRooms, made, taken_up}
-use Rattle.lf_placement.proofs.Moves.{same_made}
+use Rattle.lf_placement.specs.Placings.{KeepsRest, OtherCellsStay, Placing, SameButRooms}
 use Rattle.lf_restore.specs.Stands.{OthersStay}
 
 no_less : (rooms : List ℕ) → NoLess rooms rooms
@@ -26,7 +24,6 @@ all_stay team p undo = record {
   index = refl;
   site = refl;
   rooms = no_less p.held.rooms;
-  same = refl;
   cells = λ other apart. refl;
   stacks = λ other apart. refl;
 }
@@ -39,7 +36,6 @@ stay_then team a b c u v w first next = record {
   index = next.index ∙ first.index;
   site = next.site ∙ first.site;
   rooms = no_less_then a.held.rooms b.held.rooms c.held.rooms first.rooms next.rooms;
-  same = next.same ∙ first.same;
   cells = λ other apart. next.cells other apart ∙ first.cells other apart;
   stacks = λ other apart. next.stacks other apart ∙ first.stacks other apart;
 }
@@ -53,30 +49,65 @@ stay_grown team before mid undo ready grown lists = record {
   index = grown.index;
   site = grown.site;
   rooms = grown.rooms;
-  same = ap (λ (cs : Cells). map taken_up (cells_of cs team)) grown.cells;
   cells = λ other apart. ap (λ (cs : Cells). cells_of cs other) grown.cells;
   stacks = λ other apart. ap (λ (l : List (List (List Move))). slice_index_or l other []) lists;
 }
 
--- moves are made, and pushed
-stay_made : (team : ℕ) (mid after : Placing) (ready done : Stacks (List Move)) (change : List Move) (stack : List (List Move))
-    → cells_of after.cells team ≡ made change (cells_of mid.cells team) → OtherCellsStay team mid.cells after.cells → KeepsRest mid after
-    → done.lists ≡ slice_set ready.lists team stack → OthersStay team mid after ready done
-stay_made team mid after ready done change stack own others rest lists = record {
+-- moves are made
+stay_led : (team : ℕ) (mid after : Placing) (undo : Stacks (List Move)) → OtherCellsStay team mid.cells after.cells → KeepsRest mid after
+    → OthersStay team mid after undo undo
+stay_led team mid after undo others rest = record {
   frame = rest.frame;
   components = rest.components;
   index = rest.index;
   site = rest.site;
   rooms = subst (λ (r : List ℕ). NoLess mid.held.rooms r) (sym rest.rooms) (no_less mid.held.rooms);
-  same = ap (λ (cs : List Cell). map taken_up cs) own ∙ same_made change (cells_of mid.cells team);
   cells = λ other apart. others.cells other apart;
+  stacks = λ other apart. refl;
+}
+
+-- an entry is pushed
+stay_pushed : (team : ℕ) (p : Placing) (ready done : Stacks (List Move)) (stack : List (List Move)) → done.lists ≡ slice_set ready.lists team stack
+    → OthersStay team p p ready done
+stay_pushed team p ready done stack lists = record {
+  frame = refl;
+  components = refl;
+  index = refl;
+  site = refl;
+  rooms = no_less p.held.rooms;
+  cells = λ other apart. refl;
   stacks = λ other apart. ap (λ (l : List (List (List Move))). slice_index_or l other []) lists ∙ get_or-set_other ready.lists team other stack [] apart;
 }
 
-pub stay_changed : (team : ℕ) (before mid after : Placing) (undo ready done : Stacks (List Move)) (change : List Move) (stack : List (List Move))
-    → SameButRooms before mid → ready.lists ≡ undo.lists
-    → cells_of after.cells team ≡ made change (cells_of mid.cells team) → OtherCellsStay team mid.cells after.cells → KeepsRest mid after
+-- room is made, and moves are made
+pub stay_moved : (team : ℕ) (before mid after : Placing) (undo : Stacks (List Move)) → SameButRooms before mid → OtherCellsStay team mid.cells after.cells
+    → KeepsRest mid after → OthersStay team before after undo undo
+stay_moved team before mid after undo grown others rest =
+    stay_then team before mid after undo undo undo (stay_grown team before mid undo undo grown refl) (stay_led team mid after undo others rest)
+
+-- moves are made and committed
+pub stay_committed : (team : ℕ) (before mid after : Placing) (undo : Stacks (List Move)) → OthersStay team before mid undo undo → OtherCellsStay team mid.cells after.cells
+    → KeepsRest mid after → OthersStay team before after undo undo
+stay_committed team before mid after undo moved others rest =
+    stay_then team before mid after undo undo undo moved (stay_led team mid after undo others rest)
+
+-- the other teams keep their undo entries
+pub stay_forgot : (team : ℕ) (p : Placing) (undo done : Stacks (List Move)) → ((other : ℕ) → other ≢ team → stack_of done other ≡ stack_of undo other)
+    → OthersStay team p p undo done
+stay_forgot team p undo done stacks = record {
+  frame = refl;
+  components = refl;
+  index = refl;
+  site = refl;
+  rooms = no_less p.held.rooms;
+  cells = λ other apart. refl;
+  stacks = stacks;
+}
+
+-- room is made, moves are made, and pushed
+pub stay_changed : (team : ℕ) (before mid after : Placing) (undo ready done : Stacks (List Move)) (stack : List (List Move))
+    → SameButRooms before mid → ready.lists ≡ undo.lists → OtherCellsStay team mid.cells after.cells → KeepsRest mid after
     → done.lists ≡ slice_set ready.lists team stack → OthersStay team before after undo done
-stay_changed team before mid after undo ready done change stack grown same own others rest lists =
+stay_changed team before mid after undo ready done stack grown same others rest lists =
     stay_then team before mid after undo ready done (stay_grown team before mid undo ready grown same)
-    (stay_made team mid after ready done change stack own others rest lists)
+    (stay_then team mid after after ready ready done (stay_led team mid after ready others rest) (stay_pushed team after ready done stack lists))

@@ -1,11 +1,16 @@
 -- What is saved of a floor, and the floor that a saved one restores.
-use Rattle.std.specs.Prelude.{◌≡◌, ℕ, List, [], ◌∷◌, map, Ok}
+use Rattle.std.specs.Prelude.{◌≡◌, ◌↔◌, ℕ, List, [], ◌∷◌, map, Ok, option_map}
+use Rattle.lf_floorplan.specs.declared.limits.Limits.{Limits}
 use Rattle.lf_floorplan.specs.declared.place.Place.{Place}
+use Rattle.lf_rules.specs.Choice.{spot_of}
+use Rattle.lf_rules.specs.FullyLegal.{IsFullyLegal, Standing, standing_from}
 use Rattle.lf_rules.specs.Legalizer.{Legalizer}
+use Rattle.lf_rules.specs.Team.{Member}
 use Rattle.lf_proto.specs.declared.request.Command.{Command}
 use Rattle.lf_proto.specs.declared.reply.Reply.{Reply}
 use Rattle.lf_cells.specs.declared.cell.Cell.{Cell}
 use Rattle.lf_undo.specs.Entries.{entries_of}
+use Rattle.lf_teams.specs.Committed.{IsCommittedLegal}
 use Rattle.lf_teams.specs.States.{FloorState, TeamState}
 use Rattle.lf_teams.specs.Teams.{team_names}
 use Rattle.lf_teams.specs.Outcomes.{places_of}
@@ -13,7 +18,7 @@ use Rattle.lf_teams.specs.Runs.{Run}
 use Rattle.lf_teams.specs.Journals.{IsBackup, lasting, lasting_replies}
 use Rattle.lf_state.specs.declared.rows.SavedCell.{SavedCell}
 use Rattle.lf_state.specs.Designs.{NamedDesign, NamedTeam}
-use Rattle.lf_state.specs.Saved.{AreSaved, Both, SavedTeam, state_text}
+use Rattle.lf_state.specs.Saved.{AreSaved, Both, IsTeamOf, SavedTeam, state_text}
 use Rattle.lf_state.specs.Reading.{state_of}
 
 -- entry by entry of two lists, as far as both go
@@ -82,9 +87,25 @@ restored_team s t = record {
   padding = t.padding;
 }
 
+-- each saved team is one of the team of the same position, whatever its name is
+abbrev pub AreDue : Limits → List TeamState → List SavedTeam → Type 0
+AreDue limits teams saved = Both (λ s t. IsTeamOf limits (named_team [] s) t) teams saved
+
 -- the floor of a design in the state that the saved teams tell
 abbrev pub restored : FloorState → List SavedTeam → FloorState
 restored begin saved = record begin { teams = map_two restored_team begin.teams saved }
+
+-- the macro of a cell, and the committed place that a text tells of it
+abbrev pub saved_member : Cell → SavedCell → Member
+saved_member c saved = record { mac = c.mac; place = option_map spot_of saved.committed }
+
+-- all teams' cells at the committed places that the saved teams tell, team after team
+abbrev pub saved_design : FloorState → List SavedTeam → List Standing
+saved_design begin saved = standing_from 0 (map_two (λ s t. map_two saved_member s.cells t.cells) begin.teams saved)
+
+-- the floor is in the state that the text tells of the design of the one with which it began
+abbrev pub IsRestoredFrom : FloorState → List ℕ → FloorState → Type 0
+IsRestoredFrom begin text floor = (saved : List SavedTeam) × (state_of (named begin) text ≡ Ok saved) × (floor ≡ restored begin saved)
 
 -- ---- laws
 
@@ -93,6 +114,10 @@ abbrev pub SavedRestores : Type 0
 SavedRestores =
     (begin floor : FloorState) (text : List ℕ) → AreOfOneDesign begin floor → IsStateText floor text
     → (saved : List SavedTeam) × (state_of (named begin) text ≡ Ok saved) × (restored begin saved ≡ floor)
+
+-- the committed design of what is restored is fully legal if and only if the design that the saved teams tell is
+abbrev pub RestoredIsCommitted : Type 0
+RestoredIsCommitted = (begin : FloorState) (saved : List SavedTeam) → IsCommittedLegal (restored begin saved) ↔ IsFullyLegal begin.frame (saved_design begin saved)
 
 -- a state text and the journal behind it are a backup: what the text restores is where the journal begins
 abbrev pub StateAndTail : Type 0

@@ -1,7 +1,9 @@
 //! Changes of a team that are made again.
 
 ghost use Rattle.std.specs.Prelude.{◌≡◌, ◌<◌, ◌+◌, ◌∷◌, ◌≤◌, OnOk, length, reverse, slice_set, take};
+ghost use Rattle.lf_cells.specs.Cells.{cells_of};
 ghost use Rattle.lf_undo.specs.Stacks.{HasRoomFor, stack_of};
+ghost use Rattle.lf_placement.specs.Placings.{SameButPlaces};
 ghost use Rattle.lf_state.specs.Replay.{changed, replayed};
 ghost use Rattle.lf_restore.specs.Stands.{EntriesFit, OthersStay, stand_of};
 
@@ -24,6 +26,7 @@ pub fn change_again(
     ensures stand { OnOk result (stand_of placement.new undo.new team ≡ changed change (stand_of placement.old undo.old team)) }
     ensures fit { OnOk result (EntriesFit placement.old undo.old team → EntriesFit placement.new undo.new team) }
     ensures others { OnOk result (OthersStay team placement.old placement.new undo.old undo.new) }
+    ensures same { OnOk result (SameButPlaces (cells_of placement.old.cells team) (cells_of placement.new.cells team)) }
     ensures depth { OnOk result (length (stack_of undo.new team) ≡ length (stack_of undo.old team) + 1) }
     ensures teams { length undo.new.lists ≡ length undo.old.lists }
     ensures limit { undo.new.limit ≡ undo.old.limit }
@@ -53,6 +56,8 @@ pub fn changes_again(
     ensures stand { OnOk result (stand_of placement.new undo.new team ≡ replayed (reverse changes.items) (stand_of placement.old undo.old team)) }
     ensures fit { OnOk result (EntriesFit placement.old undo.old team → EntriesFit placement.new undo.new team) }
     ensures others { OnOk result (OthersStay team placement.old placement.new undo.old undo.new) }
+    ensures same { OnOk result (SameButPlaces (cells_of placement.old.cells team) (cells_of placement.new.cells team)) }
+    ensures teams { length undo.new.lists ≡ length undo.old.lists }
     ensures limit { undo.new.limit ≡ undo.old.limit }
 {
     let mut left = changes;

@@ -1,19 +1,39 @@
 -- Connections, one after the other.
-use Rattle.std.proofs.Common.{◌≡◌, ℕ, suc, ◌+◌, Err, Ok, subst, arith}
-use Rattle.std.specs.Prelude.{OnOk, Result}
+use Rattle.std.proofs.Common.{◌≡◌, ◌∙◌, ℕ, ◌+◌, List, ◌++◌, ◌∷◌, [], Option, Some, None, ap, is_some, refl, arith, length}
+use Rattle.std.proofs.lemmas.Bool.{false≢true}
+use Rattle.std.specs.Prelude.{unwrap_or}
 use Rattle.lf_rules.specs.Legalizer.{Legalizer}
 use Rattle.lf_teams.specs.States.{FloorState}
-use Rattle.lf_server.specs.Connections.{Connects, HasServed}
+use Rattle.lf_server.specs.Connections.{Accepts, AreServed, Connects, ServesNext}
+
+-- no connection was accepted
+pub accepts_none : (now : Option (List (Option (List ℕ)))) → Accepts now now []
+accepts_none None = tt
+accepts_none (Some before) = refl
+
+-- one more was accepted
+pub accepts_more : (before mid after : Option (List (Option (List ℕ)))) (inputs : List (Option (List ℕ))) (input : Option (List ℕ))
+    → Accepts before mid inputs → Accepts mid after (input ∷ []) → Accepts before after (input ∷ inputs)
+accepts_more None mid after inputs input earlier last = tt
+accepts_more (Some before) None after inputs input earlier last = absurd (false≢true (ap is_some earlier))
+accepts_more (Some before) (Some mid) after inputs input earlier last =
+    last ∙ ap (λ (o : Option (List (Option (List ℕ)))). Some (input ∷ unwrap_or o [])) earlier
 
 -- one connection more
-pub connects_more : (l : Legalizer) (limit count : ℕ) (old mid new : FloorState) → Connects l limit count old mid → HasServed l limit mid new
-    → Connects l limit (count + 1) old new
-connects_more l limit count old mid new connects served =
-    let more : suc count ≡ count + 1 = omega arith in
-    let next : Connects l limit (suc count) old new = (mid, connects, served) in
-    subst (λ (n : ℕ). Connects l limit n old new) more next
+pub serves_more : (limit count : ℕ) (before mid after : Option (List (Option (List ℕ)))) (old half new : FloorState)
+    → AreServed limit count before mid old half → ServesNext limit mid after half new → AreServed limit (count + 1) before after old new
+serves_more limit count before mid after old half new earlier last = record {
+  inputs = last.input ∷ earlier.inputs;
+  counted = omega (arith, earlier.counted);
+  accepted = accepts_more before mid after earlier.inputs last.input earlier.accepted last.accepted;
+  connects = λ l. (half, earlier.connects l, last.serves l);
+}
 
--- what follows from a fact follows where it holds of a success
-pub on_ok : {T E : Type 0} (r : Result T E) (P Q : Type 0) → (P → Q) → OnOk r P → OnOk r Q
-on_ok (Ok value) P Q gives is = gives is
-on_ok (Err fault) P Q gives is = tt
+-- none so far
+pub serves_none : (limit : ℕ) (now : Option (List (Option (List ℕ)))) (floor : FloorState) → AreServed limit 0 now now floor floor
+serves_none limit now floor = record {
+  inputs = [];
+  counted = refl;
+  accepted = accepts_none now;
+  connects = λ l. refl;
+}

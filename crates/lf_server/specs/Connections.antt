@@ -1,5 +1,5 @@
 -- Connections that are served one after the other.
-use Rattle.std.specs.Prelude.{◌≡◌, ℕ, zero, suc, true, false, List, Option}
+use Rattle.std.specs.Prelude.{◌≡◌, ◌++◌, ℕ, true, false, List, [], ◌∷◌, Option, Some, None, length}
 use Rattle.lf_rules.specs.Legalizer.{Legalizer}
 use Rattle.lf_teams.specs.Committed.{IsCommittedLegal}
 use Rattle.lf_teams.specs.States.{FloorState}
@@ -13,6 +13,11 @@ pub record Stays (old new : FloorState) : Type 0 where
   pub components : new.components ≡ old.components
   pub legal : IsCommittedLegal old → IsCommittedLegal new
 
+-- connections whose clients send these bytes were accepted, the last one first, and no others, if what is accepted is known
+abbrev pub Accepts : Option (List (Option (List ℕ))) → Option (List (Option (List ℕ))) → List (Option (List ℕ)) → Type 0
+Accepts None after inputs = Unit {0}
+Accepts (Some before) after inputs = after ≡ Some (inputs ++ before)
+
 -- the lines of a connection with this input were served on the floor, at most this many
 pub record ServesInput (l : Legalizer) (limit : ℕ) (input : Option (List ℕ)) (old new : FloorState) : Type 0 where
   pub left : Option (List ℕ)
@@ -21,11 +26,20 @@ pub record ServesInput (l : Legalizer) (limit : ℕ) (input : Option (List ℕ))
   pub served : Served
   pub serves : Serves l limit old input left (writer before true false) after served new
 
--- a connection was served to its end, whatever its input was
-abbrev pub HasServed : Legalizer → ℕ → FloorState → FloorState → Type 0
-HasServed l limit old new = (input : Option (List ℕ)) × ServesInput l limit input old new
+-- one connection was accepted, and the lines that its client sends were served
+pub record ServesNext (limit : ℕ) (before after : Option (List (Option (List ℕ)))) (old new : FloorState) : Type 0 where
+  pub input : Option (List ℕ)
+  pub accepted : Accepts before after (input ∷ [])
+  pub serves : (l : Legalizer) → ServesInput l limit input old new
 
--- this many connections were served, one after the other
-abbrev pub Connects : Legalizer → ℕ → ℕ → FloorState → FloorState → Type 0
-Connects l limit zero old new = new ≡ old
-Connects l limit (suc more) old new = (mid : FloorState) × Connects l limit more old mid × HasServed l limit mid new
+-- connections with these inputs, the last one first, were served one after the other
+abbrev pub Connects : Legalizer → ℕ → List (Option (List ℕ)) → FloorState → FloorState → Type 0
+Connects l limit [] old new = new ≡ old
+Connects l limit (input ∷ earlier) old new = (mid : FloorState) × Connects l limit earlier old mid × ServesInput l limit input mid new
+
+-- so many connections were accepted, and the lines that their clients send were served, one connection after the other
+pub record AreServed (limit count : ℕ) (before after : Option (List (Option (List ℕ)))) (old new : FloorState) : Type 0 where
+  pub inputs : List (Option (List ℕ))
+  pub counted : length inputs ≡ count
+  pub accepted : Accepts before after inputs
+  pub connects : (l : Legalizer) → Connects l limit inputs old new

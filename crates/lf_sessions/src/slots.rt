@@ -1,6 +1,6 @@
 //! The session slots of one team.
 
-ghost use Rattle.std.specs.Prelude.{◌≡◌, ◌<◌, if◌then◌else◌, IfOk, IfSome, MatchOption, None, Some, is_none, is_some, length, position, replicate, slice_set};
+ghost use Rattle.std.specs.Prelude.{◌≡◌, ◌<◌, ◌≤◌, if◌then◌else◌, IfOk, IfSome, MatchOption, None, Some, is_none, is_some, length, position, replicate, slice_set};
 ghost use Rattle.lf_sessions.specs.Slots.{seen_at};
 
 use std::alloc::{AllocError, Global};
@@ -39,6 +39,21 @@ impl Slots {
         Ok(Slots {
             slots: vec![in alloc; None; count as usize]?,
         })
+    }
+
+    /// These slots, at most as many as 32 bits number.
+    pub(crate) fn of(slots: Vec<Option<u32>>) -> Self
+        requires { length slots.items ≤ 4294967295 }
+        ensures { result ≡ slots.items }
+    {
+        Slots { slots }
+    }
+
+    /// The slots, in their order.
+    pub(crate) fn as_slice(&self) -> &[Option<u32>]
+        ensures { result.now ≡ self.now }
+    {
+        self.slots.as_slice()
     }
 
     /// Takes the least free slot for a session that has seen this revision; none if all are taken.

@@ -1,6 +1,6 @@
 //! The table of all teams' session slots.
 
-ghost use Rattle.std.specs.Prelude.{◌≡◌, if◌then◌else◌, IfOk, MatchOption, None, Some, is_none, is_some, length, position, replicate};
+ghost use Rattle.std.specs.Prelude.{◌≡◌, ◌<◌, ◌≤◌, if◌then◌else◌, IfOk, MatchOption, None, Some, is_none, is_some, length, position, replicate, slice_set};
 ghost use Rattle.lf_sessions.specs.Slots.{seen_at, slots_of, with_slot};
 
 use crate::slots::Slots;
@@ -37,6 +37,26 @@ impl SessionTable {
             table.push(Slots::free(alloc, slots)?)?;
         }
         Ok(SessionTable { teams: table })
+    }
+
+    /// The slots of the team: for each the revision that its session has seen, none if it is free. There are none if there is
+    /// no such team.
+    pub fn slots(&self, team: usize) -> &[Option<u32>]
+        ensures { result.now ≡ slots_of self.now team }
+    {
+        match self.teams.get(team) {
+            Some(slots) => slots.as_slice(),
+            None => &[],
+        }
+    }
+
+    /// Gives the team these slots, at most as many as 32 bits number, in place of those that it has; no other team's change.
+    pub fn set_slots(&mut self, team: usize, slots: Vec<Option<u32>>)
+        requires team { team < length self.old }
+        requires few { length slots.items ≤ 4294967295 }
+        ensures { self.new ≡ slice_set self.old team slots.items }
+    {
+        self.teams[team] = Slots::of(slots);
     }
 
     /// Opens a session of the team, which has seen this revision: takes the team's least free slot

@@ -1,5 +1,5 @@
 -- What a state text says of the teams of a design, and how it is written.
-use Rattle.std.specs.Prelude.{◌≡◌, ℕ, ◌<◌, ◌≤◌, ◌^◌, ◌<ℤ◌, pos, List, [], ◌∷◌, ◌++◌, length, map, Option, IfSome, codes}
+use Rattle.std.specs.Prelude.{◌≡◌, ℕ, ◌<◌, ◌≤◌, ◌^◌, ◌<ℤ◌, pos, List, [], ◌∷◌, ◌++◌, All, length, map, filter, nat_lt, Option, IfSome, codes, slice_index_or}
 use Rattle.std.specs.List.{flat_map, AllByRecursion}
 use Rattle.std.specs.Fmt.{decimal}
 use Rattle.lf_floorplan.specs.declared.limits.Limits.{Limits}
@@ -26,6 +26,14 @@ team_view t = record { revision = t.revision; padding = t.padding.sites; slots =
 
 abbrev pub team_views : List TeamRow → List SavedTeam
 team_views teams = map team_view teams
+
+-- the team of that number, which there must be
+abbrev pub saved_at : List SavedTeam → ℕ → SavedTeam
+saved_at teams team = slice_index_or teams team record { revision = 0; padding = 0; slots = []; cells = []; entries = [] }
+
+-- the moves of so many cells: a move of no cell changes nothing, and is not told
+abbrev pub moves_within : ℕ → List Move → List Move
+moves_within cells moves = filter (λ m. nat_lt m.own cells) moves
 
 -- ---- lines
 
@@ -106,6 +114,12 @@ IsSpottedCell c = IfSome c.working IsSpot × IfSome c.committed IsSpot
 
 abbrev pub IsSpottedEntry : List Move → Type 0
 IsSpottedEntry moves = (length moves < 2 ^ 32) × AllByRecursion (λ m. IfSome m.old IsSpot) moves
+
+-- so are those of the team's cells and undo entries, and its padding is one
+pub record IsInRange (t : SavedTeam) : Type 0 where
+  pub padding : t.padding ≤ 16
+  pub cells : All IsSpottedCell t.cells
+  pub entries : All IsSpottedEntry t.entries
 
 -- the numbers of the team have words
 pub record HasWords (t : SavedTeam) : Type 0 where

@@ -1,20 +1,24 @@
 //! A state text as it is written.
 
-ghost use Rattle.std.specs.Prelude.{◌≡◌, ◌∷◌, Some, map};
+ghost use Rattle.std.specs.Prelude.{◌≡◌, ◌∷◌, ◌<◌, ◌≤◌, All, IfSome, Some, count_by, length, map, nat_lt, slice_get};
 ghost use Rattle.std.specs.List.{flat_map};
 ghost use Rattle.lf_lex.specs.Splices.{spaced};
 ghost use Rattle.lf_texts.specs.Output.{Puts};
 ghost use Rattle.lf_texts.specs.TeamText.{line_of};
 ghost use Rattle.lf_state.specs.Designs.{team_of};
-ghost use Rattle.lf_state.specs.Saved.{cell_line, entry_lines, head_line, lines_of, move_line, opening_lines, slot_line, state_text, team_lines, team_view, team_views};
-ghost use Rattle.lf_state.specs.Writing.{line_at, word_text};
+ghost use Rattle.lf_state.specs.Saved.{IsInRange, IsSpottedCell, IsSpottedEntry};
+ghost use Rattle.lf_state.specs.Saved.{cell_line, entry_lines, head_line, lines_of, move_line, moves_within, opening_lines, slot_line, state_text, saved_at, team_lines};
+ghost use Rattle.lf_state.specs.Writing.{entry_if, line_at, move_within, word_text};
 ghost use Rattle.lf_state.specs.Words.{place_text};
 
-use crate::design::Design;
-use crate::rows::{SavedCell, TeamRow};
+use crate::design::{Design, name_of_team};
+use crate::ranges::{cell_known, moves_known};
+use crate::rows::SavedCell;
+use crate::teams::Teams;
 use itoa::Buffer;
 use lf_floorplan::{PackedPlace, Place};
 use lf_orient::orient_word;
+use lf_rules::Padding;
 use lf_texts::Output;
 use lf_undo::{Move, Moves};
 
@@ -93,29 +97,36 @@ fn put_cell<O: Output>(out: &mut O, name: &[u8], cell: &SavedCell)
     );
 }
 
-/// Puts the line of the team's cell of that position, where the design and the list have one.
-fn put_cell_at<O: Output, D: Design>(
+/// Puts the line of the team's cell of that position, where the design and the teams have one.
+fn put_cell_at<O: Output, D: Design, T: Teams>(
     out: &mut O,
     design: &D,
+    teams: &T,
     team: usize,
     own: usize,
-    cells: &[SavedCell],
 )
-    ensures { Puts O.took out.old out.new (line_at cell_line (team_of (D.named design.now) team).cells cells.now own) }
+    requires { team < length (T.saved teams.now) }
+    ensures text { Puts O.took out.old out.new
+        (line_at cell_line (team_of (D.named design.now) team).cells (saved_at (T.saved teams.now) team).cells own) }
+    ensures spotted { IfSome (slice_get (saved_at (T.saved teams.now) team).cells own) IsSpottedCell }
 {
-    if let Some(name) = design.cell_name(team, own) {
-        if let Some(cell) = cells.get(own) {
-            put_cell(out, name, cell);
+    if let Some(cell) = teams.cell(team, own) {
+        cell_known(&cell);
+        if let Some(name) = design.cell_name(team, own) {
+            put_cell(out, name, &cell);
         }
     }
 }
 
 /// Puts the lines of the team's cells.
-fn put_cells<O: Output, D: Design>(out: &mut O, design: &D, team: usize, cells: &[SavedCell])
-    ensures { Puts O.took out.old out.new (lines_of cell_line (team_of (D.named design.now) team).cells cells.now) }
+fn put_cells<O: Output, D: Design, T: Teams>(out: &mut O, design: &D, teams: &T, team: usize)
+    requires { team < length (T.saved teams.now) }
+    ensures text { Puts O.took out.old out.new
+        (lines_of cell_line (team_of (D.named design.now) team).cells (saved_at (T.saved teams.now) team).cells) }
+    ensures spotted { All IsSpottedCell (saved_at (T.saved teams.now) team).cells }
 {
-    for own in 0..cells.len() {
-        put_cell_at(out, design, team, own, cells);
+    for own in 0..teams.cell_count(team) {
+        put_cell_at(out, design, teams, team, own);
     }
 }
 
@@ -130,78 +141,121 @@ fn put_move<O: Output>(out: &mut O, made: &Move)
     );
 }
 
-/// Puts the lines of moves.
-fn put_moves<O: Output>(out: &mut O, moves: &[Move])
-    ensures { Puts O.took out.old out.new (flat_map move_line moves.now) }
+/// Puts the line of a move, where it is one of so many cells.
+fn put_move_within<O: Output>(out: &mut O, cells: usize, made: &Move)
+    ensures { Puts O.took out.old out.new (move_within cells made.now) }
 {
-    for made in moves {
+    if (made.own as usize) < cells {
         put_move(out, made);
     }
 }
 
-/// Puts the lines of an undo entry.
-fn put_entry<O: Output>(out: &mut O, entry: &Moves)
-    ensures { Puts O.took out.old out.new (entry_lines entry.now) }
+/// Puts the lines of moves of so many cells.
+fn put_moves<O: Output>(out: &mut O, cells: usize, moves: &[Move])
+    ensures { Puts O.took out.old out.new (flat_map (move_within cells) moves.now) }
 {
-    let moves = entry.as_slice();
-    put_line(out, &Word::Text(b"undo"), &[Word::Count(moves.len())]);
-    put_moves(out, moves);
-}
-
-/// Puts the lines of the undo entries.
-fn put_entries<O: Output>(out: &mut O, entries: &[Moves])
-    ensures { Puts O.took out.old out.new (flat_map entry_lines entries.now) }
-{
-    for entry in entries {
-        put_entry(out, entry);
+    for made in moves {
+        put_move_within(out, cells, made);
     }
 }
 
-/// Puts the first line of the team of that name.
-fn put_head<O: Output>(out: &mut O, name: &[u8], team: &TeamRow)
-    ensures { Puts O.took out.old out.new (head_line name.now (team_view team.now)) }
+/// How many moves are of so many cells.
+fn count_within(cells: usize, moves: &[Move]) -> usize
+    ensures { result ≡ count_by (λ m. nat_lt m.own cells) moves.now }
 {
+    moves
+        .iter()
+        .filter(|made| (made.own as usize) < cells)
+        .count()
+}
+
+/// Puts the lines of an undo entry of a team of so many cells.
+fn put_entry<O: Output>(out: &mut O, cells: usize, entry: &Moves)
+    ensures text { Puts O.took out.old out.new (entry_lines (moves_within cells entry.now)) }
+    ensures spotted { IsSpottedEntry (moves_within cells entry.now) }
+{
+    entry.are_few();
+    moves_known(entry);
+    let moves = entry.as_slice();
+    let count = count_within(cells, moves);
+    put_line(out, &Word::Text(b"undo"), &[Word::Count(count)]);
+    put_moves(out, cells, moves);
+}
+
+/// Puts the lines of the team's undo entry of that position, where it has one.
+fn put_entry_at<O: Output, T: Teams>(out: &mut O, teams: &T, team: usize, newer: usize)
+    requires { team < length (T.saved teams.now) }
+    ensures text { Puts O.took out.old out.new (entry_if (slice_get (saved_at (T.saved teams.now) team).entries newer)) }
+    ensures spotted { IfSome (slice_get (saved_at (T.saved teams.now) team).entries newer) IsSpottedEntry }
+{
+    let cells = teams.cell_count(team);
+    match teams.entry(team, newer) {
+        None => {}
+        Some(entry) => put_entry(out, cells, entry),
+    }
+}
+
+/// Puts the lines of the team's undo entries.
+fn put_entries<O: Output, T: Teams>(out: &mut O, teams: &T, team: usize)
+    requires { team < length (T.saved teams.now) }
+    ensures text { Puts O.took out.old out.new (flat_map entry_lines (saved_at (T.saved teams.now) team).entries) }
+    ensures spotted { All IsSpottedEntry (saved_at (T.saved teams.now) team).entries }
+{
+    for newer in 0..teams.entry_count(team) {
+        put_entry_at(out, teams, team, newer);
+    }
+}
+
+/// The core sites of a padding, which has at most 16.
+fn sites_of(padding: Padding) -> usize
+    ensures is { result ≡ padding.sites }
+    ensures most { padding.sites ≤ 16 }
+{
+    padding.sites as usize
+}
+
+/// Puts the first line of the team of that name.
+fn put_head<O: Output, T: Teams>(out: &mut O, name: &[u8], teams: &T, team: usize)
+    requires { team < length (T.saved teams.now) }
+    ensures text { Puts O.took out.old out.new (head_line name.now (saved_at (T.saved teams.now) team)) }
+    ensures padding { (saved_at (T.saved teams.now) team).padding ≤ 16 }
+{
+    let sites = sites_of(teams.padding(team));
     put_line(
         out,
         &Word::Text(b"team"),
         &[
             Word::Text(name),
-            Word::Count(team.revision as usize),
-            Word::Count(team.padding.sites as usize),
-            Word::Count(team.slots.len()),
-            Word::Count(team.cells.len()),
-            Word::Count(team.entries.len()),
+            Word::Count(teams.revision(team) as usize),
+            Word::Count(sites),
+            Word::Count(teams.slots(team).len()),
+            Word::Count(teams.cell_count(team)),
+            Word::Count(teams.entry_count(team)),
         ],
     );
 }
 
-/// Puts the lines of the team of that number and name.
-fn put_team<O: Output, D: Design>(out: &mut O, design: &D, team: usize, name: &[u8], row: &TeamRow)
-    ensures { Puts O.took out.old out.new (team_lines (record { name = name.now; cells = (team_of (D.named design.now) team).cells }) (team_view row.now)) }
+/// Puts the lines of the team of that number.
+fn put_team<O: Output, D: Design, T: Teams>(out: &mut O, design: &D, teams: &T, team: usize)
+    requires named { team < length (D.named design.now).teams }
+    requires told { team < length (T.saved teams.now) }
+    ensures text { Puts O.took out.old out.new (team_lines (team_of (D.named design.now) team) (saved_at (T.saved teams.now) team)) }
+    ensures in_range { IsInRange (saved_at (T.saved teams.now) team) }
 {
-    put_head(out, name, row);
-    put_slots(out, row.slots.as_slice());
-    put_cells(out, design, team, row.cells.as_slice());
-    put_entries(out, row.entries.as_slice());
-}
-
-/// Puts the lines of the team of that number, where the design and the list have one.
-fn put_team_at<O: Output, D: Design>(out: &mut O, design: &D, team: usize, rows: &[TeamRow])
-    ensures { Puts O.took out.old out.new (line_at team_lines (D.named design.now).teams (team_views rows.now) team) }
-{
-    if let Some(name) = design.team_name(team) {
-        if let Some(row) = rows.get(team) {
-            put_team(out, design, team, name, row);
-        }
-    }
+    put_head(out, name_of_team(design, team), teams, team);
+    put_slots(out, teams.slots(team));
+    put_cells(out, design, teams, team);
+    put_entries(out, teams, team);
 }
 
 /// Puts the lines of the teams.
-fn put_teams<O: Output, D: Design>(out: &mut O, design: &D, rows: &[TeamRow])
-    ensures { Puts O.took out.old out.new (lines_of team_lines (D.named design.now).teams (team_views rows.now)) }
+fn put_teams<O: Output, D: Design, T: Teams>(out: &mut O, design: &D, teams: &T)
+    requires { length (T.saved teams.now) ≡ length (D.named design.now).teams }
+    ensures text { Puts O.took out.old out.new (lines_of team_lines (D.named design.now).teams (T.saved teams.now)) }
+    ensures in_range { All IsInRange (T.saved teams.now) }
 {
-    for team in 0..rows.len() {
-        put_team_at(out, design, team, rows);
+    for team in 0..design.team_count() {
+        put_team(out, design, teams, team);
     }
 }
 
@@ -213,10 +267,13 @@ fn put_opening<O: Output>(out: &mut O, count: usize)
     put_line(out, &Word::Text(b"teams"), &[Word::Count(count)]);
 }
 
-/// Puts the state text of the design's teams, of which these are the rows, and takes no memory.
-pub fn put_state<O: Output, D: Design>(out: &mut O, design: &D, rows: &[TeamRow])
-    ensures { Puts O.took out.old out.new (state_text (D.named design.now) (team_views rows.now)) }
+/// Puts the state text of the design's teams, of each of which the other tells, and takes no memory.
+pub fn put_state<O: Output, D: Design, T: Teams>(out: &mut O, design: &D, teams: &T)
+    requires { length (T.saved teams.now) ≡ length (D.named design.now).teams }
+    ensures text { Puts O.took out.old out.new (state_text (D.named design.now) (T.saved teams.now)) }
+    // Each place that is told has a text, and each number can be read.
+    ensures in_range { All IsInRange (T.saved teams.now) }
 {
     put_opening(out, design.team_count());
-    put_teams(out, design, rows);
+    put_teams(out, design, teams);
 }

@@ -16,7 +16,7 @@ use Rattle.lf_proto.specs.declared.reply.Refusal.TheVariants.{NoTeam}
 use Rattle.lf_teams.specs.States.{TeamState, FloorState}
 use Rattle.lf_teams.specs.Teams.{setting, team_names, team_number, state_at, state_of}
 use Rattle.lf_teams.specs.Outcomes.{is_short}
-use Rattle.lf_teams.specs.Verbs.{takes_memory}
+use Rattle.lf_teams.specs.Verbs.{is_tested, takes_memory}
 use Rattle.lf_teams.specs.Steps.{Answer, ruled, no_team, settled, answer_by, answer_at, answer_of, Answers, Gives, RunsShort, StaysShort, Step, IsTo}
 use Rattle.lf_teams.proofs.Kept.{never_short}
 
@@ -65,19 +65,24 @@ answer_plain l floor Bye = refl
 answer_plain l floor (To name order) = at_plain l floor order (team_number floor.frame name)
 
 takes_some : (l : Legalizer) (old new : FloorState) (name : List ℕ) (order : Order (List ℕ) Place) → takes_memory order ≡ true
-    → StaysShort (answer_of l old (To name order)) old new → RunsShort l old (To name order) new
-takes_some l old new name order takes short = record {
+    → is_tested order (answer_of l old (To name order)).reply ≡ false → StaysShort (answer_of l old (To name order)) old new
+    → RunsShort l old (To name order) new
+takes_some l old new name order takes untested short = record {
   short = short;
   takes = λ none. false_true (sym none ∙ takes);
+  untested = λ tested. false_true (sym untested ∙ tested);
 } where
   false_true : false ≡ true → ⊥
   false_true e = cc
 
 pub some_short : (l : Legalizer) (old new : FloorState) (name : List ℕ) (order : Order (List ℕ) Place) (number : ℕ) → Some number ≡ team_number old.frame name
-    → takes_memory order ≡ true → StaysShort (answer_at (Some number) l old order) old new → RunsShort l old (To name order) new
-some_short l old new name order number some takes short =
+    → takes_memory order ≡ true → is_tested order (answer_at (Some number) l old order).reply ≡ false
+    → StaysShort (answer_at (Some number) l old order) old new → RunsShort l old (To name order) new
+some_short l old new name order number some takes untested short =
     let P : Answer → Type 0 = λ a. StaysShort a old new in
-    takes_some l old new name order takes (subst P (sym (answer_some l old name order number some)) short)
+    let U : Answer → Type 0 = λ a. is_tested order a.reply ≡ false in
+    let back = sym (answer_some l old name order number some) in
+    takes_some l old new name order takes (subst U back untested) (subst P back short)
 
 pub step_of_answer : (l : Legalizer) (old new : FloorState) (command : Command (List ℕ) Place) (reply : Reply) → Answers l old command reply new
     → Step l old command reply new

@@ -109,7 +109,7 @@ opened_team design number =
           (pairs_map opening_cell (λ (a : Cell) (b : Cell). a.name ≢ b.name) own
           (AllPairs-filter (λ (a : LoadedCell) (b : LoadedCell). a.name ≢ b.name) (λ (c : LoadedCell). eqb c.team number) design.cells design.names_differ));
       few_cells = rw (length-map own opening_cell) (omega (arith, few, design.few_cells));
-      few_slots = rw (length-replicate {A = Option ℕ} design.frame.limits.sessions None) design.frame.limits.allowed.sessions_within.most;
+      all_slots = length-replicate {A = Option ℕ} design.frame.limits.sessions None;
       whole_entries = λ i d within. absurd (omega (arith, within));
       few_entries = omega arith;
       few_revisions = omega arith;

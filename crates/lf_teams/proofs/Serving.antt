@@ -1,5 +1,5 @@
 -- What the outcome of the team at one position is to the floor.
-use Rattle.std.proofs.Common.{◌≡◌, ℕ, List, Option, Some, Result, Ok, Err, ap, sym, ◌∙◌, subst}
+use Rattle.std.proofs.Common.{◌≡◌, ℕ, false, List, Option, Some, Result, Ok, Err, ap, sym, ◌∙◌, subst}
 use Rattle.std.specs.Prelude.{IfOk, OnErr, slice_get, slice_set}
 use Rattle.std.specs.declared.alloc.AllocError.{AllocError}
 use Rattle.std.proofs.lemmas.List.{set-get_or}
@@ -11,6 +11,7 @@ use Rattle.lf_proto.specs.declared.request.Order.{Order}
 use Rattle.lf_teams.specs.Outcomes.{Outcome, Reaches, RunsOut}
 use Rattle.lf_proto.specs.declared.reply.Reply.{Reply}
 use Rattle.lf_teams.specs.States.{TeamState}
+use Rattle.lf_teams.specs.Verbs.{is_tested}
 use Rattle.lf_teams.specs.Steps.{ruled, answer_by, Gives, StaysShort, floor_of}
 
 -- what holds of the team before and of its outcome holds of the team afterwards
@@ -46,6 +47,14 @@ stays_short l f components teams number order s new there out =
           ∙ ap (floor_of f components) (set-get_or teams number s);
       may = out.may;
     }
+
+pub stays_untested : (l : Legalizer) (f : Frame) (components : List (List ℕ)) (teams : List TeamState) (number : ℕ)
+    (order : Order (List ℕ) Place) (s : TeamState)
+    → slice_get teams number ≡ Some s → is_tested order (ruled l f number order s).reply ≡ false
+    → is_tested order (answer_by (slice_get teams number) l (floor_of f components teams) number order).reply ≡ false
+stays_untested l f components teams number order s there untested =
+    let P : Option TeamState → Type 0 = λ o. is_tested order (answer_by o l (floor_of f components teams) number order).reply ≡ false in
+    subst P (sym there) untested
 
 -- two facts that hold if an allocation fails hold together
 pub on_err_both : {T E A B C : Type 0} (result : Result T E) → (A → B → C) → OnErr result A → OnErr result B → OnErr result C

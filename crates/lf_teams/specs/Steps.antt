@@ -16,7 +16,7 @@ use Rattle.lf_proto.specs.declared.reply.Refusal.TheVariants.{NoTeam}
 use Rattle.lf_teams.specs.States.{TeamState, FloorState}
 use Rattle.lf_teams.specs.Teams.{setting, team_number, state_of}
 use Rattle.lf_teams.specs.Outcomes.{Outcome, is_short, may_be_short, places_of}
-use Rattle.lf_teams.specs.Verbs.{outcome_of, takes_memory}
+use Rattle.lf_teams.specs.Verbs.{is_tested, outcome_of, takes_memory}
 use Rattle.lf_teams.specs.VerbLaws.{is_granted, AreLegal, HasLegal, committed_places}
 
 -- the floor of that frame, with these positions of entries and these teams
@@ -66,6 +66,11 @@ abbrev pub TakesNone : Command (List ℕ) Place → Type 0
 TakesNone Bye = Unit {0}
 TakesNone (To team order) = takes_memory order ≡ false
 
+-- the command allocates nothing for this reply, though it may for another one: a place that is refused
+abbrev pub IsTested : Command (List ℕ) Place → Reply → Type 0
+IsTested Bye reply = ⊥
+IsTested (To team order) reply = is_tested order reply ≡ true
+
 -- the reply and the floor are those of the answer
 pub record Gives (answer : Answer) (reply : Reply) (floor : FloorState) : Type 0 where
   pub reply_is : reply ≡ answer.reply
@@ -80,10 +85,11 @@ pub record StaysShort (answer : Answer) (old new : FloorState) : Type 0 where
   pub kept : new ≡ old
   pub may : may_be_short answer.reply ≡ true
 
--- the same, and the command is one that may allocate
+-- the same, and the command is one that may allocate, and does so for this answer
 pub record RunsShort (l : Legalizer) (old : FloorState) (command : Command (List ℕ) Place) (new : FloorState) : Type 0 where
   pub short : StaysShort (answer_of l old command) old new
   pub takes : TakesNone command → ⊥
+  pub untested : IsTested command (answer_of l old command).reply → ⊥
 
 -- a command is answered with this reply, and the floor goes from old to new: the reply is OutOfMemory and the floor stays, or
 -- both are the answer's

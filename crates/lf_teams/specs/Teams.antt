@@ -36,14 +36,14 @@ abbrev pub listed_of : ℕ → Cell → Listed (List ℕ)
 listed_of number c = record { name = c.name; team = number; mac = c.mac; place = c.working }
 
 -- a team of the frame: the macros of its cells are the frame's, of whole size, their names can be written in a text and differ;
--- the numbers of cells, slots, undo entries and revisions are bounded; an undo entry has a place for each cell, and no session
--- has seen a revision above the team's
+-- the numbers of cells, undo entries and revisions are bounded; it has as many slots as the limits say, an undo entry has a place for
+-- each cell, and no session has seen a revision above the team's
 pub record IsTeamOf (f : Frame) (s : TeamState) : Type 0 where
   pub sized : All (λ c. IsSizedCell f c) s.cells
   pub printed : All (λ c. IsName c.name) s.cells
   pub names_differ : AllPairs (λ a b. a ≢ b) (map (λ c. c.name) s.cells)
   pub few_cells : length s.cells ≤ 4000000
-  pub few_slots : length s.slots ≤ 64
+  pub all_slots : length s.slots ≡ f.limits.sessions
   pub whole_entries : All (λ places. length places ≡ length s.cells) s.entries
   pub few_entries : length s.entries ≤ f.limits.undo
   pub few_revisions : s.revision ≤ f.limits.revisions

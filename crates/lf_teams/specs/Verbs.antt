@@ -12,7 +12,9 @@ use Rattle.lf_proto.specs.declared.request.Order.TheVariants.{Open, Within}
 use Rattle.lf_proto.specs.declared.verb.Action.{Action}
 use Rattle.lf_proto.specs.declared.verb.Action.TheVariants.{Close, Sync, Check, Def, Where, Find, Change as Changing}
 use Rattle.lf_proto.specs.declared.verb.Change.{Change}
-use Rattle.lf_proto.specs.declared.verb.Change.TheVariants.{Undo, Commit, Pad}
+use Rattle.lf_proto.specs.declared.verb.Change.TheVariants.{Place as PlaceAt, Undo, Commit, Pad}
+use Rattle.lf_proto.specs.declared.reply.Reply.{Reply}
+use Rattle.lf_proto.specs.declared.reply.Reply.TheVariants.{Refused}
 use Rattle.lf_proto.specs.declared.reply.Refusal.TheVariants.{NoSession, Stale, RevisionsSpent}
 use Rattle.lf_teams.specs.States.{TeamState}
 use Rattle.lf_teams.specs.Teams.{Setting}
@@ -63,6 +65,11 @@ takes_memory (Within session (Where name)) = false
 takes_memory (Within session (Changing Undo)) = false
 takes_memory (Within session (Changing (Pad padding))) = false
 takes_memory _ = true
+
+-- the replies for which such an order allocates nothing: a place is refused by a test that takes no memory
+abbrev pub is_tested : Order (List ℕ) Place → Reply → Bool
+is_tested (Within session (Changing (PlaceAt name place))) (Refused refusal) = true
+is_tested _ _ = false
 
 -- ---- undo
 

@@ -4,6 +4,8 @@
 #[cfg(test)]
 mod shelf;
 #[cfg(test)]
+mod states;
+#[cfg(test)]
 mod tasks;
 #[cfg(test)]
 mod words;

@@ -2,15 +2,13 @@
 
 use crate::shelf::Shelf;
 use lf_app::{
-    Exit, FileTexts, NetServices, Offer, Services, Surroundings, Task, Unbound, Unserved, perform,
-    perform_over,
+    Acceptor, Connection, Exit, FileTexts, NetServices, Offer, Services, Surroundings, Task,
+    Unbound, perform, perform_over,
 };
 use lf_def::W_DEF;
-use lf_devices::{FromRead, Sink, ToWrite};
+use lf_devices::{DeviceFault, FromRead, ToWrite};
 use lf_files::{Exports, Pieces, Unwritten};
-use lf_floor::Floor;
 use lf_lef::W_LEF;
-use lf_legalize::IndexSeeker;
 use lf_server::ServeLimits;
 use lf_tests_texts::with_line;
 use lf_units::Sequence;
@@ -22,30 +20,33 @@ use std::test::Fail;
 
 /// Exported texts: the last one, with its path. Without a path, none can be put.
 #[derive(Drop)]
-struct Kept<'a> {
+pub(crate) struct Kept<'a> {
     path: Option<&'a str>,
-    text: Option<Vec<u8>>,
+    pub(crate) text: Option<Vec<u8>>,
     /// How often a text was to be put, whatever the path and whether it was taken.
     asked: u32,
     /// Whether no text is taken, though the path is.
     is_full: bool,
+    /// Whether a text or its path was not taken.
+    failed: bool,
     alloc: Global,
 }
 
 impl<'a> Kept<'a> {
     /// Takes texts for this path.
-    fn at(alloc: Global, path: Option<&'a str>) -> Self {
+    pub(crate) fn at(alloc: Global, path: Option<&'a str>) -> Self {
         Kept {
             path,
             text: None,
             asked: 0,
             is_full: false,
+            failed: false,
             alloc,
         }
     }
 
     /// Whether a text was put, and the last one is this.
-    fn holds(&self, text: &[u8]) -> bool {
+    pub(crate) fn holds(&self, text: &[u8]) -> bool {
         match &self.text {
             Some(kept) => kept.as_slice() == text,
             None => false,
@@ -54,8 +55,11 @@ impl<'a> Kept<'a> {
 }
 
 impl<'a> Exports for Kept<'a> {
-    fn try_path(&self, path: &str) -> Result<(), Unwritten> {
+    ghost has_failed = { λ k. k.failed };
+
+    fn try_path(&mut self, path: &str) -> Result<(), Unwritten> {
         if self.path != Some(path) {
+            self.failed = true;
             return Err(Unwritten::File);
         }
         Ok(())
@@ -64,6 +68,7 @@ impl<'a> Exports for Kept<'a> {
     fn put<P: Pieces>(&mut self, path: &str, text: &P) -> Result<(), Unwritten> {
         self.asked = self.asked.saturating_add(1);
         if self.is_full || self.path != Some(path) {
+            self.failed = true;
             return Err(Unwritten::File);
         }
         let mut kept = Vec::new(self.alloc);
@@ -82,17 +87,37 @@ impl<'a> Exports for Kept<'a> {
 struct Noted {
     /// The last one.
     offer: Option<Offer>,
+    failed: bool,
+}
+
+impl Noted {
+    /// No service yet.
+    fn new() -> Self {
+        Noted {
+            offer: None,
+            failed: false,
+        }
+    }
+}
+
+impl Acceptor for Noted {
+    type Reader = &'static [u8];
+
+    type Writer = Vec<u8>;
+
+    ghost has_failed = { λ n. n.failed };
+
+    fn accept(&mut self) -> Result<Connection<&'static [u8], Vec<u8>>, DeviceFault> {
+        self.failed = true;
+        Err(DeviceFault)
+    }
 }
 
 impl Services for Noted {
-    fn offer<W: Sink>(
-        &mut self,
-        offer: &Offer,
-        _floor: &mut Floor<IndexSeeker>,
-        _writer: &mut W,
-    ) -> Result<(), Unserved> {
+    fn listen(&mut self, offer: &Offer) -> Result<(), Unbound> {
         self.offer = Some(*offer);
-        Err(Unserved::Bind(Unbound::InUse))
+        self.failed = true;
+        Err(Unbound::InUse)
     }
 }
 
@@ -103,7 +128,9 @@ struct KeptThere<'a, 'b> {
 }
 
 impl<'a, 'b> Exports for KeptThere<'a, 'b> {
-    fn try_path(&self, path: &str) -> Result<(), Unwritten> {
+    ghost has_failed = { λ k. k.kept.now.failed };
+
+    fn try_path(&mut self, path: &str) -> Result<(), Unwritten> {
         self.kept.try_path(path)
     }
 
@@ -118,14 +145,25 @@ struct OfferedThere<'a, V> {
     services: &'a mut V,
 }
 
+impl<'a, V: Acceptor> Acceptor for OfferedThere<'a, V> {
+    type Reader = V::Reader;
+
+    type Writer = V::Writer;
+
+    ghost accepted = { λ s. V.accepted s.services.now };
+
+    ghost offers = { λ s. V.offers s.services.now };
+
+    ghost has_failed = { λ s. V.has_failed s.services.now };
+
+    fn accept(&mut self) -> Result<Connection<V::Reader, V::Writer>, DeviceFault> {
+        self.services.accept()
+    }
+}
+
 impl<'a, V: Services> Services for OfferedThere<'a, V> {
-    fn offer<W: Sink>(
-        &mut self,
-        offer: &Offer,
-        floor: &mut Floor<IndexSeeker>,
-        writer: &mut W,
-    ) -> Result<(), Unserved> {
-        self.services.offer(offer, floor, writer)
+    fn listen(&mut self, offer: &Offer) -> Result<(), Unbound> {
+        self.services.listen(offer)
     }
 }
 
@@ -144,7 +182,7 @@ fn demo<R: Read, W: Write, F: Write>(
     faults: &mut F,
 ) -> End {
     let mut exports = Kept::at(rt.alloc(), None);
-    let mut services = Noted { offer: None };
+    let mut services = Noted::new();
     with_devices(
         rt,
         &[],
@@ -170,9 +208,9 @@ fn told(status: u8) -> End {
 
 /// What a task does: how it ends, what it writes and what it tells of faults.
 #[derive(Drop)]
-struct Run {
+pub(crate) struct Run {
     end: End,
-    written: Vec<u8>,
+    pub(crate) written: Vec<u8>,
     faults: Vec<u8>,
 }
 
@@ -185,12 +223,12 @@ impl Run {
     }
 
     /// Whether it ends with this status, of which all was told, without a text to put, writes this and tells this of faults.
-    fn is(&self, status: u8, written: &str, faults: &str) -> bool {
+    pub(crate) fn is(&self, status: u8, written: &str, faults: &str) -> bool {
         self.ends(told(status), written, faults)
     }
 
     /// The same of a task that was to put one text.
-    fn is_put(&self, status: u8, written: &str, faults: &str) -> bool {
+    pub(crate) fn is_put(&self, status: u8, written: &str, faults: &str) -> bool {
         let end = End {
             asked: 1,
             ..told(status)
@@ -346,19 +384,24 @@ fn offering<V: Services, R: Read>(
 }
 
 /// Does the task over the files on the shelf, with exported texts kept in memory, where no service can be offered.
-fn exporting<R: Read>(
+pub(crate) fn exporting<R: Read>(
     rt: &HostRuntime,
     files: &[(&str, Option<&[u8]>)],
     exports: &mut Kept<'_>,
     task: &Task<'_>,
     reader: &mut R,
 ) -> Run {
-    let mut services = Noted { offer: None };
+    let mut services = Noted::new();
     offering(rt, files, exports, &mut services, task, reader)
 }
 
 /// Does the task over the files on the shelf, where no text can be exported.
-fn done(rt: &HostRuntime, files: &[(&str, Option<&[u8]>)], task: &Task<'_>, input: &str) -> Run {
+pub(crate) fn done(
+    rt: &HostRuntime,
+    files: &[(&str, Option<&[u8]>)],
+    task: &Task<'_>,
+    input: &str,
+) -> Run {
     let mut exports = Kept::at(rt.alloc(), None);
     exporting(rt, files, &mut exports, task, &mut input.as_bytes())
 }
@@ -376,14 +419,16 @@ fn replayed(
     let task = Task::Replay {
         def: "w.def",
         lefs: Sequence::from_vec(Vec::from_slice(rt.alloc(), lefs)?),
+        state: None,
         lines: 1_000_000,
+        save: None,
         export: None,
     };
     Ok(done(rt, files, &task, input))
 }
 
 /// The path of the only LEF file, as a task holds it.
-fn only_lef<'a>(alloc: Global) -> Result<Sequence<&'a str>, AllocError> {
+pub(crate) fn only_lef<'a>(alloc: Global) -> Result<Sequence<&'a str>, AllocError> {
     let paths: &'a [&'a str] = LEFS;
     match Vec::from_slice(alloc, paths) {
         Ok(lefs) => Ok(Sequence::from_vec(lefs)),
@@ -400,7 +445,7 @@ fn check_of_w<'a>(alloc: Global) -> Result<Task<'a>, AllocError> {
 }
 
 /// The sample LEF text as `w.lef`, and this DEF text as `w.def`.
-fn files_of<'a>(def: &'a [u8]) -> [(&'a str, Option<&'a [u8]>); 2] {
+pub(crate) fn files_of<'a>(def: &'a [u8]) -> [(&'a str, Option<&'a [u8]>); 2] {
     [("w.lef", Some(W_LEF)), ("w.def", Some(def))]
 }
 
@@ -447,7 +492,9 @@ fn answers_at_most(
     let task = Task::Replay {
         def: "w.def",
         lefs: only_lef(rt.alloc())?,
+        state: None,
         lines,
+        save: None,
         export: None,
     };
     let run = done(rt, &files_of(W_DEF), &task, "open A\nopen A\nopen A\n");
@@ -667,7 +714,7 @@ fn each_reply_is_flushed(rt: HostRuntime) {
 fn is_output_fault<W: Write>(rt: &HostRuntime, task: &Task<'_>, writer: &mut W) -> bool {
     let files = files_of(W_DEF);
     let mut exports = Kept::at(rt.alloc(), None);
-    let mut services = Noted { offer: None };
+    let mut services = Noted::new();
     let mut faults = Vec::new(rt.alloc());
     let end = with_devices(
         rt,
@@ -695,7 +742,9 @@ fn exporting_replay<'a>(alloc: Global) -> Result<Task<'a>, AllocError> {
     Ok(Task::Replay {
         def: "w.def",
         lefs: only_lef(alloc)?,
+        state: None,
         lines: 1_000_000,
+        save: None,
         export: Some("new.def"),
     })
 }
@@ -785,8 +834,10 @@ fn service<'a>(alloc: Global, port: u16) -> Result<Task<'a>, AllocError> {
     Ok(Task::Serve {
         def: "w.def",
         lefs: only_lef(alloc)?,
+        state: None,
         port,
         connections: 1,
+        save: None,
         export: None,
     })
 }
@@ -815,7 +866,7 @@ fn is_taken(rt: &HostRuntime, port: u16) -> Result<bool, AllocError> {
 fn offered(rt: &HostRuntime) -> Result<Option<Offer>, AllocError> {
     let task = service(rt.alloc(), 5800)?;
     let mut exports = Kept::at(rt.alloc(), None);
-    let mut services = Noted { offer: None };
+    let mut services = Noted::new();
     let mut reader = b"".as_slice();
     let run = offering(
         rt,
@@ -861,7 +912,7 @@ fn a_task_is_done_over_the_files_of_a_runtime(rt: HostRuntime) {
     let mut reader = b"open A\nbye\n".as_slice();
     let mut written = Vec::new(rt.alloc());
     let mut faults = Vec::new(rt.alloc());
-    let status = perform(&rt, &Task::Demo, &mut reader, &mut written, &mut faults);
+    let exit = perform(&rt, &Task::Demo, &mut reader, &mut written, &mut faults);
     let is_done = written.as_slice() == b"ok 0 0\nok\n".as_slice() && faults.is_empty();
-    assert!(rt; status == 0 && is_done);
+    assert!(rt; exit.status == 0 && exit.is_told && is_done);
 }

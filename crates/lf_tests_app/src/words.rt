@@ -8,19 +8,6 @@ use std::test::Fail;
 #[derive(Clone, Copy, PartialEq, Eq)]
 enum Named<'a> {
     Demo,
-    Replay {
-        def: &'a str,
-        lefs: &'a [&'a str],
-        lines: u32,
-        export: Option<&'a str>,
-    },
-    Serve {
-        def: &'a str,
-        lefs: &'a [&'a str],
-        port: u16,
-        connections: u32,
-        export: Option<&'a str>,
-    },
     Check {
         def: &'a str,
         lefs: &'a [&'a str],
@@ -29,6 +16,23 @@ enum Named<'a> {
         def: &'a str,
         lefs: &'a [&'a str],
     },
+    Replay {
+        def: &'a str,
+        lefs: &'a [&'a str],
+        state: Option<&'a str>,
+        lines: u32,
+        save: Option<&'a str>,
+        export: Option<&'a str>,
+    },
+    Serve {
+        def: &'a str,
+        lefs: &'a [&'a str],
+        state: Option<&'a str>,
+        port: u16,
+        connections: u32,
+        save: Option<&'a str>,
+        export: Option<&'a str>,
+    },
     Nothing(UsageFault),
 }
 
@@ -36,30 +40,6 @@ enum Named<'a> {
 fn as_named<'a>(task: &'a Task<'a>) -> Named<'a> {
     match task {
         Task::Demo => Named::Demo,
-        Task::Replay {
-            def,
-            lefs,
-            lines,
-            export,
-        } => Named::Replay {
-            def: *def,
-            lefs: lefs.as_slice(),
-            lines: *lines,
-            export: *export,
-        },
-        Task::Serve {
-            def,
-            lefs,
-            port,
-            connections,
-            export,
-        } => Named::Serve {
-            def: *def,
-            lefs: lefs.as_slice(),
-            port: *port,
-            connections: *connections,
-            export: *export,
-        },
         Task::Check { def, lefs } => Named::Check {
             def: *def,
             lefs: lefs.as_slice(),
@@ -67,6 +47,38 @@ fn as_named<'a>(task: &'a Task<'a>) -> Named<'a> {
         Task::Describe { def, lefs } => Named::Describe {
             def: *def,
             lefs: lefs.as_slice(),
+        },
+        Task::Replay {
+            def,
+            lefs,
+            state,
+            lines,
+            save,
+            export,
+        } => Named::Replay {
+            def: *def,
+            lefs: lefs.as_slice(),
+            state: *state,
+            lines: *lines,
+            save: *save,
+            export: *export,
+        },
+        Task::Serve {
+            def,
+            lefs,
+            state,
+            port,
+            connections,
+            save,
+            export,
+        } => Named::Serve {
+            def: *def,
+            lefs: lefs.as_slice(),
+            state: *state,
+            port: *port,
+            connections: *connections,
+            save: *save,
+            export: *export,
         },
     }
 }
@@ -128,14 +140,18 @@ fn words_name_a_replay(rt: HostRuntime) -> Result<(), Fail> {
     let replay = Named::Replay {
         def: "w.def",
         lefs: &["w.lef", "x.lef"],
+        state: None,
         lines: 1_000_000,
+        save: None,
         export: None,
     };
     assert!(rt; all_name(rt.alloc(), lines.as_slice(), &replay)?);
     let replay = Named::Replay {
         def: "-w.def",
         lefs: &["--"],
+        state: None,
         lines: 1_000_000,
+        save: None,
         export: None,
     };
     assert!(rt; names(rt.alloc(), "lefence replay -- -w.def --", &replay)?);
@@ -152,7 +168,9 @@ fn words_name_the_file_of_an_export(rt: HostRuntime) -> Result<(), Fail> {
         let replay = Named::Replay {
             def: "a",
             lefs: &["b"],
+            state: None,
             lines: 1_000_000,
+            save: None,
             export: Some(path),
         };
         assert!(rt; names(rt.alloc(), line, &replay)?);
@@ -169,7 +187,9 @@ fn words_name_the_most_lines(rt: HostRuntime) -> Result<(), Fail> {
         let replay = Named::Replay {
             def: "a",
             lefs: &["b"],
+            state: None,
             lines,
+            save: None,
             export: None,
         };
         assert!(rt; names(rt.alloc(), line, &replay)?);
@@ -186,12 +206,49 @@ fn words_name_a_service(rt: HostRuntime) -> Result<(), Fail> {
         let service = Named::Serve {
             def: "a",
             lefs: &["b"],
+            state: None,
             port,
             connections: 3,
+            save: None,
             export: None,
         };
         assert!(rt; names(rt.alloc(), line, &service)?);
     }
+    Ok(())
+}
+
+/// A saved state is gone on from, or saved.
+#[test]
+fn words_name_the_files_of_states(rt: HostRuntime) -> Result<(), Fail> {
+    let replay = Named::Replay {
+        def: "a",
+        lefs: &["b"],
+        state: Some("s"),
+        lines: 1_000_000,
+        save: Some("s"),
+        export: None,
+    };
+    let lines = [
+        "lefence replay a b --state s --save s",
+        "lefence replay --save=s a --state=s b",
+    ];
+    assert!(rt; all_name(rt.alloc(), lines.as_slice(), &replay)?);
+    let service = Named::Serve {
+        def: "a",
+        lefs: &["b"],
+        state: None,
+        port: 80,
+        connections: 3,
+        save: Some("s"),
+        export: None,
+    };
+    assert!(rt;
+        names(
+            rt.alloc(),
+            "lefence serve a b --port 80 --save s --connections 3",
+            &service
+        )?
+    );
     Ok(())
 }
 
@@ -223,6 +280,10 @@ fn other_words_are_refused(rt: HostRuntime) -> Result<(), Fail> {
         "lefence replay w.def w.lef --lines 5 --lines 5",
         "lefence describe x.def",
         "lefence describe x.def x.lef --lines 5",
+        "lefence describe x.def x.lef --save s",
+        "lefence check x.def x.lef --state s",
+        "lefence replay x.def x.lef --state s --state s",
+        "lefence replay x.def x.lef --save s --save s",
     ];
     let nothing = Named::Nothing(UsageFault::Usage);
     assert!(rt; all_name(rt.alloc(), lines.as_slice(), &nothing)?);

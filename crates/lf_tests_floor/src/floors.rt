@@ -15,7 +15,7 @@ use std::alloc::{AllocError, Global};
 use std::test::Fail;
 
 /// The floor of the built-in design with a1 and b1 at the lower left corners of their fences.
-fn floor(alloc: Global) -> Result<Floor<PlainSeeker>, Fail> {
+pub(crate) fn floor(alloc: Global) -> Result<Floor<PlainSeeker>, Fail> {
     let def = with_line(alloc, W_DEF, 15, b"- a1 INV + PLACED ( 0 0 ) N ;")?;
     let def = with_line(alloc, &def, 18, b"- b1 INV + PLACED ( 6000 0 ) N ;")?;
     floor_of(alloc, &def)

@@ -1,8 +1,8 @@
 -- A team's chain inside the stacks: what a contract sees of it, and of its changes.
-use Rattle.std.proofs.Common.{◌≡◌, ℕ, suc, ◌+◌, ◌-◌, ◌<◌, List, [], ◌∷◌, length, get_or, take, drop, set, Some, None, sym, ap, subst, ◌∙◌, refl, arith}
+use Rattle.std.proofs.Common.{◌≡◌, ℕ, suc, ◌+◌, ◌-◌, ◌<◌, ◌≤◌, List, [], ◌∷◌, length, get_or, take, drop, set, Some, None, sym, ap, subst, ◌∙◌, refl, arith}
 use Rattle.std.specs.Prelude.{slice_get, map}
 use Rattle.std.proofs.lemmas.List.{length-map}
-use Rattle.std.proofs.lemmas.Option.{slice_get_read}
+use Rattle.std.proofs.lemmas.Option.{slice_get_past, slice_get_read}
 use Rattle.slab.specs.Slab.{Slab, get, slab_len, Updates}
 use Rattle.lf_undo.specs.Stacks.{Stacks, stack_of}
 use Rattle.lf_undo.specs.declared.stacks.Stacks.TheInside.{Inside}
@@ -10,7 +10,7 @@ use Rattle.lf_undo.specs.declared.stacks.Link.{Link}
 use Rattle.lf_undo.specs.declared.stacks.Chain.{Chain}
 use Rattle.lf_undo.specs.Linked.{values_from, chain_values, key_at, Reaches, IsChain, AreLinked}
 use Rattle.lf_undo.proofs.Places.{get_or-image}
-use Rattle.lf_undo.proofs.Chains.{values_at, without_oldest, oldest, reaches, length_values}
+use Rattle.lf_undo.proofs.Chains.{values_at, without_oldest, oldest, reaches, length_values, link_below, reaches_below, value_below}
 use Rattle.lf_undo.proofs.Changes.{Become, popped, shortened, pushed}
 
 module _ {T A : Type 0} where
@@ -83,6 +83,34 @@ module _ {T A : Type 0} where
       let chain = subst (λ (n : ℕ). IsChain look a.owner a.rank team old.0 n c.newest) less old.1 in
       let last = oldest look a.owner a.rank team old.0 (c.depth - 1) c.newest chain in
       (last.link, last.found)
+
+  -- the links of the team are there
+  all_reached : {inside : Inside T A} {now : Stacks T} {team : ℕ} {c : Chain} → IsTeam inside now team c → Reaches (get inside.links) c.depth c.newest
+  all_reached {inside} {now} {team} {c} t =
+      let a = t.linked in
+      let old = a.linked team c t.at in
+      reaches (get inside.links) a.owner a.rank team old.0 c.depth c.newest old.1
+
+  -- so are those above one of them
+  pub reaches_newer : {inside : Inside T A} {now : Stacks T} {team : ℕ} {c : Chain} → IsTeam inside now team c → (newer : ℕ) → newer < c.depth →
+      Reaches (get inside.links) newer c.newest
+  reaches_newer {inside} {now} {team} {c} t newer less = reaches_below (get inside.links) c.depth c.newest (all_reached t) newer (omega arith)
+
+  -- the link below so many newer ones, and its value
+  pub newer_link : {inside : Inside T A} {now : Stacks T} {team : ℕ} {c : Chain} → IsTeam inside now team c → (newer : ℕ) → newer < c.depth →
+      (link : Link T) × (get inside.links (key_at (get inside.links) newer c.newest) ≡ Some link)
+  newer_link {inside} {now} {team} {c} t newer less = link_below (get inside.links) c.depth c.newest (all_reached t) newer less
+
+  pub newer_value : {inside : Inside T A} {now : Stacks T} {team : ℕ} {c : Chain} → IsTeam inside now team c → (newer key : ℕ) (link : Link T) → newer < c.depth →
+      key ≡ key_at (get inside.links) newer c.newest → get inside.links key ≡ Some link → Some link.value ≡ slice_get (stack_of now team) newer
+  newer_value {inside} {now} {team} {c} t newer key link less is found =
+      let look = get inside.links in
+      sym (ap (λ (xs : List T). slice_get xs newer) t.stack
+      ∙ value_below look c.depth c.newest (all_reached t) newer link less (subst (λ (k : ℕ). look k ≡ Some link) is found))
+
+  pub none_newer : {inside : Inside T A} {now : Stacks T} {team : ℕ} {c : Chain} → IsTeam inside now team c → (newer : ℕ) → c.depth ≤ newer →
+      None ≡ slice_get (stack_of now team) newer
+  none_newer {inside} {now} {team} {c} t newer past = sym (slice_get_past (stack_of now team) newer (omega (arith, past, t.depth)))
 
   -- a change of a team's chain, by what a contract sees before it
   told : {inside : Inside T A} {now : Stacks T} {team : ℕ} {c : Chain} → IsTeam inside now team c

@@ -1,6 +1,6 @@
 //! What an undo entry keeps: the cells that a command moved, with the places that they had.
 
-ghost use Rattle.std.specs.Prelude.{◌≡◌, ◌++◌, ◌∷◌, ◌<◌, [], IfOk, OnOk, OnErr, length};
+ghost use Rattle.std.specs.Prelude.{◌≡◌, ◌++◌, ◌∷◌, ◌<◌, ◌≤◌, [], IfOk, OnOk, OnErr, length};
 ghost use Rattle.lf_undo.specs.Entries.{replaced};
 
 use crate::stacks::Stacks;
@@ -28,7 +28,7 @@ impl Move {
     }
 }
 
-/// The moves of one command, in their order. A cell that the command moved twice is there
+/// The moves of one command, in their order, at most 4,294,967,295. A cell that the command moved twice is there
 /// twice.
 #[derive(Drop)]
 pub struct Moves<A: Allocator = Global> {
@@ -41,7 +41,11 @@ impl<A: Allocator> Model for Moves<A> {
 
     ghost Value = { List Move };
 
+    ghost use Rattle.std.specs.Prelude.{◌≤◌, length};
+
     ghost view = { λ m. m.moves.items };
+
+    ghost invariant = { λ m. length m.moves.items ≤ 4294967295 };
 }
 
 impl<A: Allocator> Moves<A> {
@@ -67,11 +71,14 @@ impl<A: Allocator> Moves<A> {
 
     /// Appends a move.
     ///
-    /// `Err` if an allocation fails; the list is then unchanged.
+    /// `Err` if an allocation fails, or there are 4,294,967,295 moves; the list is then unchanged.
     pub fn push(&mut self, moved: Move) -> Result<(), AllocError>
         ensures ok { OnOk result (self.new ≡ self.old ++ moved ∷ []) }
         ensures err { OnErr result (self.new ≡ self.old) }
     {
+        if self.moves.len() >= 4_294_967_295 {
+            return Err(AllocError);
+        }
         self.moves.push(moved)?;
         Ok(())
     }
@@ -82,6 +89,13 @@ impl<A: Allocator> Moves<A> {
         ensures { self.new ≡ replaced self.old at old }
     {
         self.moves[at].old = PackedPlace::of(old);
+    }
+
+    /// A law: there are at most 4,294,967,295 moves.
+    pub fn are_few(&self)
+        ensures { length self.now ≤ 4294967295 }
+    {
+        let _ = &self.moves;
     }
 
     /// The moves, in their order.

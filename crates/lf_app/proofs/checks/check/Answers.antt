@@ -2,8 +2,7 @@ use Rattle.std.proofs.Common.{◌≡◌, ◌⊎◌, inl, map, refl}
 use Rattle.std.proofs.lemmas.Result.{err_from_is_err_and}
 use Rattle.lf_floorplan.specs.declared.loaded.Loaded.{Loaded}
 use Rattle.lf_app.specs.Designs.{IsDesignFault, IsDesignOf}
-use Rattle.lf_app.specs.Exits.{IsReported}
-use Rattle.lf_app.specs.Faults.{IsReportFault}
+use Rattle.lf_app.specs.Exits.{IsReported, IsUnreported}
 use Rattle.lf_app.proofs.TaskSteps.{comes_of, fails}
 use Rattle.lf_app.proofs.WorkSteps.{design_early, first_fails}
 use Rattle.lf_app.proofs.checks.check.Goals as goal
@@ -18,7 +17,8 @@ pub returns-clause-err : goal.returns-clause-err
 returns-clause-err g c =
     let design = IsDesignOf (g.T.Texts.gives c.args.texts.now) c.args.def.now (map (λ lef. lef.now) c.args.lefs.now) in
     let no_design = IsDesignFault (g.T.Texts.gives c.args.texts.now) c.args.def.now (map (λ lef. lef.now) c.args.lefs.now) in
-    fails design c.in_ok-loaded.loaded c.in_ok-loaded.ensures.ok c.check_design.result no_design _ (λ l. IsReportFault) c.check_design.ensures.err
+    fails design c.in_ok-loaded.loaded c.in_ok-loaded.ensures.ok c.check_design.result no_design _
+    (λ l. IsUnreported l (g.W.Sink.contents c.args.writer.now) (g.W.Sink.contents c.check_design.new.writer)) c.check_design.ensures.err
 
 pub returns-in_err-loaded-clause-err : goal.returns-in_err-loaded-clause-err
 returns-in_err-loaded-clause-err g c =
@@ -26,5 +26,6 @@ returns-in_err-loaded-clause-err g c =
     let gives = g.T.Texts.gives c.args.texts.now in
     let lefs = map (λ lef. lef.now) c.args.lefs.now in
     rw (p.1, p.2) (first_fails (IsDesignFault gives c.args.def.now lefs)
-    (λ fault. IsDesignFault gives c.args.def.now lefs fault ⊎ ((loaded : Loaded) × IsDesignOf gives c.args.def.now lefs loaded × IsReportFault fault))
-    (c.args.writer.now ≡ c.args.writer.now) _ _ _ refl c.in_err-loaded.ensures.err (design_early gives c.args.def.now lefs) (λ fault why. inl why))
+    (λ fault. IsDesignFault gives c.args.def.now lefs fault ⊎ ((loaded : Loaded) × IsDesignOf gives c.args.def.now lefs loaded
+    × IsUnreported loaded (g.W.Sink.contents c.args.writer.now) (g.W.Sink.contents c.args.writer.now) fault))
+    (c.args.writer.now ≡ c.args.writer.now) _ _ _ _ _ _ refl refl c.in_err-loaded.ensures.err (design_early gives c.args.def.now lefs) (λ fault why. inl why))

@@ -1,13 +1,12 @@
 use Rattle.std.proofs.Common.{◌≡◌, ◌⊎◌, inl, map, refl}
 use Rattle.std.proofs.lemmas.Result.{err_from_is_err_and}
-use Rattle.lf_app.specs.Faults.{IsDescriptionFault}
-use Rattle.lf_floorplan.specs.declared.loaded.Loaded.{Loaded}
-use Rattle.lf_app.specs.Designs.{IsDesignFault, IsDesignOf, IsLibraryFault, no_library}
+use Rattle.lf_app.specs.Exits.{IsOpenUndescribed}
+use Rattle.lf_app.specs.Designs.{IsDesignFault, IsLibraryFault, no_library}
 use Rattle.lf_app.proofs.WorkSteps.{files_fail, first_fails, library_early, step_fails, weaker_ok}
 use Rattle.lf_app.proofs.descriptions.describe_files.Goals as goal
 
 pub returns-clause-ok : goal.returns-clause-ok
-returns-clause-ok g c = λ input left old_puts new_puts.
+returns-clause-ok g c =
     weaker_ok c.describe_file.result _ _ c.describe_file.ensures.ok
     (λ status is. record {
       text = is.0;
@@ -21,7 +20,7 @@ pub returns-clause-err : goal.returns-clause-err
 returns-clause-err g c =
     step_fails c.describe_file.result _ _ _ c.describe_file.ensures.err
     (λ fault why. files_fail (g.T.Texts.gives c.args.texts.now) c.args.def.now (map (λ lef. lef.now) c.args.lefs.now) c.in_ok-library.library
-    (λ loaded. IsDescriptionFault fault) fault c.in_ok-library.ensures.ok why)
+    (g.W.Sink.contents c.args.writer.now) (g.W.Sink.contents c.describe_file.new.writer) fault c.in_ok-library.ensures.ok why)
 
 pub returns-in_err-library-clause-err : goal.returns-in_err-library-clause-err
 returns-in_err-library-clause-err g c =
@@ -29,5 +28,6 @@ returns-in_err-library-clause-err g c =
     let gives = g.T.Texts.gives c.args.texts.now in
     let lefs = map (λ lef. lef.now) c.args.lefs.now in
     rw (p.1, p.2) (first_fails (IsLibraryFault gives no_library lefs)
-    (λ fault. IsDesignFault gives c.args.def.now lefs fault ⊎ ((loaded : Loaded) × IsDesignOf gives c.args.def.now lefs loaded × IsDescriptionFault fault))
-    (c.args.writer.now ≡ c.args.writer.now) _ _ _ refl c.in_err-library.ensures.err (library_early gives no_library lefs) (λ fault why. inl (inl why)))
+    (λ fault. IsDesignFault gives c.args.def.now lefs fault
+    ⊎ IsOpenUndescribed gives c.args.def.now lefs (g.W.Sink.contents c.args.writer.now) (g.W.Sink.contents c.args.writer.now) fault)
+    (c.args.writer.now ≡ c.args.writer.now) _ _ _ _ _ _ refl refl c.in_err-library.ensures.err (library_early gives no_library lefs) (λ fault why. inl (inl why)))

@@ -5,11 +5,11 @@ use Rattle.std.proofs.lemmas.List.{append-nil}
 use Rattle.lf_rules.specs.declared.report.Violation.{Violation}
 use Rattle.lf_proto.specs.ReportText.{violations_text}
 use Rattle.lf_floor.proofs.Reporting.{one_more_violation}
-use Rattle.lf_app.proofs.Reporting.{all_printed, all_told, told_by}
+use Rattle.lf_app.proofs.Reporting.{all_told, names_printed, told_by}
 use Rattle.lf_app.proofs.reports.put_cells.Goals as goal
 
-pub put_cell-requires : goal.put_cell-requires
-put_cell-requires c = all_printed c.args.loaded.now.frame c.args.loaded.now.cells c.args.loaded.now.cells_known
+pub put_verdict-requires : goal.put_verdict-requires
+put_verdict-requires c = names_printed c.args.loaded.now.frame c.args.loaded.now.cells c.args.loaded.now.cells_known
 
 pub loop-own-init : goal.loop-own-init
 loop-own-init c = λ rest. refl

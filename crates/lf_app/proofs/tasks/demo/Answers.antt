@@ -1,4 +1,5 @@
 use Rattle.lf_def.specs.declared.sample.TheConstants.{W_DEF}
+use Rattle.lf_teams.specs.Designs.{opening}
 use Rattle.lf_lef.specs.declared.sample.TheConstants.{W_LEF}
 use Rattle.lf_app.specs.Designs.{IsTextDesign, IsTextFault}
 use Rattle.lf_app.specs.Exits.{IsLinesFault}
@@ -16,5 +17,5 @@ pub returns-clause-err : goal.returns-clause-err
 returns-clause-err g c =
     fails (IsTextDesign W_DEF.now W_LEF.now) c.in_ok-loaded.loaded c.in_ok-loaded.ensures.ok c.answer_over.result
     (IsTextFault W_DEF.now W_LEF.now) _
-    (λ loaded fault. IsLinesFault most_lines loaded fault (g.R.Source.remaining c.args.reader.now) (g.R.Source.remaining c.answer_over.new.reader)
+    (λ loaded fault. IsLinesFault most_lines (opening loaded) fault (g.R.Source.remaining c.args.reader.now) (g.R.Source.remaining c.answer_over.new.reader)
     (g.W.Sink.contents c.args.writer.now) (g.W.Sink.contents c.answer_over.new.writer)) c.answer_over.ensures.err

@@ -1,7 +1,7 @@
-use Rattle.std.proofs.Common.{map}
-use Rattle.std.specs.Prelude.{option_map}
-use Rattle.lf_app.proofs.TaskSteps.{replay_asks, serve_asks}
-use Rattle.lf_app.proofs.WorkSteps.{also_fails, blames_more}
+use Rattle.std.proofs.Common.{◌∙◌, refl, sym}
+use Rattle.lf_app.specs.Lines.{most_lines}
+use Rattle.lf_app.proofs.Answering.{streams_blame}
+use Rattle.lf_app.proofs.WorkSteps.{also_fails, blames_as, writer_blames}
 use Rattle.lf_app.proofs.tasks.outcome.Goals as goal
 
 pub returns-in-Replay-clause-ok : goal.returns-in-Replay-clause-ok
@@ -15,28 +15,43 @@ returns-in-Serve-clause-ok g c = rw c.in-Serve.is (rw c.as_slice-in-Serve.ensure
 
 pub returns-in-Serve-clause-err : goal.returns-in-Serve-clause-err
 returns-in-Serve-clause-err g c =
-    rw c.in-Serve.is (also_fails c.work-in-Serve.result _ _ _ (rw c.as_slice-in-Serve.ensures at c.work-in-Serve.ensures.err) (blames_more _ _ _))
+    rw c.in-Serve.is (also_fails c.work-in-Serve.result _ _ _ (rw c.as_slice-in-Serve.ensures at c.work-in-Serve.ensures.err)
+    (λ fault blames. blames_as fault _ _ _ _ _ _ _ _ _ _ _ _ blames (λ k. k) (λ none. absurd none) (λ w. w) (λ e. e) (λ s. s) (λ n. n)))
 
 pub returns-in-Check-clause-ok : goal.returns-in-Check-clause-ok
 returns-in-Check-clause-ok g c = rw c.in-Check.is (rw c.as_slice-in-Check.ensures at c.check.ensures.ok)
 
 pub returns-in-Check-clause-err : goal.returns-in-Check-clause-err
 returns-in-Check-clause-err g c =
-    rw c.in-Check.is (also_fails c.check.result _ _ _ (rw c.as_slice-in-Check.ensures at c.check.ensures.err) (blames_more _ _ _))
+    rw c.in-Check.is (also_fails c.check.result _ _ _ (rw c.as_slice-in-Check.ensures at c.check.ensures.err)
+    (λ fault blames. writer_blames fault _ _ _ _ _ _ _ _ blames (λ k. k) (λ same. record { exports = refl; services = refl; reader = refl; writer = same })))
 
 pub returns-in-Describe-clause-ok : goal.returns-in-Describe-clause-ok
-returns-in-Describe-clause-ok g c = rw c.in-Describe.is (rw c.as_slice-in-Describe.ensures at c.describe_files.ensures.ok _ _ _ _)
+returns-in-Describe-clause-ok g c = rw c.in-Describe.is (rw c.as_slice-in-Describe.ensures at c.describe_files.ensures.ok)
 
 pub returns-in-Describe-clause-err : goal.returns-in-Describe-clause-err
 returns-in-Describe-clause-err g c =
-    rw c.in-Describe.is (also_fails c.describe_files.result _ _ _ (rw c.as_slice-in-Describe.ensures at c.describe_files.ensures.err) (blames_more _ _ _))
+    rw c.in-Describe.is (also_fails c.describe_files.result _ _ _ (rw c.as_slice-in-Describe.ensures at c.describe_files.ensures.err)
+    (λ fault blames. writer_blames fault _ _ _ _ _ _ _ _ blames (λ k. k) (λ same. record { exports = refl; services = refl; reader = refl; writer = same })))
+
+pub returns-in-Replay-clause-unput : goal.returns-in-Replay-clause-unput
+returns-in-Replay-clause-unput g c = λ none. c.work.ensures.leaves.unput (rw c.in-Replay.is at none)
+
+pub returns-in-Serve-clause-unput : goal.returns-in-Serve-clause-unput
+returns-in-Serve-clause-unput g c = λ none. c.work-in-Serve.ensures.leaves.unput (rw c.in-Serve.is at none)
 
 pub returns-in-Replay-clause-unasked : goal.returns-in-Replay-clause-unasked
 returns-in-Replay-clause-unasked g c = λ asks.
-    c.work.ensures.leaves.unasked (replay_asks c.in-Replay.def.now (map (λ lef. lef.now) c.in-Replay.lefs) c.in-Replay.lines
-    (option_map (λ path. path.now) c.in-Replay.export) (rw c.in-Replay.is at asks))
+    let none = rw c.in-Replay.is at asks in
+    c.work.ensures.leaves.unasked none.0 none.1
 
 pub returns-in-Serve-clause-unasked : goal.returns-in-Serve-clause-unasked
 returns-in-Serve-clause-unasked g c = λ asks.
-    c.work-in-Serve.ensures.leaves.unasked (serve_asks c.in-Serve.def.now (map (λ lef. lef.now) c.in-Serve.lefs) c.in-Serve.port c.in-Serve.connections
-    (option_map (λ path. path.now) c.in-Serve.export) (rw c.in-Serve.is at asks))
+    let none = rw c.in-Serve.is at asks in
+    c.work-in-Serve.ensures.leaves.unasked none.0 none.1
+
+pub returns-in-Demo-clause-err : goal.returns-in-Demo-clause-err
+returns-in-Demo-clause-err g c =
+    rw c.in-Demo.is (also_fails c.demo.result _ _ _ c.demo.ensures.err
+    (λ fault blames. streams_blame most_lines fault _ _ _ _ _ _ _ _ blames
+    (λ sound. record { exports = refl; services = refl; reader = sound.0 ∙ sym c.requires.ready.readable; writer = sound.1 ∙ sym c.requires.ready.writable })))

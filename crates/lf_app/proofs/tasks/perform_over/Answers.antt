@@ -4,12 +4,13 @@ use Rattle.lf_app.specs.Exits.{IsOutcome}
 use Rattle.lf_app.specs.Faults.{IsDone, IsFailure}
 use Rattle.lf_app.specs.Surroundings.{io_of}
 use Rattle.lf_app.proofs.TaskSteps.{checked, failing, not_both, succeeds}
+use Rattle.lf_app.proofs.WorkSteps.{blames_as}
 use Rattle.lf_app.proofs.tasks.perform_over.Goals as goal
 
 pub returns-in-Ok : goal.returns-in-Ok
 returns-in-Ok g c =
     let gives = g.T.Texts.gives c.args.around.now.texts in
-    let io = io_of g.R.Source.remaining g.W.Sink.contents g.E.Exports.puts c.args.around.now c.outcome.new.around in
+    let io = io_of g.R.Source.remaining g.W.Sink.contents g.E.Exports.puts g.V.Acceptor.accepted c.args.around.now c.outcome.new.around in
     let status = c.done.result.status in
     let is : IsOutcome gives (as_job c.args.task.now) io status =
     subst (λ (n : ℕ). IsOutcome gives (as_job c.args.task.now) io n) (sym c.done.ensures.status) c.in-Ok.ensures.ok in
@@ -22,7 +23,7 @@ returns-in-Ok g c =
       fault = λ failed. absurd (not_both status succeeded failed);
       checked = checked gives c.args.task.now io status is;
       unread = c.in-Ok.ensures.unread;
-      unput = λ failed. absurd (not_both status succeeded failed);
+      unput = λ none failed. absurd (not_both status succeeded failed);
       unasked = c.in-Ok.ensures.unasked;
       offered = λ _. c.in-Ok.ensures.offered;
       unoffered = c.in-Ok.ensures.unoffered;
@@ -41,10 +42,18 @@ returns-in-Err g c =
       outcome = λ succeeded. absurd (not_both status succeeded failed);
       done = λ succeeded. absurd (not_both status succeeded failed);
       told = λ succeeded. absurd (not_both status succeeded failed);
-      fault = λ _. (c.in-Err.fault, c.in-Err.ensures.err, (rw c.in-Err.ensures.keeps.untold at c.tell.ensures.ends));
+      fault = λ _. (
+        c.in-Err.fault,
+        (
+          c.in-Err.ensures.err.0,
+          blames_as c.in-Err.fault _ _ _ _ _ _ _ _ _ _ _ _ c.in-Err.ensures.err.1 (λ k. k) (λ r. r) (λ w. w) (λ e. e) (λ s. s)
+              (λ sound. record { exports = sound.exports; services = sound.services; reader = sound.reader; writer = sound.writer }),
+        ),
+        (rw c.in-Err.ensures.keeps.untold at c.tell.ensures.ends),
+      );
       checked = λ four. absurd (not_both status (inr four) failed);
       unread = c.in-Err.ensures.unread;
-      unput = λ _. c.in-Err.ensures.unput;
+      unput = λ none failed. c.in-Err.ensures.unput none;
       unasked = c.in-Err.ensures.unasked;
       offered = λ succeeded. absurd (not_both status succeeded failed);
       unoffered = c.in-Err.ensures.unoffered;

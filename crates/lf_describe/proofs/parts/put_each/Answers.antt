@@ -17,5 +17,6 @@ loop-part-preserved g c =
     record {
       left = behind_piece (part_text c.args.told.now) parts c.loop-part.part-index _ _ _ _ c.args.waiting.now.items c.loop-part.waiting.items _ (slice_get-get_or parts c.loop-part.part-index _ c.loop-part-test.true)
           c.loop-part.invariant.left c.in_ok-put_part.ensures.ok;
+      failed = c.in_ok-put_part.ensures.failed ∙ c.loop-part.invariant.failed;
       held = c.in_ok-put_part.ensures.held ∙ c.loop-part.invariant.held;
     }

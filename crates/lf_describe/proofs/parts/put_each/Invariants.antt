@@ -8,5 +8,6 @@ use Rattle.lf_describe.proofs.parts.put_each.Given as goal
 abbrev pub invariant-loop-part : goal.invariant-loop-part
 invariant-loop-part g l = record {
   left : Leaves (g.W.Sink.contents l.fn.writer) (g.W.Sink.contents l.writer) (l.fn.waiting.items ++ flat_map (part_text l.told) (take l.part-index l.parts)) l.waiting.items;
+  failed : g.W.Sink.has_failed l.writer ≡ g.W.Sink.has_failed l.fn.writer;
   held : g.W.Sink.holds l.writer ≡ g.W.Sink.holds l.fn.writer;
 }

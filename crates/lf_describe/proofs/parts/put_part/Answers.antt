@@ -17,5 +17,6 @@ loop-number-preserved g c =
     let there = there_is lines c.loop-number.number (omega (arith, c.loop-number-test.true, c.count_in-number-end.ensures)) in
     record {
       left = behind_piece line_text lines c.loop-number.number there.0 _ _ _ c.args.waiting.now.items c.loop-number.waiting.items _ there.1 c.loop-number.invariant.left (c.in_ok-put_number.ensures.ok there.0 there.1);
+      failed = c.in_ok-put_number.ensures.failed ∙ c.loop-number.invariant.failed;
       held = c.in_ok-put_number.ensures.held ∙ c.loop-number.invariant.held;
     }

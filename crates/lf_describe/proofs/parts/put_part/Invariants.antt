@@ -9,5 +9,6 @@ use Rattle.lf_describe.proofs.parts.put_part.Given as goal
 abbrev pub invariant-loop-number : goal.invariant-loop-number
 invariant-loop-number g l = record {
   left : Leaves (g.W.Sink.contents l.fn.writer) (g.W.Sink.contents l.writer) (l.fn.waiting.items ++ flat_map line_text (take l.number (part_lines l.told l.part))) l.waiting.items;
+  failed : g.W.Sink.has_failed l.writer ≡ g.W.Sink.has_failed l.fn.writer;
   held : g.W.Sink.holds l.writer ≡ g.W.Sink.holds l.fn.writer;
 }

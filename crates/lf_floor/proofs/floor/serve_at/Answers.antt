@@ -1,14 +1,14 @@
-use Rattle.std.proofs.Common.{ℕ, Some, subst, sym}
+use Rattle.std.proofs.Common.{◌≡◌, ℕ, Some, false, subst, sym}
 use Rattle.std.specs.Prelude.{IfOk, OnErr}
 use Rattle.lf_teams.specs.Outcomes.{Reaches, RunsOut}
-use Rattle.lf_teams.specs.Verbs.{outcome_of}
+use Rattle.lf_teams.specs.Verbs.{is_tested, outcome_of}
 use Rattle.std.proofs.lemmas.Result.{IfOk-weaker, on_err_weaker}
 use Rattle.lf_proto.specs.Commands.{order_of}
 use Rattle.lf_teams.specs.States.{FloorState, TeamState}
 use Rattle.lf_teams.specs.Steps.{Gives, StaysShort, answer_at}
 use Rattle.lf_teams.specs.Teams.{IsTeamOf, setting}
 use Rattle.lf_teams.proofs.Kept.{verb_keeps}
-use Rattle.lf_teams.proofs.Serving.{kept_by, gives, stays_short}
+use Rattle.lf_teams.proofs.Serving.{kept_by, gives, stays_short, stays_untested}
 use Rattle.lf_floor.specs.Tables.{floor_in, frame_of, own_team, teams_in}
 use Rattle.lf_floor.proofs.Rows.{each_team, floor_changed, served, tables_still, team_there}
 use Rattle.lf_floor.proofs.floor.serve_at.Goals as goal
@@ -41,6 +41,17 @@ returns-clause-err g c = λ l.
     (team_there old number (rw c.requires.tables.revisions c.requires.within)) out)
     (subst (λ (n : ℕ). OnErr c.serve.result
     (RunsOut (outcome_of (setting l (frame_of old) number n) (order_of c.args.order.now) (own_team number old)) (own_team number old) (own_team number new))) c.padding.ensures (c.serve.ensures.err l)))
+
+pub returns-clause-untested : goal.returns-clause-untested
+returns-clause-untested g c = λ l.
+    let number = c.args.number in
+    let old = c.args.tables.now in
+    let order = order_of c.args.order.now in
+    on_err_weaker c.serve.result (λ untested.
+    stays_untested l (frame_of old) old.placement.cells.components (teams_in old) number order (own_team number old)
+    (team_there old number (rw c.requires.tables.revisions c.requires.within)) untested)
+    (subst (λ (n : ℕ). OnErr c.serve.result (is_tested order (outcome_of (setting l (frame_of old) number n) order (own_team number old)).reply ≡ false))
+    c.padding.ensures (c.serve.ensures.untested l))
 
 pub returns-clause-tables : goal.returns-clause-tables
 returns-clause-tables g c =

@@ -1,8 +1,13 @@
 use Rattle.std.proofs.Common.{take}
+use Rattle.std.specs.Prelude.{All}
 use Rattle.lf_texts.specs.Output.{Puts}
 use Rattle.lf_state.specs.Designs.{team_of}
-use Rattle.lf_state.specs.Saved.{cell_line, lines_of}
+use Rattle.lf_state.specs.Saved.{IsSpottedCell, cell_line, lines_of, saved_at}
 use Rattle.lf_state.proofs.writing.put_cells.Given as goal
 
 abbrev pub invariant-loop-own : goal.invariant-loop-own
-invariant-loop-own g l = Puts g.O.Output.took l.fn.out l.out (lines_of cell_line (team_of (g.D.Design.named l.design) l.team).cells (take l.own l.cells))
+invariant-loop-own g l = record {
+  text : Puts g.O.Output.took l.fn.out l.out
+      (lines_of cell_line (team_of (g.D.Design.named l.design) l.team).cells (take l.own (saved_at (g.T.Teams.saved l.teams) l.team).cells));
+  spotted : All IsSpottedCell (take l.own (saved_at (g.T.Teams.saved l.teams) l.team).cells);
+}

@@ -1,0 +1,152 @@
+//! A floor that is restored from a state text.
+
+ghost use Rattle.std.specs.Prelude.{◌≡◌, ◌↔◌, ◌≤◌, [], List, IfErr, IfOk, OnOk, Ok, length};
+ghost use Rattle.lf_rules.specs.FullyLegal.{IsFullyLegal};
+ghost use Rattle.lf_teams.specs.Committed.{IsCommittedLegal};
+ghost use Rattle.lf_teams.specs.States.{FloorState};
+ghost use Rattle.lf_state.specs.declared.fault.StateError.TheVariants.{Memory};
+ghost use Rattle.lf_state.specs.Reading.{FailsAt, GivesAt, state_of};
+ghost use Rattle.lf_state.specs.Saved.{SavedTeam, team_view, team_views, IsTeamOf as IsSavedTeamOf};
+ghost use Rattle.lf_restore.specs.Saved.{AreDue, AreOfOneDesign, IsRestoredFrom, IsStateText, named, named_team, restored, restored_team, saved_design};
+ghost use Rattle.lf_floor.specs.Saving.{HasNumbers};
+ghost use Rattle.lf_floor.specs.Tables.{AreTables, EntriesFit, HasRows, IsServed, OthersStay, floor_in, frame_of, own_team, teams_in};
+
+use crate::floor::Floor;
+use crate::saved::Told;
+use crate::tables::Tables;
+use lf_floorplan::Frame;
+use lf_legalize::Seeker;
+use lf_restore::{restore_cells, restored_is_committed, saved_restores};
+use lf_rules::Padding;
+use lf_state::{StateError, TeamRow, read_state};
+use std::alloc::{AllocError, Global};
+
+/// A law: a frame has at most 64 session slots for each team.
+fn slots_are_few(frame: &Frame)
+    ensures { frame.now.limits.sessions ≤ 64 }
+{
+    let _most = frame.limits.sessions;
+}
+
+/// Gives the team this revision, this padding and these slots.
+fn set_numbers(
+    tables: &mut Tables,
+    number: usize,
+    revision: u32,
+    padding: Padding,
+    slots: Vec<Option<u32>>,
+)
+    requires rows { HasRows number tables.old }
+    requires few { length slots.items ≤ 4294967295 }
+    ensures { HasNumbers number revision padding.sites slots.items tables.old tables.new }
+{
+    tables.revisions[number] = revision;
+    tables.set_padding(number, padding);
+    tables.sessions.set_slots(number, slots);
+}
+
+/// Restores the team of that number, of which the row tells.
+///
+/// `Err` if an allocation fails.
+fn restore_team(
+    alloc: Global,
+    tables: &mut Tables,
+    number: usize,
+    row: TeamRow,
+) -> Result<(), AllocError>
+    requires served { IsServed number tables.old }
+    requires due { IsSavedTeamOf (frame_of tables.old).limits (named_team [] (own_team number tables.old)) (team_view row) }
+    ensures team { OnOk result (own_team number tables.new ≡ restored_team (own_team number tables.old) (team_view row)) }
+    ensures others { OnOk result (OthersStay number tables.old tables.new) }
+    ensures fit { OnOk result (EntriesFit number tables.new) }
+{
+    let TeamRow {
+        revision,
+        padding,
+        slots,
+        cells,
+        entries,
+    } = row;
+    slots_are_few(tables.placement.frame());
+    restore_cells(
+        alloc,
+        &mut tables.placement,
+        &mut tables.undo,
+        number,
+        &cells,
+        entries,
+    )?;
+    set_numbers(tables, number, revision, padding, slots);
+    Ok(())
+}
+
+/// Restores the teams of which the rows tell, from the last to the first.
+///
+/// `Err` if an allocation fails.
+fn restore_teams(alloc: Global, tables: &mut Tables, rows: Vec<TeamRow>) -> Result<(), AllocError>
+    requires tables { AreTables tables.old }
+    requires due { AreDue (frame_of tables.old).limits (teams_in tables.old) (team_views rows.items) }
+    ensures tables { OnOk result (AreTables tables.new) }
+    ensures floor { OnOk result (floor_in tables.new ≡ restored (floor_in tables.old) (team_views rows.items)) }
+{
+    let mut left = rows;
+    while !left.is_empty() {
+        let Some(row) = left.pop() else {
+            unreachable!();
+        };
+        let number = left.as_slice().len();
+        restore_team(alloc, tables, number, row)?;
+    }
+    Ok(())
+}
+
+/// What the text tells of the teams.
+fn read_rows(alloc: Global, tables: &Tables, text: &[u8]) -> Result<Vec<TeamRow>, StateError>
+    requires { AreTables tables.now }
+    ensures exact { GivesAt (λ rows. team_views rows.items) result (state_of (named (floor_in tables.now)) text.now) }
+    ensures due { IfOk result (λ rows. AreDue (frame_of tables.now).limits (teams_in tables.now) (team_views rows.items)) }
+{
+    let told = Told { tables };
+    read_state(alloc, &told, text)
+}
+
+/// Restores the tables from the text.
+fn restore_tables(alloc: Global, tables: &mut Tables, text: &[u8]) -> Result<(), StateError>
+    requires { AreTables tables.old }
+    ensures tables { OnOk result (AreTables tables.new) }
+    ensures restored { OnOk result (IsRestoredFrom (floor_in tables.old) text.now (floor_in tables.new)) }
+    ensures design { OnOk result (AreOfOneDesign (floor_in tables.old) (floor_in tables.new)) }
+    ensures fault { IfErr result (λ error. FailsAt error (state_of (named (floor_in tables.old)) text.now)) }
+{
+    let rows = read_rows(alloc, tables, text)?;
+    match restore_teams(alloc, tables, rows) {
+        Ok(()) => Ok(()),
+        Err(_) => Err(StateError::Memory),
+    }
+}
+
+impl<S: Seeker + Drop> Floor<S> {
+    /// The floor in the state that a state text tells of its design: each cell's working and committed place, and each team's
+    /// revision, padding, session slots and undo entries. A text of a floor of the design brings that floor back. The committed
+    /// design is fully legal iff the committed places that the text tells are.
+    ///
+    /// `Err` with the first fault of a text that tells no state of the design, and its line; or if an allocation fails. The floor
+    /// is then dropped.
+    pub fn restore(self, text: &[u8]) -> Result<Floor<S>, StateError>
+        ensures restored { IfOk result (λ floor. IsRestoredFrom self text.now floor) }
+        ensures fault { IfErr result (λ error. FailsAt error (state_of (named self) text.now)) }
+        ensures again { (saved : FloorState) → AreOfOneDesign self saved → IsStateText saved text.now → IfOk result (λ floor. floor ≡ saved) }
+        ensures again_fails { (saved : FloorState) → AreOfOneDesign self saved → IsStateText saved text.now → IfErr result (λ error. error ≡ Memory) }
+        ensures design { IfOk result (λ floor. AreOfOneDesign self floor) }
+        ensures legal { (saved : List SavedTeam) → state_of (named self) text.now ≡ Ok saved
+            → IfOk result (λ floor. IsCommittedLegal floor ↔ IsFullyLegal self.frame (saved_design self saved)) }
+    {
+        saved_restores();
+        restored_is_committed();
+        let mut floor = self;
+        match restore_tables(floor.alloc, &mut floor.tables, text) {
+            Ok(()) => Ok(floor),
+            Err(error) => Err(error),
+        }
+    }
+}

@@ -1,0 +1,114 @@
+//! Cells of a team that are moved to given places.
+
+ghost use Rattle.std.specs.Prelude.{◌≡◌, ◌<◌, ◌↔◌, IfOk, IsTrue, List, OnOk, length, map};
+ghost use Rattle.lf_cells.specs.Cells.{cells_of};
+ghost use Rattle.lf_undo.specs.declared.moves.Move.{Move};
+ghost use Rattle.lf_undo.specs.Stacks.{Stacks};
+ghost use Rattle.lf_placement.specs.Placings.{SameButPlaces, committed_of, places_of};
+ghost use Rattle.lf_state.specs.Replay.{led};
+ghost use Rattle.lf_restore.specs.Saved.{fixed_of};
+ghost use Rattle.lf_restore.specs.Stands.{LeadsTo, OthersStay};
+
+use lf_cells::CellTable;
+use lf_floorplan::{PackedPlace, Place};
+use lf_placement::Placement;
+use lf_undo::{Move, Moves};
+use std::alloc::{AllocError, Global};
+
+/// Whether both are one place.
+fn is_one_place(a: &Place, b: &Place) -> bool
+    ensures { IsTrue result ↔ a.now ≡ b.now }
+{
+    a.x == b.x && a.y == b.y && a.orient == b.orient
+}
+
+/// Whether both are one place, or both none.
+fn are_alike(a: Option<Place>, b: Option<Place>) -> bool
+    ensures { IsTrue result ↔ a ≡ b }
+{
+    match (a, b) {
+        (Some(a), Some(b)) => is_one_place(&a, &b),
+        (None, None) => true,
+        _ => false,
+    }
+}
+
+/// Puts the move of the team's cell of that position to the place behind the others, where it is elsewhere.
+fn note_move(
+    cells: &CellTable,
+    team: usize,
+    own: usize,
+    place: Option<Place>,
+    moves: &mut Moves,
+) -> Result<(), AllocError>
+    requires { own < length (cells_of cells.now team) }
+    ensures { OnOk result (LeadsTo (places_of (cells_of cells.now team)) own place moves.old moves.new) }
+{
+    let Some(id) = cells.cell_of(team, own) else {
+        unreachable!();
+    };
+    if are_alike(cells.working(id), place) {
+        return Ok(());
+    }
+    moves.push(Move::new(id.own, place))?;
+    Ok(())
+}
+
+/// The moves of the team's cells to these places, of each cell that is elsewhere.
+fn moves_to(
+    alloc: Global,
+    cells: &CellTable,
+    team: usize,
+    places: &[PackedPlace],
+) -> Result<Moves, AllocError>
+    requires { length places.now ≡ length (cells_of cells.now team) }
+    ensures { IfOk result (λ moves. led moves (places_of (cells_of cells.now team)) ≡ places.now) }
+{
+    let mut moves = Moves::new(alloc);
+    for own in 0..places.len() {
+        note_move(cells, team, own, places[own].place(), &mut moves)?;
+    }
+    Ok(moves)
+}
+
+/// Moves the team's cells to these places, of which it has one for each.
+///
+/// `Err` if an allocation fails.
+pub(crate) fn stand_at(
+    alloc: Global,
+    placement: &mut Placement,
+    team: usize,
+    places: &[PackedPlace],
+) -> Result<(), AllocError>
+    requires { length places.now ≡ length (cells_of placement.old.cells team) }
+    ensures places { OnOk result (places_of (cells_of placement.new.cells team) ≡ places.now) }
+    ensures same { OnOk result (SameButPlaces (cells_of placement.old.cells team) (cells_of placement.new.cells team)) }
+    ensures others { (undo : Stacks (List Move)) → OnOk result (OthersStay team placement.old placement.new undo undo) }
+{
+    let mut moves = match moves_to(alloc, placement.cells(), team, places) {
+        Ok(moves) => moves,
+        Err(error) => return Err(error),
+    };
+    placement.reserve(alloc, team, moves.as_slice())?;
+    placement.make(team, &mut moves, 0);
+    Ok(())
+}
+
+/// Moves the team's cells to these places, of which it has one for each, and commits them there.
+///
+/// `Err` if an allocation fails.
+pub(crate) fn commit_at(
+    alloc: Global,
+    placement: &mut Placement,
+    team: usize,
+    places: &[PackedPlace],
+) -> Result<(), AllocError>
+    requires { length places.now ≡ length (cells_of placement.old.cells team) }
+    ensures places { OnOk result (committed_of (cells_of placement.new.cells team) ≡ places.now) }
+    ensures fixed { OnOk result (map fixed_of (cells_of placement.new.cells team) ≡ map fixed_of (cells_of placement.old.cells team)) }
+    ensures others { (undo : Stacks (List Move)) → OnOk result (OthersStay team placement.old placement.new undo undo) }
+{
+    stand_at(alloc, placement, team, places)?;
+    placement.commit_team(team);
+    Ok(())
+}

@@ -1,0 +1,144 @@
+//! States that are saved and gone on from, over files in memory.
+
+use crate::tasks::{Kept, Run, done, exporting, files_of, only_lef};
+use lf_app::Task;
+use lf_def::W_DEF;
+use lf_lef::W_LEF;
+use std::alloc::{AllocError, Global};
+use std::test::Fail;
+
+/// The path of each state.
+const STATE: &str = "w.state";
+
+/// Lines before a state is saved, and behind it.
+const BEFORE: &str = "open A\nplace A 0 a1 0 0 N\ncommit A 0\nplace A 0 a1 400 0 N\nopen B\n\
+    place B 0 b1 6000 0 N\npad B 0 2\n";
+
+const BEHIND: &str =
+    "where A 0 a1\nundo A 0\nwhere A 0 a1\nundo A 0\nwhere A 0 a1\nrevert A 0\nopen A\n\
+    undo A 0\nplace A 1 a2 400 0 N\nsync A 1\nplace A 1 a2 400 0 N\nwhere B 0 b1\ncommit B 0\ncheck B 0\n";
+
+/// The replay of `w.def` over `w.lef` that begins in this state and saves to this path.
+fn replay_of<'a>(
+    alloc: Global,
+    state: Option<&'a str>,
+    save: Option<&'a str>,
+) -> Result<Task<'a>, AllocError> {
+    Ok(Task::Replay {
+        def: "w.def",
+        lefs: only_lef(alloc)?,
+        state,
+        lines: 1_000_000,
+        save,
+        export: None,
+    })
+}
+
+/// The files of the sample, and this text as a state.
+fn files_with<'a>(state: &'a [u8]) -> [(&'a str, Option<&'a [u8]>); 3] {
+    [
+        ("w.lef", Some(W_LEF)),
+        ("w.def", Some(W_DEF)),
+        (STATE, Some(state)),
+    ]
+}
+
+/// What is saved of the floor behind these lines.
+fn saved_behind(rt: &HostRuntime, lines: &str) -> Result<Vec<u8>, AllocError> {
+    let task = replay_of(rt.alloc(), None, Some(STATE))?;
+    let mut exports = Kept::at(rt.alloc(), Some(STATE));
+    let files = files_of(W_DEF);
+    let mut reader = lines.as_bytes();
+    exporting(rt, files.as_slice(), &mut exports, &task, &mut reader);
+    match exports.text {
+        Some(text) => Ok(text),
+        None => Ok(Vec::new(rt.alloc())),
+    }
+}
+
+/// The replay of these lines that begins in this state.
+fn gone_on(rt: &HostRuntime, state: &[u8], lines: &str) -> Result<Run, AllocError> {
+    let task = replay_of(rt.alloc(), Some(STATE), None)?;
+    let files = files_with(state);
+    Ok(done(rt, files.as_slice(), &task, lines))
+}
+
+/// The replay of these lines that begins in no state.
+fn begun(rt: &HostRuntime, lines: &str) -> Result<Run, AllocError> {
+    let task = replay_of(rt.alloc(), None, None)?;
+    let files = files_of(W_DEF);
+    Ok(done(rt, files.as_slice(), &task, lines))
+}
+
+#[test]
+fn a_state_and_the_lines_behind_it_answer_as_all_lines(rt: HostRuntime) -> Result<(), Fail> {
+    let state = saved_behind(&rt, BEFORE)?;
+    let before = begun(&rt, BEFORE)?;
+    let behind = gone_on(&rt, &state, BEHIND)?;
+    let mut lines = Vec::from_slice(rt.alloc(), BEFORE.as_bytes())?;
+    lines.extend_from_slice(BEHIND.as_bytes())?;
+    let mut exports = Kept::at(rt.alloc(), None);
+    let task = replay_of(rt.alloc(), None, None)?;
+    let files = files_of(W_DEF);
+    let mut reader = lines.as_slice();
+    let all = exporting(&rt, files.as_slice(), &mut exports, &task, &mut reader);
+    let mut replies = before.written;
+    replies.extend_from_slice(&behind.written)?;
+    assert!(rt; replies.as_slice() == all.written.as_slice());
+    Ok(())
+}
+
+#[test]
+fn what_is_restored_is_saved_as_it_was(rt: HostRuntime) -> Result<(), Fail> {
+    let state = saved_behind(&rt, BEFORE)?;
+    let task = replay_of(rt.alloc(), Some(STATE), Some(STATE))?;
+    let mut exports = Kept::at(rt.alloc(), Some(STATE));
+    let files = files_with(&state);
+    let mut reader = b"".as_slice();
+    let run = exporting(&rt, files.as_slice(), &mut exports, &task, &mut reader);
+    assert!(rt; run.is_put(0, "", "") && exports.holds(&state));
+    Ok(())
+}
+
+/// Whether a replay in this state is refused with these lines of faults, and answers nothing.
+fn is_refused(rt: &HostRuntime, state: &[u8], faults: &str) -> Result<bool, AllocError> {
+    Ok(gone_on(rt, state, "open A\n")?.is(1, "", faults))
+}
+
+#[test]
+fn a_text_that_tells_no_state_is_refused(rt: HostRuntime) -> Result<(), Fail> {
+    let version = "lefence: 25 OtherVersion line 1\n\
+        lefence: state file w.state, line 1: lefence-state 2\n";
+    assert!(rt; is_refused(&rt, b"lefence-state 2\nteams 3\n", version)?);
+    let design = "lefence: 26 OtherDesign line 2\nlefence: state file w.state, line 2: teams 9\n";
+    assert!(rt; is_refused(&rt, b"lefence-state 1\nteams 9\n", design)?);
+    let end = "lefence: 2 UnexpectedEnd line 3\nlefence: state file w.state, line 3: team\n";
+    assert!(rt; is_refused(&rt, b"lefence-state 1\nteams 3\nteam", end)?);
+    Ok(())
+}
+
+#[test]
+fn a_state_whose_file_is_not_there_is_refused(rt: HostRuntime) -> Result<(), Fail> {
+    let task = replay_of(rt.alloc(), Some(STATE), None)?;
+    let files = files_of(W_DEF);
+    let run = done(&rt, files.as_slice(), &task, "open A\n");
+    let faults = "lefence: File\n\
+        lefence: state file w.state cannot be read: there is no such file\n";
+    assert!(rt; run.is(3, "", faults));
+    Ok(())
+}
+
+#[test]
+fn a_path_that_takes_no_state_is_told_before_the_first_line(rt: HostRuntime) -> Result<(), Fail> {
+    let task = replay_of(rt.alloc(), None, Some(STATE))?;
+    let files = files_of(W_DEF);
+    let run = done(&rt, files.as_slice(), &task, "open A\n");
+    assert!(rt;
+        run.is(
+            3,
+            "",
+            "lefence: File\nlefence: state file w.state cannot be written\n"
+        )
+    );
+    Ok(())
+}

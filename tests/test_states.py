@@ -1,0 +1,301 @@
+"""What `--save` writes and `--state` reads: the bytes, the replies after a restart, the status and the message.
+
+No contract knows what files hold.
+"""
+
+from __future__ import annotations
+
+import os
+import resource
+import signal
+import tempfile
+import unittest
+from pathlib import Path
+
+from program import DEF, DESIGN, LEF, Service, Session, Start, free_port, run
+
+# A session that makes changes, undoes and commits, opens a second session and gives a padding, and its replies.
+LINES = [
+    "open A",
+    "place A 0 a1 0 0 N",
+    "place A 0 a2 400 0 N",
+    "tidy A 0",
+    "commit A 0",
+    "unplace A 0 a1",
+    "open A",
+    "undo A 0",
+    "swap A 0 a1 a2",
+    "open B",
+    "place B 0 b1 6000 0 N",
+    "pad B 0 2",
+    "revert A 0",
+    "undo A 0",
+    "where A 0 a1",
+    "place A 1 a1 0 0 N",
+    "sync A 1",
+    "check B 0",
+    "def A 0",
+    "close A 1",
+    "open A",
+]
+# The state of the small design as it is loaded.
+LOADED = """\
+lefence-state 1
+teams 3
+team A 0 0 8 3 0
+-
+-
+-
+-
+-
+-
+-
+-
+a1 - -
+a2 - -
+a3 - -
+team B 0 0 8 1 0
+-
+-
+-
+-
+-
+-
+-
+-
+b1 - -
+team - 0 0 8 1 0
+-
+-
+-
+-
+-
+-
+-
+-
+g1 - -
+"""
+# The same after team A has opened a session, placed a1, committed and placed a1 again, with the undo entry of that.
+PLACED = (
+    LOADED.replace("team A 0 0 8 3 0\n-\n", "team A 3 0 8 3 2\n3\n")
+    .replace("a1 - -\n", "a1 200,0,N 0,0,N\n")
+    .replace("a3 - -\n", "a3 - -\nundo 1\n0 0,0,N\nundo 1\n0 -\n")
+)
+PLACED_BY = "open A\nplace A 0 a1 0 0 N\ncommit A 0\nplace A 0 a1 200 0 N\n"
+
+
+def joined(lines: list[str]) -> str:
+    return "".join(f"{line}\n" for line in lines)
+
+
+def small_files() -> None:
+    """Before the program begins: no file may grow beyond 100 bytes, and a write beyond fails."""
+    signal.signal(signal.SIGXFSZ, signal.SIG_IGN)
+    resource.setrlimit(resource.RLIMIT_FSIZE, (100, 100))
+
+
+class InFolder(unittest.TestCase):
+    """Tests in a folder of their own."""
+
+    def setUp(self) -> None:
+        folder = tempfile.TemporaryDirectory(prefix="lefence-states-")
+        self.addCleanup(folder.cleanup)
+        self.folder = Path(folder.name).resolve()
+        self.state = self.folder / "w.state"
+
+    def names(self) -> list[str]:
+        """What stands in the folder."""
+        return sorted(path.name for path in self.folder.iterdir())
+
+    def save(self, lines: str, words: list[str] | None = None, start: Start = Start()) -> tuple[int, str, str]:
+        return run(["replay", *DESIGN, *(words or []), "--save", str(self.state)], lines, start)
+
+    def resume(self, lines: str, words: list[str] | None = None) -> tuple[int, str, str]:
+        return run(["replay", *DESIGN, "--state", str(self.state), *(words or [])], lines)
+
+
+class Saved(InFolder):
+    """States that are written and read again."""
+
+    def test_the_text_of_a_loaded_design(self) -> None:
+        self.assertEqual(self.save(""), (0, "", ""))
+        self.assertEqual(self.state.read_text(), LOADED)
+        self.assertEqual(self.names(), ["w.state"])
+
+    def test_the_text_after_changes(self) -> None:
+        self.assertEqual(self.save(PLACED_BY), (0, "ok 0 0\nok 1\nok 2\nok 3\n", ""))
+        self.assertEqual(self.state.read_text(), PLACED)
+
+    def test_a_session_may_be_cut_behind_each_line(self) -> None:
+        _, whole, _ = run(["replay", *DESIGN], joined(LINES))
+        for cut in range(len(LINES) + 1):
+            with self.subTest(cut):
+                status, before, said = self.save(joined(LINES[:cut]))
+                self.assertEqual((status, said), (0, ""))
+                status, after, said = self.resume(joined(LINES[cut:]))
+                self.assertEqual((status, before + after, said), (0, whole, ""))
+
+    def test_a_state_is_gone_on_from_and_saved_over_itself(self) -> None:
+        self.assertEqual(self.save("")[0], 0)
+        replies = ""
+        for line in LINES:
+            status, reply, said = self.resume(f"{line}\n", ["--save", str(self.state)])
+            self.assertEqual((status, said), (0, ""))
+            replies += reply
+        self.assertEqual(replies, run(["replay", *DESIGN], joined(LINES))[1])
+        self.assertEqual(self.names(), ["w.state"])
+
+    def test_what_is_restored_is_what_was_saved(self) -> None:
+        self.assertEqual(self.save(joined(LINES))[0], 0)
+        second = self.folder / "second.state"
+        self.assertEqual(self.resume("", ["--save", str(second)]), (0, "", ""))
+        self.assertEqual(second.read_bytes(), self.state.read_bytes())
+
+    def test_the_export_of_a_restored_floor_is_that_of_the_saved_one(self) -> None:
+        first, second = self.folder / "first.def", self.folder / "second.def"
+        self.assertEqual(self.save(joined(LINES), ["--export", str(first)])[0], 0)
+        self.assertEqual(self.resume("", ["--export", str(second)]), (0, "", ""))
+        self.assertEqual(second.read_bytes(), first.read_bytes())
+        self.assertNotEqual(second.read_bytes(), DEF.read_bytes())
+
+    def test_of_a_service(self) -> None:
+        whole = run(["replay", *DESIGN], joined(LINES))[1]
+        half = len(LINES) // 2
+        with Service(1, [*DESIGN, "--save", str(self.state)]) as service:
+            with service.client() as client:
+                client.send(joined(LINES[:half]).encode())
+                before = client.rest()
+            self.assertEqual(service.end()[0], 0)
+        with Service(1, [*DESIGN, "--state", str(self.state)]) as service:
+            with service.client() as client:
+                client.send(joined(LINES[half:]).encode())
+                after = client.rest()
+            self.assertEqual(service.end()[0], 0)
+        self.assertEqual(before + after, whole)
+
+    def test_over_a_file_that_keeps_its_mode_and_through_a_link(self) -> None:
+        real = self.folder / "real.state"
+        real.write_text("older")
+        real.chmod(0o640)
+        self.state.symlink_to("real.state")
+        self.assertEqual(self.save(""), (0, "", ""))
+        self.assertEqual((real.read_text(), real.stat().st_mode & 0o777), (LOADED, 0o640))
+        self.assertEqual((os.readlink(self.state), self.names()), ("real.state", ["real.state", "w.state"]))
+
+
+class NotSaved(InFolder):
+    """States that are not written: what was there stays as it was."""
+
+    def unsaved(self, target: Path | str) -> str:
+        return f"lefence: File\nlefence: state file {target} cannot be written\n"
+
+    def test_into_a_folder_that_is_missing(self) -> None:
+        missing = self.folder / "missing" / "w.state"
+        words = [*DESIGN, "--save", str(missing)]
+        self.assertEqual(run(["replay", *words], "open A\n"), (3, "", self.unsaved(missing)))
+        bounds = ["--port", str(free_port()), "--connections", "1"]
+        self.assertEqual(run(["serve", *words, *bounds]), (3, "", self.unsaved(missing)))
+        self.assertEqual(self.names(), [])
+
+    def test_the_export_path_is_tried_first(self) -> None:
+        export, save = self.folder / "missing" / "new.def", self.folder / "missing" / "w.state"
+        ran = run(["replay", *DESIGN, "--save", str(save), "--export", str(export)], "open A\n")
+        self.assertEqual(ran, (3, "", f"lefence: File\nlefence: export file {export} cannot be written\n"))
+
+    def test_beyond_a_limit_on_file_size(self) -> None:
+        self.state.write_text("older")
+        self.assertEqual(self.save("open A\n", [], Start(first=small_files)), (3, "ok 0 0\n", self.unsaved(self.state)))
+        self.assertEqual((self.state.read_text(), self.names()), ("older", ["w.state"]))
+
+    def test_where_the_device_is_full_the_text_is_exported(self) -> None:
+        export = self.folder / "new.def"
+        ran = run(["replay", *DESIGN, "--save", "/dev/full", "--export", str(export)], "open A\n")
+        self.assertEqual(ran, (3, "ok 0 0\n", self.unsaved("/dev/full")))
+        self.assertEqual(export.read_bytes(), DEF.read_bytes())
+
+    def test_after_a_fault_of_the_lines(self) -> None:
+        ran = self.save("open A\nopen A\n", ["--lines", "1"])
+        self.assertEqual(ran, (3, "ok 0 0\n", "lefence: TooManyLines\n"))
+        self.assertEqual(self.names(), [])
+
+    def test_after_a_signal(self) -> None:
+        session = Session(["replay", *DESIGN, "--save", str(self.state)])
+        self.assertEqual(session.ask("open A"), "ok 0 0")
+        session.process.send_signal(signal.SIGKILL)
+        self.assertEqual(session.end(), (-signal.SIGKILL, ""))
+        self.assertEqual(self.names(), [])
+
+
+class Refused(InFolder):
+    """Texts that are no state of the design: nothing is answered, written or put."""
+
+    def refuse(self, text: str | bytes, fault: str, line: int, shown: str) -> None:
+        self.state.write_bytes(text if isinstance(text, bytes) else text.encode())
+        save, export = self.folder / "new.state", self.folder / "new.def"
+        told = f"lefence: {fault} line {line}\nlefence: state file {self.state}, line {line}: {shown}\n"
+        words = ["--save", str(save), "--export", str(export)]
+        self.assertEqual(self.resume("open A\n", words), (1, "", told))
+        self.assertEqual(self.names(), ["w.state"])
+
+    def test_a_text_that_ends_early(self) -> None:
+        self.refuse("", "25 OtherVersion", 1, "")
+        self.refuse(LOADED[:20], "2 UnexpectedEnd", 2, LOADED[16:20])
+        for cut in range(len(LOADED)):
+            with self.subTest(cut):
+                self.state.write_text(LOADED[:cut])
+                status, written, said = self.resume("open A\n")
+                self.assertEqual((status, written), (1, ""))
+                self.assertTrue(said.startswith(("lefence: 2 UnexpectedEnd line ", "lefence: 25 OtherVersion line 1\n")), said)
+
+    def test_each_kind_of_fault(self) -> None:
+        cases = [
+            ("lefence-state 1", "lefence-state 2", "25 OtherVersion", 1, "lefence-state 2"),
+            ("teams 3", "teams 2", "26 OtherDesign", 2, "teams 2"),
+            ("teams 3", "team 3", "3 Unexpected", 2, "team 3"),
+            ("team A 3", "team C 3", "26 OtherDesign", 3, "team C 3 0 8 3 2"),
+            ("team A 3 0 8 3 2", "team A 4000000001 0 8 3 2", "27 OutOfRange", 3, "team A 4000000001 0 8 3 2"),
+            ("team A 3 0 8 3 2", "team A 4294967296 0 8 3 2", "4 BadNumber", 3, "team A 4294967296 0 8 3 2"),
+            ("team A 3 0 8 3 2", "team A 3 17 8 3 2", "27 OutOfRange", 3, "team A 3 17 8 3 2"),
+            ("team A 3 0 8 3 2", "team A 3 0 7 3 2", "26 OtherDesign", 3, "team A 3 0 7 3 2"),
+            ("team A 3 0 8 3 2", "team A 3 0 8 4 2", "26 OtherDesign", 3, "team A 3 0 8 4 2"),
+            ("team A 3 0 8 3 2", "team A 3 0 8 3 65", "27 OutOfRange", 3, "team A 3 0 8 3 65"),
+            ("team A 3 0 8 3 2\n3", "team A 3 0 8 3 2\n4", "27 OutOfRange", 4, "4"),
+            ("a2 - -", "a9 - -", "26 OtherDesign", 13, "a9 - -"),
+            ("a2 - -", "a2 -", "4 BadNumber", 13, "a2 -"),
+            ("a2 - -", "a2 - 2147483648,0,N", "4 BadNumber", 13, "a2 - 2147483648,0,N"),
+            ("undo 1\n0 0,0,N", "undo 1\n3 0,0,N", "27 OutOfRange", 16, "3 0,0,N"),
+            ("undo 1\n0 0,0,N", "undo 1\n0 0,0,Q", "4 BadNumber", 16, "0 0,0,Q"),
+        ]
+        for old, new, fault, line, shown in cases:
+            with self.subTest(new):
+                self.assertEqual(PLACED.count(old), 1)
+                self.refuse(PLACED.replace(old, new), fault, line, shown)
+        self.refuse(PLACED + "\n", "3 Unexpected", PLACED.count("\n") + 1, "")
+
+    def test_any_bytes(self) -> None:
+        self.refuse(b"\x1f\x8b\x00" + b"x" * 100, "25 OtherVersion", 1, "\\x1f\\x8b\\x00" + "x" * 77)
+
+    def test_a_state_of_another_design(self) -> None:
+        other = self.folder / "other.def"
+        other.write_text(DEF.read_text().replace("- a3 DBL", "- a4 DBL"))
+        self.assertEqual(run(["replay", str(other), str(LEF), "--save", str(self.state)]), (0, "", ""))
+        line = LOADED.split("\n").index("a3 - -") + 1
+        told = f"lefence: 26 OtherDesign line {line}\nlefence: state file {self.state}, line {line}: a4 - -\n"
+        self.assertEqual(self.resume("open A\n"), (1, "", told))
+
+    def test_a_file_that_cannot_be_read(self) -> None:
+        told = f"lefence: File\nlefence: state file {self.state} cannot be read: there is no such file\n"
+        self.assertEqual(self.resume("open A\n"), (3, "", told))
+        bounds = ["--port", str(free_port()), "--connections", "1"]
+        self.assertEqual(run(["serve", *DESIGN, "--state", str(self.state), *bounds]), (3, "", told))
+
+    def test_the_design_is_refused_before_the_state(self) -> None:
+        broken = self.folder / "broken.def"
+        broken.write_text("VERSION 5.8 ;\n")
+        status, written, said = run(["replay", str(broken), str(LEF), "--state", str(self.state)], "open A\n")
+        self.assertEqual((status, written), (1, ""))
+        self.assertIn("DEF file", said)
+
+
+if __name__ == "__main__":
+    unittest.main()
