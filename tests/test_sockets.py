@@ -210,7 +210,7 @@ class Cut(unittest.TestCase):
         # That interrupts a send that waits, if there is a bound on how long it may.
         count = 1_000_000
         with Service(1) as service, service.client() as client:
-            client.socket.setsockopt(socket.SOL_SOCKET, socket.SO_RCVBUF, 4_096)
+            # (more replies than the system's own buffers take, so that the service has to wait)
             sender = threading.Thread(target=client.send, args=(b"\n" * count,))
             sender.start()
             for _ in range(5):

@@ -75,13 +75,17 @@ team - 0 0 8 1 0
 -
 g1 - -
 """
-# The same after team A has opened a session, placed a1, committed and placed a1 again, with the undo entry of that.
+# The same after team B has opened a session, placed b1, committed and placed b1 again.
+CHANGED = LOADED.replace("team B 0 0 8 1 0\n-\n", "team B 3 0 8 1 2\n3\n").replace(
+    "b1 - -\n", "b1 6200,0,N 6000,0,N\nundo 1\n0 6000,0,N\nundo 1\n0 -\n"
+)
+CHANGED_BY = "open B\nplace B 0 b1 6000 0 N\ncommit B 0\nplace B 0 b1 6200 0 N\n"
+# A state in which not all cells of team A are placed, with two undo entries.
 PLACED = (
     LOADED.replace("team A 0 0 8 3 0\n-\n", "team A 3 0 8 3 2\n3\n")
     .replace("a1 - -\n", "a1 200,0,N 0,0,N\n")
     .replace("a3 - -\n", "a3 - -\nundo 1\n0 0,0,N\nundo 1\n0 -\n")
 )
-PLACED_BY = "open A\nplace A 0 a1 0 0 N\ncommit A 0\nplace A 0 a1 200 0 N\n"
 
 
 def joined(lines: list[str]) -> str:
@@ -123,8 +127,8 @@ class Saved(InFolder):
         self.assertEqual(self.names(), ["w.state"])
 
     def test_the_text_after_changes(self) -> None:
-        self.assertEqual(self.save(PLACED_BY), (0, "ok 0 0\nok 1\nok 2\nok 3\n", ""))
-        self.assertEqual(self.state.read_text(), PLACED)
+        self.assertEqual(self.save(CHANGED_BY), (0, "ok 0 0\nok 1\nok 2\nok 3\n", ""))
+        self.assertEqual(self.state.read_text(), CHANGED)
 
     def test_a_session_may_be_cut_behind_each_line(self) -> None:
         _, whole, _ = run(["replay", *DESIGN], joined(LINES))
