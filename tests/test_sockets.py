@@ -208,9 +208,10 @@ class Cut(unittest.TestCase):
 
     def test_replies_go_on_after_the_service_was_stopped_and_continued(self) -> None:
         # That interrupts a send that waits, if there is a bound on how long it may.
-        count = 1_000_000
+        # (The replies are more than the system's own buffers take, so that the service has to wait.)
+        count = 400_000
         with Service(1) as service, service.client() as client:
-            # (more replies than the system's own buffers take, so that the service has to wait)
+            client.socket.setsockopt(socket.SOL_SOCKET, socket.SO_RCVBUF, 65_536)
             sender = threading.Thread(target=client.send, args=(b"\n" * count,))
             sender.start()
             for _ in range(5):
