@@ -1,7 +1,7 @@
 #!/usr/bin/env python3
 """Plants the wrong bodies that contracts let through, and sees that the named black-box test fails on each.
 
-usage: tools/planted [NAME..]    those of tests/planted/NAME.edit, or all
+usage: tools/planted.py [NAME..]    those of tests/planted/NAME.edit, or all
 
 Such a body gives up, or calls the system otherwise, where no clause can say that it may not. An edit is a line `test:`, a line `file:`,
 and pairs of lines `old:` and `new:`. The committed tree is tried on a copy: the program is built unproved (`rt try`), first as it is,
@@ -51,7 +51,7 @@ def plant(room: Path, edit: Edit) -> str:
     before = text = path.read_text()
     for old, new in edit.changes:
         if text.count(old) != 1:
-            sys.exit(f"tools/planted: {edit.name}: does not stand just once in {edit.file}: {old}")
+            sys.exit(f"tools/planted.py: {edit.name}: does not stand just once in {edit.file}: {old}")
         text = text.replace(old, new)
     path.write_text(text)
     return before
@@ -105,7 +105,7 @@ def build(room: Path, folder: Path) -> None:
     while (found := words_of_program(folder)) is None:
         if trying.poll() is not None or time.monotonic() > end:
             trying.kill()
-            sys.exit(f"tools/planted: cannot be built:\n{(folder / 'built').read_text()}")
+            sys.exit(f"tools/planted.py: cannot be built:\n{(folder / 'built').read_text()}")
         time.sleep(0.2)
     target = room / "crates/lefence/out/lefence"
     target.parent.mkdir(exist_ok=True)
@@ -138,7 +138,7 @@ def main(names: list[str]) -> int:
         build(room, folder)
         for test in sorted({edit.test for edit in edits}):
             if not passes(room, test):
-                sys.exit(f"tools/planted: fails on the program as it is: {test}")
+                sys.exit(f"tools/planted.py: fails on the program as it is: {test}")
         for edit in edits:
             before = plant(room, edit)
             build(room, folder)
