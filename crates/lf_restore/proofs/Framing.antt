@@ -1,7 +1,6 @@
 -- What is restored is a team of the frame, and of the design.
-use Rattle.std.proofs.Common.{◌≡◌, ◌≢◌, ◌≤◌, ◌<◌, ℕ, zero, suc, ◌+◌, List, [], ◌∷◌, ◌++◌, length, map, take, drop, set, get_or, Option, refl, ap, sym, subst, ◌∙◌, arith}
+use Rattle.std.proofs.Common.{◌≡◌, ◌≢◌, ◌≤◌, ◌<◌, ℕ, suc, ◌+◌, List, [], ◌∷◌, ◌++◌, length, map, take, drop, set, get_or, Option, refl, ap, sym, subst, ◌∙◌, arith}
 use Rattle.std.specs.Prelude.{All, AllPairs, IfSome}
-use Rattle.std.specs.List.{AllByRecursion}
 use Rattle.std.proofs.lemmas.List.Elements.{All-from_recursion, All-head, All-nil, All-tail, All-cons}
 use Rattle.std.proofs.lemmas.List.{length-map}
 use Rattle.lf_floorplan.specs.declared.frame.Frame.{Frame}
@@ -9,16 +8,14 @@ use Rattle.lf_floorplan.specs.declared.limits.Limits.{Limits}
 use Rattle.lf_floorplan.specs.Bounds.{IsName}
 use Rattle.lf_cells.specs.declared.cell.Cell.{Cell}
 use Rattle.lf_legalize.specs.Members.{IsSizedCell}
-use Rattle.lf_undo.specs.declared.moves.Move.{Move}
 use Rattle.lf_undo.specs.Entries.{Places, entries_of}
 use Rattle.lf_undo.proofs.Undone.{count_entries, whole_entries}
 use Rattle.lf_teams.specs.States.{FloorState, TeamState}
-use Rattle.lf_teams.specs.Teams.{IsTeamOf, team_names}
+use Rattle.lf_teams.specs.Teams.{IsTeamOf}
 use Rattle.lf_teams.proofs.Kept.{sized_as}
 use Rattle.lf_state.specs.declared.rows.SavedCell.{SavedCell}
-use Rattle.lf_state.specs.Designs.{NamedDesign, NamedTeam}
 use Rattle.lf_state.specs.Saved.{Both, SavedTeam, IsTeamOf as IsSavedTeamOf}
-use Rattle.lf_restore.specs.Saved.{AreDue, AreOfOneDesign, fixed_cells, fixed_of, map_two, named, named_team, restored, restored_cell, restored_team}
+use Rattle.lf_restore.specs.Saved.{AreDue, AreOfOneDesign, fixed_cells, fixed_of, map_two, named_team, restored, restored_cell, restored_team}
 
 -- ---- cells
 

@@ -1,10 +1,9 @@
 -- The committed design of what is restored.
 use Rattle.std.proofs.Common.{◌≡◌, List, [], ◌∷◌, map, refl, ap, sym, subst, ◌∙◌}
-use Rattle.std.specs.Prelude.{◌↔◌}
 use Rattle.lf_rules.specs.FullyLegal.{IsFullyLegal, Standing, standing_from}
 use Rattle.lf_rules.specs.Team.{Member}
 use Rattle.lf_cells.specs.declared.cell.Cell.{Cell}
-use Rattle.lf_teams.specs.Committed.{IsCommittedLegal, committed_design, committed_member, committed_members}
+use Rattle.lf_teams.specs.Committed.{committed_design, committed_member, committed_members}
 use Rattle.lf_teams.specs.States.{FloorState, TeamState}
 use Rattle.lf_state.specs.declared.rows.SavedCell.{SavedCell}
 use Rattle.lf_state.specs.Saved.{SavedTeam}

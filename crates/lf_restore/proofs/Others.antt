@@ -2,11 +2,10 @@
 use Rattle.std.proofs.Common.{◌≡◌, ◌≢◌, ℕ, List, [], refl, sym, ap, subst, ◌∙◌, arith}
 use Rattle.std.specs.Prelude.{slice_index_or, slice_set}
 use Rattle.std.proofs.lemmas.List.{get_or-set_other}
-use Rattle.lf_cells.specs.Cells.{Cells, cells_of}
 use Rattle.lf_undo.specs.declared.moves.Move.{Move}
 use Rattle.lf_undo.specs.Stacks.{Stacks, stack_of}
 use Rattle.lf_occupancy.specs.Occupied.{NoLess}
-use Rattle.lf_placement.specs.Placings.{KeepsRest, OtherCellsStay, Placing, SameButRooms}
+use Rattle.lf_placement.specs.Placings.{KeepsRest, OtherCellsStay, Placing}
 use Rattle.lf_restore.specs.Stands.{OthersStay}
 
 no_less : (rooms : List ℕ) → NoLess rooms rooms
@@ -40,19 +39,6 @@ stay_then team a b c u v w first next = record {
   stacks = λ other apart. next.stacks other apart ∙ first.stacks other apart;
 }
 
--- room is made
-stay_grown : (team : ℕ) (before mid : Placing) (undo ready : Stacks (List Move)) → SameButRooms before mid → ready.lists ≡ undo.lists
-    → OthersStay team before mid undo ready
-stay_grown team before mid undo ready grown lists = record {
-  frame = grown.frame;
-  components = ap (λ (cs : Cells). cs.components) grown.cells;
-  index = grown.index;
-  site = grown.site;
-  rooms = grown.rooms;
-  cells = λ other apart. ap (λ (cs : Cells). cells_of cs other) grown.cells;
-  stacks = λ other apart. ap (λ (l : List (List (List Move))). slice_index_or l other []) lists;
-}
-
 -- moves are made
 stay_led : (team : ℕ) (mid after : Placing) (undo : Stacks (List Move)) → OtherCellsStay team mid.cells after.cells → KeepsRest mid after
     → OthersStay team mid after undo undo
@@ -79,12 +65,6 @@ stay_pushed team p ready done stack lists = record {
   stacks = λ other apart. ap (λ (l : List (List (List Move))). slice_index_or l other []) lists ∙ get_or-set_other ready.lists team other stack [] apart;
 }
 
--- room is made, and moves are made
-pub stay_moved : (team : ℕ) (before mid after : Placing) (undo : Stacks (List Move)) → SameButRooms before mid → OtherCellsStay team mid.cells after.cells
-    → KeepsRest mid after → OthersStay team before after undo undo
-stay_moved team before mid after undo grown others rest =
-    stay_then team before mid after undo undo undo (stay_grown team before mid undo undo grown refl) (stay_led team mid after undo others rest)
-
 -- moves are made and committed
 pub stay_committed : (team : ℕ) (before mid after : Placing) (undo : Stacks (List Move)) → OthersStay team before mid undo undo → OtherCellsStay team mid.cells after.cells
     → KeepsRest mid after → OthersStay team before after undo undo
@@ -104,10 +84,10 @@ stay_forgot team p undo done stacks = record {
   stacks = stacks;
 }
 
--- room is made, moves are made, and pushed
-pub stay_changed : (team : ℕ) (before mid after : Placing) (undo ready done : Stacks (List Move)) (stack : List (List Move))
-    → SameButRooms before mid → ready.lists ≡ undo.lists → OtherCellsStay team mid.cells after.cells → KeepsRest mid after
-    → done.lists ≡ slice_set ready.lists team stack → OthersStay team before after undo done
-stay_changed team before mid after undo ready done stack grown same others rest lists =
-    stay_then team before mid after undo ready done (stay_grown team before mid undo ready grown same)
-    (stay_then team mid after after ready ready done (stay_led team mid after ready others rest) (stay_pushed team after ready done stack lists))
+-- moves are made, and pushed
+pub stay_changed : (team : ℕ) (before after : Placing) (undo ready done : Stacks (List Move)) (stack : List (List Move))
+    → OthersStay team before after undo undo → ready.lists ≡ undo.lists → done.lists ≡ slice_set ready.lists team stack
+    → OthersStay team before after undo done
+stay_changed team before after undo ready done stack stay same lists =
+    stay_then team before after after undo undo done stay
+    (stay_pushed team after undo done stack (subst (λ (l : List (List (List Move))). done.lists ≡ slice_set l team stack) same lists))

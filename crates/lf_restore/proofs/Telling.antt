@@ -1,13 +1,11 @@
 -- What is told of a floor's teams, in range, is saved.
 use Rattle.std.proofs.Common.{◌≡◌, ◌≤◌, ◌<◌, ◌^◌, ℕ, zero, suc, List, [], ◌∷◌, length, map, set, Bool, true, false, cond, nat_lt, Option, refl, ap, sym, subst, ◌∙◌, arith}
-use Rattle.std.specs.Prelude.{All, IfSome, filter}
+use Rattle.std.specs.Prelude.{All, IfSome}
 use Rattle.std.specs.List.{AllByRecursion}
 use Rattle.std.proofs.lemmas.Bool.{ltb-false, ltb-true}
 use Rattle.std.proofs.lemmas.List.{length-map}
 use Rattle.std.proofs.lemmas.List.Elements.{All-head, All-tail, recursion_from_All}
 use Rattle.lf_floorplan.specs.declared.frame.Frame.{Frame}
-use Rattle.lf_floorplan.specs.declared.limits.Limits.{Limits}
-use Rattle.lf_floorplan.specs.declared.place.Place.{Place}
 use Rattle.lf_cells.specs.declared.cell.Cell.{Cell}
 use Rattle.lf_undo.specs.declared.moves.Move.{Move}
 use Rattle.lf_undo.specs.Entries.{Places, entries_of, taken_back}
@@ -15,8 +13,7 @@ use Rattle.lf_undo.proofs.Undone.{count_entries, taken_back_length}
 use Rattle.lf_teams.specs.States.{FloorState, TeamState}
 use Rattle.lf_teams.specs.Teams.{IsTeamOf, team_names}
 use Rattle.lf_teams.specs.Outcomes.{places_of}
-use Rattle.lf_state.specs.declared.rows.SavedCell.{SavedCell}
-use Rattle.lf_state.specs.Designs.{NamedDesign, NamedTeam}
+use Rattle.lf_state.specs.Designs.{NamedDesign}
 use Rattle.lf_state.specs.Saved.{AreSaved, Both, HasWords, IsInRange, IsSpottedCell, IsSpottedEntry, SavedTeam, IsTeamOf as IsSavedTeamOf, moves_within}
 use Rattle.lf_restore.specs.Saved.{Tells, TellsTeam, map_two, named, named_team, saved_cell}
 

@@ -1,10 +1,11 @@
 //! Cells of a team that are moved to given places.
 
 ghost use Rattle.std.specs.Prelude.{◌≡◌, ◌<◌, ◌↔◌, IfOk, IsTrue, List, OnOk, length, map};
-ghost use Rattle.lf_cells.specs.Cells.{cells_of};
+ghost use Rattle.lf_cells.specs.declared.cell.Cell.{Cell};
+ghost use Rattle.lf_cells.specs.Cells.{cells_of, moved};
 ghost use Rattle.lf_undo.specs.declared.moves.Move.{Move};
 ghost use Rattle.lf_undo.specs.Stacks.{Stacks};
-ghost use Rattle.lf_placement.specs.Placings.{SameButPlaces, committed_of, places_of};
+ghost use Rattle.lf_placement.specs.Placings.{HaveMoved, SameButPlaces, committed_of, made, places_of};
 ghost use Rattle.lf_state.specs.Replay.{led};
 ghost use Rattle.lf_restore.specs.Saved.{fixed_of};
 ghost use Rattle.lf_restore.specs.Stands.{LeadsTo, OthersStay};
@@ -71,6 +72,49 @@ fn moves_to(
     Ok(moves)
 }
 
+/// Makes one move of the team's cells, for which room is made first, and puts what takes it back behind the others.
+///
+/// `Err` if an allocation fails; then no cell has moved.
+fn make_one(
+    alloc: Global,
+    placement: &mut Placement,
+    team: usize,
+    step: &Move,
+    back: &mut Moves,
+) -> Result<(), AllocError>
+    ensures own { OnOk result (cells_of placement.new.cells team ≡ moved (cells_of placement.old.cells team) step.now.own step.now.old) }
+    ensures moved { (before : List Cell) → HaveMoved before back.old (cells_of placement.old.cells team)
+        → OnOk result (HaveMoved before back.new (cells_of placement.new.cells team)) }
+    ensures others { (undo : Stacks (List Move)) → OnOk result (OthersStay team placement.old placement.new undo undo) }
+{
+    placement.reserve(alloc, team, &[*step])?;
+    let from = back.as_slice().len();
+    back.push(*step)?;
+    placement.make(team, back, from);
+    Ok(())
+}
+
+/// Makes the moves of the team's cells, in their order, each where room was made for it, and returns what takes them back.
+///
+/// `Err` if an allocation fails.
+pub(crate) fn make_each(
+    alloc: Global,
+    placement: &mut Placement,
+    team: usize,
+    moves: &Moves,
+) -> Result<Moves, AllocError>
+    ensures own { OnOk result (cells_of placement.new.cells team ≡ made moves.now (cells_of placement.old.cells team)) }
+    ensures moved { IfOk result (λ back. HaveMoved (cells_of placement.old.cells team) back (cells_of placement.new.cells team)) }
+    ensures others { (undo : Stacks (List Move)) → OnOk result (OthersStay team placement.old placement.new undo undo) }
+{
+    let steps = moves.as_slice();
+    let mut back = Moves::with_capacity(alloc, steps.len())?;
+    for step in steps {
+        make_one(alloc, placement, team, step, &mut back)?;
+    }
+    Ok(back)
+}
+
 /// Moves the team's cells to these places, of which it has one for each.
 ///
 /// `Err` if an allocation fails.
@@ -85,12 +129,11 @@ pub(crate) fn stand_at(
     ensures same { OnOk result (SameButPlaces (cells_of placement.old.cells team) (cells_of placement.new.cells team)) }
     ensures others { (undo : Stacks (List Move)) → OnOk result (OthersStay team placement.old placement.new undo undo) }
 {
-    let mut moves = match moves_to(alloc, placement.cells(), team, places) {
+    let moves = match moves_to(alloc, placement.cells(), team, places) {
         Ok(moves) => moves,
         Err(error) => return Err(error),
     };
-    placement.reserve(alloc, team, moves.as_slice())?;
-    placement.make(team, &mut moves, 0);
+    make_each(alloc, placement, team, &moves)?;
     Ok(())
 }
 

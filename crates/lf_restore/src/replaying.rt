@@ -7,6 +7,7 @@ ghost use Rattle.lf_placement.specs.Placings.{SameButPlaces};
 ghost use Rattle.lf_state.specs.Replay.{changed, replayed};
 ghost use Rattle.lf_restore.specs.Stands.{EntriesFit, OthersStay, stand_of};
 
+use crate::moving::make_each;
 use lf_placement::{Placement, fits_last};
 use lf_undo::{Moves, UndoStore};
 use std::alloc::{AllocError, Global};
@@ -34,10 +35,8 @@ pub fn change_again(
     fits_last();
     placement.places_stand();
     undo.reserve(team)?;
-    placement.reserve(alloc, team, change.as_slice())?;
-    let mut moves = change;
-    placement.make(team, &mut moves, 0);
-    push_within(undo, team, moves);
+    let back = make_each(alloc, placement, team, &change)?;
+    push_within(undo, team, back);
     Ok(())
 }
 

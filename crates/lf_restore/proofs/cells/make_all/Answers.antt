@@ -1,12 +1,11 @@
-use Rattle.std.proofs.Common.{◌≡◌, ◌<◌, ◌++◌, ℕ, List, [], length, take, drop, ap, sym, subst, ◌∙◌, arith}
-use Rattle.std.specs.Prelude.{All, reverse}
+use Rattle.std.proofs.Common.{◌≡◌, ◌<◌, ◌++◌, List, length, take, drop, ap, sym, subst, ◌∙◌, arith}
+use Rattle.std.specs.Prelude.{All}
 use Rattle.lf_cells.specs.Cells.{cells_of}
 use Rattle.lf_undo.specs.declared.moves.Move.{Move}
 use Rattle.lf_undo.specs.Entries.{Places}
 use Rattle.lf_undo.specs.Stacks.{stack_of}
-use Rattle.lf_placement.specs.Placings.{places_of}
 use Rattle.lf_state.specs.Replay.{all_turned, oldest_places}
-use Rattle.lf_restore.specs.Stands.{EntriesFit, stand_of}
+use Rattle.lf_restore.specs.Stands.{stand_of}
 use Rattle.lf_restore.proofs.Leading.{as_many_turned, all_made, no_entry_fits, oldest_many, whole_slice}
 use Rattle.lf_restore.proofs.Others.{stay_then}
 use Rattle.lf_restore.proofs.cells.make_all.Goals as goal
