@@ -18,7 +18,8 @@ use Rattle.lf_teams.specs.Runs.{Run}
 use Rattle.lf_teams.specs.VerbLaws.{is_granted}
 use Rattle.lf_teams.specs.Committed.{IsCommittedLegal}
 use Rattle.lf_mend.specs.Runs.{IsRunBy, IsRunOf, IsWrittenRun, line_of, lines_of}
-use Rattle.lf_mend.specs.Mending.{ChangesOnly, MarkedStay, place_in}
+use Rattle.lf_mend.specs.Deeds.{MarkedStay}
+use Rattle.lf_mend.specs.Mending.{ChangesOnly, names_in}
 
 -- ---- runs
 
@@ -99,24 +100,26 @@ then_asked l team a b c x y first second = (first.0 ++ second.0, then_run l team
 -- ---- what stays
 
 pub unchanged : (team : List ℕ) (floor : FloorState) → ChangesOnly team floor floor
-unchanged team floor = record { others = λ other differ. refl; frame = refl; components = refl; legal = λ legal. legal }
+unchanged team floor = record { others = λ other differ. refl; frame = refl; components = refl; names = refl; legal = λ legal. legal }
 
 pub then_only : (team : List ℕ) (a b c : FloorState) → ChangesOnly team a b → ChangesOnly team b c → ChangesOnly team a c
 then_only team a b c first second = record {
   others = λ other differ. second.others other differ ∙ first.others other differ;
   frame = second.frame ∙ first.frame;
   components = second.components ∙ first.components;
+  names = second.names ∙ first.names;
   legal = λ legal. second.legal (first.legal legal);
 }
 
 -- a step to the team changes no other
 pub step_only : (team : List ℕ) (command : Command (List ℕ) Place) (old new : FloorState) → IsTo team command
     → ((other : List ℕ) → ¬ IsTo other command → state_of new other ≡ state_of old other) → new.frame ≡ old.frame → new.components ≡ old.components
-    → (IsCommittedLegal old → IsCommittedLegal new) → ChangesOnly team old new
-step_only team command old new to others frame components legal = record {
+    → names_in new team ≡ names_in old team → (IsCommittedLegal old → IsCommittedLegal new) → ChangesOnly team old new
+step_only team command old new to others frame components names legal = record {
   others = λ other differ. others other (not_to command to other differ);
   frame = frame;
   components = components;
+  names = names;
   legal = legal;
 } where
   not_to : (c : Command (List ℕ) Place) → IsTo team c → (other : List ℕ) → other ≢ team → ¬ IsTo other c

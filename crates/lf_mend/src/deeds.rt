@@ -7,8 +7,8 @@ ghost use Rattle.lf_cells.specs.Cells.{cell_named};
 ghost use Rattle.lf_teams.specs.States.{TeamState};
 ghost use Rattle.lf_teams.specs.Outcomes.{name_at};
 ghost use Rattle.lf_teams.specs.Teams.{state_of};
-ghost use Rattle.lf_mend.specs.Deeds.{IsOfCell};
-ghost use Rattle.lf_mend.specs.Mending.{ChangesOnly, MarkedStay, place_in};
+ghost use Rattle.lf_mend.specs.Deeds.{CommittedStay, IsOfCell, MarkedStay};
+ghost use Rattle.lf_mend.specs.Mending.{ChangesOnly, place_in};
 ghost use Rattle.lf_mend.specs.Runs.{IsRunOf, IsWrittenRun};
 
 use crate::ask::{Fault, ask_and_write};
@@ -98,8 +98,9 @@ fn send_named<S: Seeker + Drop, K: Sink>(
     ensures run { (l : Legalizer) → IfOk result (λ _. IsWrittenRun l seat.now.team.now floor.old (K.contents lines.old) (K.contents lines.new) floor.new) }
     ensures err { (l : Legalizer) → OnErr result (IsRunOf l seat.now.team.now floor.old floor.new) }
     ensures only { ChangesOnly seat.now.team.now floor.old floor.new }
-    ensures cells { (other : ℕ) → IfOk result (λ _. ((s : TeamState) → state_of floor.old seat.now.team.now ≡ Some s → cell_named cell.now s.cells ≡ Some other → ⊥)
-        → place_in floor.new seat.now.team.now other ≡ place_in floor.old seat.now.team.now other) }
+    ensures cells { (other : ℕ) → ((s : TeamState) → state_of floor.old seat.now.team.now ≡ Some s → cell_named cell.now s.cells ≡ Some other → ⊥)
+        → place_in floor.new seat.now.team.now other ≡ place_in floor.old seat.now.team.now other }
+    ensures committed { CommittedStay seat.now.team.now floor.old floor.new }
 {
     legalizer_is_there();
     let request = Command::To {
@@ -144,7 +145,8 @@ fn send<S: Seeker + Drop, K: Sink>(
     ensures run { (l : Legalizer) → IfOk result (λ _. IsWrittenRun l seat.now.team.now floor.old (K.contents lines.old) (K.contents lines.new) floor.new) }
     ensures err { (l : Legalizer) → OnErr result (IsRunOf l seat.now.team.now floor.old floor.new) }
     ensures only { ChangesOnly seat.now.team.now floor.old floor.new }
-    ensures cells { (other : ℕ) → other ≢ own → IfOk result (λ _. place_in floor.new seat.now.team.now other ≡ place_in floor.old seat.now.team.now other) }
+    ensures cells { (other : ℕ) → other ≢ own → place_in floor.new seat.now.team.now other ≡ place_in floor.old seat.now.team.now other }
+    ensures committed { CommittedStay seat.now.team.now floor.old floor.new }
 {
     floor.teams_are_of_the_frame();
     let Texts { name, line } = texts;
@@ -177,7 +179,8 @@ fn send_unmarked<S: Seeker + Drop, K: Sink>(
     ensures run { (l : Legalizer) → IfOk result (λ _. IsWrittenRun l seat.now.team.now floor.old (K.contents lines.old) (K.contents lines.new) floor.new) }
     ensures err { (l : Legalizer) → OnErr result (IsRunOf l seat.now.team.now floor.old floor.new) }
     ensures only { ChangesOnly seat.now.team.now floor.old floor.new }
-    ensures marked { IfOk result (λ _. MarkedStay seat.now.team.now marks.now floor.old floor.new) }
+    ensures marked { MarkedStay seat.now.team.now marks.now floor.old floor.new }
+    ensures committed { CommittedStay seat.now.team.now floor.old floor.new }
 {
     let own = deed.own as usize;
     if is_marked(marks, own) {
@@ -198,7 +201,8 @@ pub(crate) fn send_all<S: Seeker + Drop, K: Sink>(
     ensures run { (l : Legalizer) → IfOk result (λ _. IsWrittenRun l seat.now.team.now floor.old (K.contents lines.old) (K.contents lines.new) floor.new) }
     ensures err { (l : Legalizer) → OnErr result (IsRunOf l seat.now.team.now floor.old floor.new) }
     ensures only { ChangesOnly seat.now.team.now floor.old floor.new }
-    ensures marked { IfOk result (λ _. MarkedStay seat.now.team.now marks.now floor.old floor.new) }
+    ensures marked { MarkedStay seat.now.team.now marks.now floor.old floor.new }
+    ensures committed { CommittedStay seat.now.team.now floor.old floor.new }
 {
     for deed in deeds {
         match send_unmarked(floor, seat, marks, deed, texts, lines) {

@@ -1,16 +1,39 @@
-use Rattle.std.proofs.Common.{◌≡◌, ◌∙◌, ◌++◌, false, sym, ap}
+use Rattle.std.proofs.Common.{◌≡◌, ◌∙◌, ◌++◌, false, inl, inr, refl, sym, ap}
 use Rattle.std.specs.Prelude.{OnOk, is_err}
 use Rattle.std.specs.Io.KnownBytes.{Appends}
 use Rattle.lf_proto.specs.Commands.{command_of}
 use Rattle.lf_mend.specs.Runs.{line_of}
 use Rattle.lf_mend.proofs.Results.{ok_is}
-use Rattle.lf_mend.proofs.Runs.{left_out, one_asked, one_written, step_only}
+use Rattle.lf_mend.proofs.Runs.{left_out, one_asked, one_written, step_only, unchanged}
+use Rattle.lf_mend.proofs.Steps.{step_names}
 use Rattle.lf_mend.proofs.ask.ask_and_write.Goals as goal
+
+pub returns-then-is_err-clause-only : goal.returns-then-is_err-clause-only
+returns-then-is_err-clause-only g c = λ team to. unchanged team c.args.floor.now
+
+pub returns-then-is_err-clause-asked : goal.returns-then-is_err-clause-asked
+returns-then-is_err-clause-asked g c = λ l. inl refl
 
 pub returns-then-not-is_granted-clause-run : goal.returns-then-not-is_granted-clause-run
 returns-then-not-is_granted-clause-run g c = λ l team to.
     left_out l team c.args.floor.now c.step-reply.new.self (g.K.Sink.contents c.args.lines.now) c.step-reply.result c.step-reply.ensures.refused
     (sym c.is_granted.ensures ∙ c.if-not-is_granted.true)
+
+pub returns-then-not-is_granted-clause-only : goal.returns-then-not-is_granted-clause-only
+returns-then-not-is_granted-clause-only g c = λ team to.
+    let l = c.legalizer_is_there.ensures in
+    step_only team (command_of c.args.request.now) c.args.floor.now c.step-reply.new.self to c.step-reply.ensures.others c.step-reply.ensures.frame
+    c.step-reply.ensures.components (step_names l team (command_of c.args.request.now) c.args.floor.now c.step-reply.new.self c.step-reply.result to (c.step-reply.ensures.step l))
+    c.step-reply.ensures.legal
+
+pub returns-then-not-is_granted-clause-asked : goal.returns-then-not-is_granted-clause-asked
+returns-then-not-is_granted-clause-asked g c = λ l. inr (c.step-reply.result, c.step-reply.ensures.step l)
+
+pub returns-then-is_err-2-clause-asked : goal.returns-then-is_err-2-clause-asked
+returns-then-is_err-2-clause-asked g c = λ l. inr (c.step-reply.result, c.step-reply.ensures.step l)
+
+pub returns-clause-asked : goal.returns-clause-asked
+returns-clause-asked g c = λ l. inr (c.step-reply.result, c.step-reply.ensures.step l)
 
 pub returns-then-is_err-2-clause-err : goal.returns-then-is_err-2-clause-err
 returns-then-is_err-2-clause-err g c = λ l team to.
@@ -19,8 +42,10 @@ returns-then-is_err-2-clause-err g c = λ l team to.
 
 pub returns-then-is_err-2-clause-only : goal.returns-then-is_err-2-clause-only
 returns-then-is_err-2-clause-only g c = λ team to.
+    let l = c.legalizer_is_there.ensures in
     step_only team (command_of c.args.request.now) c.args.floor.now c.step-reply.new.self to c.step-reply.ensures.others c.step-reply.ensures.frame
-    c.step-reply.ensures.components c.step-reply.ensures.legal
+    c.step-reply.ensures.components (step_names l team (command_of c.args.request.now) c.args.floor.now c.step-reply.new.self c.step-reply.result to (c.step-reply.ensures.step l))
+    c.step-reply.ensures.legal
 
 pub returns-clause-run : goal.returns-clause-run
 returns-clause-run g c = λ l team to.
@@ -37,5 +62,7 @@ returns-clause-run g c = λ l team to.
 
 pub returns-clause-only : goal.returns-clause-only
 returns-clause-only g c = λ team to.
+    let l = c.legalizer_is_there.ensures in
     step_only team (command_of c.args.request.now) c.args.floor.now c.step-reply.new.self to c.step-reply.ensures.others c.step-reply.ensures.frame
-    c.step-reply.ensures.components c.step-reply.ensures.legal
+    c.step-reply.ensures.components (step_names l team (command_of c.args.request.now) c.args.floor.now c.step-reply.new.self c.step-reply.result to (c.step-reply.ensures.step l))
+    c.step-reply.ensures.legal

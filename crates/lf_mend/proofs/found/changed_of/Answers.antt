@@ -1,0 +1,30 @@
+use Rattle.std.proofs.Common.{◌≡◌, ◌∙◌, get_or, ap, arith}
+use Rattle.lf_cells.specs.Cells.{Cells, cells_of, ids_of}
+use Rattle.lf_cells.proofs.TeamIds.{ids_long}
+use Rattle.lf_mend.proofs.Finding.{all_changed, changed_at}
+use Rattle.lf_mend.proofs.Ids.{id_at, no_id, working_read}
+use Rattle.lf_mend.proofs.found.changed_of.Goals as goal
+
+pub loop-id-init : goal.loop-id-init
+loop-id-init c = λ own within. absurd (omega (arith, within))
+
+pub loop-id-preserved : goal.loop-id-preserved
+loop-id-preserved c =
+    let number = c.args.number in
+    let k = c.loop-id.id-index in
+    let cells = cells_of c.args.placement.now.cells number in
+    let ids = c.cells_of-id-items.result.now in
+    let are : ids ≡ ids_of number cells = c.cells_of-id-items.ensures ∙ ap (λ (cs : Cells). ids_of number (cells_of cs number)) c.cells.ensures in
+    let id = id_at number k cells ids are c.loop-id-test.true in
+    changed_at cells c.args.homes.now number k (get_or ids k no_id) c.working-now.result c.home_of-home.result c.loop-id.changed.items c.name_changed.new.changed.items id
+    (working_read c.args.placement.now.cells c.cells-in-loop-id.result.now number k (get_or ids k no_id) c.working-now.result c.cells-in-loop-id.ensures id c.working-now.ensures)
+    c.home_of-home.ensures c.loop-id.invariant c.in_ok-name_changed.ensures
+
+pub returns : goal.returns
+returns c =
+    let number = c.args.number in
+    let k = c.loop-id.id-index in
+    let cells = cells_of c.args.placement.now.cells number in
+    let ids = c.cells_of-id-items.result.now in
+    let are : ids ≡ ids_of number cells = c.cells_of-id-items.ensures ∙ ap (λ (cs : Cells). ids_of number (cells_of cs number)) c.cells.ensures in
+    all_changed cells c.args.homes.now k c.loop-id.changed.items (omega (arith, c.loop-id-test.false, ids_long number cells ids are)) c.loop-id.invariant
