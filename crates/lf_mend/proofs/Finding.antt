@@ -1,19 +1,22 @@
 -- The cells of a team after its repair: those that stand otherwise than before, and those that are left.
-use Rattle.std.proofs.Common.{◌≡◌, ◌⊎◌, inl, inr, ℕ, ◌+◌, ◌<◌, List, length, map, get_or, Option, Some, None, refl, ap, sym, ◌∙◌, subst, arith}
+use Rattle.std.proofs.Common.{◌≡◌, ◌≢◌, ◌⊎◌, inl, inr, ℕ, ◌+◌, ◌<◌, List, [], length, map, get_or, Option, Some, None, refl, ap, sym, ◌∙◌, subst, arith}
 use Rattle.std.specs.Prelude.{All, ◌≤◌, Contains, slice_get, option_and_then}
 use Rattle.std.specs.Option.{option_map}
 use Rattle.std.proofs.lemmas.List.{length-map}
+use Rattle.std.proofs.lemmas.List.Elements.{All-weaker}
 use Rattle.std.proofs.lemmas.Option.{slice_get_cases, slice_get_past}
 use Rattle.lf_floorplan.specs.declared.place.Place.{Place}
+use Rattle.lf_rules.specs.Team.{StandsLegal}
 use Rattle.lf_cells.specs.declared.cell.Cell.{Cell}
 use Rattle.lf_cells.specs.declared.cell.CellId.{CellId}
 use Rattle.lf_cells.specs.Cells.{id_of, working_at}
+use Rattle.lf_legalize.specs.Members.{member_of}
 use Rattle.lf_teams.specs.States.{FloorState, TeamState}
 use Rattle.lf_teams.specs.Teams.{state_of, team_number}
 use Rattle.lf_teams.proofs.Standing.{some_one}
-use Rattle.lf_mend.specs.Deeds.{AreHomeBut, AreHomes, IsLegalOrNamed, IsNamed, PlacesStay, StandHomeBut, home_at}
-use Rattle.lf_mend.specs.Mending.{AreLegalBut, IsLeftIn, IsLegalIn, OnlyMove, names_in, place_in}
-use Rattle.lf_mend.proofs.Legal.{state_there}
+use Rattle.lf_mend.specs.Deeds.{AreHomeBut, AreHomes, HaveLeftHome, IsLegalOrNamed, IsNamed, PlacesStay, StandElsewhere, StandHomeBut, home_at}
+use Rattle.lf_mend.specs.Mending.{AllMove, AreLegalBut, IsLeftIn, IsLegalIn, OnlyMove, names_in, place_in}
+use Rattle.lf_mend.proofs.Legal.{legal_is_told, state_there}
 use Rattle.lf_mend.proofs.Lists.{AreNamedTo, one_more_named, one_more_not}
 use Rattle.lf_mend.proofs.Steps.{place_of_state}
 
@@ -34,6 +37,14 @@ changed_at cells homes number k id now home old new is now_k home_is so_far name
       at_k : IsNamed (now ≡ home) (now ≡ home → ⊥) k old new → IsNamed (IsHome cells homes k) (now ≡ home → ⊥) k old new
       at_k (inl (same, alike)) = inl (same, sym now_k ∙ alike ∙ home_k)
       at_k (inr more) = inr more
+
+pub moved_at : (cells : List Cell) (homes : List (Option Place)) (number k : ℕ) (id : CellId) (now home : Option Place) (old new : List ℕ) → id ≡ id_of number k
+    → now ≡ working_at cells k → home ≡ home_at homes id.own → HaveLeftHome cells homes old
+    → IsNamed (now ≡ home) (now ≡ home → ⊥) id.own old new → HaveLeftHome cells homes new
+moved_at cells homes number k id now home old new is now_k home_is so_far named =
+    one_more_not (λ own. working_at cells own ≢ home_at homes own) (now ≡ home) (now ≡ home → ⊥) k old new
+    (λ apart e. apart (now_k ∙ e ∙ sym (home_is ∙ ap (λ (i : CellId). home_at homes i.own) is))) so_far
+    (subst (λ (i : CellId). IsNamed (now ≡ home) (now ≡ home → ⊥) i.own old new) is named)
 
 pub all_changed : (cells : List Cell) (homes : List (Option Place)) (count : ℕ) (changed : List ℕ) → length cells ≤ count
     → AreNamedTo (IsHome cells homes) count changed → AreHomeBut cells homes changed
@@ -64,6 +75,41 @@ home_through team homes old new changed same stay but names are own within = go 
   go : (place_in old team own ≡ home_at homes own) ⊎ Contains changed own → (place_in new team own ≡ home_at homes own) ⊎ Contains changed own
   go (inl home) = inl (stay own ∙ home)
   go (inr in_list) = inr in_list
+
+-- the named cells stand elsewhere
+pub elsewhere : (team : List ℕ) (floor : FloorState) (number : ℕ) (homes : List (Option Place)) (changed : List ℕ) → team_number floor.frame team ≡ Some number
+    → ((s : TeamState) → slice_get floor.teams number ≡ Some s → HaveLeftHome s.cells homes changed) → StandElsewhere team homes floor changed
+elsewhere team floor number homes changed named all s there =
+    All-weaker (λ own. working_at s.cells own ≢ home_at homes own) (λ own. place_in floor team own ≢ home_at homes own)
+    (λ own apart e. apart (sym (place_of_state floor team own s there) ∙ e)) changed (all s (state_there floor team number s named there))
+
+-- a team that has the same cells is there before and after
+team_was : (team : List ℕ) (old new : FloorState) (t : TeamState) → names_in new team ≡ names_in old team → state_of new team ≡ Some t
+    → (s : TeamState) × (state_of old team ≡ Some s)
+team_was team old new t same there = go (state_of old team) refl where
+  by_names : Option TeamState → Option (List (List ℕ))
+  by_names o = option_map (λ (s : TeamState). map (λ (c : Cell). c.name) s.cells) o
+
+  go : (o : Option TeamState) → state_of old team ≡ o → (s : TeamState) × (state_of old team ≡ Some s)
+  go (Some s) was = (s, was)
+  go None none = absurd (none_names (sym (ap by_names none) ∙ sym same ∙ ap by_names there)) where
+    none_names : None ≡ Some (map (λ (c : Cell). c.name) t.cells) → ⊥
+    none_names e = cc
+
+pub elsewhere_through : (team : List ℕ) (homes : List (Option Place)) (old new : FloorState) (changed : List ℕ) → names_in new team ≡ names_in old team → PlacesStay team old new
+    → StandElsewhere team homes old changed → StandElsewhere team homes new changed
+elsewhere_through team homes old new changed same stay all t there =
+    let was = team_was team old new t same there in
+    All-weaker (λ own. place_in old team own ≢ home_at homes own) (λ own. place_in new team own ≢ home_at homes own)
+    (λ own apart e. apart (sym (stay own) ∙ e)) changed (all was.0 was.1)
+
+pub all_move : (team : List ℕ) (old new : FloorState) (number : ℕ) (homes : List (Option Place)) (changed : List ℕ) → team_number old.frame team ≡ Some number
+    → ((s : TeamState) → slice_get old.teams number ≡ Some s → AreHomes s.cells homes) → names_in new team ≡ names_in old team
+    → StandElsewhere team homes new changed → AllMove team old new changed
+all_move team old new number homes changed named homes_are same all s there =
+    let is = team_was team new old s (sym same) there in
+    All-weaker (λ own. place_in new team own ≢ home_at homes own) (λ own. place_in new team own ≢ place_in old team own)
+    (λ own apart e. apart (e ∙ place_of_state old team own s there ∙ sym (homes_are s (state_there old team number s named there) own))) changed (all is.0 is.1)
 
 -- where no cell has left its home but those that are named, no other has moved
 pub only_move : (team : List ℕ) (old new : FloorState) (number : ℕ) (homes : List (Option Place)) (changed : List ℕ) → team_number old.frame team ≡ Some number
@@ -138,3 +184,12 @@ pub left_at : (team : List ℕ) (floor : FloorState) (number k : ℕ) (id : Cell
 left_at team floor number k id old new is within so_far named =
     one_more_not (λ own. IsLeftIn floor team own) (MayStand team floor k) (IsLegalIn floor team k → ⊥) k old new
     (λ illegal. record { within = within; illegal = illegal }) so_far (subst (λ (i : CellId). IsLegalOrNamed team floor i.own old new) is named)
+
+-- a team with a cell that does not stand legally is not whole
+pub not_whole : (team : List ℕ) (floor : FloorState) (number own : ℕ) (Told : Type 0) → team_number floor.frame team ≡ Some number
+    → ((s : TeamState) → slice_get floor.teams number ≡ Some s → own < length s.cells → StandsLegal floor.frame number s.padding (map member_of s.cells) own → Told)
+    → (Told → ⊥) → (s : TeamState) → state_of floor team ≡ Some s → own < length s.cells → AreLegalBut team floor [] → ⊥
+not_whole team floor number own Told named told not s there within all = go (all s there own within) where
+  go : IsLegalIn floor team own ⊎ Contains [] own → ⊥
+  go (inl legal) = not (legal_is_told team floor number own Told named told legal)
+  go (inr in_none) = absurd (omega (arith, in_none.1))

@@ -1,8 +1,8 @@
 -- What holds of a team's cells through commands that leave them as they are, and where all are committed.
-use Rattle.std.proofs.Common.{◌≡◌, ◌⊎◌, inl, inr, ℕ, ◌<◌, List, [], ◌∷◌, length, map, Bool, Option, Some, refl, ap, sym, ◌∙◌, subst}
+use Rattle.std.proofs.Common.{◌≡◌, ◌≢◌, ◌⊎◌, inl, inr, ℕ, ◌<◌, List, [], ◌∷◌, length, map, Bool, Option, Some, refl, ap, sym, ◌∙◌, subst}
 use Rattle.std.specs.Prelude.{All, Contains, slice_get, option_and_then}
 use Rattle.std.specs.Option.{option_map}
-use Rattle.std.proofs.lemmas.List.Elements.{All-head, All-weaker}
+use Rattle.std.proofs.lemmas.List.Elements.{All-head, All-nil, All-same, All-weaker}
 use Rattle.lf_floorplan.specs.declared.frame.Frame.{Frame}
 use Rattle.lf_rules.specs.Legalizer.{Legalizer}
 use Rattle.lf_rules.specs.Team.{StandsLegal}
@@ -182,3 +182,25 @@ legal_is_told team floor number own Told named told legal =
     let is : legal.number ≡ number = some_one (sym legal.named ∙ named) in
     told legal.state (state_there floor team number legal.state named legal.there) legal.within
     (subst (λ (n : ℕ). StandsLegal floor.frame n legal.state.padding (map member_of legal.state.cells) own) is legal.legal)
+
+-- ---- a commit where no cell is left, which asks nothing else
+
+module _ (team : List ℕ) (a b : FloorState) (given left : List ℕ) (same : given ≡ left) (kept : given ≢ [] → b ≡ a) where
+  pub but_committed : (l : Legalizer) → (given ≡ [] → AllCommittedIn l b team) → AreLegalBut team a left → AreLegalBut team b left
+  but_committed l committed before = subst (λ (xs : List ℕ). AreLegalBut team b xs) same (go given refl) where
+    go : (xs : List ℕ) → given ≡ xs → AreLegalBut team b given
+    go [] none = committed_legal l team b given (committed none)
+    go (x ∷ xs) some = subst (λ (f : FloorState). AreLegalBut team f given) (sym (kept (λ none. nil_cons (sym none ∙ some)))) (subst (λ (ys : List ℕ). AreLegalBut team a ys) (sym same) before) where
+      nil_cons : [] ≡ x ∷ xs → ⊥
+      nil_cons e = cc
+
+  pub left_committed : All (λ own. IsLeftIn a team own) left → All (λ own. IsLeftIn b team own) left
+  left_committed before = go left refl where
+    go : (xs : List ℕ) → left ≡ xs → All (λ own. IsLeftIn b team own) left
+    go [] none = All-same (λ own. IsLeftIn b team own) left [] none (All-nil (λ own. IsLeftIn b team own))
+    go (x ∷ xs) some = subst (λ (f : FloorState). All (λ own. IsLeftIn f team own) left) (sym (kept (λ none. nil_cons (sym none ∙ same ∙ some)))) before where
+      nil_cons : [] ≡ x ∷ xs → ⊥
+      nil_cons e = cc
+
+  pub uncommitted : left ≢ [] → CommittedStay team a b
+  uncommitted some = ap (λ (f : FloorState). option_map committed_places (state_of f team)) (kept (λ none. some (sym same ∙ none)))

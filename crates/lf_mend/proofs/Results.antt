@@ -5,10 +5,6 @@ use Rattle.std.proofs.lemmas.Option.{slice_get_within, get_or_from_slice_get}
 use Rattle.lf_teams.specs.States.{FloorState, TeamState}
 use Rattle.lf_teams.specs.Teams.{state_at, state_of, team_number}
 
-pub ok_from : {T E : Type 0} (r : Result T E) (P : Type 0) → P → IfOk r (λ x. P)
-ok_from (Ok x) P p = p
-ok_from (Err e) P p = tt
-
 pub err_from : {T E : Type 0} (r : Result T E) (P : Type 0) → P → OnErr r P
 err_from (Ok x) P p = tt
 err_from (Err e) P p = p
@@ -17,9 +13,13 @@ pub ok_then : {T E : Type 0} (r : Result T E) (A B : Type 0) → (A → B) → I
 ok_then (Ok x) A B f a = f a
 ok_then (Err e) A B f a = tt
 
-pub ok_each : {T E : Type 0} (r : Result T E) (A B : ℕ → Type 0) → ((k : ℕ) → A k → IfOk r (λ x. B k)) → IfOk r (λ x. (k : ℕ) → A k → B k)
-ok_each (Ok x) A B f = f
-ok_each (Err e) A B f = tt
+pub err_then : {T E : Type 0} (r : Result T E) (A B : Type 0) → (A → B) → OnErr r A → OnErr r B
+err_then (Ok x) A B f a = tt
+err_then (Err e) A B f a = f a
+
+pub ok_weaker : {T E : Type 0} (r : Result T E) (P Q : T → Type 0) → ((x : T) → P x → Q x) → IfOk r P → IfOk r Q
+ok_weaker (Ok x) P Q f p = f x p
+ok_weaker (Err e) P Q f p = tt
 
 pub ok_is : {T E : Type 0} (r : Result T E) (P : Type 0) → is_err r ≡ false → OnOk r P → P
 ok_is (Ok x) P e p = p

@@ -1,5 +1,5 @@
 -- Changes of one cell, and what is looked up before and after them; no public clause cites it.
-use Rattle.std.specs.Prelude.{◌≡◌, ◌⊎◌, ℕ, ◌<◌, ◌++◌, ◌∷◌, [], List, Bool, true, Contains, Option, Some, length, map, slice_get, option_and_then}
+use Rattle.std.specs.Prelude.{◌≡◌, ◌≢◌, ◌⊎◌, ℕ, ◌<◌, ◌++◌, ◌∷◌, [], List, Bool, true, All, Contains, Option, Some, length, map, slice_get, option_and_then}
 use Rattle.lf_floorplan.specs.declared.place.Place.{Place}
 use Rattle.lf_rules.specs.Legalizer.{Legalizer}
 use Rattle.lf_rules.specs.Team.{StandsLegal}
@@ -93,3 +93,12 @@ AreHomeBut cells homes changed = (own : ℕ) → own < length cells → (working
 abbrev pub StandHomeBut : List ℕ → List (Option Place) → FloorState → List ℕ → Type 0
 StandHomeBut team homes floor changed =
     (names : List (List ℕ)) → names_in floor team ≡ Some names → (own : ℕ) → own < length names → (place_in floor team own ≡ home_at homes own) ⊎ Contains changed own
+
+-- each of the named cells has another place than in the list
+abbrev pub HaveLeftHome : List Cell → List (Option Place) → List ℕ → Type 0
+HaveLeftHome cells homes changed = All (λ own. working_at cells own ≢ home_at homes own) changed
+
+-- the same of the team's cells
+abbrev pub StandElsewhere : List ℕ → List (Option Place) → FloorState → List ℕ → Type 0
+StandElsewhere team homes floor changed =
+    (s : TeamState) → state_of floor team ≡ Some s → All (λ own. place_in floor team own ≢ home_at homes own) changed

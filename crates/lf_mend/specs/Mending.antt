@@ -1,5 +1,5 @@
 -- What a repair of a team leaves.
-use Rattle.std.specs.Prelude.{◌≡◌, ◌≢◌, ◌⊎◌, ℕ, ◌<◌, List, Bool, true, Option, Some, Contains, length, map, slice_get, option_and_then, option_map}
+use Rattle.std.specs.Prelude.{◌≡◌, ◌≢◌, ◌⊎◌, ℕ, ◌<◌, List, Option, Some, All, Contains, length, map, option_and_then, option_map}
 use Rattle.lf_floorplan.specs.declared.place.Place.{Place}
 use Rattle.lf_rules.specs.Team.{StandsLegal}
 use Rattle.lf_cells.specs.Cells.{working_at}
@@ -45,6 +45,10 @@ LegalStay team old new = (own : ℕ) → IsLegalIn old team own → place_in new
 -- each cell of the team stands where it stood, or its position is one of these
 abbrev pub OnlyMove : List ℕ → FloorState → FloorState → List ℕ → Type 0
 OnlyMove team old new changed = (own : ℕ) → (place_in new team own ≡ place_in old team own) ⊎ Contains changed own
+
+-- each cell of these positions stands otherwise
+abbrev pub AllMove : List ℕ → FloorState → FloorState → List ℕ → Type 0
+AllMove team old new changed = (s : TeamState) → state_of old team ≡ Some s → All (λ own. place_in new team own ≢ place_in old team own) changed
 
 -- each cell of the team stands legally, or its position is one of these
 abbrev pub AreLegalBut : List ℕ → FloorState → List ℕ → Type 0

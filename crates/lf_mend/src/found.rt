@@ -3,7 +3,7 @@
 ghost use Rattle.std.specs.Prelude.{◌≡◌, ◌↔◌, All, IfOk, IsTrue, OnOk, Some};
 ghost use Rattle.lf_cells.specs.Cells.{cells_of};
 ghost use Rattle.lf_teams.specs.Teams.{team_number};
-ghost use Rattle.lf_mend.specs.Deeds.{AreHomeBut, IsLegalOrNamed, IsNamed, StandHomeBut, home_at};
+ghost use Rattle.lf_mend.specs.Deeds.{AreHomeBut, HaveLeftHome, IsLegalOrNamed, IsNamed, StandElsewhere, StandHomeBut, home_at};
 ghost use Rattle.lf_mend.specs.Mending.{AreLegalBut, IsLeftIn};
 
 use crate::deeds::Seat;
@@ -69,7 +69,8 @@ fn changed_of(
     number: usize,
     homes: &[Option<Place>],
 ) -> Result<Vec<u32>, AllocError>
-    ensures { IfOk result (λ changed. AreHomeBut (cells_of placement.now.cells number) homes.now changed.items) }
+    ensures changed { IfOk result (λ changed. AreHomeBut (cells_of placement.now.cells number) homes.now changed.items) }
+    ensures moved { IfOk result (λ changed. HaveLeftHome (cells_of placement.now.cells number) homes.now changed.items) }
 {
     let mut changed = Vec::new(alloc);
     for id in placement.cells().cells_of(number) {
@@ -125,6 +126,7 @@ pub(crate) fn found_of<S: Seeker + Drop>(
 ) -> Result<Found, AllocError>
     requires { team_number floor.now.frame seat.now.team.now ≡ Some seat.now.number }
     ensures changed { IfOk result (λ found. StandHomeBut seat.now.team.now homes.now floor.now found.changed.items) }
+    ensures moved { IfOk result (λ found. StandElsewhere seat.now.team.now homes.now floor.now found.changed.items) }
     ensures named { IfOk result (λ found. AreLegalBut seat.now.team.now floor.now found.left.items) }
     ensures illegal { IfOk result (λ found. All (λ own. IsLeftIn floor.now seat.now.team.now own) found.left.items) }
 {

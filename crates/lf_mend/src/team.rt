@@ -6,8 +6,8 @@ ghost use Rattle.lf_teams.specs.Steps.{AllCommittedIn};
 ghost use Rattle.lf_teams.specs.States.{TeamState};
 ghost use Rattle.lf_teams.specs.Teams.{team_number};
 ghost use Rattle.lf_teams.specs.VerbLaws.{is_granted};
-ghost use Rattle.lf_mend.specs.Deeds.{CommittedStay, MarkedStay, PlacesStay, SameCells, StandHomeBut};
-ghost use Rattle.lf_mend.specs.Mending.{AreLegalBut, ChangesOnly, IsLeftIn, LegalStay, OnlyMove, committed_in};
+ghost use Rattle.lf_mend.specs.Deeds.{CommittedStay, MarkedStay, PlacesStay, SameCells, StandElsewhere, StandHomeBut};
+ghost use Rattle.lf_mend.specs.Mending.{AllMove, AreLegalBut, ChangesOnly, IsLeftIn, LegalStay, OnlyMove, committed_in};
 ghost use Rattle.lf_mend.specs.Runs.{IsRunOf, IsWrittenRun};
 ghost use Rattle.lf_mend.specs.declared.start.How.TheVariants.{Keep};
 
@@ -159,6 +159,7 @@ fn finish<S: Seeker + Drop, K: Sink>(
     ensures only { ChangesOnly seat.now.team.now floor.old floor.new }
     ensures places { PlacesStay seat.now.team.now floor.old floor.new }
     ensures changed { IfOk result (λ found. StandHomeBut seat.now.team.now homes.now floor.new found.changed.items) }
+    ensures moved { IfOk result (λ found. StandElsewhere seat.now.team.now homes.now floor.new found.changed.items) }
     ensures named { IfOk result (λ found. AreLegalBut seat.now.team.now floor.new found.left.items) }
     ensures illegal { IfOk result (λ found. All (λ own. IsLeftIn floor.new seat.now.team.now own) found.left.items) }
     ensures committed { (l : Legalizer) → IfOk result (λ found. found.left.items ≡ [] → AllCommittedIn l floor.new seat.now.team.now) }
@@ -168,13 +169,14 @@ fn finish<S: Seeker + Drop, K: Sink>(
     let Ok(found) = found_of(alloc, floor, seat, homes) else {
         return Err(Fault::OutOfMemory);
     };
-    if let Err(fault) = commit_whole(floor, seat, found.left.as_slice(), texts, lines) {
-        return Err(fault);
+    match commit_whole(floor, seat, found.left.as_slice(), texts, lines) {
+        Ok(()) => {}
+        Err(fault) => return Err(fault),
     }
-    if let Err(fault) = close(floor, seat, texts, lines) {
-        return Err(fault);
+    match close(floor, seat, texts, lines) {
+        Ok(()) => Ok(found),
+        Err(fault) => Err(fault),
     }
-    Ok(found)
 }
 
 /// The rounds of a repair.
@@ -229,6 +231,7 @@ fn work<S: Seeker + Drop, K: Sink>(
     ensures only { ChangesOnly team.now floor.old floor.new }
     ensures marked { MarkedStay team.now start.now.marks.items floor.old floor.new }
     ensures changed { IfOk result (λ found. StandHomeBut team.now start.now.homes.items floor.new found.changed.items) }
+    ensures moved { IfOk result (λ found. StandElsewhere team.now start.now.homes.items floor.new found.changed.items) }
     ensures named { IfOk result (λ found. AreLegalBut team.now floor.new found.left.items) }
     ensures illegal { IfOk result (λ found. All (λ own. IsLeftIn floor.new team.now own) found.left.items) }
     ensures committed { (l : Legalizer) → IfOk result (λ found. found.left.items ≡ [] → AllCommittedIn l floor.new team.now) }
@@ -244,8 +247,9 @@ fn work<S: Seeker + Drop, K: Sink>(
         number,
         session,
     };
-    if let Err(fault) = go_round(alloc, floor, &seat, start, &mut texts, lines) {
-        return Err(fault);
+    match go_round(alloc, floor, &seat, start, &mut texts, lines) {
+        Ok(()) => {}
+        Err(fault) => return Err(fault),
     }
     finish(alloc, floor, &seat, start.homes.as_slice(), &mut texts, lines)
 }
@@ -269,7 +273,8 @@ pub fn repair_team<S: Seeker + Drop, K: Sink>(
     ensures err { (l : Legalizer) → OnErr result (IsRunOf l team.now floor.old floor.new) }
     ensures only { ChangesOnly team.now floor.old floor.new }
     ensures kept { how ≡ Keep → LegalStay team.now floor.old floor.new }
-    ensures moved { IfOk result (λ repaired. OnlyMove team.now floor.old floor.new repaired.changed.items) }
+    ensures changed { IfOk result (λ repaired. OnlyMove team.now floor.old floor.new repaired.changed.items) }
+    ensures moved { IfOk result (λ repaired. AllMove team.now floor.old floor.new repaired.changed.items) }
     ensures named { IfOk result (λ repaired. AreLegalBut team.now floor.new repaired.left.items) }
     ensures illegal { IfOk result (λ repaired. All (λ own. IsLeftIn floor.new team.now own) repaired.left.items) }
     ensures committed { (l : Legalizer) → IfOk result (λ repaired. repaired.left.items ≡ [] ↔ AllCommittedIn l floor.new team.now) }
