@@ -1,7 +1,8 @@
 -- The cells of a team after its repair: those that stand otherwise than before, and those that are left.
-use Rattle.std.proofs.Common.{◌≡◌, ◌≢◌, ◌⊎◌, inl, inr, ℕ, ◌+◌, ◌<◌, List, [], length, map, get_or, Option, Some, None, refl, ap, sym, ◌∙◌, subst, arith}
+use Rattle.std.proofs.Common.{◌≡◌, ◌≢◌, ◌⊎◌, inl, inr, ⊎_elim, ℕ, ◌+◌, ◌<◌, List, [], length, map, get_or, Option, Some, None, refl, ap, sym, ◌∙◌, subst, arith}
 use Rattle.std.specs.Prelude.{All, ◌≤◌, Contains, slice_get, option_and_then}
 use Rattle.std.specs.Option.{option_map}
+use Rattle.std.proofs.lemmas.Bool.{cases_eq}
 use Rattle.std.proofs.lemmas.List.{length-map}
 use Rattle.std.proofs.lemmas.List.Elements.{All-weaker}
 use Rattle.std.proofs.lemmas.Option.{slice_get_cases, slice_get_past}
@@ -16,7 +17,7 @@ use Rattle.lf_teams.specs.Teams.{state_of, team_number}
 use Rattle.lf_teams.proofs.Standing.{some_one}
 use Rattle.lf_mend.specs.Deeds.{AreHomeBut, AreHomes, HaveLeftHome, IsLegalOrNamed, IsNamed, PlacesStay, StandElsewhere, StandHomeBut, home_at}
 use Rattle.lf_mend.specs.Mending.{AllMove, AreLegalBut, IsLeftIn, IsLegalIn, OnlyMove, names_in, place_in}
-use Rattle.lf_mend.proofs.Legal.{legal_is_told, state_there}
+use Rattle.lf_mend.proofs.Legal.{legal_is_told, state_there, told_legal}
 use Rattle.lf_mend.proofs.Lists.{AreNamedTo, one_more_named, one_more_not}
 use Rattle.lf_mend.proofs.Steps.{place_of_state}
 
@@ -184,6 +185,23 @@ pub left_at : (team : List ℕ) (floor : FloorState) (number k : ℕ) (id : Cell
 left_at team floor number k id old new is within so_far named =
     one_more_not (λ own. IsLeftIn floor team own) (MayStand team floor k) (IsLegalIn floor team k → ⊥) k old new
     (λ illegal. record { within = within; illegal = illegal }) so_far (subst (λ (i : CellId). IsLegalOrNamed team floor i.own old new) is named)
+
+-- ---- a whole team
+
+pub one_more_stands : (team : List ℕ) (floor : FloorState) (number k : ℕ) (id : CellId) → id ≡ id_of number k → team_number floor.frame team ≡ Some number
+    → ((s : TeamState) → slice_get floor.teams number ≡ Some s → StandsLegal floor.frame number s.padding (map member_of s.cells) id.own)
+    → ((own : ℕ) → own < k → MayStand team floor own) → (own : ℕ) → own < k + 1 → MayStand team floor own
+one_more_stands team floor number k id is named stands before own within s there short =
+    ⊎_elim (λ (here : own ≡ k). told_legal team floor number own s named there short
+    (subst (λ (j : ℕ). StandsLegal floor.frame number s.padding (map member_of s.cells) j) (ap (λ (i : CellId). i.own) is ∙ sym here)
+    (stands s (state_there floor team number s named there))))
+    (λ (differ : own ≢ k). before own (omega (arith, within, differ)) s there short) (cases_eq own k)
+
+pub all_stand : (team : List ℕ) (floor : FloorState) (number count : ℕ) → team_number floor.frame team ≡ Some number
+    → ((s : TeamState) → slice_get floor.teams number ≡ Some s → length s.cells ≤ count)
+    → ((own : ℕ) → own < count → MayStand team floor own) → AreLegalBut team floor []
+all_stand team floor number count named many all s there own within =
+    inl (all own (omega (arith, within, many s (state_there floor team number s named there))) s there within)
 
 -- a team with a cell that does not stand legally is not whole
 pub not_whole : (team : List ℕ) (floor : FloorState) (number own : ℕ) (Told : Type 0) → team_number floor.frame team ≡ Some number

@@ -27,7 +27,7 @@ looked_within team floor number k cells ids are within named same s there =
     let own : length cells ≡ length s.cells = ap (λ (cs : List Cell). length cs) (same s (state_there floor team number s named there)) in
     omega (arith, within, many, own)
 
-pub all_looked : (floor : FloorState) (number k : ℕ) (cells : List Cell) (ids : List CellId) → ids ≡ ids_of number cells → (k < length ids → ⊥)
+pub all_looked : (floor : FloorState) (number k : ℕ) (cells : List Cell) (ids : List CellId) → ids ≡ ids_of number cells → length ids ≤ k
     → ((s : TeamState) → slice_get floor.teams number ≡ Some s → cells ≡ s.cells) → (s : TeamState) → slice_get floor.teams number ≡ Some s → length s.cells ≤ k
 all_looked floor number k cells ids are past same s at =
     let many : length ids ≡ length cells = ids_long number cells ids are in

@@ -24,8 +24,8 @@ pub record AreMarkedTo (team : List ℕ) (floor : FloorState) (count : ℕ) (mar
   pub many : length marks ≡ count
   pub are : (own : ℕ) → own < count → IsLegalIn floor team own → slice_get marks own ≡ Some true
 
-pub none_marked : (team : List ℕ) (floor : FloorState) → AreMarkedTo team floor 0 []
-none_marked team floor = record { many = refl; are = λ own within legal. absurd (omega (arith, within)) }
+pub none_marked : (team : List ℕ) (floor : FloorState) (marks : List Bool) → marks ≡ [] → AreMarkedTo team floor 0 marks
+none_marked team floor marks none = record { many = ap (λ (xs : List Bool). length xs) none; are = λ own within legal. absurd (omega (arith, within)) }
 
 pub one_more_marked : (team : List ℕ) (floor : FloorState) (number own : ℕ) (old new : List Bool) → team_number floor.frame team ≡ Some number
     → AreMarkedTo team floor own old → IsMarkedMore floor number own old new → AreMarkedTo team floor (own + 1) new

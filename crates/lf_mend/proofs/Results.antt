@@ -5,6 +5,10 @@ use Rattle.std.proofs.lemmas.Option.{slice_get_within, get_or_from_slice_get}
 use Rattle.lf_teams.specs.States.{FloorState, TeamState}
 use Rattle.lf_teams.specs.Teams.{state_at, state_of, team_number}
 
+pub ok_from : {T E : Type 0} (r : Result T E) (P : Type 0) → P → IfOk r (λ x. P)
+ok_from (Ok x) P p = p
+ok_from (Err e) P p = tt
+
 pub err_from : {T E : Type 0} (r : Result T E) (P : Type 0) → P → OnErr r P
 err_from (Ok x) P p = tt
 err_from (Err e) P p = p

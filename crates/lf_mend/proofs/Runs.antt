@@ -6,10 +6,12 @@ use Rattle.std.specs.Io.KnownBytes.{Appends}
 use Rattle.std.proofs.lemmas.List.Elements.{All-append, All-cons, All-nil}
 use Rattle.std.proofs.lemmas.List.Concat.{flat_map-append}
 use Rattle.lf_floorplan.specs.declared.place.Place.{Place}
+use Rattle.lf_proto.specs.Lines.{IsName}
 use Rattle.lf_rules.specs.Legalizer.{Legalizer}
 use Rattle.lf_proto.specs.declared.request.Command.{Command}
 use Rattle.lf_proto.specs.declared.request.Command.TheVariants.{Bye, To}
 use Rattle.lf_proto.specs.declared.reply.Reply.{Reply}
+use Rattle.lf_proto.specs.Requests.{IsPlain}
 use Rattle.lf_devices.proofs.Known.{Appends-more, Appends-same}
 use Rattle.lf_teams.specs.States.{FloorState}
 use Rattle.lf_teams.specs.Teams.{state_of}
@@ -31,15 +33,16 @@ run_append l a b c [] others (r ∷ rs) answers first second = absurd first
 run_append l a b c (d ∷ ds) others [] answers first second = absurd first
 
 none_run : (l : Legalizer) (team : List ℕ) (a b : FloorState) → b ≡ a → IsRunBy [] l team a b
-none_run l team a b same = record { replies = []; run = same; granted = All-nil (λ (r : Reply). is_granted r ≡ true); own = All-nil (IsTo team) }
+none_run l team a b same = record { replies = []; run = same; granted = All-nil (λ (r : Reply). is_granted r ≡ true); own = All-nil (IsTo team); plain = λ name. All-nil IsPlain }
 
 one_run : (l : Legalizer) (team : List ℕ) (a b : FloorState) (command : Command (List ℕ) Place) (reply : Reply) → IsTo team command
-    → Step l a command reply b → is_granted reply ≡ true → IsRunBy (command ∷ []) l team a b
-one_run l team a b command reply to step granted = record {
+    → (IsName team → IsPlain command) → Step l a command reply b → is_granted reply ≡ true → IsRunBy (command ∷ []) l team a b
+one_run l team a b command reply to plain step granted = record {
   replies = reply ∷ [];
   run = (b, step, refl);
   granted = All-cons (λ (r : Reply). is_granted r ≡ true) reply [] granted (All-nil (λ (r : Reply). is_granted r ≡ true));
   own = All-cons (IsTo team) command [] to (All-nil (IsTo team));
+  plain = λ name. All-cons IsPlain command [] (plain name) (All-nil IsPlain);
 }
 
 then_run : (l : Legalizer) (team : List ℕ) (a b c : FloorState) (commands others : List (Command (List ℕ) Place))
@@ -49,6 +52,7 @@ then_run l team a b c commands others first second = record {
   run = run_append l a b c commands others first.replies second.replies first.run second.run;
   granted = All-append (λ (r : Reply). is_granted r ≡ true) first.replies second.replies first.granted second.granted;
   own = All-append (IsTo team) commands others first.own second.own;
+  plain = λ name. All-append IsPlain commands others (first.plain name) (second.plain name);
 }
 
 -- ---- what is written
@@ -68,18 +72,18 @@ left_out l team old new bytes reply keeps refused = ([], none_run l team old new
 
 -- one command, and its line
 pub one_written : (l : Legalizer) (team : List ℕ) (old new : FloorState) (before after : Option (List ℕ)) (line : List ℕ) (command : Command (List ℕ) Place) (reply : Reply)
-    → IsTo team command → Step l old command reply new → is_granted reply ≡ true → line ≡ line_of command → Appends before after line
+    → IsTo team command → (IsName team → IsPlain command) → Step l old command reply new → is_granted reply ≡ true → line ≡ line_of command → Appends before after line
     → IsWrittenRun l team old before after new
-one_written l team old new before after line command reply to step granted is appends = (
+one_written l team old new before after line command reply to plain step granted is appends = (
   command ∷ [],
-  one_run l team old new command reply to step granted,
+  one_run l team old new command reply to plain step granted,
   Appends-same before after line (lines_of (command ∷ [])) (is ∙ sym (append-nil (line_of command))) appends,
 )
 
 -- one command, whatever was written
 pub one_asked : (l : Legalizer) (team : List ℕ) (old new : FloorState) (command : Command (List ℕ) Place) (reply : Reply)
-    → IsTo team command → Step l old command reply new → is_granted reply ≡ true → IsRunOf l team old new
-one_asked l team old new command reply to step granted = (command ∷ [], one_run l team old new command reply to step granted)
+    → IsTo team command → (IsName team → IsPlain command) → Step l old command reply new → is_granted reply ≡ true → IsRunOf l team old new
+one_asked l team old new command reply to plain step granted = (command ∷ [], one_run l team old new command reply to plain step granted)
 
 pub none_asked : (l : Legalizer) (team : List ℕ) (floor : FloorState) → IsRunOf l team floor floor
 none_asked l team floor = ([], none_run l team floor floor refl)

@@ -2,8 +2,10 @@
 
 ghost use Rattle.std.specs.Prelude.{◌≡◌, IfOk, List, OnErr, OnOk, ℕ};
 ghost use Rattle.std.specs.Io.KnownBytes.{Appends};
+ghost use Rattle.lf_proto.specs.Lines.{IsName};
 ghost use Rattle.lf_rules.specs.Legalizer.{Legalizer};
 ghost use Rattle.lf_proto.specs.Commands.{command_of};
+ghost use Rattle.lf_proto.specs.Requests.{IsPlain};
 ghost use Rattle.lf_teams.specs.VerbLaws.{is_granted};
 ghost use Rattle.lf_teams.specs.Steps.{CommitsLegally, IsTo};
 ghost use Rattle.lf_mend.specs.Deeds.{IsAsked};
@@ -56,9 +58,10 @@ pub(crate) fn ask_and_write<S: Seeker + Drop, K: Sink>(
     line: &mut Vec<u8>,
     lines: &mut K,
 ) -> Result<Reply, Fault>
-    ensures run { (l : Legalizer) (team : List ℕ) → IsTo team (command_of request.now)
+    ensures run { (l : Legalizer) (team : List ℕ) → IsTo team (command_of request.now) → (IsName team → IsPlain (command_of request.now))
         → IfOk result (λ _. IsWrittenRun l team floor.old (K.contents lines.old) (K.contents lines.new) floor.new) }
-    ensures err { (l : Legalizer) (team : List ℕ) → IsTo team (command_of request.now) → OnErr result (IsRunOf l team floor.old floor.new) }
+    ensures err { (l : Legalizer) (team : List ℕ) → IsTo team (command_of request.now) → (IsName team → IsPlain (command_of request.now))
+        → OnErr result (IsRunOf l team floor.old floor.new) }
     ensures only { (team : List ℕ) → IsTo team (command_of request.now) → ChangesOnly team floor.old floor.new }
     ensures asked { (l : Legalizer) → IsAsked l floor.old (command_of request.now) floor.new }
     ensures committed { (l : Legalizer) → IfOk result (λ reply. CommitsLegally l (command_of request.now) reply floor.new) }

@@ -1,17 +1,18 @@
-use Rattle.std.proofs.Common.{◌≡◌, ◌∙◌, ℕ, get_or, ap}
-use Rattle.std.proofs.lemmas.List.Elements.{All-nil}
+use Rattle.std.proofs.Common.{◌≡◌, ◌∙◌, ℕ, get_or, ap, arith}
+use Rattle.std.proofs.lemmas.List.Elements.{All-nil, All-same}
 use Rattle.lf_cells.specs.Cells.{Cells, cells_of, ids_of}
 use Rattle.lf_mend.specs.Mending.{IsLeftIn}
-use Rattle.lf_mend.proofs.Finding.{MayStand, all_named, left_at, named_at}
+use Rattle.lf_mend.proofs.Finding.{all_named, left_at, named_at}
 use Rattle.lf_mend.proofs.Ids.{all_looked, id_at, looked_within, no_id}
-use Rattle.lf_mend.proofs.Lists.{none_named}
 use Rattle.lf_mend.proofs.found.left_of.Goals as goal
 
 pub loop-id-init : goal.loop-id-init
-loop-id-init g c = record {
-  named = none_named (MayStand c.args.seat.now.team.now c.args.floor.now);
-  illegal = All-nil (λ (own : ℕ). IsLeftIn c.args.floor.now c.args.seat.now.team.now own);
-}
+loop-id-init g c =
+    let Left = λ (own : ℕ). IsLeftIn c.args.floor.now c.args.seat.now.team.now own in
+    record {
+      named = λ own within. absurd (omega (arith, within));
+      illegal = All-same Left c.new-left.result.items _ c.new-left.ensures.items (All-nil Left);
+    }
 
 pub loop-id-preserved : goal.loop-id-preserved
 loop-id-preserved g c =
@@ -19,14 +20,14 @@ loop-id-preserved g c =
     let team = c.args.seat.now.team.now in
     let number = c.args.seat.now.number in
     let k = c.loop-id.id-index in
-    let cells = cells_of c.placement-id-items.result.now.cells number in
+    let cells = cells_of c.placement.result.now.cells number in
     let ids = c.cells_of-id-items.result.now in
-    let are : ids ≡ ids_of number cells = c.cells_of-id-items.ensures ∙ ap (λ (cs : Cells). ids_of number (cells_of cs number)) c.cells-id-items.ensures in
+    let are : ids ≡ ids_of number cells = c.cells_of-id-items.ensures ∙ ap (λ (cs : Cells). ids_of number (cells_of cs number)) c.cells.ensures in
     let id = id_at number k cells ids are c.loop-id-test.true in
     record {
       named = named_at team floor number k (get_or ids k no_id) c.loop-id.left.items c.name_left.new.left.items id c.loop-id.invariant.named c.in_ok-name_left.ensures;
       illegal = left_at team floor number k (get_or ids k no_id) c.loop-id.left.items c.name_left.new.left.items id
-          (looked_within team floor number k cells ids are c.loop-id-test.true c.requires (λ s at. c.placement-id-items.ensures.cells number s at))
+          (looked_within team floor number k cells ids are c.loop-id-test.true c.requires (λ s at. c.placement.ensures.cells number s at))
           c.loop-id.invariant.illegal c.in_ok-name_left.ensures;
     }
 
@@ -36,8 +37,8 @@ returns-clause-named g c =
     let team = c.args.seat.now.team.now in
     let number = c.args.seat.now.number in
     let k = c.loop-id.id-index in
-    let cells = cells_of c.placement-id-items.result.now.cells number in
+    let cells = cells_of c.placement.result.now.cells number in
     let ids = c.cells_of-id-items.result.now in
-    let are : ids ≡ ids_of number cells = c.cells_of-id-items.ensures ∙ ap (λ (cs : Cells). ids_of number (cells_of cs number)) c.cells-id-items.ensures in
+    let are : ids ≡ ids_of number cells = c.cells_of-id-items.ensures ∙ ap (λ (cs : Cells). ids_of number (cells_of cs number)) c.cells.ensures in
     all_named team floor number k c.loop-id.left.items c.requires
-    (all_looked floor number k cells ids are c.loop-id-test.false (λ s at. c.placement-id-items.ensures.cells number s at)) c.loop-id.invariant.named
+    (all_looked floor number k cells ids are c.loop-id-test.false (λ s at. c.placement.ensures.cells number s at)) c.loop-id.invariant.named

@@ -5,16 +5,16 @@ use Rattle.lf_mend.proofs.Marking.{all_marked, marked_at, none_marked}
 use Rattle.lf_mend.proofs.start.legal_of.Goals as goal
 
 pub loop-id-init : goal.loop-id-init
-loop-id-init g c = λ team named. none_marked team c.args.floor.now
+loop-id-init g c = λ team named. none_marked team c.args.floor.now c.new-legal.result.items c.new-legal.ensures.items
 
 pub loop-id-preserved : goal.loop-id-preserved
 loop-id-preserved g c = λ team named.
     let floor = c.args.floor.now in
     let number = c.args.number in
     let k = c.loop-id.id-index in
-    let cells = cells_of c.placement-id-items.result.now.cells number in
+    let cells = cells_of c.placement.result.now.cells number in
     let ids = c.cells_of-id-items.result.now in
-    let are : ids ≡ ids_of number cells = c.cells_of-id-items.ensures ∙ ap (λ (cs : Cells). ids_of number (cells_of cs number)) c.cells-id-items.ensures in
+    let are : ids ≡ ids_of number cells = c.cells_of-id-items.ensures ∙ ap (λ (cs : Cells). ids_of number (cells_of cs number)) c.cells.ensures in
     marked_at team floor number k (get_or ids k no_id) c.loop-id.legal.items c.mark_cell.new.legal.items (id_at number k cells ids are c.loop-id-test.true) named
     (c.loop-id.invariant team named) c.in_ok-mark_cell.ensures
 
@@ -23,8 +23,8 @@ returns g c = λ team named.
     let floor = c.args.floor.now in
     let number = c.args.number in
     let k = c.loop-id.id-index in
-    let cells = cells_of c.placement-id-items.result.now.cells number in
+    let cells = cells_of c.placement.result.now.cells number in
     let ids = c.cells_of-id-items.result.now in
-    let are : ids ≡ ids_of number cells = c.cells_of-id-items.ensures ∙ ap (λ (cs : Cells). ids_of number (cells_of cs number)) c.cells-id-items.ensures in
+    let are : ids ≡ ids_of number cells = c.cells_of-id-items.ensures ∙ ap (λ (cs : Cells). ids_of number (cells_of cs number)) c.cells.ensures in
     all_marked team floor number k c.loop-id.legal.items named
-    (all_looked floor number k cells ids are c.loop-id-test.false (λ s at. c.placement-id-items.ensures.cells number s at)) (c.loop-id.invariant team named)
+    (all_looked floor number k cells ids are c.loop-id-test.false (λ s at. c.placement.ensures.cells number s at)) (c.loop-id.invariant team named)
