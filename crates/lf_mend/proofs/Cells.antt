@@ -1,6 +1,6 @@
 -- A change of one cell leaves the places of all others.
 use Rattle.std.proofs.Common.{◌≡◌, ◌≢◌, ◌⊎◌, inl, inr, ⊎_elim, ℕ, zero, suc, ◌<◌, List, [], ◌∷◌, length, map, get_or, Bool, true, false, cond, eqb, ltb, Option, Some, None, refl, ap, sym, ◌∙◌, subst, arith}
-use Rattle.std.specs.Prelude.{AllPairs, position, bytes_eq, slice_get, option_and_then}
+use Rattle.std.specs.Prelude.{AllPairs, bytes_eq, slice_get, option_and_then}
 use Rattle.std.specs.Option.{option_map}
 use Rattle.std.proofs.lemmas.Bool.{cases_eq}
 use Rattle.std.proofs.lemmas.List.Quantifiers.{position-Some}
@@ -25,7 +25,7 @@ use Rattle.lf_teams.specs.Outcomes.{Outcome, name_at, refused}
 use Rattle.lf_teams.specs.Sessions.{seen_at}
 use Rattle.lf_teams.specs.Looks.{best_at}
 use Rattle.lf_teams.specs.Changes.{placed, placed_own, placed_unless, unplaced, unplaced_own, unplaced_from, legalized, legalized_own, legalized_at, committed, committed_unless, first_unplaced, broken_cells, outcome_of_change}
-use Rattle.lf_teams.specs.Verbs.{unless_spent, unless_stale, outcome_by_slot}
+use Rattle.lf_teams.specs.Verbs.{unless_spent, outcome_by_slot}
 use Rattle.lf_teams.specs.VerbLaws.{is_commit, outcome_of_asking}
 use Rattle.lf_teams.proofs.Standing.{moved_there}
 use Rattle.lf_mend.specs.Deeds.{IsAsked, IsOfCell, PlacesStay}

@@ -153,11 +153,11 @@ only_move team old new number homes changed named homes_are same but own = go (s
     by_cases (inl (c, within, at, read)) =
         placed (but (map (λ (c : Cell). c.name) t.cells) (ap by_names is) own (omega (arith, within, length-map t.cells (λ (c : Cell). c.name))))
     by_cases (inr (past, none)) = inl (
-      place_of_state new team own t is
-      ∙ ap (λ (o : Option Cell). option_and_then (λ (c : Cell). c.working) o) none
-      ∙ sym (ap (λ (o : Option Cell). option_and_then (λ (c : Cell). c.working) o) (slice_get_past s.cells own (omega (arith, past, many))))
-      ∙ sym (place_of_state old team own s was)
-    )
+        place_of_state new team own t is
+        ∙ ap (λ (o : Option Cell). option_and_then (λ (c : Cell). c.working) o) none
+        ∙ sym (ap (λ (o : Option Cell). option_and_then (λ (c : Cell). c.working) o) (slice_get_past s.cells own (omega (arith, past, many))))
+        ∙ sym (place_of_state old team own s was)
+        )
 
 -- ---- cells that are left
 

@@ -14,6 +14,10 @@ use Rattle.lf_mend.proofs.Legal.{state_there}
 abbrev pub no_id : CellId
 no_id = record { team = 0; own = 0 }
 
+-- the ids that a table gives which is this one
+pub ids_are : (table read : Cells) (number : ℕ) (ids : List CellId) → read ≡ table → ids ≡ ids_of number (cells_of read number) → ids ≡ ids_of number (cells_of table number)
+ids_are table read number ids same are = are ∙ ap (λ (cs : Cells). ids_of number (cells_of cs number)) same
+
 pub id_at : (number k : ℕ) (cells : List Cell) (ids : List CellId) → ids ≡ ids_of number cells → k < length ids → get_or ids k no_id ≡ id_of number k
 id_at number k cells ids are within =
     ids_read number k cells ids (get_or ids k no_id) are within (get_or_default ids k no_id (get_or ids k no_id) within)

@@ -15,7 +15,7 @@ use Rattle.lf_teams.specs.Outcomes.{places_of}
 use Rattle.lf_teams.specs.Steps.{AllCommittedIn}
 use Rattle.lf_teams.specs.VerbLaws.{AreLegal, KeepsCells, committed_places}
 use Rattle.lf_teams.proofs.Standing.{some_one}
-use Rattle.lf_mend.specs.Deeds.{AreMarked, CommittedStay, HasSameCells, MarkedStay, PlacesStay, SameCells}
+use Rattle.lf_mend.specs.Deeds.{AreMarked, CommittedStay, MarkedStay, PlacesStay, SameCells}
 use Rattle.lf_mend.specs.Mending.{AreLegalBut, IsLeftIn, IsLegalIn, LegalStay}
 
 -- the state of the team of that number

@@ -1,6 +1,6 @@
 -- What holds of a result, from what holds in any case.
-use Rattle.std.proofs.Common.{◌≡◌, ℕ, List, Bool, true, false, Option, None, Some, Result, Ok, Err, OnOk, OnErr, sym, ap, ◌∙◌, subst}
-use Rattle.std.specs.Prelude.{All, IfOk, is_err, slice_get}
+use Rattle.std.proofs.Common.{◌≡◌, ℕ, List, false, Option, None, Some, Result, Ok, Err, OnOk, OnErr, subst}
+use Rattle.std.specs.Prelude.{All, IfOk, is_err}
 use Rattle.std.proofs.lemmas.Option.{slice_get_within, get_or_from_slice_get}
 use Rattle.lf_teams.specs.States.{FloorState, TeamState}
 use Rattle.lf_teams.specs.Teams.{state_at, state_of, team_number}

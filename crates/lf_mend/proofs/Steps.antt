@@ -1,9 +1,7 @@
 -- What a step to a team does to it.
-use Rattle.std.proofs.Common.{◌≡◌, ◌≢◌, ◌⊎◌, inl, inr, ℕ, zero, suc, ◌<◌, List, [], ◌∷◌, length, map, Bool, true, false, Option, Some, None, refl, ap, sym, ◌∙◌, subst}
+use Rattle.std.proofs.Common.{◌≡◌, ◌⊎◌, inl, inr, ℕ, List, map, Bool, true, false, Option, Some, None, refl, ap, sym, ◌∙◌, subst}
 use Rattle.std.specs.Prelude.{MatchBool, slice_get, option_and_then}
 use Rattle.std.specs.Option.{option_map}
-use Rattle.std.proofs.lemmas.Option.{slice_get-map}
-use Rattle.lf_floorplan.specs.declared.frame.Frame.{Frame}
 use Rattle.lf_floorplan.specs.declared.place.Place.{Place}
 use Rattle.lf_rules.specs.Legalizer.{Legalizer}
 use Rattle.lf_proto.specs.declared.request.Command.{Command}
@@ -15,13 +13,13 @@ use Rattle.lf_cells.specs.Cells.{working_at}
 use Rattle.lf_teams.specs.States.{FloorState, TeamState}
 use Rattle.lf_teams.specs.Teams.{Setting, setting, state_at, state_of, team_number}
 use Rattle.lf_teams.specs.Outcomes.{Outcome, is_short}
-use Rattle.lf_teams.specs.Steps.{Answer, Answers, IsTo, RunsShort, Step, answer_at, answer_by, answer_of, no_team, ruled}
+use Rattle.lf_teams.specs.Steps.{Answers, IsTo, RunsShort, Step, answer_at, answer_by, answer_of, ruled}
 use Rattle.lf_teams.specs.Verbs.{outcome_of}
 use Rattle.lf_teams.specs.VerbLaws.{LookKeeps, committed_places, is_change, is_commit}
 use Rattle.lf_teams.proofs.Answering.{own_answer}
 use Rattle.lf_teams.proofs.Cases.{Facts, names_stay, order_facts}
 use Rattle.lf_teams.proofs.Kept.{committed_stay}
-use Rattle.lf_mend.specs.Deeds.{CommittedStay, HasSameCells, IsAsked, SameCells}
+use Rattle.lf_mend.specs.Deeds.{CommittedStay, IsAsked, SameCells}
 use Rattle.lf_mend.specs.Mending.{names_in, place_in}
 
 -- ---- the team before and after

@@ -1,9 +1,8 @@
 //! The repair of one team.
 
-ghost use Rattle.std.specs.Prelude.{◌≡◌, ◌≢◌, ◌↔◌, [], List, ℕ, All, IfOk, OnErr, Some, true};
+ghost use Rattle.std.specs.Prelude.{◌≡◌, ◌≢◌, ◌↔◌, [], All, IfOk, OnErr, Some, true};
 ghost use Rattle.lf_rules.specs.Legalizer.{Legalizer};
 ghost use Rattle.lf_teams.specs.Steps.{AllCommittedIn};
-ghost use Rattle.lf_teams.specs.States.{TeamState};
 ghost use Rattle.lf_teams.specs.Teams.{team_number};
 ghost use Rattle.lf_teams.specs.VerbLaws.{is_granted};
 ghost use Rattle.lf_mend.specs.Deeds.{CommittedStay, MarkedStay, PlacesStay, SameCells, StandElsewhere, StandHomeBut};
@@ -251,7 +250,14 @@ fn work<S: Seeker + Drop, K: Sink>(
         Ok(()) => {}
         Err(fault) => return Err(fault),
     }
-    finish(alloc, floor, &seat, start.homes.as_slice(), &mut texts, lines)
+    finish(
+        alloc,
+        floor,
+        &seat,
+        start.homes.as_slice(),
+        &mut texts,
+        lines,
+    )
 }
 
 /// Repairs a team: its cells that break a rule or have no place go to legal places; with `All` other cells may be moved too.

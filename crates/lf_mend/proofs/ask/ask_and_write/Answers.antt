@@ -1,5 +1,4 @@
-use Rattle.std.proofs.Common.{◌≡◌, ◌∙◌, ◌++◌, false, inl, inr, refl, sym, ap}
-use Rattle.std.specs.Prelude.{OnOk, is_err}
+use Rattle.std.proofs.Common.{◌≡◌, ◌∙◌, ◌++◌, inl, inr, refl, sym, ap}
 use Rattle.std.specs.Io.KnownBytes.{Appends}
 use Rattle.lf_proto.specs.Commands.{command_of}
 use Rattle.lf_mend.specs.Runs.{line_of}

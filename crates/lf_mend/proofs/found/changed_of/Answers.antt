@@ -1,10 +1,10 @@
-use Rattle.std.proofs.Common.{◌≡◌, ◌≢◌, ◌∙◌, ℕ, get_or, ap, sym, arith}
+use Rattle.std.proofs.Common.{◌≢◌, ℕ, get_or, arith}
 use Rattle.std.proofs.lemmas.List.Elements.{All-nil, All-same}
-use Rattle.lf_cells.specs.Cells.{Cells, cells_of, ids_of, working_at}
+use Rattle.lf_cells.specs.Cells.{cells_of, working_at}
 use Rattle.lf_cells.proofs.TeamIds.{ids_long}
 use Rattle.lf_mend.specs.Deeds.{home_at}
 use Rattle.lf_mend.proofs.Finding.{all_changed, changed_at, moved_at}
-use Rattle.lf_mend.proofs.Ids.{id_at, no_id, working_read}
+use Rattle.lf_mend.proofs.Ids.{id_at, ids_are, no_id, working_read}
 use Rattle.lf_mend.proofs.found.changed_of.Goals as goal
 
 pub loop-id-init : goal.loop-id-init
@@ -21,7 +21,7 @@ loop-id-preserved c =
     let k = c.loop-id.id-index in
     let cells = cells_of c.args.placement.now.cells number in
     let ids = c.cells_of-id-items.result.now in
-    let are : ids ≡ ids_of number cells = c.cells_of-id-items.ensures ∙ ap (λ (cs : Cells). ids_of number (cells_of cs number)) c.cells.ensures in
+    let are = ids_are c.args.placement.now.cells c.cells.result.now number ids c.cells.ensures c.cells_of-id-items.ensures in
     let id = id_at number k cells ids are c.loop-id-test.true in
     let now = working_read c.args.placement.now.cells c.cells-in-loop-id.result.now number k (get_or ids k no_id) c.working-now.result c.cells-in-loop-id.ensures id
     c.working-now.ensures in
@@ -38,5 +38,5 @@ returns-clause-changed c =
     let k = c.loop-id.id-index in
     let cells = cells_of c.args.placement.now.cells number in
     let ids = c.cells_of-id-items.result.now in
-    let are : ids ≡ ids_of number cells = c.cells_of-id-items.ensures ∙ ap (λ (cs : Cells). ids_of number (cells_of cs number)) c.cells.ensures in
+    let are = ids_are c.args.placement.now.cells c.cells.result.now number ids c.cells.ensures c.cells_of-id-items.ensures in
     all_changed cells c.args.homes.now k c.loop-id.changed.items (omega (arith, c.loop-id-test.false, ids_long number cells ids are)) c.loop-id.invariant.changed

@@ -1,9 +1,9 @@
-use Rattle.std.proofs.Common.{◌≡◌, ◌∙◌, ℕ, get_or, ap, arith}
+use Rattle.std.proofs.Common.{ℕ, get_or, arith}
 use Rattle.std.proofs.lemmas.List.Elements.{All-nil, All-same}
-use Rattle.lf_cells.specs.Cells.{Cells, cells_of, ids_of}
+use Rattle.lf_cells.specs.Cells.{cells_of}
 use Rattle.lf_mend.specs.Mending.{IsLeftIn}
 use Rattle.lf_mend.proofs.Finding.{all_named, left_at, named_at}
-use Rattle.lf_mend.proofs.Ids.{all_looked, id_at, looked_within, no_id}
+use Rattle.lf_mend.proofs.Ids.{all_looked, id_at, ids_are, looked_within, no_id}
 use Rattle.lf_mend.proofs.found.left_of.Goals as goal
 
 pub loop-id-init : goal.loop-id-init
@@ -22,7 +22,7 @@ loop-id-preserved g c =
     let k = c.loop-id.id-index in
     let cells = cells_of c.placement.result.now.cells number in
     let ids = c.cells_of-id-items.result.now in
-    let are : ids ≡ ids_of number cells = c.cells_of-id-items.ensures ∙ ap (λ (cs : Cells). ids_of number (cells_of cs number)) c.cells.ensures in
+    let are = ids_are c.placement.result.now.cells c.cells.result.now number ids c.cells.ensures c.cells_of-id-items.ensures in
     let id = id_at number k cells ids are c.loop-id-test.true in
     record {
       named = named_at team floor number k (get_or ids k no_id) c.loop-id.left.items c.name_left.new.left.items id c.loop-id.invariant.named c.in_ok-name_left.ensures;
@@ -39,6 +39,6 @@ returns-clause-named g c =
     let k = c.loop-id.id-index in
     let cells = cells_of c.placement.result.now.cells number in
     let ids = c.cells_of-id-items.result.now in
-    let are : ids ≡ ids_of number cells = c.cells_of-id-items.ensures ∙ ap (λ (cs : Cells). ids_of number (cells_of cs number)) c.cells.ensures in
+    let are = ids_are c.placement.result.now.cells c.cells.result.now number ids c.cells.ensures c.cells_of-id-items.ensures in
     all_named team floor number k c.loop-id.left.items c.requires
     (all_looked floor number k cells ids are c.loop-id-test.false (λ s at. c.placement.ensures.cells number s at)) c.loop-id.invariant.named

@@ -1,4 +1,4 @@
-use Rattle.std.proofs.Common.{inl, inr, refl}
+use Rattle.std.proofs.Common.{inl, refl}
 use Rattle.lf_mend.proofs.found.name_changed.Goals as goal
 
 pub returns-then-are_alike : goal.returns-then-are_alike

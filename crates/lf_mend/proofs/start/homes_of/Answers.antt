@@ -1,7 +1,7 @@
-use Rattle.std.proofs.Common.{◌≡◌, ◌∙◌, get_or, ap, arith}
-use Rattle.lf_cells.specs.Cells.{Cells, cells_of, ids_of}
+use Rattle.std.proofs.Common.{get_or, arith}
+use Rattle.lf_cells.specs.Cells.{cells_of}
 use Rattle.lf_cells.proofs.TeamIds.{ids_long}
-use Rattle.lf_mend.proofs.Ids.{id_at, no_id, working_read}
+use Rattle.lf_mend.proofs.Ids.{id_at, ids_are, no_id, working_read}
 use Rattle.lf_mend.proofs.Marking.{all_home, none_home, one_more_home}
 use Rattle.lf_mend.proofs.start.homes_of.Goals as goal
 
@@ -14,7 +14,7 @@ loop-id-preserved c =
     let k = c.loop-id.id-index in
     let cells = cells_of c.args.placement.now.cells number in
     let ids = c.cells_of-id-items.result.now in
-    let are : ids ≡ ids_of number cells = c.cells_of-id-items.ensures ∙ ap (λ (cs : Cells). ids_of number (cells_of cs number)) c.cells.ensures in
+    let are = ids_are c.args.placement.now.cells c.cells.result.now number ids c.cells.ensures c.cells_of-id-items.ensures in
     one_more_home cells k c.loop-id.homes.items c.push.new.self.items c.working.result
     (working_read c.args.placement.now.cells c.cells-in-loop-id.result.now number k (get_or ids k no_id) c.working.result c.cells-in-loop-id.ensures
     (id_at number k cells ids are c.loop-id-test.true) c.working.ensures) c.in_ok-push.ensures.items c.loop-id.invariant
@@ -25,5 +25,5 @@ returns c =
     let k = c.loop-id.id-index in
     let cells = cells_of c.args.placement.now.cells number in
     let ids = c.cells_of-id-items.result.now in
-    let are : ids ≡ ids_of number cells = c.cells_of-id-items.ensures ∙ ap (λ (cs : Cells). ids_of number (cells_of cs number)) c.cells.ensures in
+    let are = ids_are c.args.placement.now.cells c.cells.result.now number ids c.cells.ensures c.cells_of-id-items.ensures in
     all_home cells k c.loop-id.homes.items (omega (arith, c.loop-id-test.false, ids_long number cells ids are)) c.loop-id.invariant

@@ -53,4 +53,4 @@ pub returns-in-Ok-close-clause-uncommitted : goal.returns-in-Ok-close-clause-unc
 returns-in-Ok-close-clause-uncommitted g c = λ some.
     same_committed c.args.seat.now.team.now c.commit_whole.new.floor c.close.new.floor c.in-Ok-close.ensures.cells
     ∙ uncommitted c.args.seat.now.team.now c.args.floor.now c.commit_whole.new.floor c.as_slice.result.now c.in-Ok.found.left.items c.as_slice.ensures.value
-        c.in-Ok-commit_whole.ensures.kept some
+    c.in-Ok-commit_whole.ensures.kept some

@@ -1,5 +1,4 @@
-use Rattle.std.proofs.Common.{◌≡◌, ◌∙◌, ℕ, List, Some, None, Vec, Global, ap, subst, sym}
-use Rattle.lf_teams.specs.Teams.{team_number}
+use Rattle.std.proofs.Common.{◌≡◌, ◌∙◌, ℕ, List, Vec, Global, ap, subst, sym}
 use Rattle.lf_mend.specs.Mending.{AllMove, AreLegalBut, OnlyMove}
 use Rattle.lf_mend.proofs.Finding.{all_move, only_move}
 use Rattle.lf_mend.proofs.Legal.{legal_stay, none_left}

@@ -3,8 +3,7 @@ use Rattle.std.specs.Prelude.{IfOk}
 use Rattle.lf_floorplan.specs.declared.place.Place.{Place}
 use Rattle.lf_mend.specs.Deeds.{CommittedStay, StandElsewhere, StandHomeBut}
 use Rattle.lf_mend.specs.Runs.{IsRunOf, IsWrittenRun}
-use Rattle.lf_mend.specs.declared.found.Found.{Found}
-use Rattle.lf_mend.proofs.Legal.{same_committed, same_places}
+use Rattle.lf_mend.proofs.Legal.{same_committed}
 use Rattle.lf_mend.proofs.Results.{err_then, ok_then, ok_weaker}
 use Rattle.lf_mend.proofs.Runs.{then_asked, then_written}
 use Rattle.lf_mend.proofs.team.work.Goals as goal
