@@ -28,8 +28,8 @@ one_longer (y ∷ ys) x = omega (arith, one_longer ys x)
 abbrev pub AreNamedTo : (ℕ → Type 0) → ℕ → List ℕ → Type 0
 AreNamedTo So count named = (own : ℕ) → own < count → So own ⊎ Contains named own
 
-pub none_named : (So : ℕ → Type 0) → AreNamedTo So 0 []
-none_named So own within = absurd (omega (arith, within))
+pub none_named : (So : ℕ → Type 0) (named : List ℕ) → AreNamedTo So 0 named
+none_named So named own within = absurd (omega (arith, within))
 
 at_last : (xs : List ℕ) (x : ℕ) → Contains (xs ++ x ∷ []) x
 at_last xs x = (length xs, omega (arith, one_longer xs x), get_or_from_slice_get (xs ++ x ∷ []) (length xs) x x (last_is xs x))

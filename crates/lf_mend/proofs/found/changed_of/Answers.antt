@@ -3,15 +3,16 @@ use Rattle.std.proofs.lemmas.List.Elements.{All-nil, All-same}
 use Rattle.lf_cells.specs.Cells.{cells_of, working_at}
 use Rattle.lf_cells.proofs.TeamIds.{ids_long}
 use Rattle.lf_mend.specs.Deeds.{home_at}
-use Rattle.lf_mend.proofs.Finding.{all_changed, changed_at, moved_at}
+use Rattle.lf_mend.proofs.Finding.{IsHome, all_changed, changed_at, moved_at}
 use Rattle.lf_mend.proofs.Ids.{id_at, ids_are, no_id, working_read}
+use Rattle.lf_mend.proofs.Lists.{none_named}
 use Rattle.lf_mend.proofs.found.changed_of.Goals as goal
 
 pub loop-id-init : goal.loop-id-init
 loop-id-init c =
     let Apart = λ (own : ℕ). working_at (cells_of c.args.placement.now.cells c.args.number) own ≢ home_at c.args.homes.now own in
     record {
-      changed = λ own within. absurd (omega (arith, within));
+      changed = none_named (IsHome (cells_of c.args.placement.now.cells c.args.number) c.args.homes.now) c.new-changed.result.items;
       moved = All-same Apart c.new-changed.result.items _ c.new-changed.ensures.items (All-nil Apart);
     }
 

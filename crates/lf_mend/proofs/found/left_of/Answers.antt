@@ -2,15 +2,16 @@ use Rattle.std.proofs.Common.{ℕ, get_or, arith}
 use Rattle.std.proofs.lemmas.List.Elements.{All-nil, All-same}
 use Rattle.lf_cells.specs.Cells.{cells_of}
 use Rattle.lf_mend.specs.Mending.{IsLeftIn}
-use Rattle.lf_mend.proofs.Finding.{all_named, left_at, named_at}
+use Rattle.lf_mend.proofs.Finding.{MayStand, all_named, left_at, named_at}
 use Rattle.lf_mend.proofs.Ids.{all_looked, id_at, ids_are, looked_within, no_id}
+use Rattle.lf_mend.proofs.Lists.{none_named}
 use Rattle.lf_mend.proofs.found.left_of.Goals as goal
 
 pub loop-id-init : goal.loop-id-init
 loop-id-init g c =
     let Left = λ (own : ℕ). IsLeftIn c.args.floor.now c.args.seat.now.team.now own in
     record {
-      named = λ own within. absurd (omega (arith, within));
+      named = none_named (MayStand c.args.seat.now.team.now c.args.floor.now) c.new-left.result.items;
       illegal = All-same Left c.new-left.result.items _ c.new-left.ensures.items (All-nil Left);
     }
 
