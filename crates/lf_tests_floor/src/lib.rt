@@ -14,8 +14,6 @@ mod devices;
 #[cfg(test)]
 mod floors;
 #[cfg(test)]
-mod saved;
-#[cfg(test)]
 mod segments;
 #[cfg(test)]
 mod sockets;

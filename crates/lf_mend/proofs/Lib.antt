@@ -1,0 +1,10 @@
+mod Lines
+mod Runs
+mod Steps
+mod Cells
+mod Lists
+mod Legal
+mod Ids
+mod Marking
+mod Finding
+mod Results
