@@ -10,9 +10,10 @@ from pathlib import Path
 
 from support import PROGRAM, HubCase
 
-from lefence.frames import Reader, read_records
+from lefence.frames import Reader
 from lefence.journal import Journal, texts_in
 from lefence.owner import own
+from lefence.segments import read_records
 
 
 class JournalTool(HubCase):
@@ -35,7 +36,7 @@ class JournalTool(HubCase):
     def frames(self) -> list[tuple[int, int]]:
         with open(self.journal, "rb") as file:
             reader = Reader(file.fileno(), self.journal)
-            return [(frame.start, frame.end) for frame in reader.frames(reader.texts()[1])]
+            return [(frame.start, frame.end) for frame in reader.frames(reader.header().length)]
 
     def spoil(self, number: int) -> tuple[int, int]:
         """Flips a bit in the frame of that number."""
