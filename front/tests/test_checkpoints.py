@@ -5,20 +5,24 @@ from __future__ import annotations
 import itertools
 import os
 import shutil
+import signal
 import tempfile
+import time
 import unittest
 from collections.abc import Callable
 from pathlib import Path
 from typing import Any
 from unittest import mock
 
-from support import FRONT
+from support import CELLS, PATIENCE, PROGRAM, TEAMS, HubCase, Script, spot
 
 from lefence.checkpoints import _synced
 from lefence.faults import Fault
-from lefence.frames import Record, Text
+from lefence.frames import Reader, Record, Text, frame_of, header_of
 from lefence.journal import Journal
+from lefence.protocol import text_length
 from lefence.segments import Past, read_records
+from lefence.status import ask_status
 
 TEXTS = [Text("0" * 64, Path("/a.def")), Text("f" * 64, Path("/b.lef"))]
 
@@ -38,8 +42,8 @@ class Disk:
 
     def take(self, name: str, *words: Any, **more: Any) -> Any:
         if next(self.count) == self.last:
-            for _, undo in reversed(self.undo if self.is_cut else []):
-                undo()
+            for _, step in reversed(self.undo if self.is_cut else []):
+                step()
             os._exit(7)
         if name in ("fsync", "fdatasync"):
             inode = os.fstat(words[0]).st_ino
@@ -174,6 +178,146 @@ class Segments(unittest.TestCase):
             list(read_records(self.path))
         self.assertIn("its first 5 changes are in a state alone", str(caught.exception))
         self.assertEqual((self.found(), self.said), (self.lines(8), []))
+
+    def test_a_state_that_is_spoilt_is_made_up_for_by_the_one_before(self) -> None:
+        self.fill(3)
+        past = Past(self.path)
+        past.state(4).write_bytes(b"pad A 0 7\n" * 5)
+        self.assertEqual(self.found(), self.lines(6))
+        self.assertIn("4.state is not the state that the journal names", self.said[0])
+        self.assertEqual(self.names(), ["3.journal", "3.state"])
+        past.state(3).unlink()
+        before = self.path.read_bytes()
+        with self.assertRaises(Fault) as caught:
+            self.open()
+        self.assertIn("no state of segment 3 is whole, and", str(caught.exception))
+        self.assertEqual((caught.exception.status, self.path.read_bytes(), self.names()), (1, before, ["3.journal"]))
+
+    def test_damage_to_a_segment_counts_where_no_state_behind_it_is_whole(self) -> None:
+        self.fill(1)
+        past = Past(self.path)
+        whole = past.segment(1).read_bytes()
+        for spoilt in (whole[:-9], whole[:-9] + b"x" + whole[-8:]):
+            past.segment(1).write_bytes(spoilt)
+            self.assertEqual(self.found(), self.lines(2))
+        past.state(2).rename(past.folder / "away")
+        with self.assertRaises(Fault) as caught:
+            self.open()
+        self.assertIn("1.journal: damaged at byte", str(caught.exception))
+        past.segment(1).write_bytes(whole)
+        self.assertEqual(self.found(), self.lines(2))
+
+    def test_a_backup_is_the_journal_and_then_its_past(self) -> None:
+        self.fill(2)
+        earlier = self.path.read_bytes()
+        self.fill(1)
+        self.path.write_bytes(earlier)
+        self.assertEqual(self.found(), self.lines(4))
+        self.assertEqual(self.names(), ["3.journal.aside", "3.state", "4.state.aside"])
+        self.fill(3)
+        self.assertEqual(self.found(), self.lines(10))
+
+    def test_a_journal_without_segments_is_read_and_gone_on_with(self) -> None:
+        journal = self.open()
+        self.append(journal)
+        journal.close()
+        with open(self.path, "rb") as file:
+            reader = Reader(file.fileno(), self.path)
+            frames = list(reader.frames(reader.header().length))
+        whole = header_of(TEXTS).replace(b"journal 3", b"journal 2").replace(b"segment 1 0 0\n", b"")
+        for frame in frames:
+            whole += frame_of(len(whole), frame.body, frame.time)
+        self.path.write_bytes(whole)
+        self.assertEqual((self.found(), [each.line for each in read_records(self.path)]), (self.lines(1), self.lines(1)))
+        self.fill(1)
+        self.assertEqual(self.found(), self.lines(3))
+
+
+class Checkpoints(HubCase):
+    """A hub that makes a state as often as it can."""
+
+    OFTEN = ("--tail-bytes", "1")
+
+    def places(self, count: int, begin: int = 0) -> list[str]:
+        return [f"place f0 0 f0c{at % CELLS} {spot(0, at)}" for at in range(begin, begin + count)]
+
+    def wait_states(self, count: int) -> None:
+        """Waits until a state is kept with which a segment of that number or a later one begins."""
+        last = time.monotonic() + PATIENCE
+        while max(Past(self.journal).numbers("state"), default=0) < count:
+            self.assertLess(time.monotonic(), last, self.hub.told())
+            time.sleep(0.01)
+
+    def test_clients_are_told_the_same_over_checkpoints_starts_and_restored_programs(self) -> None:
+        scripts = [Script(self.rng, team) for team in (0, 1, TEAMS)]
+        lines = [self.rng.choice(scripts).line() for _ in range(1500)]
+        found, talkers = b"", 0
+        self.start(*self.OFTEN)
+        talker = self.talk("operator")
+        for line in lines:
+            talker.socket.sendall(line + b"\n")
+            reply = talker.replies.readline()
+            found += reply + talker.replies.read(text_length(line, reply))
+            if self.rng.random() < 0.01:
+                self.wait_states(talkers + 2)
+                talkers += 1
+                os.kill(self.hub.server_pid(), signal.SIGKILL)
+        self.assertEqual(found, self.direct(b"\n".join(lines) + b"\n"))
+        self.assertEqual(self.hub.end(), 0)
+
+    def test_sessions_undo_padding_and_what_is_not_committed_are_there_after_a_start(self) -> None:
+        self.start(*self.OFTEN)
+        talker = self.talk("f0")
+        talker.ask("open f0", "open f0", "place f0 1 f0c1 0 0 N", "sync f0 0", "pad f0 0 2", "sync f0 1", "place f0 1 f0c2 2000 0 N")
+        self.wait_states(2)
+        self.hub.kill()
+        self.assertIn("ready: 9 teams, ", self.start())
+        talker = self.talk("f0")
+        self.assertEqual(talker.ask("open f0", "undo f0 0", "where f0 0 f0c2", "where f0 0 f0c1"), ["ok 0 3", "ok 4", "no 6 Unplaced f0c2", "ok 0 0 N"])
+        self.assertEqual(talker.ask("place f0 0 f0c4 400 0 N")[0][:12], "no 7 Illegal")
+        team = next(team for team in ask_status(self.folder / "s")["teams"] if team["team"] == "f0")
+        self.assertEqual((team["revision"], team["uncommitted"], len(team["sessions"])), (4, 4, 1))
+
+    def test_an_export_is_that_of_all_changes(self) -> None:
+        self.start(*self.OFTEN, "--export", str(self.folder / "end.def"))
+        talker, operator, lines = self.talk("f0"), self.talk("operator"), ["open f0"]
+        for turn in range(5):
+            lines += [*self.places(20, 20 * turn), "commit f0 0"]
+            self.assertEqual({reply[:2] for reply in talker.ask(*lines[-21 if turn else 0 :])}, {"ok"})
+            self.assertEqual(operator.ask(f"export {self.folder / 'new.def'}"), ["ok"])
+            self.direct("\n".join(lines).encode(), "--export", str(self.folder / "want.def"))
+            self.assertEqual((self.folder / "new.def").read_bytes(), (self.folder / "want.def").read_bytes())
+        self.assertEqual(self.hub.end(), 0)
+        self.assertEqual((self.folder / "end.def").read_bytes(), (self.folder / "want.def").read_bytes())
+
+    def test_a_state_that_cannot_be_made_is_told_and_nothing_is_lost(self) -> None:
+        script = self.folder / "other"
+        script.write_text(f"#!/bin/sh\ncase \"$*\" in *--save*) exit 3;; esac\nexec '{PROGRAM}' \"$@\"\n")
+        script.chmod(0o755)
+        self.program = str(script)
+        self.start(*self.OFTEN)
+        talker = self.talk("f0")
+        self.assertEqual(talker.ask("open f0", *self.places(50))[-1], "ok 50")
+        self.hub.wait_for("no state is made")
+        self.assertEqual(talker.ask(*self.places(50, 50))[-1], "ok 100")
+        self.assertEqual((self.hub.end(), Past(self.journal).numbers("state")), (0, []))
+        self.assertFalse(list(Past(self.journal).folder.glob("*.making-*")))
+        self.program = PROGRAM
+        self.assertIn("ready", self.start(*self.OFTEN))
+        self.assertEqual(self.talk("f0").ask("open f0", "where f0 0 f0c9"), ["ok 0 100", f"ok {spot(0, 99)}"])
+
+    def test_a_program_whose_hub_was_killed_spoils_no_state(self) -> None:
+        # It takes the end of its input for the end of the lines, and saves what it has.
+        script = self.folder / "slow"
+        script.write_text(f"#!/bin/sh\ncase \"$*\" in *--save*) '{PROGRAM}' \"$@\"; sleep 1;; *) exec '{PROGRAM}' \"$@\";; esac\n")
+        script.chmod(0o755)
+        self.program = str(script)
+        for turn in range(3):
+            self.start(*self.OFTEN)
+            self.assertEqual(self.talk("f0").ask("open f0", *self.places(50, 50 * turn))[-1], f"ok {50 * turn + 50}")
+            self.hub.kill()
+        self.assertIn("ready", self.start())
+        self.assertEqual(self.talk("f0").ask("open f0", "where f0 0 f0c9"), ["ok 0 150", f"ok {spot(0, 149)}"])
 
 
 if __name__ == "__main__":
