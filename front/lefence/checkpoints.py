@@ -100,7 +100,8 @@ class Checkpoints:
             told = f"a state of {self._journal.header.changes} changes is kept: {size} bytes, made in {time.monotonic() - begin:.1f} s"
             self._calm("state", told)
         except (Fault, OSError, ServerLost) as fault:
-            path.unlink(missing_ok=True)
+            for left in path.parent.glob(f"{path.name}*"):
+                left.unlink()
             self._fail(fault)
 
     def _fail(self, fault: Exception) -> None:

@@ -186,6 +186,7 @@ class Hub:
 
     async def pump(self) -> None:
         """Answers batch after batch, and returns when the hub is stopping, no line waits and no export runs."""
+        self.checkpoints.begin(self.crowd, self.figures)
         while True:
             while batch := self.take():
                 await self.answer(batch)

@@ -155,7 +155,8 @@ async def run(options: argparse.Namespace) -> None:
     hub = Hub(Server(Program(program, kept), [text.sum for text in texts]), journal, bounds, say)
     hub.exporter.given = paths
     if journal.former and journal.former.program != journal.owner.program:
-        say(f"the journal was written with another program, {journal.former.program} of front {journal.former.front}")
+        which = f"{journal.former.program} of front {journal.former.front}"
+        say(f"the journal was written with another program, {which}; where this one answers otherwise, --roll with that one makes a state first")
     end_by_signals(hub, stopped, options.grace)
     tell_calmly(hub)
     try:

@@ -16,7 +16,8 @@ from pathlib import Path
 from typing import NamedTuple
 
 from .faults import FAILED, REFUSED, Fault
-from .frames import MOST_HEADER, Frame, Header, Reader, Record, Text, body_of, frame_of, header_in, header_of, is_begun, other_title, refuse_damage
+from .frames import MOST_HEADER, Frame, Header, Reader, Record, Text, body_of, frame_of, header_in, header_of
+from .frames import is_begun, other_title, refuse_damage
 from .owner import ENDED, Owner, Succession, own
 from .segments import Past, State, refuse_shortness
 from .whole_file import sync_folder

@@ -252,9 +252,13 @@ class Hub:
         self.process.terminate()
         return self.process.wait(PATIENCE)
 
+    def children(self) -> list[int]:
+        """Its programs, in the order of their starts."""
+        return [int(word) for word in Path(f"/proc/{self.process.pid}/task/{self.process.pid}/children").read_text().split()]
+
     def server_pid(self) -> int:
         """The program behind it."""
-        return int(Path(f"/proc/{self.process.pid}/task/{self.process.pid}/children").read_text().split()[0])
+        return self.children()[0]
 
 
 class HubCase(FrontCase):

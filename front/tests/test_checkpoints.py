@@ -4,8 +4,10 @@ from __future__ import annotations
 
 import itertools
 import os
+import shlex
 import shutil
 import signal
+import subprocess
 import tempfile
 import time
 import unittest
@@ -14,7 +16,7 @@ from pathlib import Path
 from typing import Any
 from unittest import mock
 
-from support import CELLS, PATIENCE, PROGRAM, TEAMS, HubCase, Script, spot
+from support import CELLS, FRONT, LEF, PATIENCE, PROGRAM, TEAMS, Hub, HubCase, Script, design_text, spot
 
 from lefence.checkpoints import _synced
 from lefence.faults import Fault
@@ -273,7 +275,8 @@ class Checkpoints(HubCase):
         self.hub.kill()
         self.assertIn("ready: 9 teams, ", self.start())
         talker = self.talk("f0")
-        self.assertEqual(talker.ask("open f0", "undo f0 0", "where f0 0 f0c2", "where f0 0 f0c1"), ["ok 0 3", "ok 4", "no 6 Unplaced f0c2", "ok 0 0 N"])
+        lines = ["open f0", "undo f0 0", "where f0 0 f0c2", "where f0 0 f0c1"]
+        self.assertEqual(talker.ask(*lines), ["ok 0 3", "ok 4", "no 6 Unplaced f0c2", "ok 0 0 N"])
         self.assertEqual(talker.ask("place f0 0 f0c4 400 0 N")[0][:12], "no 7 Illegal")
         team = next(team for team in ask_status(self.folder / "s")["teams"] if team["team"] == "f0")
         self.assertEqual((team["revision"], team["uncommitted"], len(team["sessions"])), (4, 4, 1))
@@ -318,6 +321,59 @@ class Checkpoints(HubCase):
             self.hub.kill()
         self.assertIn("ready", self.start())
         self.assertEqual(self.talk("f0").ask("open f0", "where f0 0 f0c9"), ["ok 0 150", f"ok {spot(0, 149)}"])
+
+
+class Pages(HubCase):
+    """What docs/FRONT.md has of backups and upgrades, line by line."""
+
+    def setUp(self) -> None:
+        super().setUp()
+        self.design = self.folder / "chip.def"
+        for name, text in (("chip.def", design_text()), ("tech.lef", LEF), ("cells.lef", "END LIBRARY\n")):
+            (self.folder / name).write_text(text)
+
+    def lines(self, begin: str) -> list[str]:
+        """The lines of the page's block that begins so."""
+        page = (FRONT.parent / "docs/FRONT.md").read_text()
+        return next(block for block in page.split("```\n")[1::2] if block.startswith(begin)).splitlines()
+
+    def begin(self, line: str, *extra: str) -> str:
+        """What a hub of that line says until it is ready or ends."""
+        words = [word if word.startswith("-") else str(self.folder / word) for word in shlex.split(line)[1:]]
+        self.hub = Hub(self.folder, [*words, *extra])
+        self.addCleanup(self.hub.kill)
+        self.hub.wait_ready()
+        return self.hub.told()
+
+    def test_an_upgrade(self) -> None:
+        roll, serve = self.lines("lefence-hub chip.def tech.lef cells.lef --sockets s --journal chip.journal --program old")
+        for name, script in (("old", f"exec '{PROGRAM}' \"$@\""), ("new", f"'{PROGRAM}' \"$@\" | sed -u 's/^ok 1$/ok 7/'")):
+            (self.folder / name).mkdir()
+            (self.folder / name / "lefence").write_text(f"#!/bin/sh\n{script}\n")
+            (self.folder / name / "lefence").chmod(0o755)
+        self.begin(roll.removesuffix(" --roll"))
+        self.talk("f0").ask("open f0", "place f0 0 f0c1 0 0 N")
+        self.hub.kill()
+        self.assertIn("--roll with that one makes a state first\nlefence-hub: change 2: the journal has b'ok 1", self.begin(serve))
+        self.assertEqual((self.hub.process.wait(), "a state of 2 changes is kept" in self.begin(roll), self.hub.process.wait()), (1, True, 0))
+        self.assertIn("ready", self.begin(serve))
+        self.assertEqual(self.talk("f0").ask("open f0", "place f0 0 f0c1 200 0 N"), ["ok 0 1", "ok 2"])
+
+    def test_a_backup(self) -> None:
+        serve = self.lines("lefence-hub chip.def tech.lef cells.lef --sockets s --journal chip.journal --program old")[0].partition(" --program")[0]
+        self.begin(serve, "--program", PROGRAM, "--tail-bytes", "1", "--tail-seconds", "0")
+        talker = self.talk("f0")
+        self.assertEqual(talker.ask("open f0", "place f0 0 f0c1 0 0 N")[1], "ok 1")
+        self.hub.wait_for("a state of")
+        self.assertEqual(talker.ask("place f0 0 f0c1 200 0 N"), ["ok 2"])
+        subprocess.run(["sh", "-c", *self.lines("mkdir saved")], cwd=self.folder, check=True)
+        self.assertEqual(talker.ask("place f0 0 f0c1 400 0 N"), ["ok 3"])
+        self.hub.kill()
+        for path in self.folder.glob("chip.journal*"):
+            shutil.rmtree(path) if path.is_dir() else path.unlink()
+        subprocess.run(["sh", "-c", "mv saved/* ."], cwd=self.folder, check=True)
+        self.assertIn("ready", self.begin(serve, "--program", PROGRAM))
+        self.assertEqual(self.talk("f0").ask("open f0", "where f0 0 f0c1"), ["ok 0 2", "ok 200 0 N"])
 
 
 if __name__ == "__main__":
