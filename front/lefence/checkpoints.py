@@ -95,7 +95,7 @@ class Checkpoints:
                 await self._second.write(self._journal.begin, save=path)
                 size, total = await asyncio.to_thread(_synced, path)
                 self._journal.keep_state(path, size, total)
-                self._journal.past.prune(self._limits.keep)
+                self._prune()
             self.seconds, self._patience, self.count = self.seconds - seconds, 1, self.count + 1
             told = f"a state of {self._journal.header.changes} changes is kept: {size} bytes, made in {time.monotonic() - begin:.1f} s"
             self._calm("state", told)
@@ -103,6 +103,12 @@ class Checkpoints:
             for left in path.parent.glob(f"{path.name}*"):
                 left.unlink()
             self._fail(fault)
+
+    def _prune(self) -> None:
+        try:
+            self._journal.past.prune(self._limits.keep)
+        except OSError as error:
+            self._calm("old", f"what is too old is not removed: {error}")
 
     def _fail(self, fault: Exception) -> None:
         self._patience *= 2

@@ -211,7 +211,7 @@ def parser() -> Parser:
     add("--grace", metavar="S", type=float, default=240.0, help="seconds within which SIGTERM ends it, exports and all (240)")
     add("--tail-bytes", metavar="B", type=int, default=16 << 20, help="bytes of changes behind which a state is made (16777216; 0: none)")
     add("--tail-seconds", metavar="S", type=float, default=20.0, help="seconds of the program's work behind which one is made (20)")
-    add("--keep", metavar="N", type=kept, default=2, help="how many states are kept, with the journal from the first on (2; 0: all)")
+    add("--keep", metavar="N", type=state_count, default=2, help="how many states are kept, with the journal from the first on (2; 0: all)")
     add("--roll", action="store_true", help="make a state of the journal, serve nobody, and end")
     add("--takeover", action="store_true", help="take the journal from a hub of another host, which is gone for certain")
     add("--no-sync", action="store_true", help="do not wait for the disk: a crash of the machine may lose changes")
@@ -222,7 +222,7 @@ def parser() -> Parser:
     return made
 
 
-def kept(word: str) -> int:
+def state_count(word: str) -> int:
     """The value of --keep: one state is too few, since a program may be on its way from it while the next is made."""
     number = int(word)
     if number < 0 or number == 1:

@@ -24,8 +24,9 @@ from .whole_file import sync_folder
 
 # Bytes that are set aside on the disk at a time, so that a sync has no length of the file to store.
 _STEP = 1 << 18
-# The most bytes that a change has in a frame besides its line.
+# The most bytes that a change has in a frame besides its line, and that a frame has besides its changes, with a note before it.
 MOST_REPLY = 96
+_MOST_REST = 1024
 _NO_ROOM = (errno.ENOSPC, errno.EDQUOT, errno.EFBIG)
 # What a file system says that cannot set bytes aside.
 _NOT_OFFERED = (errno.EOPNOTSUPP, errno.EINVAL, errno.ENOSYS)
@@ -307,6 +308,7 @@ class Journal:
 
         At each step the file at the path is the last segment, whole.
         """
+        self.refuse_loss()
         path, number = Path(os.path.realpath(self.path)), self.header.number
         beside = path.with_name(f"{path.name}.next")
         header = header_of(self.header.texts, number + 1, self.changes, self.end)
@@ -350,11 +352,13 @@ class Journal:
         When this returns the disk has it, and its name in the journal. An OSError says that it is none.
         """
         state = State(self.past.state(self.header.number), size, total)
-        os.replace(made, state.path)
-        sync_folder(self.past.folder)
-        if not self._note(state.note(self.owner)):
-            state.path.unlink()
-            raise OSError(errno.ENOSPC, "the journal has no room")
+        has_room = self.has_room(_MOST_REST)
+        if has_room:
+            os.replace(made, state.path)
+            sync_folder(self.past.folder)
+        # (a batch that is under way has its room besides)
+        if not (has_room and self._note(state.note(self.owner))):
+            raise OSError(errno.ENOSPC, "the journal has no room for the name of the state")
         for segment in self._closed:
             os.close(segment.descriptor)
         self._state, self._closed = state, []
@@ -379,7 +383,7 @@ class Journal:
 
     def has_room(self, count: int) -> bool:
         """Sets so many bytes aside for the next frame; False where the disk has not so many."""
-        need = self.end + 64 + count
+        need = self.end + _MOST_REST + count
         if need > self._reserved:
             try:
                 os.posix_fallocate(self._fd, self.end, need - self.end + _STEP)

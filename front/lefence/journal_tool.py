@@ -171,7 +171,7 @@ def export(path: Path, readers: list[Reader], team: str | None, start: int, outp
         for frame in frames:
             sys.stdout.write("".join(f"{record.line.decode()}\n" for record in frame.records() if is_of(record, team)))
         return DONE
-    refuse_inputs(output, [path])
+    refuse_inputs(output, [reader.path for reader in readers])
     with whole_file(output) as file:
         at = file.write(header_of(first.texts, first.number, first.changes))
         for frame in frames:

@@ -66,10 +66,10 @@ class Past:
         return State(self.state(number), int(named[-1][1]), named[-1][2].decode()) if named else None
 
     def make(self) -> None:
-        """Makes the folder, where it is missing."""
+        """Makes the folder, where it is missing; the disk has it when this returns."""
         with contextlib.suppress(FileExistsError):
             self.folder.mkdir(mode=0o700)
-            sync_folder(self.folder.parent)
+        sync_folder(self.folder.parent)
 
     def numbers(self, kind: str) -> list[int]:
         """The numbers of the segments (`journal`) or states (`state`) that are there, in order."""

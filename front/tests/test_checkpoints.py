@@ -18,7 +18,7 @@ from unittest import mock
 
 from support import CELLS, FRONT, LEF, PATIENCE, PROGRAM, TEAMS, Hub, HubCase, Script, design_text, spot
 
-from lefence.checkpoints import _synced
+from lefence.checkpoints import Checkpoints as Checkpointer, Limits, _synced
 from lefence.faults import Fault
 from lefence.frames import Reader, Record, Text, frame_of, header_of
 from lefence.journal import Journal
@@ -293,6 +293,15 @@ class Checkpoints(HubCase):
         self.assertEqual(self.hub.end(), 0)
         self.assertEqual((self.folder / "end.def").read_bytes(), (self.folder / "want.def").read_bytes())
 
+    def test_an_end_leaves_a_state_where_it_is_worth_it(self) -> None:
+        for words, is_made in ((("--tail-bytes", "100000"), False), (("--tail-bytes", "10000"), True), (("--tail-seconds", "0"), True)):
+            self.start(*words)
+            self.assertEqual(self.talk("f0").ask("open f0", *self.places(40))[-1][:2], "ok")
+            self.assertEqual(self.hub.end(), 0)
+            self.assertEqual(Past(self.journal).numbers("state") != [], is_made)
+        self.assertIn("ready", self.start())
+        self.assertEqual(self.talk("f0").ask("open f0", "where f0 0 f0c9"), ["ok 0 120", f"ok {spot(0, 39)}"])
+
     def test_a_state_that_cannot_be_made_is_told_and_nothing_is_lost(self) -> None:
         script = self.folder / "other"
         script.write_text(f"#!/bin/sh\ncase \"$*\" in *--save*) exit 3;; esac\nexec '{PROGRAM}' \"$@\"\n")
@@ -321,6 +330,24 @@ class Checkpoints(HubCase):
             self.hub.kill()
         self.assertIn("ready", self.start())
         self.assertEqual(self.talk("f0").ask("open f0", "where f0 0 f0c9"), ["ok 0 150", f"ok {spot(0, 149)}"])
+
+
+class Limited(unittest.TestCase):
+    def test_a_checkpoint_is_due_by_bytes_or_seconds_and_after_a_failure_later(self) -> None:
+        journal = mock.Mock(tail_changes=1, tail_bytes=1001)
+        journal.roll.side_effect = OSError(28, "x")
+        made = Checkpointer(mock.Mock(), journal, Limits(1000, 10), mock.Mock())
+        self.assertTrue(made.is_due())
+        made.begin(mock.Mock(holders={}), mock.Mock(teams={}))
+        self.assertFalse(made.is_due())
+        journal.tail_bytes = 2001
+        self.assertTrue(made.is_due())
+        journal.tail_bytes, made.seconds = 0, 21
+        self.assertEqual((made.is_due(), made.is_due(1.1)), (True, False))
+        journal.tail_changes = 0
+        self.assertFalse(made.is_due())
+        never = Checkpointer(mock.Mock(), mock.Mock(tail_changes=1, tail_bytes=1 << 40), Limits(0), mock.Mock())
+        self.assertFalse(never.is_due())
 
 
 class Pages(HubCase):
