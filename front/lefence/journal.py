@@ -352,13 +352,17 @@ class Journal:
         When this returns the disk has it, and its name in the journal. An OSError says that it is none.
         """
         state = State(self.past.state(self.header.number), size, total)
-        has_room = self.has_room(_MOST_REST)
-        if has_room:
+        # (a batch that is under way has its room besides)
+        if not self.has_room(_MOST_REST):
+            raise OSError(errno.ENOSPC, "the journal has no room for the name of the state")
+        try:
             os.replace(made, state.path)
             sync_folder(self.past.folder)
-        # (a batch that is under way has its room besides)
-        if not (has_room and self._note(state.note(self.owner))):
-            raise OSError(errno.ENOSPC, "the journal has no room for the name of the state")
+            if not self._note(state.note(self.owner)):
+                raise OSError(errno.ENOSPC, "the journal has no room for the name of the state")
+        except OSError:
+            state.path.unlink(missing_ok=True)
+            raise
         for segment in self._closed:
             os.close(segment.descriptor)
         self._state, self._closed = state, []

@@ -72,23 +72,24 @@ def check(path: Path, readers: list[Reader]) -> int:
             if state:
                 print(f"it begins with the state {state.path}: {'whole' if state.is_whole() else 'damaged'}")
                 status = status if state.is_whole() else REFUSED
-        status = max(status, _check_segment(reader, behind.header().bytes if behind else None))
+        status = max(status, _check_segment(reader, path, behind.header().bytes if behind else None))
     return status
 
 
-def _check_segment(reader: Reader, size: int | None) -> int:
+def _check_segment(reader: Reader, path: Path, size: int | None) -> int:
     """The same of a segment, which had this size when another followed it, None of the last one."""
     status, found = DONE, list(stretches(reader))
+    copied = "" if size is None else f"copied to {path}, "
     for stretch, behind in zip(found, [*found[1:], None]):
         print(f"whole from byte {stretch.start} to {stretch.end}: {stretch.changes} changes in {stretch.frames} frames")
         if behind:
             status = REFUSED
-            way = f": `cut --at {stretch.end}` makes a journal of what stands before" if size is None else ""
-            print(f"damaged from byte {stretch.end} to {behind.start}{way}")
+            way = f"{copied}`cut --at {stretch.end}` makes a journal of what stands before"
+            print(f"damaged from byte {stretch.end} to {behind.start}: {way}")
     end = found[-1].end
     if size is not None and end != size:
         status = REFUSED
-        print(f"damaged from byte {end} to {size}, where it ended when the next segment was begun")
+        print(f"damaged from byte {end} to {size}, where it ended when the next segment was begun: {copied}it ends there")
     elif tail := reader.tail(end):
         print(f"torn: {tail} bytes at byte {end} are no whole frame; a start cuts them off")
     return status
@@ -165,8 +166,8 @@ def export(path: Path, readers: list[Reader], team: str | None, start: int, outp
     first = readers[-1 if start else 0].header()
     frames = whole_frames(readers[-1], start) if start else itertools.chain.from_iterable(map(whole_frames, readers))
     if first.number > 1:
-        begin = f"its lines are for a replay with --state {Past(path).state(first.number)}" if not start else "the state behind them is not known"
-        log(TOOL, f"{path}: the first {first.changes} changes are not in it; {begin}")
+        way = "" if start else f"; its lines are for a replay with --state {Past(path).state(first.number)}"
+        log(TOOL, f"{path}: the first {first.changes} changes are not in it{way}")
     if output is None:
         for frame in frames:
             sys.stdout.write("".join(f"{record.line.decode()}\n" for record in frame.records() if is_of(record, team)))

@@ -4,6 +4,7 @@ from __future__ import annotations
 
 import os
 import re
+import shutil
 import unittest
 from dataclasses import replace
 from pathlib import Path
@@ -140,7 +141,8 @@ class Segments(HubCase):
         told, _ = self.told("check", self.journal)
         for number, before in ((1, 0), (2, 4), (3, 7)):
             self.assertIn(f"segment {number}, behind {before} changes: ", told)
-        self.assertEqual([f"it begins with the state {self.past.state(number)}: whole" in told for number in (1, 2, 3)], [False, True, True])
+        states = [f"it begins with the state {self.past.state(number)}: whole" in told for number in (1, 2, 3)]
+        self.assertEqual(states, [False, True, True])
         listed = [line.split("\t") for line in self.told("list", self.journal)[0].splitlines() if not line.startswith("-")]
         self.assertEqual([(int(words[0]), words[4]) for words in listed], list(enumerate(self.changes(), 1)))
         self.assertEqual(self.told("export", self.journal)[0].splitlines(), self.changes())
@@ -162,7 +164,8 @@ class Segments(HubCase):
     def test_damage_to_any_of_it_is_told(self) -> None:
         whole = self.past.segment(1).read_bytes()
         self.past.segment(1).write_bytes(whole.replace(b"place f0 0 f0c1 0 0 N", b"place f0 0 f0c1 9 0 N"))
-        self.assertRegex(self.told("check", self.journal, status=1)[0], r"damaged from byte \d+ to \d+\n")
+        told = r"damaged from byte \d+ to \d+: copied to \S*/journal, `cut --at \d+`"
+        self.assertRegex(self.told("check", self.journal, status=1)[0], told)
         self.assertIn("1.journal: damaged at byte", self.told("verify", self.journal, "--program", PROGRAM, "--all", status=1)[1])
         self.told("verify", self.journal, "--program", PROGRAM)
         self.past.segment(1).write_bytes(whole[:-20])
@@ -170,6 +173,12 @@ class Segments(HubCase):
         self.past.state(3).write_bytes(b"x")
         self.assertIn(f"{self.past.state(3)}: damaged", self.told("check", self.journal, status=1)[0])
         self.assertIn("5 changes behind a state of 4 are answered", self.told("verify", self.journal, "--program", PROGRAM)[1])
+        self.past.state(2).unlink()
+        said = self.start()
+        self.assertEqual(("1.journal: damaged at byte" in said, self.hub.process.wait()), (True, 1))
+        shutil.copy(self.past.segment(1), self.journal)
+        # (what was cut off at its end were notes)
+        self.assertIn("ready: 9 teams, 4 changes restored", self.start())
 
 
 if __name__ == "__main__":
