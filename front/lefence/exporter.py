@@ -8,7 +8,8 @@ from collections.abc import Callable
 from pathlib import Path
 
 from .faults import FAILED, Fault
-from .journal import Journal, Place
+from .journal import Journal
+from .segments import Place
 from .server import Server, ServerLost
 from .whole_file import sync_folder
 

@@ -22,9 +22,10 @@ from .faults import FAILED, REFUSED, Fault
 from .figures import Figures
 from .frames import Record
 from .hub_client import Client, Entry
-from .journal import MOST_REPLY, Journal, Place
+from .journal import MOST_REPLY, Journal
 from .notify import notify_alive
 from .protocol import CHANGES, GROUND, UNBOUNDED, is_change, on_one_line
+from .segments import Place
 from .server import Note, Server, ServerLost, teams_told
 from .status import status_text, uncommitted_text
 

@@ -13,13 +13,12 @@ import os
 import time
 from collections.abc import Callable, Iterator
 from pathlib import Path
-from typing import NamedTuple
 
 from .faults import FAILED, REFUSED, Fault
 from .frames import MOST_HEADER, Frame, Header, Reader, Record, Text, body_of, frame_of, header_in, header_of
 from .frames import is_begun, other_title, refuse_damage
 from .owner import ENDED, Owner, Succession, own
-from .segments import Past, State, refuse_shortness
+from .segments import Past, Place, Segment, State, Tail
 from .whole_file import sync_folder
 
 # Bytes that are set aside on the disk at a time, so that a sync has no length of the file to store.
@@ -66,42 +65,6 @@ def _has_changes(reader: Reader, header: Header) -> bool:
             return True
         end = frame.end
     return reader.next_start(end) is not None
-
-
-class Place(NamedTuple):
-    """The end of a frame: the number of its segment, and the byte."""
-
-    number: int
-    byte: int
-
-
-class Segment(NamedTuple):
-    """A segment that is open: its file and path, its header, where its frames end, and its notes."""
-
-    descriptor: int
-    path: Path
-    header: Header
-    end: int
-    notes: list[bytes]
-
-    @property
-    def number(self) -> int:
-        """Its number, from 1."""
-        return self.header.number
-
-    @property
-    def bytes(self) -> int:
-        """How many bytes its frames have."""
-        return self.end - self.header.length
-
-
-class Tail(NamedTuple):
-    """What a program begins with: a state (None: the design as it is loaded), notes of it, how many changes it has, and those behind."""
-
-    state: State | None
-    notes: list[bytes]
-    changes: int
-    records: Iterator[Record]
 
 
 class Journal:
@@ -245,26 +208,7 @@ class Journal:
             useless.append(first.number)
             if first.number == 1:
                 return useless
-            self._closed.insert(0, self._open_before(first))
-
-    def _open_before(self, behind: Segment) -> Segment:
-        """The segment before another one."""
-        number = behind.number - 1
-        path = self.past.segment(number)
-        try:
-            descriptor = os.open(path, os.O_RDONLY | os.O_CLOEXEC)
-        except FileNotFoundError:
-            raise Fault(REFUSED, f"{self.path}: no state of segment {behind.number} is whole, and {path} is not there") from None
-        try:
-            reader = Reader(descriptor, path)
-            header, notes, end = reader.header(), reader.notes(), reader.end_of_frames()
-            if (header.number, header.texts) != (number, behind.header.texts):
-                raise Fault(REFUSED, f"{path}: not segment {number} of {self.path}")
-            refuse_shortness(reader, end, behind.header.bytes)
-            return Segment(descriptor, path, header, end, notes)
-        except BaseException:
-            os.close(descriptor)
-            raise
+            self._closed.insert(0, self.past.open_before(first))
 
     def _begin(self, texts: list[Text]) -> None:
         """Writes the header."""

@@ -15,7 +15,7 @@ from pathlib import Path
 from typing import NamedTuple
 
 from .faults import REFUSED, Fault
-from .frames import Reader, Record, refuse_damage, sum_of
+from .frames import Header, Reader, Record, refuse_damage, sum_of
 from .owner import Owner
 from .whole_file import sync_folder
 
@@ -40,6 +40,42 @@ class State(NamedTuple):
         with contextlib.suppress(OSError):
             return self.path.stat().st_size == self.size and sum_of(self.path) == self.sum
         return False
+
+
+class Place(NamedTuple):
+    """The end of a frame: the number of its segment, and the byte."""
+
+    number: int
+    byte: int
+
+
+class Segment(NamedTuple):
+    """A segment that is open: its file and path, its header, where its frames end, and its notes."""
+
+    descriptor: int
+    path: Path
+    header: Header
+    end: int
+    notes: list[bytes]
+
+    @property
+    def number(self) -> int:
+        """Its number, from 1."""
+        return self.header.number
+
+    @property
+    def bytes(self) -> int:
+        """How many bytes its frames have."""
+        return self.end - self.header.length
+
+
+class Tail(NamedTuple):
+    """What a program begins with: a state (None: the design as it is loaded), notes of it, how many changes it has, and those behind."""
+
+    state: State | None
+    notes: list[bytes]
+    changes: int
+    records: Iterator[Record]
 
 
 class Past:
@@ -83,6 +119,25 @@ class Past:
         with contextlib.suppress(FileNotFoundError):
             return os.listdir(self.folder)
         return []
+
+    def open_before(self, behind: Segment) -> Segment:
+        """The segment before another one; a fault where it is missing or damaged."""
+        number = behind.number - 1
+        path = self.segment(number)
+        try:
+            descriptor = os.open(path, os.O_RDONLY | os.O_CLOEXEC)
+        except FileNotFoundError:
+            raise Fault(REFUSED, f"no state is whole with which segment {behind.number} begins, and {path} is not there") from None
+        try:
+            reader = Reader(descriptor, path)
+            header, notes, end = reader.header(), reader.notes(), reader.end_of_frames()
+            if (header.number, header.texts) != (number, behind.header.texts):
+                raise Fault(REFUSED, f"{path}: not the segment before {behind.path}")
+            refuse_shortness(reader, end, behind.header.bytes)
+            return Segment(descriptor, path, header, end, notes)
+        except BaseException:
+            os.close(descriptor)
+            raise
 
     def settle(self, number: int, descriptor: int, spoilt: list[int]) -> None:
         """Clears up behind a hub that was killed, where the last segment has this number, and these states are spoilt or not named.

@@ -192,7 +192,7 @@ class Segments(unittest.TestCase):
         before = self.path.read_bytes()
         with self.assertRaises(Fault) as caught:
             self.open()
-        self.assertIn("no state of segment 3 is whole, and", str(caught.exception))
+        self.assertIn("no state is whole with which segment 3 begins, and", str(caught.exception))
         self.assertEqual((caught.exception.status, self.path.read_bytes(), self.names()), (1, before, ["3.journal"]))
 
     def test_damage_to_a_segment_counts_where_no_state_behind_it_is_whole(self) -> None:
