@@ -169,7 +169,7 @@ def measure_waits(folder: Path, program: str, seconds: float) -> None:
 def measure_restore(folder: Path, program: str) -> None:
     for flight, name in ((64, "as a busy hub wrote them"), (1, "one a frame")):
         (folder / "j").unlink(missing_ok=True)
-        hub = Hub(folder, program, "--no-sync")
+        hub = Hub(folder, program, "--no-sync", "--tail-bytes", "0")
         end = hub.client(0)
         for begin in range(0, 100_000, flight):
             end.sendall(b"".join(place(0, turn) for turn in range(begin, min(begin + flight, 100_000))))
