@@ -16,7 +16,7 @@ from pathlib import Path
 from typing import Any
 from unittest import mock
 
-from support import CELLS, FRONT, LEF, PATIENCE, PROGRAM, TEAMS, Hub, HubCase, Script, design_text, spot
+from support import CELLS, FRONT, LEF, PATIENCE, PROGRAM, TEAMS, Hub, HubCase, Script, design_text, spot, wait_gone
 
 from lefence.checkpoints import Checkpoints as Checkpointer, Limits, _synced
 from lefence.faults import Fault
@@ -327,7 +327,7 @@ class Checkpoints(HubCase):
         for turn in range(3):
             self.start(*self.OFTEN)
             self.assertEqual(self.talk("f0").ask("open f0", *self.places(50, 50 * turn))[-1], f"ok {50 * turn + 50}")
-            self.hub.kill()
+            self.addCleanup(wait_gone, self.hub.kill_alone())
         self.assertIn("ready", self.start())
         self.assertEqual(self.talk("f0").ask("open f0", "where f0 0 f0c9"), ["ok 0 150", f"ok {spot(0, 149)}"])
 

@@ -10,9 +10,8 @@ import sys
 import time
 import unittest
 from collections.abc import Callable
-from pathlib import Path
 
-from support import CELLS, PATIENCE, PROGRAM, TURNS, Hub, HubCase, Talker, spot
+from support import CELLS, PATIENCE, PROGRAM, TURNS, Hub, HubCase, Talker, spot, wait_gone
 
 from lefence.segments import Past
 
@@ -79,18 +78,14 @@ class Crashes(HubCase):
         self.assertIn("ready", self.start(*self.extra))
 
     def kill_9_of_hub(self) -> None:
-        server = self.hub.server_pid()
         self.hub.kill()
-        last = time.monotonic() + PATIENCE
-        while Path(f"/proc/{server}/cmdline").exists() and Path(f"/proc/{server}/cmdline").read_bytes():
-            self.assertLess(time.monotonic(), last, "the program outlives the hub")
-            time.sleep(0.01)
         self.start_anew()
 
     def kill_9_of_server(self) -> None:
         os.kill(self.hub.server_pid(), signal.SIGKILL)
 
     def kill_9_of_both(self) -> None:
+        self.addCleanup(wait_gone, self.hub.children())
         for pid in self.rng.sample([self.hub.server_pid(), self.hub.process.pid], 2):
             with contextlib.suppress(ProcessLookupError):
                 # The program goes with the hub.
