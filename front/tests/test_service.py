@@ -345,7 +345,7 @@ class Faults(FrontCase):
         async def run() -> None:
             hub = mock.Mock(teams=[], clients=set(), start=mock.AsyncMock(return_value=[]), pump=pump, watch=watch)
             with self.assertRaisesRegex(Fault, "is lost"), mock.patch.object(hub_tool, "say"):
-                await hub_tool.serve(hub, argparse.Namespace(group=[], team=[], sockets=self.folder), asyncio.Event())
+                await hub_tool.serve(hub, argparse.Namespace(group=[], team=[], sockets=self.folder, roll=False), asyncio.Event())
             await asyncio.sleep(0)
             self.assertEqual(ended, [True])
 
