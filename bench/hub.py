@@ -11,7 +11,6 @@ from __future__ import annotations
 
 import os
 import selectors
-import shutil
 import signal
 import socket
 import sys
@@ -20,7 +19,7 @@ import time
 from collections.abc import Callable
 from pathlib import Path
 
-from front import FENCES, LEF, TOP, Hub, design, place
+from front import FENCES, LEF, TOP, Hub, clear, design, place
 
 FLIGHT = 64
 
@@ -70,8 +69,7 @@ def children(pid: int) -> list[int]:
 
 
 def measure(folder: Path, program: str, count: int, words: list[str], name: str) -> None:
-    for path in folder.glob("j*"):
-        shutil.rmtree(path) if path.is_dir() else path.unlink()
+    clear(folder)
     hub = Hub(folder, program, "--no-sync", *words)
     filled = fill(hub, count)
     # (a checkpoint that is at work has its time)

@@ -121,6 +121,8 @@ class Journal:
         if self._is_of(texts):
             spoilt = self._find_state()
         else:
+            if self.past.numbers("journal"):
+                raise Fault(REFUSED, f"{self.path} holds no change, and {self.past.folder} does; who means to begin anew moves that away")
             self._begin(texts)
             last, spoilt = None, []
         self._cut(last)

@@ -219,6 +219,14 @@ class Segments(unittest.TestCase):
         self.fill(3)
         self.assertEqual(self.found(), self.lines(10))
 
+    def test_a_past_whose_journal_is_gone_is_not_passed_over(self) -> None:
+        self.fill(2)
+        self.path.unlink()
+        with self.assertRaises(Fault) as caught:
+            self.open()
+        self.assertIn("who means to begin anew moves that away", str(caught.exception))
+        self.assertEqual((caught.exception.status, self.names()), (1, ["1.journal", "2.journal", "2.state", "3.state"]))
+
     def test_a_journal_without_segments_is_read_and_gone_on_with(self) -> None:
         journal = self.open()
         self.append(journal)
