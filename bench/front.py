@@ -10,6 +10,7 @@ from __future__ import annotations
 import multiprocessing
 import os
 import selectors
+import shutil
 import socket
 import subprocess
 import sys
@@ -87,6 +88,12 @@ class Hub:
         self.process.wait()
 
 
+def clear(folder: Path) -> None:
+    """Removes the journal, with all that is kept beside it."""
+    for path in folder.glob("j*"):
+        shutil.rmtree(path) if path.is_dir() else path.unlink()
+
+
 def drive(clients: list[socket.socket], line: Line, flight: int, seconds: float) -> float:
     """Lines a second of these clients, each with so many in flight."""
     selector, turns, last = selectors.DefaultSelector(), [0] * len(clients), time.monotonic() + seconds
@@ -144,7 +151,7 @@ def measure_lines(folder: Path, program: str, seconds: float) -> None:
         for name, flight in (("one line at a time", 1), ("64 in flight", 64)):
             row = []
             for line, extra in ((place, ()), (place, ("--no-sync",)), (where, ())):
-                (folder / "j").unlink(missing_ok=True)
+                clear(folder)
                 hub = Hub(folder, program, *extra)
                 row.append(f"{drive([hub.client(number) for number in range(count)], line, flight, seconds):,.0f}")
                 hub.end()
@@ -153,7 +160,7 @@ def measure_lines(folder: Path, program: str, seconds: float) -> None:
 
 def measure_waits(folder: Path, program: str, seconds: float) -> None:
     for flight, is_slow in ((1, False), (1, True), (16, False)):
-        (folder / "j").unlink(missing_ok=True)
+        clear(folder)
         hub = Hub(folder, program, is_slow=is_slow)
         answers: multiprocessing.Queue[list[float]] = multiprocessing.Queue()
         prober = multiprocessing.Process(target=probe, args=(folder, seconds, answers))
@@ -168,8 +175,8 @@ def measure_waits(folder: Path, program: str, seconds: float) -> None:
 
 def measure_restore(folder: Path, program: str) -> None:
     for flight, name in ((64, "as a busy hub wrote them"), (1, "one a frame")):
-        (folder / "j").unlink(missing_ok=True)
-        hub = Hub(folder, program, "--no-sync")
+        clear(folder)
+        hub = Hub(folder, program, "--no-sync", "--tail-bytes", "0")
         end = hub.client(0)
         for begin in range(0, 100_000, flight):
             end.sendall(b"".join(place(0, turn) for turn in range(begin, min(begin + flight, 100_000))))

@@ -28,6 +28,7 @@ from .frames import sum_of
 from .merge import merge
 from .protocol import GROUND, socket_name
 from .push import push_journal
+from .segments import Past
 from .slice import slices_of
 from .texts import texts_folder
 from .whole_file import whole_file
@@ -39,7 +40,7 @@ _MARK = b"# a slice of the text %b\n"
 # Seconds between two looks whether a hub serves, and lines in flight of a push.
 _NAP, _AHEAD = 0.05, 50
 # Seconds that a hub has for its end, and a command for what it does before its first session: the engine has bounds of its own.
-_BOUNDS = ("--grace", "1e7", "--idle", "1e7")
+_BOUNDS = ("--grace", "1e7", "--idle", "1e7", "--keep", "0")
 
 
 @dataclass
@@ -198,14 +199,18 @@ def _merge(work: Path, plan: Plan, done: list[int]) -> None:
 
 def _push(work: Path, plan: Plan, done: list[int]) -> None:
     journal = work / "whole.journal"
-    journal.unlink(missing_ok=True)
-    _remove_texts(journal)
+    _remove_journal(journal)
     words = ["--journal", str(journal), "--no-sync", "--export", plan.export]
     with _hub(plan, Path(plan.design), words, socket_name(None)) as socket:
         for number in done:
             push = push_journal(work / str(number) / "journal", str(socket), _AHEAD, False)
             log(TOOL, f"team {plan.teams[number - 1]}: {push.count} lines answered as recorded")
-    journal.unlink()
+    _remove_journal(journal)
+
+
+def _remove_journal(journal: Path) -> None:
+    journal.unlink(missing_ok=True)
+    shutil.rmtree(Past(journal).folder, ignore_errors=True)
     _remove_texts(journal)
 
 

@@ -1,10 +1,11 @@
-"""The form of a journal: a header that names the texts of a design, and frames with changes or notes; how they are read.
+"""The form of a segment of a journal: a header that names the texts of a design, and frames with changes or notes; how they are read.
 
 The header has a title, for each text a line `text SHA256 PATH` (the DEF text first; the path as it was given, quoted as in a
-URL), and a line `changes`. Then come frames, each `batch TIME LENGTH SUM` with a line feed and LENGTH bytes of lines. A line is
-a change, `LINE <tab> REPLY <tab> UID PID` (`-` where the hub itself asked), or a note, which has no tab. TIME is in seconds
-since 1970. SUM is the CRC-32 of the frame's offset and time, with one space between, and of its lines, in eight hexadecimal
-digits.
+URL), a line `segment NUMBER CHANGES BYTES` (from 1; how many changes stand in the segments before it, and how many bytes has the
+last of these), and a line `changes`. Version 2 had one segment alone, and no line for it. Then come frames, each
+`batch TIME LENGTH SUM` with a line feed and LENGTH bytes of lines. A line is a change, `LINE <tab> REPLY <tab> UID PID` (`-` where
+the hub itself asked), or a note, which has no tab. TIME is in seconds since 1970. SUM is the CRC-32 of the frame's offset and time,
+with one space between, and of its lines, in eight hexadecimal digits.
 """
 
 from __future__ import annotations
@@ -21,9 +22,12 @@ from urllib.parse import quote_from_bytes, unquote_to_bytes
 
 from .faults import FAILED, REFUSED, Fault
 
-TITLE = b"lefence-hub journal 2\n"
+TITLE = b"lefence-hub journal 3\n"
+# That of a journal which a hub began that knew no segments.
+_OLD_TITLE = b"lefence-hub journal 2\n"
 END_OF_HEADER = b"changes\n"
 _TEXT = re.compile(rb"text ([0-9a-f]{64}) ([!-~]+)\n")
+_SEGMENT = re.compile(rb"segment (\d{1,9}) (\d{1,15}) (\d{1,15})\n")
 _FRAME = re.compile(rb"batch (\d{1,12}\.\d{3}) (\d{1,9}) ([0-9a-f]{8})\n")
 MOST_HEADER = 1 << 20
 # More bytes than the first line of any frame has.
@@ -37,6 +41,17 @@ class Text(NamedTuple):
 
     sum: str
     path: Path
+
+
+class Header(NamedTuple):
+    """The header of a segment, which has `length` bytes: its texts, its number, and what stands before it."""
+
+    texts: list[Text]
+    number: int
+    # The changes of all segments before it, and the bytes of the last of these.
+    changes: int
+    bytes: int
+    length: int
 
 
 class Record(NamedTuple):
@@ -83,27 +98,32 @@ def sums_of(paths: Iterable[Path]) -> list[str]:
     return [sum_of(path) for path in paths]
 
 
-def header_of(texts: Iterable[Text]) -> bytes:
-    """The header of a journal of these texts."""
+def header_of(texts: Iterable[Text], number: int = 1, changes: int = 0, size: int = 0) -> bytes:
+    """The header of a segment of a journal of these texts, behind one of so many bytes."""
     lines = [f"text {text.sum} {quote_from_bytes(os.fsencode(text.path))}\n" for text in texts]
-    return TITLE + "".join(lines).encode() + END_OF_HEADER
+    return TITLE + "".join([*lines, f"segment {number} {changes} {size}\n"]).encode() + END_OF_HEADER
 
 
-def texts_of(found: bytes) -> tuple[list[Text], int] | None:
-    """The texts of the header that these bytes begin with, and its length; None where they begin with none that is whole."""
-    if not found.startswith(TITLE):
+def header_in(found: bytes) -> Header | None:
+    """The header that these bytes begin with; None where they begin with none that is whole."""
+    if not found.startswith((TITLE, _OLD_TITLE)):
         return None
     texts, at = [], len(TITLE)
     while match := _TEXT.match(found, at):
         texts.append(Text(match[1].decode(), Path(os.fsdecode(unquote_to_bytes(match[2])))))
         at = match.end()
-    return (texts, at + len(END_OF_HEADER)) if found.startswith(END_OF_HEADER, at) else None
+    number, changes, size = 1, 0, 0
+    if found.startswith(TITLE):
+        if not (place := _SEGMENT.match(found, at)):
+            return None
+        (number, changes, size), at = map(int, place.groups()), place.end()
+    return Header(texts, number, changes, size, at + len(END_OF_HEADER)) if found.startswith(END_OF_HEADER, at) else None
 
 
 def other_title(found: bytes) -> str:
     """What a file is that begins with these bytes and with no header of this version."""
     title = found.split(b"\n")[0]
-    if re.fullmatch(rb"lefence-hub journal \d{1,9}", title) and not TITLE.startswith(title):
+    if re.fullmatch(rb"lefence-hub journal \d{1,9}", title) and title + b"\n" not in (TITLE, _OLD_TITLE):
         return f"`{title.decode()}`, the journal of another version, which this one does not read"
     return "no journal of lefence-hub, or one whose header is damaged"
 
@@ -114,8 +134,10 @@ def is_begun(found: bytes) -> bool:
         return False
     *lines, last = found.rstrip(b"\0").split(b"\n")
     if not lines:
-        return TITLE.startswith(last)
-    return lines[0] + b"\n" == TITLE and all(_TEXT.fullmatch(line + b"\n") for line in lines[1:])
+        return TITLE.startswith(last) or _OLD_TITLE.startswith(last)
+    return lines[0] + b"\n" in (TITLE, _OLD_TITLE) and all(
+        _TEXT.fullmatch(line + b"\n") or _SEGMENT.fullmatch(line + b"\n") for line in lines[1:]
+    )
 
 
 def frame_of(offset: int, body: bytes, when: bytes | None = None) -> bytes:
@@ -147,9 +169,9 @@ class Reader:
             self._window, self._at = os.pread(self._fd, max(count, _WINDOW), offset), offset
         return offset - self._at
 
-    def texts(self) -> tuple[list[Text], int]:
-        """The texts of the header, and its length; a fault where the file is no journal."""
-        found = texts_of(os.pread(self._fd, MOST_HEADER, 0))
+    def header(self) -> Header:
+        """The header; a fault where the file is no journal."""
+        found = header_in(os.pread(self._fd, MOST_HEADER, 0))
         if found is None:
             raise Fault(REFUSED, f"{self.path}: {other_title(os.pread(self._fd, MOST_HEAD, 0))}")
         return found
@@ -172,6 +194,17 @@ class Reader:
         while frame := self.frame(offset):
             yield frame
             offset = frame.end
+
+    def end_of_frames(self) -> int:
+        """Where the whole frames end that follow the header and each other."""
+        end = self.header().length
+        for frame in self.frames(end):
+            end = frame.end
+        return end
+
+    def notes(self) -> list[bytes]:
+        """The notes of the same frames."""
+        return [note for frame in self.frames(self.header().length) for note in frame.notes()]
 
     def frames_to(self, offset: int, end: int) -> Iterator[Frame]:
         """Those between the offset and the end; a fault where they are not all there."""
@@ -209,19 +242,3 @@ def refuse_damage(reader: Reader, end: int) -> None:
     if reader.next_start(end) is not None:
         ways = f"`lefence-journal check {reader.path}` tells more, and `lefence-journal cut` makes it one that a hub takes"
         raise Fault(REFUSED, f"{reader.path}: damaged at byte {end}, and whole frames follow; {ways}")
-
-
-def read_records(path: Path) -> Iterator[Record]:
-    """Each change of a journal, which is left as it is; its hub need not have ended.
-
-    A torn end is passed over. Raises a fault where the file is no journal, or damage has whole frames behind it; OSError where
-    it cannot be read.
-    """
-    with open(path, "rb") as file:
-        reader = Reader(file.fileno(), path)
-        _, end = reader.texts()
-        for frame in reader.frames(end):
-            end = frame.end
-        refuse_damage(reader, end)
-        for frame in reader.frames_to(reader.texts()[1], end):
-            yield from frame.records()

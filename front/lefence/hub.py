@@ -11,12 +11,13 @@ import os
 import time
 from collections import OrderedDict
 from collections.abc import Callable
-from dataclasses import dataclass
+from dataclasses import dataclass, field
 
 from .calm import Calm
+from .checkpoints import Checkpoints, Limits, take_notes
 from .crowd import Crowd
 from .design import fences_in, units_in
-from .exporter import Exporter
+from .exporter import Exporter, Second
 from .faults import FAILED, REFUSED, Fault
 from .figures import Figures
 from .frames import Record
@@ -24,7 +25,8 @@ from .hub_client import Client, Entry
 from .journal import MOST_REPLY, Journal
 from .notify import notify_alive
 from .protocol import CHANGES, GROUND, UNBOUNDED, is_change, on_one_line
-from .server import Server, ServerLost, teams_told
+from .segments import Place
+from .server import Note, Server, ServerLost, teams_told
 from .status import status_text, uncommitted_text
 
 # What a batch may weigh; a line of one cell weighs 1, one of a whole team as much as WHOLE.
@@ -43,11 +45,15 @@ _LATER = 1
 
 @dataclass
 class Bounds:
-    """What a hub bears, in seconds: a client that reads nothing, one that is idle without a session, a program that says nothing."""
+    """What a hub bears, in seconds: a client that reads nothing, one that is idle without a session, a program that says nothing.
+
+    And how much may stand behind the last state of its journal.
+    """
 
     patience: float = 60
     idle: float = 900
     deadline: float = 600
+    tail: Limits = field(default_factory=Limits)
 
 
 class Hub:
@@ -66,7 +72,9 @@ class Hub:
         self.calm = Calm(say)
         self.figures = Figures()
         self.crowd = Crowd()
-        self.exporter = Exporter(server, journal, say)
+        self.second = Second(server, journal)
+        self.exporter = Exporter(server, journal, self.second, say)
+        self.checkpoints = Checkpoints(self.second, journal, bounds.tail, self.calm)
         self.nobody, self.units = b"", b""
         self.teams: list[str] = []
         # Clients with lines that may be asked, in turn; those that wait for others to read.
@@ -100,10 +108,21 @@ class Hub:
 
     async def _start_program(self) -> None:
         try:
-            await self.server.start()
-            await self.server.restore(self.journal.records(self.journal.end), self._note_line)
+            await self._restore(self._note_line)
         except ServerLost as lost:
             await self._revive(lost, self._note_line)
+
+    async def _restore(self, note: Note | None = None) -> None:
+        """Starts the program in the last state of the journal, and has it answer what stands behind; `note` is told of it."""
+        begin = time.monotonic()
+        with self.journal.tail(self.journal.place) as tail:
+            await self.server.start(tail.state)
+            if note:
+                take_notes(tail.notes, self.crowd, self.figures)
+                begin = time.monotonic()
+            await self.server.restore(tail.records, note, tail.changes)
+        if note:
+            self.checkpoints.seconds = time.monotonic() - begin
 
     # What clients call.
 
@@ -168,9 +187,11 @@ class Hub:
 
     async def pump(self) -> None:
         """Answers batch after batch, and returns when the hub is stopping, no line waits and no export runs."""
+        self.checkpoints.begin(self.crowd, self.figures)
         while True:
             while batch := self.take():
                 await self.answer(batch)
+                self.checkpoints.begin(self.crowd, self.figures)
                 await asyncio.sleep(self._linger(batch))
             if self._is_stopping and not (self._exports or self._waiting):
                 return
@@ -183,7 +204,7 @@ class Hub:
             await asyncio.sleep(1)
             notify_alive(bool(self.teams))
             self.journal.refuse_loss()
-            for server in (self.server, self.exporter.server):
+            for server in (self.server, self.second.server):
                 if server and server.silence() > self.bounds.deadline:
                     self.say(f"the program has said nothing for {self.bounds.deadline:g} seconds, and is killed")
                     server.strike()
@@ -199,8 +220,8 @@ class Hub:
         return min(_MOST_LINGER, self.journal.seconds * _LINGER) if len(batch) > 1 else 0
 
     def strike(self) -> None:
-        """Kills the program, and one that writes an export, and waits for nothing."""
-        for server in (self.server, self.exporter.server):
+        """Kills the program, and one that writes an export or a state, and waits for nothing."""
+        for server in (self.server, self.second.server):
             if server:
                 server.strike()
 
@@ -220,13 +241,16 @@ class Hub:
                 entry.reply = b"no 10 SessionsFull\n"
         self.figures.count(len(batch))
         asked = [entry for entry in batch if entry.reply is None]
+        begin = time.monotonic()
         for entry, reply in zip(asked, await self._ask([entry.line for entry in asked])):
             entry.reply = reply
+        seconds = time.monotonic() - begin
         changes = [Record(entry.line, entry.reply, entry.who) for entry in asked if entry.reply and is_change(entry.fields, entry.reply)]
         if changes:
             # Whatever ends this process up to here, nobody was told of these changes.
             self.journal.append(changes)
             self.figures.syncs.append(self.journal.seconds)
+            self.checkpoints.seconds += seconds * len(changes) / len(asked)
         for entry in batch:
             self._tell(entry)
         for client in {entry.client for entry in batch if entry.client}:
@@ -252,18 +276,13 @@ class Hub:
         elif seconds < _SHORT:
             self._budget = min(_BATCH, self._budget * 2)
 
-    async def _revive(self, lost: ServerLost, note: Callable[[list[bytes], bytes], None] | None = None) -> None:
+    async def _revive(self, lost: ServerLost, note: Note | None = None) -> None:
         """Starts the program again in the state of the journal, a handful of times where it dies again."""
         for _ in range(_STARTS):
             self.say(f"{lost}; {self.journal.changes} changes are restored")
             self.figures.restores += 1
-            if note:
-                self.crowd.holders.clear()
-                self.figures.teams.clear()
             try:
-                await self.server.start()
-                await self.server.restore(self.journal.records(self.journal.end), note)
-                return
+                return await self._restore(note)
             except ServerLost as again:
                 lost = again
         raise Fault(FAILED, f"{lost}; given up after {_STARTS} starts, nothing acknowledged is lost")
@@ -298,7 +317,7 @@ class Hub:
             path = os.fsdecode(entry.fields[1])
             if told := uncommitted_text(self):
                 self.say(f"export {path}: {told}")
-            task = asyncio.create_task(self._answer_export(client, path, self.journal.end))
+            task = asyncio.create_task(self._answer_export(client, path, self.journal.place))
             self._exports.add(task)
             task.add_done_callback(self._export_done)
 
@@ -311,9 +330,9 @@ class Hub:
             self.figures.note(fields, reply)
             self.crowd.note(fields, reply, client)
 
-    async def _answer_export(self, client: Client, path: str, end: int) -> None:
+    async def _answer_export(self, client: Client, path: str, place: Place) -> None:
         """Answers an export of the committed places as they were in its turn, while others are served."""
-        why_not = await self.exporter.write(path, end)
+        why_not = await self.exporter.write(path, place)
         client.replies.append(b"ok\n" if why_not is None else b"no 13 NotExported %b\n" % on_one_line(why_not))
         client.flush()
         client.is_busy = False

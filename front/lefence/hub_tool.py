@@ -15,6 +15,7 @@ import traceback
 from pathlib import Path
 from typing import Any
 
+from .checkpoints import Limits
 from .crowd import MOST_CLIENTS
 from .faults import DONE, FAILED, REFUSED, Fault, Parser, log, run_tool
 from .figures import prometheus
@@ -75,6 +76,8 @@ async def serve(hub: Hub, options: argparse.Namespace, stopped: asyncio.Event) -
         if missing := [team for team in groups if team not in teams]:
             raise Fault(REFUSED, f"no team: {', '.join(missing)}")
         files = resource.getrlimit(resource.RLIMIT_NOFILE)[0]
+        if options.roll:
+            return None
         hub.crowd.most_clients = max(1, min(MOST_CLIENTS, (files - 64) // (len(teams) + 1) - 1))
         pump = asyncio.create_task(hub.pump())
         tasks.append(pump)
@@ -148,11 +151,12 @@ async def run(options: argparse.Namespace) -> None:
     take_folder(options.sockets)
     texts, kept = settle_texts(options.journal, paths, say)
     journal = Journal(options.journal, texts, say, not options.no_sync, own(program), options.takeover)
-    bounds = Bounds(options.patience, options.idle, options.deadline)
+    bounds = Bounds(options.patience, options.idle, options.deadline, Limits(options.tail_bytes, options.tail_seconds, options.keep))
     hub = Hub(Server(Program(program, kept), [text.sum for text in texts]), journal, bounds, say)
     hub.exporter.given = paths
     if journal.former and journal.former.program != journal.owner.program:
-        say(f"the journal was written with another program, {journal.former.program} of front {journal.former.front}")
+        which = f"{journal.former.program} of front {journal.former.front}"
+        say(f"the journal was written with another program, {which}; where this one answers otherwise, --roll with that one makes a state first")
     end_by_signals(hub, stopped, options.grace)
     tell_calmly(hub)
     try:
@@ -162,7 +166,10 @@ async def run(options: argparse.Namespace) -> None:
         if told := uncommitted_text(hub):
             say(told)
         await hub.server.kill()
-        if options.export and await hub.exporter.write(options.export, journal.end) is not None:
+        await hub.checkpoints.make_last(hub.crowd, hub.figures, options.roll)
+        if options.roll and journal.tail_changes:
+            raise Fault(FAILED, "the state that --roll is for is not made")
+        if options.export and await hub.exporter.write(options.export, journal.place) is not None:
             raise Fault(FAILED, f"{options.export}: not exported")
     finally:
         await hub.server.kill()
@@ -202,6 +209,10 @@ def parser() -> Parser:
     add("--idle", metavar="S", type=float, default=900.0, help="seconds for which one without a session may say nothing (900)")
     add("--deadline", metavar="S", type=float, default=600.0, help="seconds of silence after which the program hangs (600)")
     add("--grace", metavar="S", type=float, default=240.0, help="seconds within which SIGTERM ends it, exports and all (240)")
+    add("--tail-bytes", metavar="B", type=int, default=16 << 20, help="bytes of changes behind which a state is made (16777216; 0: none)")
+    add("--tail-seconds", metavar="S", type=float, default=20.0, help="seconds of the program's work behind which one is made (20)")
+    add("--keep", metavar="N", type=state_count, default=2, help="how many states are kept, with the journal from the first on (2; 0: all)")
+    add("--roll", action="store_true", help="make a state of the journal, serve nobody, and end")
     add("--takeover", action="store_true", help="take the journal from a hub of another host, which is gone for certain")
     add("--no-sync", action="store_true", help="do not wait for the disk: a crash of the machine may lose changes")
     made.add_program()
@@ -209,6 +220,14 @@ def parser() -> Parser:
     for option, told in asked.items():
         add(option, metavar="DIR", type=Path, action=Ask, help=told)
     return made
+
+
+def state_count(word: str) -> int:
+    """The value of --keep: one state is too few, since a program may be on its way from it while the next is made."""
+    number = int(word)
+    if number < 0 or number == 1:
+        raise ValueError
+    return number
 
 
 def main() -> int:

@@ -5,6 +5,7 @@ from __future__ import annotations
 import argparse
 import asyncio
 import datetime
+import itertools
 import os
 import shutil
 import sys
@@ -13,10 +14,11 @@ from dataclasses import dataclass
 from pathlib import Path
 
 from .faults import DONE, FAILED, REFUSED, Fault, Parser, log, run_tool
-from .frames import Frame, Reader, Record, body_of, frame_of, header_of, read_records
+from .frames import Frame, Reader, Record, body_of, frame_of, header_of
 from .journal import lock
 from .owner import Succession, own
 from .program import Program, find_program
+from .segments import Past, opened, records_in, way_to_end
 from .server import Server, ServerLost
 from .texts import kept_text
 from .whole_file import refuse_inputs, sync_folder, whole_file
@@ -35,8 +37,8 @@ class Stretch:
 
 
 def stretches(reader: Reader) -> Iterator[Stretch]:
-    """The stretches of a journal; behind each but the last one is damage."""
-    start: int | None = reader.texts()[1]
+    """The stretches of a segment; behind each but the last one is damage."""
+    start: int | None = reader.header().length
     while start is not None:
         found = Stretch(start, start)
         for frame in reader.frames(start):
@@ -46,34 +48,57 @@ def stretches(reader: Reader) -> Iterator[Stretch]:
 
 
 def whole_frames(reader: Reader, start: int = 0) -> Iterator[Frame]:
-    """All whole frames from a byte on, also those behind damage."""
+    """All whole frames of a segment from a byte on, also those behind damage."""
     for stretch in stretches(reader):
         for frame in reader.frames(stretch.start):
             if frame.start >= start:
                 yield frame
 
 
-def check(reader: Reader) -> int:
-    """Tells what is whole, and whether the texts are kept; refused where the journal is damaged or a text lacks."""
-    status, found = DONE, list(stretches(reader))
-    for text in reader.texts()[0]:
-        kept = kept_text(reader.path, text)
+def check(path: Path, readers: list[Reader]) -> int:
+    """Tells what is whole, and whether the texts are kept; refused where anything is damaged or a text lacks."""
+    status, first = DONE, readers[0].header()
+    for text in first.texts:
+        kept = kept_text(path, text)
         status = status if kept else REFUSED
         print(f"text {text.sum} of {text.path}: {'kept' if kept else 'not kept'}")
+    if first.number > 1:
+        print(f"the first {first.changes} changes are in a state alone")
+    for reader, behind in zip(readers, [*readers[1:], None]):
+        if len(readers) > 1 or first.number > 1:
+            header = reader.header()
+            print(f"segment {header.number}, behind {header.changes} changes: {reader.path}")
+            state = Past(path).state_named(header.number, reader.notes())
+            if state:
+                print(f"it begins with the state {state.path}: {'whole' if state.is_whole() else 'damaged'}")
+                status = status if state.is_whole() else REFUSED
+        status = max(status, _check_segment(reader, path, behind.header().bytes if behind else None))
+    return status
+
+
+def _check_segment(reader: Reader, path: Path, size: int | None) -> int:
+    """The same of a segment, which had this size when another followed it, None of the last one."""
+    status, found = DONE, list(stretches(reader))
+    copied = "" if size is None else f"copied to {path}, "
     for stretch, behind in zip(found, [*found[1:], None]):
         print(f"whole from byte {stretch.start} to {stretch.end}: {stretch.changes} changes in {stretch.frames} frames")
         if behind:
             status = REFUSED
-            print(f"damaged from byte {stretch.end} to {behind.start}: `cut --at {stretch.end}` makes a journal of what stands before")
-    if tail := reader.tail(found[-1].end):
-        print(f"torn: {tail} bytes at byte {found[-1].end} are no whole frame; a start cuts them off")
+            way = f"{copied}`cut --at {stretch.end}` makes a journal of what stands before"
+            print(f"damaged from byte {stretch.end} to {behind.start}: {way}")
+    end = found[-1].end
+    if size is not None and end != size:
+        status = REFUSED
+        print(f"damaged from byte {end} to {size}, where it ended when the next segment was begun: {copied}it ends there")
+    elif tail := reader.tail(end):
+        print(f"torn: {tail} bytes at byte {end} are no whole frame; a start cuts them off")
     return status
 
 
-def list_changes(reader: Reader, team: str | None) -> int:
+def list_changes(readers: list[Reader], team: str | None) -> int:
     """Tells of each change its number, time, uid, pid, line and reply, and of each note its time."""
-    number = 0
-    for frame in whole_frames(reader):
+    number = readers[0].header().changes
+    for frame in itertools.chain.from_iterable(map(whole_frames, readers)):
         when = _time_of(frame)
         if team is None:
             for note in frame.notes():
@@ -133,41 +158,52 @@ def _refuse_claim(reader: Reader) -> None:
     succession.refuse_claim(own(), reader.path)
 
 
-def export(reader: Reader, team: str | None, start: int, output: Path | None) -> int:
-    """Writes the lines of the changes for `lefence replay`, or, with a file, a journal of them for `lefence-push`."""
+def export(path: Path, readers: list[Reader], team: str | None, start: int, output: Path | None) -> int:
+    """Writes the lines of the changes for `lefence replay`, or, with a file, a journal of them for `lefence-push`.
+
+    From a byte on they are those of the last segment alone.
+    """
+    first = readers[-1 if start else 0].header()
+    frames = whole_frames(readers[-1], start) if start else itertools.chain.from_iterable(map(whole_frames, readers))
+    if first.number > 1:
+        way = "" if start else f"; its lines are for a replay with --state {Past(path).state(first.number)}"
+        log(TOOL, f"{path}: the first {first.changes} changes are not in it{way}")
     if output is None:
-        for frame in whole_frames(reader, start):
+        for frame in frames:
             sys.stdout.write("".join(f"{record.line.decode()}\n" for record in frame.records() if is_of(record, team)))
         return DONE
-    refuse_inputs(output, [reader.path])
+    refuse_inputs(output, [reader.path for reader in readers])
     with whole_file(output) as file:
-        at = file.write(header_of(reader.texts()[0]))
-        for frame in whole_frames(reader, start):
+        at = file.write(header_of(first.texts, first.number, first.changes))
+        for frame in frames:
             if records := [record for record in frame.records() if is_of(record, team)]:
                 at += file.write(frame_of(at, body_of(records), frame.time))
     return DONE
 
 
-def verify(path: Path, given: list[Path], wanted: str | None) -> int:
-    """Has the program answer all changes, over the kept texts or those given, and compares each reply."""
-    with open(path, "rb") as file:
-        texts = Reader(file.fileno(), path).texts()[0]
-    kept = [kept_text(path, text) for text in texts]
-    paths = given or [found for found in kept if found]
-    if len(paths) != len(texts):
-        raise Fault(REFUSED, f"{path}: {len(texts)} texts, of which {len(paths)} are {'given' if given else 'kept beside it'}")
-    server = Server(Program(find_program(wanted), paths), [text.sum for text in texts])
+def verify(path: Path, given: list[Path], wanted: str | None, is_all: bool) -> int:
+    """Has the program answer the changes behind the last state, over the kept texts or those given, and compares each reply."""
+    with opened(path) as readers:
+        texts = readers[0].header().texts
+        kept = [kept_text(path, text) for text in texts]
+        paths = given or [found for found in kept if found]
+        if len(paths) != len(texts):
+            raise Fault(REFUSED, f"{path}: {len(texts)} texts, of which {len(paths)} are {'given' if given else 'kept beside it'}")
+        server = Server(Program(find_program(wanted), paths), [text.sum for text in texts])
+        state, behind = way_to_end(path, readers, is_all)
+        before = behind[0].header().changes
 
-    async def replay() -> int:
-        try:
-            await server.start()
-            return await server.restore(read_records(path))
-        except ServerLost as lost:
-            raise Fault(FAILED, f"{path}: {lost}") from None
-        finally:
-            await server.kill()
+        async def replay() -> int:
+            try:
+                await server.start(state)
+                return await server.restore(records_in(behind), None, before)
+            except ServerLost as lost:
+                raise Fault(FAILED, f"{path}: {lost}") from None
+            finally:
+                await server.kill()
 
-    log(TOOL, f"{path}: {asyncio.run(replay())} changes are answered as recorded")
+        told = f"{asyncio.run(replay()) - before} changes" + (f" behind a state of {before}" if state else "")
+        log(TOOL, f"{path}: {told} are answered as recorded")
     return DONE
 
 
@@ -190,15 +226,16 @@ def parser() -> Parser:
     verb("check", "tell what is whole, torn or damaged, and whether the texts are kept")
     added = verb("list", "tell number, time (UTC), uid, pid, line and reply of each change")
     added.add_argument("--team", metavar="NAME", help=one_team)
-    added = verb("cut", "cut it off at the end of a frame; as it was it is kept beside it")
+    added = verb("cut", "cut its last segment off at the end of a frame; as it was it is kept beside it")
     added.add_argument("--at", metavar="BYTE", type=int, help="where (before the first damage)")
     added.add_argument("--takeover", action="store_true", help="also that of a hub of another host, which is gone for certain")
     added = verb("export", "write the lines of all whole frames")
     added.add_argument("--team", metavar="NAME", help=one_team)
     added.add_argument("--from", dest="start", metavar="BYTE", type=int, default=0, help="from the frame on that begins there")
     added.add_argument("--output", metavar="FILE", type=Path, help="write a journal of them for lefence-push")
-    added = verb("verify", "have the program answer all changes, and compare each reply")
+    added = verb("verify", "have the program answer the changes behind the last state, and compare each reply")
     added.add_argument("texts", metavar="TEXT", type=Path, nargs="*", help="DEF and LEF texts (those that are kept)")
+    added.add_argument("--all", action="store_true", help="the changes behind the first state that is kept, or all")
     added.add_argument("--program", metavar="PATH", help="the lefence program (that of the search path, or of this repository)")
     return made
 
@@ -210,11 +247,12 @@ def main() -> int:
         if options.verb == "cut":
             return cut(options.journal, options.at, options.takeover)
         if options.verb == "verify":
-            return verify(options.journal, options.texts, options.program)
-        with open(options.journal, "rb") as file:
-            reader = Reader(file.fileno(), options.journal)
+            return verify(options.journal, options.texts, options.program, options.all)
+        with opened(options.journal) as readers:
             if options.verb == "list":
-                return list_changes(reader, options.team)
-            return check(reader) if options.verb == "check" else export(reader, options.team, options.start, options.output)
+                return list_changes(readers, options.team)
+            if options.verb == "check":
+                return check(options.journal, readers)
+            return export(options.journal, readers, options.team, options.start, options.output)
 
     return run_tool(TOOL, work)

@@ -59,11 +59,14 @@ class Program:
         """A run that tells of the design."""
         return Run(self._describe_words(), is_asked=False)
 
-    async def replay_async(self, export: str | None = None) -> AsyncRun:
-        """As `replay`, but what it says is on standard error."""
+    async def replay_async(self, export: str | None = None, state: Path | None = None, save: Path | None = None) -> AsyncRun:
+        """As `replay`, but what it says is on standard error; it begins in a state, and saves one at the end of its input."""
         from .async_run import start_run
 
-        return await start_run(self._replay_words(export), is_asked=True)
+        words = self._replay_words(export)
+        for option, path in (("--state", state), ("--save", save)):
+            words += [option, *path_words([path])] if path else []
+        return await start_run(words, is_asked=True)
 
     async def describe_async(self) -> AsyncRun:
         """As `describe`."""

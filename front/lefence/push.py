@@ -13,8 +13,8 @@ from pathlib import Path
 from .client import Connection, Sent
 from .endpoint import connect_to
 from .faults import DONE, FAILED, REFUSED, Fault, Parser, log, run_tool
-from .frames import read_records
 from .protocol import REVISIONS
+from .segments import read_records
 
 TOOL = "lefence-push"
 

@@ -6,6 +6,7 @@ import asyncio
 import itertools
 import time
 from collections.abc import Callable, Iterator
+from pathlib import Path
 
 from .async_run import AsyncRun
 from .description import take_team
@@ -13,6 +14,7 @@ from .faults import FAILED, REFUSED, Fault
 from .frames import Record, sums_of
 from .program import PIECE, Program
 from .protocol import GROUND, text_length
+from .segments import State
 
 # Lines that are asked at a time while a journal is restored.
 _CHUNK = 1000
@@ -27,11 +29,11 @@ class ServerLost(Exception):
 class Server:
     """A running program over a design whose texts have the given SHA-256 sums."""
 
-    def __init__(self, program: Program, sums: list[str], export: str | None = None) -> None:
-        """A server that is not started yet; with `export`, it writes that file at the end of its input."""
+    def __init__(self, program: Program, sums: list[str], export: str | None = None, save: Path | None = None) -> None:
+        """A server that is not started yet; with `export` and `save`, it writes these files at the end of its input."""
         self.program = program
         self.sums = sums
-        self._export = export
+        self._export, self._save = export, save
         self._run: AsyncRun | None = None
         # Since when the program says nothing to what it was asked.
         self._since: float | None = None
@@ -50,23 +52,25 @@ class Server:
         if self._run:
             self._run.strike()
 
-    async def start(self) -> None:
-        """Starts the program and waits until it has loaded the design.
+    async def start(self, state: State | None = None) -> None:
+        """Starts the program, and waits until it has loaded the design, and the state with which it is to begin.
 
-        Raises a fault where it refuses the design or the words, or the texts are not those of the sums; ServerLost where it dies.
+        Raises a fault where it refuses one of them or the words, or the texts are not those of the sums; ServerLost where it dies.
         """
         await self.kill()
-        self._run = await self.program.replay_async(self._export)
+        self._run = await self.program.replay_async(self._export, state.path if state else None, self._save)
         try:
             await self.ask([b""])
         except ServerLost:
             status = await self._run.wait()
             if status in (1, 2):
-                reason = "its own line tells why" if status == 1 else "it does not know `replay --lines`"
+                reason = "its own line tells why" if status == 1 else "it does not know the options of `replay`"
                 raise Fault(REFUSED if status == 1 else FAILED, f"{self.program.path} does not start: {reason}") from None
             raise
         if await asyncio.to_thread(sums_of, self.program.texts) != self.sums:
             raise Fault(REFUSED, "the texts of the design have changed")
+        if state and not await asyncio.to_thread(state.is_whole):
+            raise Fault(REFUSED, f"{state.path} has changed")
 
     async def ask(self, lines: list[bytes]) -> list[bytes]:
         """The reply to each line with all its bytes; a `def` may only be the last. Raises ServerLost where the program dies."""
@@ -99,12 +103,11 @@ class Server:
             replies[-1] += rest + await reader.readexactly(length - len(rest))
         return replies
 
-    async def restore(self, records: Iterator[Record], note: Note | None = None) -> int:
-        """Has the lines of a journal answered, and compares each reply; `note` is told of each. How many they are.
+    async def restore(self, records: Iterator[Record], note: Note | None = None, count: int = 0) -> int:
+        """Has the lines of a journal answered, and compares each reply; `note` is told of each. How many they are with `count` before.
 
         Raises a fault at the first reply that is another; ServerLost where the program dies or lacks memory.
         """
-        count = 0
         while chunk := list(itertools.islice(records, _CHUNK)):
             for record, reply in zip(chunk, await self.ask([record.line for record in chunk])):
                 count += 1

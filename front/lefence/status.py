@@ -35,6 +35,7 @@ def _status(hub: Hub) -> dict[str, Any]:
         "lines_total": figures.lines,
         "restores_total": figures.restores,
         "changes_total": journal.changes,
+        "states_total": hub.checkpoints.count,
         "journal_bytes": journal.end,
         "journal_age_seconds": round(now - (journal.last or now), 1),
         **{f"sync_seconds_p{part}": round(share(figures.syncs, part / 100), 6) for part in (50, 99)},

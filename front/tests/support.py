@@ -215,6 +215,18 @@ class FrontCase(unittest.TestCase):
                 process.kill()
 
 
+def wait_gone(processes: list[int]) -> None:
+    """Waits until none of these runs."""
+    last = time.monotonic() + PATIENCE
+    for process in processes:
+        with contextlib.suppress(FileNotFoundError):
+            # (one that nobody waits for has no words any more)
+            while Path(f"/proc/{process}/cmdline").read_bytes():
+                if time.monotonic() > last:
+                    raise AssertionError(f"process {process} outlives its hub")
+                time.sleep(0.01)
+
+
 class Hub:
     """A running hub, whose standard error goes to a file."""
 
@@ -245,16 +257,29 @@ class Hub:
             time.sleep(0.01)
 
     def kill(self) -> None:
+        """Kills it, and waits for its programs, which may write until their end."""
+        wait_gone(self.kill_alone())
+
+    def kill_alone(self) -> list[int]:
+        """Kills it; its programs, which come to their end."""
+        programs = self.children()
         self.process.kill()
         self.process.wait()
+        return programs
 
     def end(self) -> int:
         self.process.terminate()
         return self.process.wait(PATIENCE)
 
+    def children(self) -> list[int]:
+        """Its programs, in the order of their starts."""
+        if self.process.poll() is not None:
+            return []
+        return [int(word) for word in Path(f"/proc/{self.process.pid}/task/{self.process.pid}/children").read_text().split()]
+
     def server_pid(self) -> int:
         """The program behind it."""
-        return int(Path(f"/proc/{self.process.pid}/task/{self.process.pid}/children").read_text().split()[0])
+        return self.children()[0]
 
 
 class HubCase(FrontCase):

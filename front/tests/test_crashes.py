@@ -10,15 +10,19 @@ import sys
 import time
 import unittest
 from collections.abc import Callable
-from pathlib import Path
 
-from support import CELLS, PATIENCE, PROGRAM, TURNS, Hub, HubCase, Talker, spot
+from support import CELLS, PATIENCE, PROGRAM, TURNS, Hub, HubCase, Talker, spot, wait_gone
+
+from lefence.segments import Past
 
 # Changes that each of four teams has in flight at a crash.
 MANY = 2000
 
 
 class Crashes(HubCase):
+    # More words of the hub.
+    extra: tuple[str, ...] = ()
+
     def changes(self, team: int, revision: int) -> Talker:
         """A client that has asked for many changes, and been told of none."""
         talker = self.talk(f"f{team}")
@@ -46,7 +50,7 @@ class Crashes(HubCase):
 
     def under_load(self, strike: Callable[[], None], keeps_clients: bool = False) -> None:
         """Strikes while four teams change; after each, what each was told stands, and at most what it asked for."""
-        self.start()
+        self.start(*self.extra)
         revisions, told, kept, cut = [0] * 4, 0, 0, set()
         for turn in range(TURNS):
             talkers = [self.changes(team, revision) for team, revision in enumerate(revisions)]
@@ -68,24 +72,20 @@ class Crashes(HubCase):
     def start_anew(self) -> None:
         while self.rng.random() < 0.3:
             # And once more, on the way up.
-            again = Hub(self.folder, self.words())
+            again = Hub(self.folder, self.words(*self.extra))
             time.sleep(self.rng.uniform(0, 0.4))
             again.kill()
-        self.assertIn("ready", self.start())
+        self.assertIn("ready", self.start(*self.extra))
 
     def kill_9_of_hub(self) -> None:
-        server = self.hub.server_pid()
         self.hub.kill()
-        last = time.monotonic() + PATIENCE
-        while Path(f"/proc/{server}/cmdline").exists() and Path(f"/proc/{server}/cmdline").read_bytes():
-            self.assertLess(time.monotonic(), last, "the program outlives the hub")
-            time.sleep(0.01)
         self.start_anew()
 
     def kill_9_of_server(self) -> None:
         os.kill(self.hub.server_pid(), signal.SIGKILL)
 
     def kill_9_of_both(self) -> None:
+        self.addCleanup(wait_gone, self.hub.children())
         for pid in self.rng.sample([self.hub.server_pid(), self.hub.process.pid], 2):
             with contextlib.suppress(ProcessLookupError):
                 # The program goes with the hub.
@@ -106,6 +106,16 @@ class Crashes(HubCase):
         self.assertEqual(idle.ask("open f7"), ["ok 0 0"])
         self.kill_9_of_server()
         self.assertEqual((idle.ask("sync f7 0"), self.hub.end()), (["ok 0"], 0))
+
+    def test_kill_9_amid_checkpoints(self) -> None:
+        self.extra = ("--tail-bytes", "1")
+        self.under_load(self.kill_9_of_both)
+        self.assertTrue(Past(self.journal).numbers("state"))
+
+    def test_kill_9_of_a_program_amid_checkpoints_is_not_noticed(self) -> None:
+        self.extra = ("--tail-bytes", "1")
+        # The one that serves, or the one that makes a state.
+        self.under_load(lambda: os.kill(self.rng.choice(self.hub.children()), signal.SIGKILL), keeps_clients=True)
 
     def test_undo_and_padding_are_there_after_a_crash(self) -> None:
         self.start()

@@ -15,9 +15,10 @@ from unittest import mock
 from support import FRONT, SEED
 
 from lefence.faults import Fault
-from lefence.frames import Record, Text, read_records
+from lefence.frames import Record, Text
 from lefence.journal import Journal, texts_in
 from lefence.owner import own
+from lefence.segments import read_records
 
 TEXTS = [Text("0" * 64, Path("/a b\n.def")), Text("f" * 64, Path("/b.lef"))]
 RECORDS = [
@@ -39,7 +40,8 @@ class Journals(unittest.TestCase):
 
     def found(self) -> list[Record]:
         journal = self.open()
-        records = list(journal.records(journal.end))
+        with journal.tail(journal.place) as tail:
+            records = list(tail.records)
         self.assertEqual(len(records), journal.changes)
         journal.close()
         return records
@@ -112,7 +114,7 @@ class Journals(unittest.TestCase):
         for other, said in (
             (b"something else\n", "no journal"),
             (b"\n", "no journal"),
-            (b"lefence-hub journal 3\n" + bytes(300), "of another version"),
+            (b"lefence-hub journal 4\n" + bytes(300), "of another version"),
         ):
             self.path.write_bytes(other)
             self.assertIn(said, self.refusal())

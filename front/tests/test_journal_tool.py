@@ -4,15 +4,17 @@ from __future__ import annotations
 
 import os
 import re
+import shutil
 import unittest
 from dataclasses import replace
 from pathlib import Path
 
 from support import PROGRAM, HubCase
 
-from lefence.frames import Reader, read_records
+from lefence.frames import Reader
 from lefence.journal import Journal, texts_in
 from lefence.owner import own
+from lefence.segments import Past, read_records
 
 
 class JournalTool(HubCase):
@@ -35,7 +37,7 @@ class JournalTool(HubCase):
     def frames(self) -> list[tuple[int, int]]:
         with open(self.journal, "rb") as file:
             reader = Reader(file.fileno(), self.journal)
-            return [(frame.start, frame.end) for frame in reader.frames(reader.texts()[1])]
+            return [(frame.start, frame.end) for frame in reader.frames(reader.header().length)]
 
     def spoil(self, number: int) -> tuple[int, int]:
         """Flips a bit in the frame of that number."""
@@ -103,6 +105,80 @@ class JournalTool(HubCase):
         script.write_text("#!/bin/sh\nexit 9\n")
         done = self.tool("lefence-journal", "verify", self.journal, self.design, self.lef, "--program", str(script))
         self.assertEqual((done.returncode, done.stderr.count(b"journal: the program is lost")), (3, 1), done.stderr)
+
+
+class Segments(HubCase):
+    """A journal of three segments."""
+
+    LINES = (
+        ("open f0", "place f0 0 f0c1 0 0 N", "place f0 0 f0c2 2000 0 N", "undo f0 0"),
+        ("open f1", "place f1 0 f1c1 8000 0 N"),
+        ("open f0",),
+    )
+
+    def setUp(self) -> None:
+        super().setUp()
+        for number, lines in enumerate(self.LINES):
+            if number:
+                self.start("--roll")
+                self.assertEqual(self.hub.process.wait(), 0)
+            self.start()
+            self.assertEqual({reply[:2] for reply in self.talk("operator").ask(*lines)}, {"ok"})
+            self.hub.kill()
+        self.past = Past(self.journal)
+
+    def told(self, *words: str | Path, status: int = 0) -> tuple[str, str]:
+        done = self.tool("lefence-journal", *words)
+        self.assertEqual(done.returncode, status, done.stderr)
+        return done.stdout.decode(), done.stderr.decode()
+
+    def changes(self) -> list[str]:
+        """The lines of the changes, with those by which the hub closed sessions."""
+        first, second, third = self.LINES
+        return [*first, "close f0 0", *second, "close f1 0", *third]
+
+    def test_all_of_it_is_told_listed_and_answered(self) -> None:
+        told, _ = self.told("check", self.journal)
+        for number, before in ((1, 0), (2, 4), (3, 7)):
+            self.assertIn(f"segment {number}, behind {before} changes: ", told)
+        states = [f"it begins with the state {self.past.state(number)}: whole" in told for number in (1, 2, 3)]
+        self.assertEqual(states, [False, True, True])
+        listed = [line.split("\t") for line in self.told("list", self.journal)[0].splitlines() if not line.startswith("-")]
+        self.assertEqual([(int(words[0]), words[4]) for words in listed], list(enumerate(self.changes(), 1)))
+        self.assertEqual(self.told("export", self.journal)[0].splitlines(), self.changes())
+        program = ("--program", PROGRAM)
+        self.assertIn("2 changes behind a state of 7 are answered as recorded", self.told("verify", self.journal, *program)[1])
+        self.assertIn("9 changes are answered as recorded", self.told("verify", self.journal, *program, "--all")[1])
+        self.assertEqual([record.line.decode() for record in read_records(self.journal)], self.changes())
+
+    def test_what_is_not_kept_is_told_and_the_rest_goes_on_from_its_state(self) -> None:
+        self.past.prune(1)
+        told, said = self.told("export", self.journal)
+        self.assertEqual(told.splitlines(), self.changes()[7:])
+        self.assertIn(f"the first 7 changes are not in it; its lines are for a replay with --state {self.past.state(3)}", said)
+        self.assertEqual(self.direct(told.encode(), "--state", str(self.past.state(3))), b"ok\nok 0 3\n")
+        self.assertIn("the first 7 changes are in a state alone", self.told("check", self.journal)[0])
+        self.assertTrue(self.told("list", self.journal, "--team", "f0")[0].startswith("9\t"))
+        self.assertIn("its first 7 changes are in a state alone", self.tool("lefence-push", self.journal, "s/f0.sock").stderr.decode())
+
+    def test_damage_to_any_of_it_is_told(self) -> None:
+        whole = self.past.segment(1).read_bytes()
+        self.past.segment(1).write_bytes(whole.replace(b"place f0 0 f0c1 0 0 N", b"place f0 0 f0c1 9 0 N"))
+        told = r"damaged from byte \d+ to \d+: copied to \S*/journal, `cut --at \d+`"
+        self.assertRegex(self.told("check", self.journal, status=1)[0], told)
+        self.assertIn("1.journal: damaged at byte", self.told("verify", self.journal, "--program", PROGRAM, "--all", status=1)[1])
+        self.told("verify", self.journal, "--program", PROGRAM)
+        self.past.segment(1).write_bytes(whole[:-20])
+        self.assertIn(f"to {len(whole)}, where it ended when the next segment was begun", self.told("check", self.journal, status=1)[0])
+        self.past.state(3).write_bytes(b"x")
+        self.assertIn(f"{self.past.state(3)}: damaged", self.told("check", self.journal, status=1)[0])
+        self.assertIn("5 changes behind a state of 4 are answered", self.told("verify", self.journal, "--program", PROGRAM)[1])
+        self.past.state(2).unlink()
+        said = self.start()
+        self.assertEqual(("1.journal: damaged at byte" in said, self.hub.process.wait()), (True, 1))
+        shutil.copy(self.past.segment(1), self.journal)
+        # (what was cut off at its end were notes)
+        self.assertIn("ready: 9 teams, 4 changes restored", self.start())
 
 
 if __name__ == "__main__":

@@ -298,7 +298,7 @@ class Shares(unittest.TestCase):
         second.end = mock.AsyncMock(side_effect=lambda: [steps.end(), 0][1])
         self.hub.server.program.texts = []
         with mock.patch.object(exporter, "Server", return_value=second), mock.patch.object(exporter, "sync_folder", steps.sync):
-            self.assertIsNone(asyncio.run(self.hub.exporter.write(str(target), 0)))
+            self.assertIsNone(asyncio.run(self.hub.exporter.write(str(target), self.hub.journal.place)))
         self.assertEqual([str(call) for call in steps.mock_calls], ["call.end()", f"call.sync({target.parent!r})"])
 
     def test_a_slow_reader_is_not_dropped_and_one_that_reads_nothing_is(self) -> None:
@@ -345,7 +345,7 @@ class Faults(FrontCase):
         async def run() -> None:
             hub = mock.Mock(teams=[], clients=set(), start=mock.AsyncMock(return_value=[]), pump=pump, watch=watch)
             with self.assertRaisesRegex(Fault, "is lost"), mock.patch.object(hub_tool, "say"):
-                await hub_tool.serve(hub, argparse.Namespace(group=[], team=[], sockets=self.folder), asyncio.Event())
+                await hub_tool.serve(hub, argparse.Namespace(group=[], team=[], sockets=self.folder, roll=False), asyncio.Event())
             await asyncio.sleep(0)
             self.assertEqual(ended, [True])
 

@@ -1,0 +1,415 @@
+"""Segments and states of a journal: what was acknowledged is found again after each step, and clients notice nothing."""
+
+from __future__ import annotations
+
+import itertools
+import os
+import shlex
+import shutil
+import signal
+import subprocess
+import tempfile
+import time
+import unittest
+from collections.abc import Callable
+from pathlib import Path
+from typing import Any
+from unittest import mock
+
+from support import CELLS, FRONT, LEF, PATIENCE, PROGRAM, TEAMS, Hub, HubCase, Script, design_text, spot, wait_gone
+
+from lefence.checkpoints import Checkpoints as Checkpointer, Limits, _synced
+from lefence.faults import Fault
+from lefence.frames import Reader, Record, Text, frame_of, header_of
+from lefence.journal import Journal
+from lefence.protocol import text_length
+from lefence.segments import Past, read_records
+from lefence.status import ask_status
+
+TEXTS = [Text("0" * 64, Path("/a.def")), Text("f" * 64, Path("/b.lef"))]
+
+
+class Disk:
+    """Ends this process at the step of a number. Then a cut of the power undoes each step that no sync of its file or folder followed."""
+
+    STEPS = ("pwrite", "ftruncate", "replace", "link", "unlink", "mkdir", "fsync", "fdatasync")
+
+    def __init__(self, saved: Path, last: int, is_cut: bool) -> None:
+        self.saved, self.last, self.is_cut, self.count = saved, last, is_cut, itertools.count()
+        # Of each step that is not on the disk yet, the inode of its file or folder, and what undoes it.
+        self.undo: list[tuple[int, Callable[[], object]]] = []
+        self.real = {name: getattr(os, name) for name in self.STEPS}
+        for name in self.STEPS:
+            setattr(os, name, lambda *words, name=name, **more: self.take(name, *words, **more))
+
+    def take(self, name: str, *words: Any, **more: Any) -> Any:
+        if next(self.count) == self.last:
+            for _, step in reversed(self.undo if self.is_cut else []):
+                step()
+            os._exit(7)
+        if name in ("fsync", "fdatasync"):
+            inode = os.fstat(words[0]).st_ino
+            self.undo = [each for each in self.undo if each[0] != inode]
+            return None
+        undo = getattr(self, name)(*words)
+        done = self.real[name](*words, **more)
+        self.undo += undo
+        return done
+
+    def pwrite(self, file: int, text: bytes, at: int) -> list[tuple[int, Callable[[], object]]]:
+        old, size = os.pread(file, len(text), at), os.fstat(file).st_size
+        return [(os.fstat(file).st_ino, lambda: (self.real["pwrite"](file, old, at), self.real["ftruncate"](file, size)))]
+
+    def ftruncate(self, file: int, size: int) -> list[tuple[int, Callable[[], object]]]:
+        old = os.fstat(file).st_size
+        return self.pwrite(file, bytes(max(0, old - size)), size) if size < old else []
+
+    def replace(self, old: Path, new: Path) -> list[tuple[int, Callable[[], object]]]:
+        undo = self.unlink(new) if os.path.exists(new) else []
+        return [*undo, (os.stat(Path(new).parent).st_ino, lambda: self.real["replace"](new, old))]
+
+    def link(self, old: Path, new: Path) -> list[tuple[int, Callable[[], object]]]:
+        return [] if os.path.exists(new) else [(os.stat(Path(new).parent).st_ino, lambda: self.real["unlink"](new))]
+
+    def unlink(self, path: Path) -> list[tuple[int, Callable[[], object]]]:
+        saved = self.saved / str(len(os.listdir(self.saved)))
+        if not os.path.exists(path):
+            return []
+        self.real["link"](path, saved)
+        return [(os.stat(Path(path).parent).st_ino, lambda: self.real["link"](saved, path))]
+
+    def mkdir(self, path: Path, mode: int) -> list[tuple[int, Callable[[], object]]]:
+        return [(os.stat(Path(path).parent).st_ino, lambda: shutil.rmtree(path))]
+
+
+class Segments(unittest.TestCase):
+    """A journal whose states list the lines of the changes."""
+
+    def setUp(self) -> None:
+        self.folder = Path(self.enterContext(tempfile.TemporaryDirectory()))
+        self.path = self.folder / "journal"
+        self.said: list[str] = []
+
+    def open(self) -> Journal:
+        return Journal(self.path, TEXTS, self.said.append)
+
+    def lines_of(self, journal: Journal) -> list[bytes]:
+        """What the state and the tail come to."""
+        with journal.tail(journal.place) as tail:
+            return (tail.state.path.read_bytes().splitlines() if tail.state else []) + [record.line for record in tail.records]
+
+    def found(self) -> list[bytes]:
+        journal = self.open()
+        lines = self.lines_of(journal)
+        self.assertEqual((journal.changes, len(lines)), (len(lines), journal.changes))
+        journal.close()
+        return lines
+
+    def append(self, journal: Journal) -> None:
+        line = b"pad A 0 %d" % journal.changes
+        self.assertTrue(journal.has_room(100))
+        journal.append([Record(line, b"ok %d\n" % (journal.changes + 1))])
+
+    def keep(self, journal: Journal) -> None:
+        """Makes the state of all before the last segment."""
+        path = journal.past.unmade(journal.header.number)
+        lines = self.lines_of(journal)[: journal.header.changes]
+        path.write_bytes(b"".join(b"%b\n" % line for line in lines))
+        journal.keep_state(path, *_synced(path))
+        journal.past.prune(2)
+
+    def fill(self, rounds: int, tell: Callable[[], object] = lambda: None) -> None:
+        """A change, a new segment, a change that others make meanwhile, and the state, so many times."""
+        journal = self.open()
+        for _ in range(rounds):
+            self.append(journal)
+            tell()
+            journal.roll([b"team A %d 0 0,2" % journal.changes])
+            self.append(journal)
+            tell()
+            self.keep(journal)
+        journal.close()
+
+    def lines(self, count: int) -> list[bytes]:
+        return [b"pad A 0 %d" % number for number in range(count)]
+
+    def names(self) -> list[str]:
+        return sorted(path.name for path in Past(self.path).folder.iterdir())
+
+    def end_at(self, step: int, is_cut: bool) -> int | None:
+        """How many changes were acknowledged by a process that ends at that step; None where it comes to its end."""
+        saved = self.folder / "saved"
+        saved.mkdir()
+        reading, writing = os.pipe()
+        if not (child := os.fork()):
+            Disk(saved, step, is_cut)
+            self.fill(4, lambda: os.write(writing, b"x"))
+            os._exit(0)
+        os.close(writing)
+        with open(reading, "rb") as told:
+            count = len(told.read())
+        return count if os.waitstatus_to_exitcode(os.waitpid(child, 0)[1]) else None
+
+    @mock.patch("os.fsync", mock.Mock())
+    @mock.patch("os.fdatasync", mock.Mock())
+    def test_at_each_step_a_kill_and_a_cut_of_the_power_lose_nothing(self) -> None:
+        for is_cut in (False, True):
+            for step in itertools.count():
+                count = self.end_at(step, is_cut)
+                if count is None:
+                    self.assertGreater(step, 60)
+                    break
+                with self.subTest(step=step, is_cut=is_cut):
+                    lines = self.found()
+                    self.assertEqual(lines, self.lines(len(lines)))
+                    self.assertIn(len(lines), (count, count + 1))
+                    # And it goes on as any journal.
+                    self.fill(1)
+                    self.assertEqual(self.found(), self.lines(len(lines) + 2))
+                shutil.rmtree(self.folder / "saved")
+                self.path.unlink(missing_ok=True)
+                shutil.rmtree(Past(self.path).folder, ignore_errors=True)
+            shutil.rmtree(self.folder / "saved")
+            self.path.unlink()
+            shutil.rmtree(Past(self.path).folder)
+
+    def test_two_states_are_kept_with_the_journal_from_the_first_on(self) -> None:
+        self.fill(4)
+        self.assertEqual(self.names(), ["4.journal", "4.state", "5.state"])
+        with self.assertRaises(Fault) as caught:
+            list(read_records(self.path))
+        self.assertIn("its first 5 changes are in a state alone", str(caught.exception))
+        self.assertEqual((self.found(), self.said), (self.lines(8), []))
+
+    def test_a_state_that_is_spoilt_is_made_up_for_by_the_one_before(self) -> None:
+        self.fill(3)
+        past = Past(self.path)
+        past.state(4).write_bytes(b"pad A 0 7\n" * 5)
+        self.assertEqual(self.found(), self.lines(6))
+        self.assertIn("4.state is not the state that the journal names", self.said[0])
+        self.assertEqual(self.names(), ["3.journal", "3.state"])
+        past.state(3).unlink()
+        before = self.path.read_bytes()
+        with self.assertRaises(Fault) as caught:
+            self.open()
+        self.assertIn("no state is whole with which segment 3 begins, and", str(caught.exception))
+        self.assertEqual((caught.exception.status, self.path.read_bytes(), self.names()), (1, before, ["3.journal"]))
+
+    def test_damage_to_a_segment_counts_where_no_state_behind_it_is_whole(self) -> None:
+        self.fill(1)
+        past = Past(self.path)
+        whole = past.segment(1).read_bytes()
+        for spoilt in (whole[:-9], whole[:-9] + b"x" + whole[-8:]):
+            past.segment(1).write_bytes(spoilt)
+            self.assertEqual(self.found(), self.lines(2))
+        past.state(2).rename(past.folder / "away")
+        with self.assertRaises(Fault) as caught:
+            self.open()
+        self.assertIn("1.journal: damaged at byte", str(caught.exception))
+        past.segment(1).write_bytes(whole)
+        self.assertEqual(self.found(), self.lines(2))
+
+    def test_a_backup_is_the_journal_and_then_its_past(self) -> None:
+        self.fill(2)
+        earlier = self.path.read_bytes()
+        self.fill(1)
+        self.path.write_bytes(earlier)
+        self.assertEqual(self.found(), self.lines(4))
+        self.assertEqual(self.names(), ["3.journal.aside", "3.state", "4.state.aside"])
+        self.fill(3)
+        self.assertEqual(self.found(), self.lines(10))
+
+    def test_a_past_whose_journal_is_gone_is_not_passed_over(self) -> None:
+        self.fill(2)
+        self.path.unlink()
+        with self.assertRaises(Fault) as caught:
+            self.open()
+        self.assertIn("who means to begin anew moves that away", str(caught.exception))
+        self.assertEqual((caught.exception.status, self.names()), (1, ["1.journal", "2.journal", "2.state", "3.state"]))
+
+    def test_a_journal_without_segments_is_read_and_gone_on_with(self) -> None:
+        journal = self.open()
+        self.append(journal)
+        journal.close()
+        with open(self.path, "rb") as file:
+            reader = Reader(file.fileno(), self.path)
+            frames = list(reader.frames(reader.header().length))
+        whole = header_of(TEXTS).replace(b"journal 3", b"journal 2").replace(b"segment 1 0 0\n", b"")
+        for frame in frames:
+            whole += frame_of(len(whole), frame.body, frame.time)
+        self.path.write_bytes(whole)
+        self.assertEqual((self.found(), [each.line for each in read_records(self.path)]), (self.lines(1), self.lines(1)))
+        self.fill(1)
+        self.assertEqual(self.found(), self.lines(3))
+
+
+class Checkpoints(HubCase):
+    """A hub that makes a state as often as it can."""
+
+    OFTEN = ("--tail-bytes", "1")
+
+    def places(self, count: int, begin: int = 0) -> list[str]:
+        return [f"place f0 0 f0c{at % CELLS} {spot(0, at)}" for at in range(begin, begin + count)]
+
+    def wait_states(self, count: int) -> None:
+        """Waits until a state is kept with which a segment of that number or a later one begins."""
+        last = time.monotonic() + PATIENCE
+        while max(Past(self.journal).numbers("state"), default=0) < count:
+            self.assertLess(time.monotonic(), last, self.hub.told())
+            time.sleep(0.01)
+
+    def test_clients_are_told_the_same_over_checkpoints_starts_and_restored_programs(self) -> None:
+        scripts = [Script(self.rng, team) for team in (0, 1, TEAMS)]
+        lines = [self.rng.choice(scripts).line() for _ in range(1500)]
+        found, talkers = b"", 0
+        self.start(*self.OFTEN)
+        talker = self.talk("operator")
+        for line in lines:
+            talker.socket.sendall(line + b"\n")
+            reply = talker.replies.readline()
+            found += reply + talker.replies.read(text_length(line, reply))
+            if self.rng.random() < 0.01:
+                self.wait_states(talkers + 2)
+                talkers += 1
+                os.kill(self.hub.server_pid(), signal.SIGKILL)
+        self.assertEqual(found, self.direct(b"\n".join(lines) + b"\n"))
+        self.assertEqual(self.hub.end(), 0)
+
+    def test_sessions_undo_padding_and_what_is_not_committed_are_there_after_a_start(self) -> None:
+        self.start(*self.OFTEN)
+        talker = self.talk("f0")
+        talker.ask("open f0", "open f0", "place f0 1 f0c1 0 0 N", "sync f0 0", "pad f0 0 2", "sync f0 1", "place f0 1 f0c2 2000 0 N")
+        self.wait_states(2)
+        self.hub.kill()
+        self.assertIn("ready: 9 teams, ", self.start())
+        talker = self.talk("f0")
+        lines = ["open f0", "undo f0 0", "where f0 0 f0c2", "where f0 0 f0c1"]
+        self.assertEqual(talker.ask(*lines), ["ok 0 3", "ok 4", "no 6 Unplaced f0c2", "ok 0 0 N"])
+        self.assertEqual(talker.ask("place f0 0 f0c4 400 0 N")[0][:12], "no 7 Illegal")
+        team = next(team for team in ask_status(self.folder / "s")["teams"] if team["team"] == "f0")
+        self.assertEqual((team["revision"], team["uncommitted"], len(team["sessions"])), (4, 4, 1))
+
+    def test_an_export_is_that_of_all_changes(self) -> None:
+        self.start(*self.OFTEN, "--export", str(self.folder / "end.def"))
+        talker, operator, lines = self.talk("f0"), self.talk("operator"), ["open f0"]
+        for turn in range(5):
+            lines += [*self.places(20, 20 * turn), "commit f0 0"]
+            self.assertEqual({reply[:2] for reply in talker.ask(*lines[-21 if turn else 0 :])}, {"ok"})
+            self.assertEqual(operator.ask(f"export {self.folder / 'new.def'}"), ["ok"])
+            self.direct("\n".join(lines).encode(), "--export", str(self.folder / "want.def"))
+            self.assertEqual((self.folder / "new.def").read_bytes(), (self.folder / "want.def").read_bytes())
+        self.assertEqual(self.hub.end(), 0)
+        self.assertEqual((self.folder / "end.def").read_bytes(), (self.folder / "want.def").read_bytes())
+
+    def test_an_end_leaves_a_state_where_it_is_worth_it(self) -> None:
+        for words, is_made in ((("--tail-bytes", "100000"), False), (("--tail-bytes", "10000"), True), (("--tail-seconds", "0"), True)):
+            self.start(*words)
+            self.assertEqual(self.talk("f0").ask("open f0", *self.places(40))[-1][:2], "ok")
+            self.assertEqual(self.hub.end(), 0)
+            self.assertEqual(Past(self.journal).numbers("state") != [], is_made)
+        self.assertIn("ready", self.start())
+        self.assertEqual(self.talk("f0").ask("open f0", "where f0 0 f0c9"), ["ok 0 120", f"ok {spot(0, 39)}"])
+
+    def test_a_state_that_cannot_be_made_is_told_and_nothing_is_lost(self) -> None:
+        script = self.folder / "other"
+        script.write_text(f"#!/bin/sh\ncase \"$*\" in *--save*) exit 3;; esac\nexec '{PROGRAM}' \"$@\"\n")
+        script.chmod(0o755)
+        self.program = str(script)
+        self.start(*self.OFTEN)
+        talker = self.talk("f0")
+        self.assertEqual(talker.ask("open f0", *self.places(50))[-1], "ok 50")
+        self.hub.wait_for("no state is made")
+        self.assertEqual(talker.ask(*self.places(50, 50))[-1], "ok 100")
+        self.assertEqual((self.hub.end(), Past(self.journal).numbers("state")), (0, []))
+        self.assertFalse(list(Past(self.journal).folder.glob("*.making-*")))
+        self.program = PROGRAM
+        self.assertIn("ready", self.start(*self.OFTEN))
+        self.assertEqual(self.talk("f0").ask("open f0", "where f0 0 f0c9"), ["ok 0 100", f"ok {spot(0, 99)}"])
+
+    def test_a_program_whose_hub_was_killed_spoils_no_state(self) -> None:
+        # It takes the end of its input for the end of the lines, and saves what it has.
+        script = self.folder / "slow"
+        script.write_text(f"#!/bin/sh\ncase \"$*\" in *--save*) '{PROGRAM}' \"$@\"; sleep 1;; *) exec '{PROGRAM}' \"$@\";; esac\n")
+        script.chmod(0o755)
+        self.program = str(script)
+        for turn in range(3):
+            self.start(*self.OFTEN)
+            self.assertEqual(self.talk("f0").ask("open f0", *self.places(50, 50 * turn))[-1], f"ok {50 * turn + 50}")
+            self.addCleanup(wait_gone, self.hub.kill_alone())
+        self.assertIn("ready", self.start())
+        self.assertEqual(self.talk("f0").ask("open f0", "where f0 0 f0c9"), ["ok 0 150", f"ok {spot(0, 149)}"])
+
+
+class Limited(unittest.TestCase):
+    def test_a_checkpoint_is_due_by_bytes_or_seconds_and_after_a_failure_later(self) -> None:
+        journal = mock.Mock(tail_changes=1, tail_bytes=1001)
+        journal.roll.side_effect = OSError(28, "x")
+        made = Checkpointer(mock.Mock(), journal, Limits(1000, 10), mock.Mock())
+        self.assertTrue(made.is_due())
+        made.begin(mock.Mock(holders={}), mock.Mock(teams={}))
+        self.assertFalse(made.is_due())
+        journal.tail_bytes = 2001
+        self.assertTrue(made.is_due())
+        journal.tail_bytes, made.seconds = 0, 21
+        self.assertEqual((made.is_due(), made.is_due(1.1)), (True, False))
+        journal.tail_changes = 0
+        self.assertFalse(made.is_due())
+        never = Checkpointer(mock.Mock(), mock.Mock(tail_changes=1, tail_bytes=1 << 40), Limits(0), mock.Mock())
+        self.assertFalse(never.is_due())
+
+
+class Pages(HubCase):
+    """What docs/FRONT.md has of backups and upgrades, line by line."""
+
+    def setUp(self) -> None:
+        super().setUp()
+        self.design = self.folder / "chip.def"
+        for name, text in (("chip.def", design_text()), ("tech.lef", LEF), ("cells.lef", "END LIBRARY\n")):
+            (self.folder / name).write_text(text)
+
+    def lines(self, begin: str) -> list[str]:
+        """The lines of the page's block that begins so."""
+        page = (FRONT.parent / "docs/FRONT.md").read_text()
+        return next(block for block in page.split("```\n")[1::2] if block.startswith(begin)).splitlines()
+
+    def begin(self, line: str, *extra: str) -> str:
+        """What a hub of that line says until it is ready or ends."""
+        words = [word if word.startswith("-") else str(self.folder / word) for word in shlex.split(line)[1:]]
+        self.hub = Hub(self.folder, [*words, *extra])
+        self.addCleanup(self.hub.kill)
+        self.hub.wait_ready()
+        return self.hub.told()
+
+    def test_an_upgrade(self) -> None:
+        roll, serve = self.lines("lefence-hub chip.def tech.lef cells.lef --sockets s --journal chip.journal --program old")
+        for name, script in (("old", f"exec '{PROGRAM}' \"$@\""), ("new", f"'{PROGRAM}' \"$@\" | sed -u 's/^ok 1$/ok 7/'")):
+            (self.folder / name).mkdir()
+            (self.folder / name / "lefence").write_text(f"#!/bin/sh\n{script}\n")
+            (self.folder / name / "lefence").chmod(0o755)
+        self.begin(roll.removesuffix(" --roll"))
+        self.talk("f0").ask("open f0", "place f0 0 f0c1 0 0 N")
+        self.hub.kill()
+        self.assertIn("--roll with that one makes a state first\nlefence-hub: change 2: the journal has b'ok 1", self.begin(serve))
+        self.assertEqual((self.hub.process.wait(), "a state of 2 changes is kept" in self.begin(roll), self.hub.process.wait()), (1, True, 0))
+        self.assertIn("ready", self.begin(serve))
+        self.assertEqual(self.talk("f0").ask("open f0", "place f0 0 f0c1 200 0 N"), ["ok 0 1", "ok 2"])
+
+    def test_a_backup(self) -> None:
+        serve = self.lines("lefence-hub chip.def tech.lef cells.lef --sockets s --journal chip.journal --program old")[0].partition(" --program")[0]
+        self.begin(serve, "--program", PROGRAM, "--tail-bytes", "1", "--tail-seconds", "0")
+        talker = self.talk("f0")
+        self.assertEqual(talker.ask("open f0", "place f0 0 f0c1 0 0 N")[1], "ok 1")
+        self.hub.wait_for("a state of")
+        self.assertEqual(talker.ask("place f0 0 f0c1 200 0 N"), ["ok 2"])
+        subprocess.run(["sh", "-c", *self.lines("mkdir saved")], cwd=self.folder, check=True)
+        self.assertEqual(talker.ask("place f0 0 f0c1 400 0 N"), ["ok 3"])
+        self.hub.kill()
+        for path in self.folder.glob("chip.journal*"):
+            shutil.rmtree(path) if path.is_dir() else path.unlink()
+        subprocess.run(["sh", "-c", "mv saved/* ."], cwd=self.folder, check=True)
+        self.assertIn("ready", self.begin(serve, "--program", PROGRAM))
+        self.assertEqual(self.talk("f0").ask("open f0", "where f0 0 f0c1"), ["ok 0 2", "ok 200 0 N"])
+
+
+if __name__ == "__main__":
+    unittest.main()
