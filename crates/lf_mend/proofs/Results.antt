@@ -1,5 +1,5 @@
 -- What holds of a result, from what holds in any case.
-use Rattle.std.proofs.Common.{◌≡◌, ℕ, List, false, Option, None, Some, Result, Ok, Err, OnOk, OnErr, subst}
+use Rattle.std.proofs.Common.{◌≡◌, ℕ, List, true, false, Option, None, Some, Result, Ok, Err, OnOk, OnErr, subst}
 use Rattle.std.specs.Prelude.{All, IfOk, is_err}
 use Rattle.std.proofs.lemmas.Option.{slice_get_within, get_or_from_slice_get}
 use Rattle.lf_teams.specs.States.{FloorState, TeamState}
@@ -28,6 +28,10 @@ ok_weaker (Err e) P Q f p = tt
 pub ok_is : {T E : Type 0} (r : Result T E) (P : Type 0) → is_err r ≡ false → OnOk r P → P
 ok_is (Ok x) P e p = p
 ok_is (Err e') P e p = absurd cc
+
+pub err_is : {T E : Type 0} (r : Result T E) (P : Type 0) → is_err r ≡ true → OnErr r P → P
+err_is (Ok x) P e p = absurd cc
+err_is (Err e') P e p = p
 
 -- what holds of each team holds of the one of that name
 pub each_state : (P : TeamState → Type 0) (floor : FloorState) (team : List ℕ) (s : TeamState) → All P floor.teams → state_of floor team ≡ Some s → P s

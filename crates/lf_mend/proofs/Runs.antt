@@ -1,6 +1,6 @@
 -- Runs one after the other, and what they leave.
-use Rattle.std.proofs.Common.{◌≡◌, ◌≢◌, ℕ, List, [], ◌∷◌, ◌++◌, Bool, true, false, Option, Some, None, refl, sym, ◌∙◌, subst, append-nil}
-use Rattle.std.specs.Io.KnownBytes.{Appends}
+use Rattle.std.proofs.Common.{◌≡◌, ◌≢◌, ℕ, List, [], ◌∷◌, ◌++◌, Bool, true, false, Option, Some, None, refl, ap, sym, ◌∙◌, subst, take, append_assoc, append-nil, arith}
+use Rattle.std.specs.Io.KnownBytes.{Appends, Keeps}
 use Rattle.std.proofs.lemmas.List.Elements.{All-append, All-cons, All-nil}
 use Rattle.std.proofs.lemmas.List.Concat.{flat_map-append}
 use Rattle.lf_floorplan.specs.declared.place.Place.{Place}
@@ -17,7 +17,7 @@ use Rattle.lf_teams.specs.Steps.{IsTo, KeepsIfRefused, Step}
 use Rattle.lf_teams.specs.Runs.{Run}
 use Rattle.lf_teams.specs.VerbLaws.{is_granted}
 use Rattle.lf_teams.specs.Committed.{IsCommittedLegal}
-use Rattle.lf_mend.specs.Runs.{IsRunBy, IsRunOf, IsWrittenRun, line_of, lines_of}
+use Rattle.lf_mend.specs.Runs.{AppendsFront, IsCutRun, IsRunBy, IsWrittenRun, line_of, lines_of}
 use Rattle.lf_mend.specs.Deeds.{MarkedStay}
 use Rattle.lf_mend.specs.Mending.{ChangesOnly, names_in}
 
@@ -78,11 +78,6 @@ one_written l team old new before after line command reply to plain step granted
   Appends-same before after line (lines_of (command ∷ [])) (is ∙ sym (append-nil (line_of command))) appends,
 )
 
--- one command, whatever was written
-pub one_asked : (l : Legalizer) (team : List ℕ) (old new : FloorState) (command : Command (List ℕ) Place) (reply : Reply)
-    → IsTo team command → (IsName team → IsPlain command) → Step l old command reply new → is_granted reply ≡ true → IsRunOf l team old new
-one_asked l team old new command reply to plain step granted = (command ∷ [], one_run l team old new command reply to plain step granted)
-
 -- one after the other
 pub then_written : (l : Legalizer) (team : List ℕ) (a b c : FloorState) (x y z : Option (List ℕ)) → IsWrittenRun l team a x y b → IsWrittenRun l team b y z c
     → IsWrittenRun l team a x z c
@@ -93,8 +88,57 @@ then_written l team a b c x y z first second = (
       (Appends-more x y z (lines_of first.0) (lines_of second.0) first.2 second.2),
 )
 
-pub then_asked : (l : Legalizer) (team : List ℕ) (a b c : FloorState) (x y : Option (List ℕ)) → IsWrittenRun l team a x y b → IsRunOf l team b c → IsRunOf l team a c
-then_asked l team a b c x y first second = (first.0 ++ second.0, then_run l team a b c first.0 second.0 first.1 second.1)
+-- ---- runs that broke off
+
+pub kept_behind : (a b c : Option (List ℕ)) (bs : List ℕ) → Appends a b bs → Keeps b c → Appends a c bs
+kept_behind None b c bs p q = tt
+kept_behind (Some x) None c bs p q = absurd p
+kept_behind (Some x) (Some y) None bs p q = absurd q
+kept_behind (Some x) (Some y) (Some z) bs p q = q ∙ p
+
+-- all was written
+pub uncut : (l : Legalizer) (team : List ℕ) (old new : FloorState) (x y : Option (List ℕ)) → IsWrittenRun l team old x y new → IsCutRun l team old x y new
+uncut l team old new x y run = record {
+  commands = run.0;
+  last = [];
+  one = omega arith;
+  run = subst (λ (cs : List (Command (List ℕ) Place)). IsRunBy cs l team old new) (sym (append-nil run.0)) run.1;
+  count = 0;
+  written = Appends-same x y (lines_of run.0) (lines_of run.0 ++ []) (sym (append-nil (lines_of run.0))) run.2;
+}
+
+pub none_cut : (l : Legalizer) (team : List ℕ) (floor : FloorState) (bytes : Option (List ℕ)) → IsCutRun l team floor bytes bytes floor
+none_cut l team floor bytes = uncut l team floor floor bytes bytes (nothing l team floor bytes)
+
+-- one command, and a front of its line
+pub one_cut : (l : Legalizer) (team : List ℕ) (old new : FloorState) (before after : Option (List ℕ)) (line : List ℕ) (command : Command (List ℕ) Place) (reply : Reply)
+    → IsTo team command → (IsName team → IsPlain command) → Step l old command reply new → is_granted reply ≡ true → line ≡ line_of command
+    → AppendsFront before after line → IsCutRun l team old before after new
+one_cut l team old new before after line command reply to plain step granted is front = record {
+  commands = [];
+  last = command ∷ [];
+  one = omega arith;
+  run = one_run l team old new command reply to plain step granted;
+  count = front.0;
+  written = Appends-same before after (take front.0 line) (take front.0 (lines_of (command ∷ []))) (ap (take front.0) (is ∙ sym (append-nil (line_of command)))) front.1;
+}
+
+-- one after the other
+pub then_cut : (l : Legalizer) (team : List ℕ) (a b c : FloorState) (x y z : Option (List ℕ)) → IsWrittenRun l team a x y b → IsCutRun l team b y z c
+    → IsCutRun l team a x z c
+then_cut l team a b c x y z first second =
+    let front = take second.count (lines_of second.last) in
+    record {
+      commands = first.0 ++ second.commands;
+      last = second.last;
+      one = second.one;
+      run = subst (λ (cs : List (Command (List ℕ) Place)). IsRunBy cs l team a c) (sym (append_assoc first.0 second.commands second.last))
+          (then_run l team a b c first.0 (second.commands ++ second.last) first.1 second.run);
+      count = second.count;
+      written = Appends-same x z (lines_of first.0 ++ (lines_of second.commands ++ front)) (lines_of (first.0 ++ second.commands) ++ front)
+          (sym (append_assoc (lines_of first.0) (lines_of second.commands) front) ∙ ap (λ (ls : List ℕ). ls ++ front) (sym (flat_map-append line_of first.0 second.commands)))
+          (Appends-more x y z (lines_of first.0) (lines_of second.commands ++ front) first.2 second.written);
+    }
 
 -- ---- what stays
 
@@ -130,7 +174,3 @@ none_moves team marks floor own marked = refl
 
 pub then_stay : (team : List ℕ) (marks : List Bool) (a b c : FloorState) → MarkedStay team marks a b → MarkedStay team marks b c → MarkedStay team marks a c
 then_stay team marks a b c first second own marked = second own marked ∙ first own marked
-
--- whatever was written
-pub unwritten : (l : Legalizer) (team : List ℕ) (old new : FloorState) (x y : Option (List ℕ)) → IsWrittenRun l team old x y new → IsRunOf l team old new
-unwritten l team old new x y run = (run.0, run.1)

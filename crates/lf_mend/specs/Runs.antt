@@ -1,5 +1,5 @@
 -- Runs of one team's own commands, and the lines of them.
-use Rattle.std.specs.Prelude.{◌≡◌, ℕ, List, [], ◌∷◌, ◌++◌, All, Option, true}
+use Rattle.std.specs.Prelude.{◌≡◌, ℕ, ◌≤◌, List, [], ◌∷◌, ◌++◌, All, Option, length, take, true}
 use Rattle.std.specs.List.{flat_map}
 use Rattle.std.specs.Io.KnownBytes.{Appends}
 use Rattle.lf_floorplan.specs.declared.place.Place.{Place}
@@ -31,11 +31,20 @@ pub record IsRunBy (commands : List (Command (List ℕ) Place)) (l : Legalizer) 
   pub own : All (IsTo team) commands
   pub plain : IsName team → All IsPlain commands
 
--- the floor goes so by some commands
-abbrev pub IsRunOf : Legalizer → List ℕ → FloorState → FloorState → Type 0
-IsRunOf l team old new = (commands : List (Command (List ℕ) Place)) × IsRunBy commands l team old new
-
 -- the floor goes so by some commands, whose lines are what has been written, where the writer's bytes are known
 abbrev pub IsWrittenRun : Legalizer → List ℕ → FloorState → Option (List ℕ) → Option (List ℕ) → FloorState → Type 0
 IsWrittenRun l team old before after new =
     (commands : List (Command (List ℕ) Place)) × IsRunBy commands l team old new × Appends before after (lines_of commands)
+
+-- a front of these bytes has been written, where the writer's bytes are known: perhaps none of them, perhaps all
+abbrev pub AppendsFront : Option (List ℕ) → Option (List ℕ) → List ℕ → Type 0
+AppendsFront before after bytes = (count : ℕ) × Appends before after (take count bytes)
+
+-- the floor goes so by some commands and at most one more; what has been written are the lines of the former, and a front of that one's
+pub record IsCutRun (l : Legalizer) (team : List ℕ) (old : FloorState) (before after : Option (List ℕ)) (new : FloorState) : Type 0 where
+  pub commands : List (Command (List ℕ) Place)
+  pub last : List (Command (List ℕ) Place)
+  pub one : length last ≤ 1
+  pub run : IsRunBy (commands ++ last) l team old new
+  pub count : ℕ
+  pub written : Appends before after (lines_of commands ++ take count (lines_of last))

@@ -9,7 +9,7 @@ ghost use Rattle.lf_proto.specs.Requests.{IsPlain};
 ghost use Rattle.lf_teams.specs.VerbLaws.{is_granted};
 ghost use Rattle.lf_teams.specs.Steps.{CommitsLegally, IsTo};
 ghost use Rattle.lf_mend.specs.Deeds.{IsAsked};
-ghost use Rattle.lf_mend.specs.Runs.{IsRunOf, IsWrittenRun};
+ghost use Rattle.lf_mend.specs.Runs.{AppendsFront, IsCutRun, IsWrittenRun};
 ghost use Rattle.lf_mend.specs.Mending.{ChangesOnly};
 
 use crate::line::put_request;
@@ -41,7 +41,8 @@ fn is_granted(reply: &Reply) -> bool
 
 /// Writes all the bytes, in as many calls as it takes.
 fn write_whole<K: Sink>(lines: &mut K, bytes: &[u8]) -> Result<(), DeviceFault>
-    ensures { OnOk result (Appends (K.contents lines.old) (K.contents lines.new) bytes.now) }
+    ensures ok { OnOk result (Appends (K.contents lines.old) (K.contents lines.new) bytes.now) }
+    ensures err { OnErr result (AppendsFront (K.contents lines.old) (K.contents lines.new) bytes.now) }
 {
     let mut at = 0;
     while at < bytes.len() {
@@ -61,7 +62,7 @@ pub(crate) fn ask_and_write<S: Seeker + Drop, K: Sink>(
     ensures run { (l : Legalizer) (team : List ℕ) → IsTo team (command_of request.now) → (IsName team → IsPlain (command_of request.now))
         → IfOk result (λ _. IsWrittenRun l team floor.old (K.contents lines.old) (K.contents lines.new) floor.new) }
     ensures err { (l : Legalizer) (team : List ℕ) → IsTo team (command_of request.now) → (IsName team → IsPlain (command_of request.now))
-        → OnErr result (IsRunOf l team floor.old floor.new) }
+        → OnErr result (IsCutRun l team floor.old (K.contents lines.old) (K.contents lines.new) floor.new) }
     ensures only { (team : List ℕ) → IsTo team (command_of request.now) → ChangesOnly team floor.old floor.new }
     ensures asked { (l : Legalizer) → IsAsked l floor.old (command_of request.now) floor.new }
     ensures committed { (l : Legalizer) → IfOk result (λ reply. CommitsLegally l (command_of request.now) reply floor.new) }

@@ -12,7 +12,7 @@ ghost use Rattle.lf_teams.specs.Outcomes.{name_at};
 ghost use Rattle.lf_teams.specs.Teams.{state_of};
 ghost use Rattle.lf_mend.specs.Deeds.{CommittedStay, IsOfCell, MarkedStay};
 ghost use Rattle.lf_mend.specs.Mending.{ChangesOnly, place_in};
-ghost use Rattle.lf_mend.specs.Runs.{IsRunOf, IsWrittenRun};
+ghost use Rattle.lf_mend.specs.Runs.{IsCutRun, IsWrittenRun};
 
 use crate::ask::{Fault, ask_and_write};
 use lf_devices::Sink;
@@ -119,7 +119,7 @@ fn send_named<S: Seeker + Drop, K: Sink>(
 ) -> Result<(), Fault>
     requires { IsName cell.now }
     ensures run { (l : Legalizer) → IfOk result (λ _. IsWrittenRun l seat.now.team.now floor.old (K.contents lines.old) (K.contents lines.new) floor.new) }
-    ensures err { (l : Legalizer) → OnErr result (IsRunOf l seat.now.team.now floor.old floor.new) }
+    ensures err { (l : Legalizer) → OnErr result (IsCutRun l seat.now.team.now floor.old (K.contents lines.old) (K.contents lines.new) floor.new) }
     ensures only { ChangesOnly seat.now.team.now floor.old floor.new }
     ensures cells { (other : ℕ) → ((s : TeamState) → state_of floor.old seat.now.team.now ≡ Some s → cell_named cell.now s.cells ≡ Some other → ⊥)
         → place_in floor.new seat.now.team.now other ≡ place_in floor.old seat.now.team.now other }
@@ -167,7 +167,7 @@ fn send<S: Seeker + Drop, K: Sink>(
     lines: &mut K,
 ) -> Result<(), Fault>
     ensures run { (l : Legalizer) → IfOk result (λ _. IsWrittenRun l seat.now.team.now floor.old (K.contents lines.old) (K.contents lines.new) floor.new) }
-    ensures err { (l : Legalizer) → OnErr result (IsRunOf l seat.now.team.now floor.old floor.new) }
+    ensures err { (l : Legalizer) → OnErr result (IsCutRun l seat.now.team.now floor.old (K.contents lines.old) (K.contents lines.new) floor.new) }
     ensures only { ChangesOnly seat.now.team.now floor.old floor.new }
     ensures cells { (other : ℕ) → other ≢ own → place_in floor.new seat.now.team.now other ≡ place_in floor.old seat.now.team.now other }
     ensures committed { CommittedStay seat.now.team.now floor.old floor.new }
@@ -201,7 +201,7 @@ fn send_unmarked<S: Seeker + Drop, K: Sink>(
     lines: &mut K,
 ) -> Result<(), Fault>
     ensures run { (l : Legalizer) → IfOk result (λ _. IsWrittenRun l seat.now.team.now floor.old (K.contents lines.old) (K.contents lines.new) floor.new) }
-    ensures err { (l : Legalizer) → OnErr result (IsRunOf l seat.now.team.now floor.old floor.new) }
+    ensures err { (l : Legalizer) → OnErr result (IsCutRun l seat.now.team.now floor.old (K.contents lines.old) (K.contents lines.new) floor.new) }
     ensures only { ChangesOnly seat.now.team.now floor.old floor.new }
     ensures marked { MarkedStay seat.now.team.now marks.now floor.old floor.new }
     ensures committed { CommittedStay seat.now.team.now floor.old floor.new }
@@ -223,7 +223,7 @@ pub(crate) fn send_all<S: Seeker + Drop, K: Sink>(
     lines: &mut K,
 ) -> Result<(), Fault>
     ensures run { (l : Legalizer) → IfOk result (λ _. IsWrittenRun l seat.now.team.now floor.old (K.contents lines.old) (K.contents lines.new) floor.new) }
-    ensures err { (l : Legalizer) → OnErr result (IsRunOf l seat.now.team.now floor.old floor.new) }
+    ensures err { (l : Legalizer) → OnErr result (IsCutRun l seat.now.team.now floor.old (K.contents lines.old) (K.contents lines.new) floor.new) }
     ensures only { ChangesOnly seat.now.team.now floor.old floor.new }
     ensures marked { MarkedStay seat.now.team.now marks.now floor.old floor.new }
     ensures committed { CommittedStay seat.now.team.now floor.old floor.new }

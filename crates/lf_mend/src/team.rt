@@ -7,7 +7,7 @@ ghost use Rattle.lf_teams.specs.Teams.{team_number};
 ghost use Rattle.lf_teams.specs.VerbLaws.{is_granted};
 ghost use Rattle.lf_mend.specs.Deeds.{CommittedStay, MarkedStay, PlacesStay, SameCells, StandElsewhere, StandHomeBut};
 ghost use Rattle.lf_mend.specs.Mending.{AllMove, AreLegalBut, ChangesOnly, IsLeftIn, LegalStay, OnlyMove, committed_in};
-ghost use Rattle.lf_mend.specs.Runs.{IsRunOf, IsWrittenRun};
+ghost use Rattle.lf_mend.specs.Runs.{IsCutRun, IsWrittenRun};
 ghost use Rattle.lf_mend.specs.declared.start.How.TheVariants.{Keep};
 
 use crate::advice::{Phase, deeds_of};
@@ -32,7 +32,7 @@ fn open<S: Seeker + Drop, K: Sink>(
     lines: &mut K,
 ) -> Result<u32, Fault>
     ensures run { (l : Legalizer) → IfOk result (λ _. IsWrittenRun l team.now floor.old (K.contents lines.old) (K.contents lines.new) floor.new) }
-    ensures err { (l : Legalizer) → OnErr result (IsRunOf l team.now floor.old floor.new) }
+    ensures err { (l : Legalizer) → OnErr result (IsCutRun l team.now floor.old (K.contents lines.old) (K.contents lines.new) floor.new) }
     ensures only { ChangesOnly team.now floor.old floor.new }
     ensures cells { SameCells team.now floor.old floor.new }
 {
@@ -65,7 +65,7 @@ fn commit<S: Seeker + Drop, K: Sink>(
     lines: &mut K,
 ) -> Result<(), Fault>
     ensures run { (l : Legalizer) → IfOk result (λ _. IsWrittenRun l seat.now.team.now floor.old (K.contents lines.old) (K.contents lines.new) floor.new) }
-    ensures err { (l : Legalizer) → OnErr result (IsRunOf l seat.now.team.now floor.old floor.new) }
+    ensures err { (l : Legalizer) → OnErr result (IsCutRun l seat.now.team.now floor.old (K.contents lines.old) (K.contents lines.new) floor.new) }
     ensures only { ChangesOnly seat.now.team.now floor.old floor.new }
     ensures places { PlacesStay seat.now.team.now floor.old floor.new }
     ensures committed { (l : Legalizer) → IfOk result (λ _. AllCommittedIn l floor.new seat.now.team.now) }
@@ -103,7 +103,7 @@ fn commit_whole<S: Seeker + Drop, K: Sink>(
     lines: &mut K,
 ) -> Result<(), Fault>
     ensures run { (l : Legalizer) → IfOk result (λ _. IsWrittenRun l seat.now.team.now floor.old (K.contents lines.old) (K.contents lines.new) floor.new) }
-    ensures err { (l : Legalizer) → OnErr result (IsRunOf l seat.now.team.now floor.old floor.new) }
+    ensures err { (l : Legalizer) → OnErr result (IsCutRun l seat.now.team.now floor.old (K.contents lines.old) (K.contents lines.new) floor.new) }
     ensures only { ChangesOnly seat.now.team.now floor.old floor.new }
     ensures places { PlacesStay seat.now.team.now floor.old floor.new }
     ensures committed { (l : Legalizer) → left.now ≡ [] → IfOk result (λ _. AllCommittedIn l floor.new seat.now.team.now) }
@@ -124,7 +124,7 @@ fn close<S: Seeker + Drop, K: Sink>(
     lines: &mut K,
 ) -> Result<(), Fault>
     ensures run { (l : Legalizer) → IfOk result (λ _. IsWrittenRun l seat.now.team.now floor.old (K.contents lines.old) (K.contents lines.new) floor.new) }
-    ensures err { (l : Legalizer) → OnErr result (IsRunOf l seat.now.team.now floor.old floor.new) }
+    ensures err { (l : Legalizer) → OnErr result (IsCutRun l seat.now.team.now floor.old (K.contents lines.old) (K.contents lines.new) floor.new) }
     ensures only { ChangesOnly seat.now.team.now floor.old floor.new }
     ensures cells { SameCells seat.now.team.now floor.old floor.new }
 {
@@ -154,7 +154,7 @@ fn finish<S: Seeker + Drop, K: Sink>(
 ) -> Result<Found, Fault>
     requires { team_number floor.old.frame seat.now.team.now ≡ Some seat.now.number }
     ensures run { (l : Legalizer) → IfOk result (λ _. IsWrittenRun l seat.now.team.now floor.old (K.contents lines.old) (K.contents lines.new) floor.new) }
-    ensures err { (l : Legalizer) → OnErr result (IsRunOf l seat.now.team.now floor.old floor.new) }
+    ensures err { (l : Legalizer) → OnErr result (IsCutRun l seat.now.team.now floor.old (K.contents lines.old) (K.contents lines.new) floor.new) }
     ensures only { ChangesOnly seat.now.team.now floor.old floor.new }
     ensures places { PlacesStay seat.now.team.now floor.old floor.new }
     ensures changed { IfOk result (λ found. StandHomeBut seat.now.team.now homes.now floor.new found.changed.items) }
@@ -191,7 +191,7 @@ fn go_round<S: Seeker + Drop, K: Sink>(
     lines: &mut K,
 ) -> Result<(), Fault>
     ensures run { (l : Legalizer) → IfOk result (λ _. IsWrittenRun l seat.now.team.now floor.old (K.contents lines.old) (K.contents lines.new) floor.new) }
-    ensures err { (l : Legalizer) → OnErr result (IsRunOf l seat.now.team.now floor.old floor.new) }
+    ensures err { (l : Legalizer) → OnErr result (IsCutRun l seat.now.team.now floor.old (K.contents lines.old) (K.contents lines.new) floor.new) }
     ensures only { ChangesOnly seat.now.team.now floor.old floor.new }
     ensures marked { MarkedStay seat.now.team.now start.now.marks.items floor.old floor.new }
     ensures committed { CommittedStay seat.now.team.now floor.old floor.new }
@@ -226,7 +226,7 @@ fn work<S: Seeker + Drop, K: Sink>(
 ) -> Result<Found, Fault>
     requires { team_number floor.old.frame team.now ≡ Some number }
     ensures run { (l : Legalizer) → IfOk result (λ _. IsWrittenRun l team.now floor.old (K.contents lines.old) (K.contents lines.new) floor.new) }
-    ensures err { (l : Legalizer) → OnErr result (IsRunOf l team.now floor.old floor.new) }
+    ensures err { (l : Legalizer) → OnErr result (IsCutRun l team.now floor.old (K.contents lines.old) (K.contents lines.new) floor.new) }
     ensures only { ChangesOnly team.now floor.old floor.new }
     ensures marked { MarkedStay team.now start.now.marks.items floor.old floor.new }
     ensures changed { IfOk result (λ found. StandHomeBut team.now start.now.homes.items floor.new found.changed.items) }
@@ -262,12 +262,14 @@ fn work<S: Seeker + Drop, K: Sink>(
 
 /// Repairs a team: its cells that break a rule or have no place go to legal places; with `All` other cells may be moved too.
 ///
-/// Each command is asked of the floor, and its line is written exactly if the floor accepts it. With `Keep` cells that stand
-/// legally stay, whatever comes of the repair. At the end the team is committed if and only if no cell is left; else its cells
-/// stand where the repair left them, those that are left without a place or illegal, and the committed places are as before. No
-/// other team changes, and a committed design that was fully legal stays so.
+/// Each command is asked of the floor, and its line is written exactly if the floor accepts it; where a line can name the team, each
+/// line reads as its command. With `Keep` cells that stand legally stay, whatever comes of the repair; those that stand otherwise at
+/// its end are named in any case. The team is then committed if and only if no cell is left; else its cells stand where the repair
+/// left them, those that are left without a place or illegal, and the committed places are as before. No other team changes, and a
+/// committed design that was fully legal stays so.
 ///
-/// `Err` tells why a repair broke off: the floor is then where the commands so far have led it.
+/// `Err` tells why a repair broke off: the floor is then where the commands so far have led it, and their lines are written, of the
+/// last one perhaps a front alone.
 pub fn repair_team<S: Seeker + Drop, K: Sink>(
     alloc: Global,
     floor: &mut Floor<S>,
@@ -276,7 +278,7 @@ pub fn repair_team<S: Seeker + Drop, K: Sink>(
     lines: &mut K,
 ) -> Result<Repaired, Fault>
     ensures run { (l : Legalizer) → IfOk result (λ _. IsWrittenRun l team.now floor.old (K.contents lines.old) (K.contents lines.new) floor.new) }
-    ensures err { (l : Legalizer) → OnErr result (IsRunOf l team.now floor.old floor.new) }
+    ensures err { (l : Legalizer) → OnErr result (IsCutRun l team.now floor.old (K.contents lines.old) (K.contents lines.new) floor.new) }
     ensures only { ChangesOnly team.now floor.old floor.new }
     ensures unknown { team_number floor.old.frame team.now ≡ None → result ≡ Err Fault.NoTeam }
     ensures kept { how ≡ Keep → LegalStay team.now floor.old floor.new }

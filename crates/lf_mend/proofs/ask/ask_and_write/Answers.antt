@@ -1,11 +1,14 @@
 use Rattle.std.proofs.Common.{◌≡◌, ◌∙◌, ◌++◌, inl, inr, refl, sym, ap}
 use Rattle.std.specs.Io.KnownBytes.{Appends}
 use Rattle.lf_proto.specs.Commands.{command_of}
-use Rattle.lf_mend.specs.Runs.{line_of}
-use Rattle.lf_mend.proofs.Results.{ok_is}
-use Rattle.lf_mend.proofs.Runs.{left_out, one_asked, one_written, step_only, unchanged}
+use Rattle.lf_mend.specs.Runs.{AppendsFront, line_of}
+use Rattle.lf_mend.proofs.Results.{err_is, ok_is}
+use Rattle.lf_mend.proofs.Runs.{left_out, none_cut, one_cut, one_written, step_only, unchanged}
 use Rattle.lf_mend.proofs.Steps.{step_names}
 use Rattle.lf_mend.proofs.ask.ask_and_write.Goals as goal
+
+pub returns-then-is_err-clause-err : goal.returns-then-is_err-clause-err
+returns-then-is_err-clause-err g c = λ l team to plain. none_cut l team c.args.floor.now (g.K.Sink.contents c.args.lines.now)
 
 pub returns-then-is_err-clause-only : goal.returns-then-is_err-clause-only
 returns-then-is_err-clause-only g c = λ team to. unchanged team c.args.floor.now
@@ -36,8 +39,16 @@ returns-clause-asked g c = λ l. inr (c.step-reply.result, c.step-reply.ensures.
 
 pub returns-then-is_err-2-clause-err : goal.returns-then-is_err-2-clause-err
 returns-then-is_err-2-clause-err g c = λ l team to plain.
-    one_asked l team c.args.floor.now c.step-reply.new.self (command_of c.args.request.now) c.step-reply.result to plain (c.step-reply.ensures.step l)
+    let line : c.put_request.new.out.items ≡ c.clear.new.self.items ++ line_of (command_of c.args.request.now) =
+    ok_is c.put_request.result (c.put_request.new.out.items ≡ c.clear.new.self.items ++ line_of (command_of c.args.request.now))
+    (sym c.is_err.ensures.value ∙ c.if-is_err.false) c.put_request.ensures in
+    let front : AppendsFront (g.K.Sink.contents c.args.lines.now) (g.K.Sink.contents c.write_whole.new.lines) c.as_slice.result.now =
+    err_is c.write_whole.result (AppendsFront (g.K.Sink.contents c.args.lines.now) (g.K.Sink.contents c.write_whole.new.lines) c.as_slice.result.now)
+    (sym c.is_err-2.ensures.value ∙ c.if-is_err-2.true) c.write_whole.ensures.err in
+    one_cut l team c.args.floor.now c.step-reply.new.self (g.K.Sink.contents c.args.lines.now) (g.K.Sink.contents c.write_whole.new.lines)
+    c.as_slice.result.now (command_of c.args.request.now) c.step-reply.result to plain (c.step-reply.ensures.step l)
     (sym c.is_granted.ensures ∙ c.if-not-is_granted.false)
+    (c.as_slice.ensures.value ∙ line ∙ ap (λ xs. xs ++ line_of (command_of c.args.request.now)) c.clear.ensures.items) front
 
 pub returns-then-is_err-2-clause-only : goal.returns-then-is_err-2-clause-only
 returns-then-is_err-2-clause-only g c = λ team to.
@@ -53,7 +64,7 @@ returns-clause-run g c = λ l team to plain.
     (sym c.is_err.ensures.value ∙ c.if-is_err.false) c.put_request.ensures in
     let whole : Appends (g.K.Sink.contents c.args.lines.now) (g.K.Sink.contents c.write_whole.new.lines) c.as_slice.result.now =
     ok_is c.write_whole.result (Appends (g.K.Sink.contents c.args.lines.now) (g.K.Sink.contents c.write_whole.new.lines) c.as_slice.result.now)
-    (sym c.is_err-2.ensures.value ∙ c.if-is_err-2.false) c.write_whole.ensures in
+    (sym c.is_err-2.ensures.value ∙ c.if-is_err-2.false) c.write_whole.ensures.ok in
     one_written l team c.args.floor.now c.step-reply.new.self (g.K.Sink.contents c.args.lines.now) (g.K.Sink.contents c.write_whole.new.lines)
     c.as_slice.result.now (command_of c.args.request.now) c.step-reply.result to plain (c.step-reply.ensures.step l)
     (sym c.is_granted.ensures ∙ c.if-not-is_granted.false)

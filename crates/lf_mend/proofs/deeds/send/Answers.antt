@@ -3,6 +3,7 @@ use Rattle.lf_proto.specs.Lines.{IsName}
 use Rattle.lf_teams.specs.Teams.{IsTeamOf}
 use Rattle.lf_mend.proofs.Cells.{named_is}
 use Rattle.lf_mend.proofs.Results.{each_state}
+use Rattle.lf_mend.proofs.Runs.{none_cut}
 use Rattle.lf_mend.proofs.deeds.send.Goals as goal
 
 pub returns-in-Ok-true-clause-cells : goal.returns-in-Ok-true-clause-cells
@@ -16,3 +17,6 @@ returns-in-Ok-true-clause-cells g c = λ other differ.
 
 pub send_named-requires : goal.send_named-requires
 send_named-requires g c = subst IsName (sym c.as_slice.ensures.value) (c.in-Ok-true.ensures.plain c.in-Ok-true.field-0-test)
+
+pub returns-in-Err-clause-err : goal.returns-in-Err-clause-err
+returns-in-Err-clause-err g c = λ l. none_cut l c.args.seat.now.team.now c.args.floor.now (g.K.Sink.contents c.args.lines.now)

@@ -1,5 +1,5 @@
 use Rattle.std.proofs.Common.{◌∙◌, refl}
-use Rattle.lf_mend.proofs.Runs.{none_moves, nothing, then_asked, then_only, then_stay, then_written, unchanged}
+use Rattle.lf_mend.proofs.Runs.{none_moves, nothing, then_cut, then_only, then_stay, then_written, unchanged}
 use Rattle.lf_mend.proofs.deeds.send_all.Goals as goal
 
 pub loop-deed-init : goal.loop-deed-init
@@ -12,8 +12,8 @@ loop-deed-init g c = record {
 
 pub returns-in-Err-clause-err : goal.returns-in-Err-clause-err
 returns-in-Err-clause-err g c = λ l.
-    then_asked l c.args.seat.now.team.now c.args.floor.now c.loop-deed.floor c.send_unmarked.new.floor (g.K.Sink.contents c.args.lines.now) (g.K.Sink.contents c.loop-deed.lines)
-    (c.loop-deed.invariant.run l) (c.in-Err.ensures.err l)
+    then_cut l c.args.seat.now.team.now c.args.floor.now c.loop-deed.floor c.send_unmarked.new.floor (g.K.Sink.contents c.args.lines.now) (g.K.Sink.contents c.loop-deed.lines)
+    (g.K.Sink.contents c.send_unmarked.new.lines) (c.loop-deed.invariant.run l) (c.in-Err.ensures.err l)
 
 pub returns-in-Err-clause-only : goal.returns-in-Err-clause-only
 returns-in-Err-clause-only g c = then_only c.args.seat.now.team.now c.args.floor.now c.loop-deed.floor c.send_unmarked.new.floor c.loop-deed.invariant.only c.in-Err.ensures.only

@@ -2,10 +2,10 @@ use Rattle.std.proofs.Common.{arith, refl}
 use Rattle.lf_proto.specs.Verbs.{change_of}
 use Rattle.lf_proto.specs.declared.request.Order.TheVariants.{Within}
 use Rattle.lf_proto.specs.declared.verb.Action.TheVariants.{Change as Changing}
-use Rattle.lf_mend.specs.Runs.{IsRunOf, IsWrittenRun}
+use Rattle.lf_mend.specs.Runs.{IsCutRun, IsWrittenRun}
 use Rattle.lf_mend.proofs.Cells.{no_commit, others_stay}
 use Rattle.lf_mend.proofs.Results.{err_from, ok_from}
-use Rattle.lf_mend.proofs.Runs.{unwritten}
+use Rattle.lf_mend.proofs.Runs.{uncut}
 use Rattle.lf_mend.proofs.Steps.{committed_stays}
 use Rattle.lf_mend.proofs.deeds.send_named.Goals as goal
 
@@ -18,8 +18,8 @@ returns-in-Ok-clause-run g c = λ l.
 pub returns-in-Ok-clause-err : goal.returns-in-Ok-clause-err
 returns-in-Ok-clause-err g c = λ l.
     let team = c.args.seat.now.team.now in
-    err_from c.went_on.result (IsRunOf l team c.args.floor.now c.ask_and_write.new.floor)
-    (unwritten l team c.args.floor.now c.ask_and_write.new.floor (g.K.Sink.contents c.args.lines.now) (g.K.Sink.contents c.ask_and_write.new.lines)
+    err_from c.went_on.result (IsCutRun l team c.args.floor.now (g.K.Sink.contents c.args.lines.now) (g.K.Sink.contents c.ask_and_write.new.lines) c.ask_and_write.new.floor)
+    (uncut l team c.args.floor.now c.ask_and_write.new.floor (g.K.Sink.contents c.args.lines.now) (g.K.Sink.contents c.ask_and_write.new.lines)
     (c.in-Ok.ensures.run l team refl (λ name. (name, omega arith, c.change_of.ensures.plain))))
 
 pub returns-in-Err-clause-err : goal.returns-in-Err-clause-err

@@ -1,4 +1,4 @@
-use Rattle.std.proofs.Common.{ℕ, get_or, arith}
+use Rattle.std.proofs.Common.{ℕ, get_or}
 use Rattle.std.proofs.lemmas.List.Elements.{All-nil, All-same}
 use Rattle.lf_cells.specs.Cells.{cells_of}
 use Rattle.lf_mend.specs.Mending.{IsLeftIn}

@@ -1,10 +1,10 @@
 use Rattle.std.proofs.Common.{◌≡◌, arith, refl, true}
 use Rattle.lf_teams.specs.Steps.{AllCommittedIn}
 use Rattle.lf_teams.specs.VerbLaws.{is_granted}
-use Rattle.lf_mend.specs.Runs.{IsRunOf, IsWrittenRun}
+use Rattle.lf_mend.specs.Runs.{IsCutRun, IsWrittenRun}
 use Rattle.lf_mend.proofs.Cells.{commit_stays}
 use Rattle.lf_mend.proofs.Results.{err_from, ok_from, ok_then}
-use Rattle.lf_mend.proofs.Runs.{unwritten}
+use Rattle.lf_mend.proofs.Runs.{uncut}
 use Rattle.lf_mend.proofs.team.commit.Goals as goal
 
 pub returns-in-Ok-clause-run : goal.returns-in-Ok-clause-run
@@ -16,8 +16,8 @@ returns-in-Ok-clause-run g c = λ l.
 pub returns-in-Ok-clause-err : goal.returns-in-Ok-clause-err
 returns-in-Ok-clause-err g c = λ l.
     let team = c.args.seat.now.team.now in
-    err_from c.granted.result (IsRunOf l team c.args.floor.now c.ask_and_write.new.floor)
-    (unwritten l team c.args.floor.now c.ask_and_write.new.floor (g.K.Sink.contents c.args.lines.now) (g.K.Sink.contents c.ask_and_write.new.lines)
+    err_from c.granted.result (IsCutRun l team c.args.floor.now (g.K.Sink.contents c.args.lines.now) (g.K.Sink.contents c.ask_and_write.new.lines) c.ask_and_write.new.floor)
+    (uncut l team c.args.floor.now c.ask_and_write.new.floor (g.K.Sink.contents c.args.lines.now) (g.K.Sink.contents c.ask_and_write.new.lines)
     (c.in-Ok.ensures.run l team refl (λ name. (name, omega arith, tt))))
 
 pub returns-in-Err-clause-err : goal.returns-in-Err-clause-err

@@ -1,7 +1,7 @@
 use Rattle.std.proofs.Common.{◌∙◌}
 use Rattle.lf_mend.proofs.Finding.{elsewhere_through, home_through}
 use Rattle.lf_mend.proofs.Legal.{all_left_through, but_committed, but_through, committed_through, left_committed, same_committed, same_places, uncommitted}
-use Rattle.lf_mend.proofs.Runs.{then_asked, then_written}
+use Rattle.lf_mend.proofs.Runs.{none_cut, then_cut, then_written}
 use Rattle.lf_mend.proofs.team.finish.Goals as goal
 
 pub returns-in-Ok-close-clause-run : goal.returns-in-Ok-close-clause-run
@@ -11,8 +11,8 @@ returns-in-Ok-close-clause-run g c = λ l.
 
 pub returns-in-Err-close-clause-err : goal.returns-in-Err-close-clause-err
 returns-in-Err-close-clause-err g c = λ l.
-    then_asked l c.args.seat.now.team.now c.args.floor.now c.commit_whole.new.floor c.close.new.floor (g.K.Sink.contents c.args.lines.now)
-    (g.K.Sink.contents c.commit_whole.new.lines) (c.in-Ok-commit_whole.ensures.run l) (c.in-Err-close.ensures.err l)
+    then_cut l c.args.seat.now.team.now c.args.floor.now c.commit_whole.new.floor c.close.new.floor (g.K.Sink.contents c.args.lines.now)
+    (g.K.Sink.contents c.commit_whole.new.lines) (g.K.Sink.contents c.close.new.lines) (c.in-Ok-commit_whole.ensures.run l) (c.in-Err-close.ensures.err l)
 
 pub returns-in-Ok-close-clause-changed : goal.returns-in-Ok-close-clause-changed
 returns-in-Ok-close-clause-changed g c =
@@ -54,3 +54,6 @@ returns-in-Ok-close-clause-uncommitted g c = λ some.
     same_committed c.args.seat.now.team.now c.commit_whole.new.floor c.close.new.floor c.in-Ok-close.ensures.cells
     ∙ uncommitted c.args.seat.now.team.now c.args.floor.now c.commit_whole.new.floor c.as_slice.result.now c.in-Ok.found.left.items c.as_slice.ensures.value
     c.in-Ok-commit_whole.ensures.kept some
+
+pub returns-in_default-clause-err : goal.returns-in_default-clause-err
+returns-in_default-clause-err g c = λ l. none_cut l c.args.seat.now.team.now c.args.floor.now (g.K.Sink.contents c.args.lines.now)

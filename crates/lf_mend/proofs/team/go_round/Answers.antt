@@ -1,6 +1,6 @@
 use Rattle.std.proofs.Common.{◌∙◌, Bool, List, refl, subst}
 use Rattle.lf_mend.specs.Deeds.{MarkedStay}
-use Rattle.lf_mend.proofs.Runs.{none_moves, nothing, then_asked, then_only, then_stay, then_written, unchanged, unwritten}
+use Rattle.lf_mend.proofs.Runs.{none_moves, nothing, then_cut, then_only, then_stay, then_written, unchanged, uncut}
 use Rattle.lf_mend.proofs.team.go_round.Goals as goal
 
 pub loop-phase-init : goal.loop-phase-init
@@ -13,8 +13,8 @@ loop-phase-init g c = record {
 
 pub returns-in-Err-clause-err : goal.returns-in-Err-clause-err
 returns-in-Err-clause-err g c = λ l.
-    then_asked l c.args.seat.now.team.now c.args.floor.now c.loop-phase.floor c.send_all.new.floor (g.K.Sink.contents c.args.lines.now) (g.K.Sink.contents c.loop-phase.lines)
-    (c.loop-phase.invariant.run l) (c.in-Err.ensures.err l)
+    then_cut l c.args.seat.now.team.now c.args.floor.now c.loop-phase.floor c.send_all.new.floor (g.K.Sink.contents c.args.lines.now) (g.K.Sink.contents c.loop-phase.lines)
+    (g.K.Sink.contents c.send_all.new.lines) (c.loop-phase.invariant.run l) (c.in-Err.ensures.err l)
 
 pub returns-in-Err-clause-only : goal.returns-in-Err-clause-only
 returns-in-Err-clause-only g c = then_only c.args.seat.now.team.now c.args.floor.now c.loop-phase.floor c.send_all.new.floor c.loop-phase.invariant.only c.in-Err.ensures.only
@@ -29,7 +29,7 @@ returns-in-Err-clause-committed g c = c.in-Err.ensures.committed ∙ c.loop-phas
 
 pub returns-in_default-clause-err : goal.returns-in_default-clause-err
 returns-in_default-clause-err g c = λ l.
-    unwritten l c.args.seat.now.team.now c.args.floor.now c.loop-phase.floor (g.K.Sink.contents c.args.lines.now) (g.K.Sink.contents c.loop-phase.lines) (c.loop-phase.invariant.run l)
+    uncut l c.args.seat.now.team.now c.args.floor.now c.loop-phase.floor (g.K.Sink.contents c.args.lines.now) (g.K.Sink.contents c.loop-phase.lines) (c.loop-phase.invariant.run l)
 
 pub loop-phase-preserved : goal.loop-phase-preserved
 loop-phase-preserved g c = record {

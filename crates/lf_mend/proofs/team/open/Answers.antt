@@ -1,8 +1,8 @@
 use Rattle.std.proofs.Common.{refl}
 use Rattle.lf_proto.specs.declared.request.Order.TheVariants.{Open}
-use Rattle.lf_mend.specs.Runs.{IsRunOf, IsWrittenRun}
+use Rattle.lf_mend.specs.Runs.{IsCutRun, IsWrittenRun}
 use Rattle.lf_mend.proofs.Results.{err_from, ok_from}
-use Rattle.lf_mend.proofs.Runs.{unwritten}
+use Rattle.lf_mend.proofs.Runs.{uncut}
 use Rattle.lf_mend.proofs.Steps.{look_same}
 use Rattle.lf_mend.proofs.team.open.Goals as goal
 
@@ -15,8 +15,8 @@ returns-in-Ok-clause-run g c = λ l.
 pub returns-in-Ok-clause-err : goal.returns-in-Ok-clause-err
 returns-in-Ok-clause-err g c = λ l.
     let team = c.args.team.now in
-    err_from c.session_of.result (IsRunOf l team c.args.floor.now c.ask_and_write.new.floor)
-    (unwritten l team c.args.floor.now c.ask_and_write.new.floor (g.K.Sink.contents c.args.lines.now) (g.K.Sink.contents c.ask_and_write.new.lines)
+    err_from c.session_of.result (IsCutRun l team c.args.floor.now (g.K.Sink.contents c.args.lines.now) (g.K.Sink.contents c.ask_and_write.new.lines) c.ask_and_write.new.floor)
+    (uncut l team c.args.floor.now c.ask_and_write.new.floor (g.K.Sink.contents c.args.lines.now) (g.K.Sink.contents c.ask_and_write.new.lines)
     (c.in-Ok.ensures.run l team refl (λ name. name)))
 
 pub returns-in-Err-clause-err : goal.returns-in-Err-clause-err

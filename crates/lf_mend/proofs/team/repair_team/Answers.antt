@@ -2,6 +2,7 @@ use Rattle.std.proofs.Common.{◌≡◌, ◌∙◌, ℕ, List, Vec, Global, ap, 
 use Rattle.lf_mend.specs.Mending.{AllMove, AreLegalBut, OnlyMove}
 use Rattle.lf_mend.proofs.Finding.{all_move, only_move}
 use Rattle.lf_mend.proofs.Legal.{legal_stay, none_left}
+use Rattle.lf_mend.proofs.Runs.{none_cut}
 use Rattle.lf_mend.proofs.team.repair_team.Goals as goal
 
 items_same : (v w : Vec ℕ Global) → v ≡ w → v.items ≡ w.items
@@ -46,3 +47,9 @@ returns-in-Ok-work-clause-committed g c = λ l.
       λ none. c.in-Ok-work.ensures.committed l (sym is ∙ none),
       λ all. is ∙ none_left l c.args.team.now c.work.new.floor c.in-Ok-work.found.left.items c.in-Ok-work.ensures.illegal all,
     )
+
+pub returns-in_default-clause-err : goal.returns-in_default-clause-err
+returns-in_default-clause-err g c = λ l. none_cut l c.args.team.now c.args.floor.now (g.K.Sink.contents c.args.lines.now)
+
+pub returns-in_default-start_of-clause-err : goal.returns-in_default-start_of-clause-err
+returns-in_default-start_of-clause-err g c = λ l. none_cut l c.args.team.now c.args.floor.now (g.K.Sink.contents c.args.lines.now)

@@ -2,16 +2,16 @@ use Rattle.std.proofs.Common.{◌≢◌, ◌∙◌, [], List, Option, subst}
 use Rattle.std.specs.Prelude.{IfOk}
 use Rattle.lf_floorplan.specs.declared.place.Place.{Place}
 use Rattle.lf_mend.specs.Deeds.{CommittedStay, StandElsewhere, StandHomeBut}
-use Rattle.lf_mend.specs.Runs.{IsRunOf, IsWrittenRun}
+use Rattle.lf_mend.specs.Runs.{IsCutRun, IsWrittenRun}
 use Rattle.lf_mend.proofs.Legal.{same_committed}
 use Rattle.lf_mend.proofs.Results.{err_then, ok_then, ok_weaker}
-use Rattle.lf_mend.proofs.Runs.{then_asked, then_written}
+use Rattle.lf_mend.proofs.Runs.{then_cut, then_written}
 use Rattle.lf_mend.proofs.team.work.Goals as goal
 
 pub returns-in-Err-go_round-clause-err : goal.returns-in-Err-go_round-clause-err
 returns-in-Err-go_round-clause-err g c = λ l.
-    then_asked l c.args.team.now c.args.floor.now c.open.new.floor c.go_round.new.floor (g.K.Sink.contents c.args.lines.now) (g.K.Sink.contents c.open.new.lines)
-    (c.in-Ok.ensures.run l) (c.in-Err-go_round.ensures.err l)
+    then_cut l c.args.team.now c.args.floor.now c.open.new.floor c.go_round.new.floor (g.K.Sink.contents c.args.lines.now) (g.K.Sink.contents c.open.new.lines)
+    (g.K.Sink.contents c.go_round.new.lines) (c.in-Ok.ensures.run l) (c.in-Err-go_round.ensures.err l)
 
 pub returns-clause-run : goal.returns-clause-run
 returns-clause-run g c = λ l.
@@ -26,8 +26,10 @@ returns-clause-run g c = λ l.
 pub returns-clause-err : goal.returns-clause-err
 returns-clause-err g c = λ l.
     let team = c.args.team.now in
-    err_then c.finish.result (IsRunOf l team c.go_round.new.floor c.finish.new.floor) (IsRunOf l team c.args.floor.now c.finish.new.floor)
-    (λ last. then_asked l team c.args.floor.now c.go_round.new.floor c.finish.new.floor (g.K.Sink.contents c.args.lines.now) (g.K.Sink.contents c.go_round.new.lines)
+    err_then c.finish.result (IsCutRun l team c.go_round.new.floor (g.K.Sink.contents c.go_round.new.lines) (g.K.Sink.contents c.finish.new.lines) c.finish.new.floor)
+    (IsCutRun l team c.args.floor.now (g.K.Sink.contents c.args.lines.now) (g.K.Sink.contents c.finish.new.lines) c.finish.new.floor)
+    (λ last. then_cut l team c.args.floor.now c.go_round.new.floor c.finish.new.floor (g.K.Sink.contents c.args.lines.now) (g.K.Sink.contents c.go_round.new.lines)
+    (g.K.Sink.contents c.finish.new.lines)
     (then_written l team c.args.floor.now c.open.new.floor c.go_round.new.floor (g.K.Sink.contents c.args.lines.now) (g.K.Sink.contents c.open.new.lines)
     (g.K.Sink.contents c.go_round.new.lines) (c.in-Ok.ensures.run l) (c.in-Ok-go_round.ensures.run l)) last) (c.finish.ensures.err l)
 
