@@ -11,7 +11,7 @@ from .faults import FAILED, Fault
 from .journal import Journal
 from .segments import Place
 from .server import Server, ServerLost
-from .whole_file import sync_folder
+from .whole_file import beside, is_special
 
 
 class Second:
@@ -66,9 +66,12 @@ class Exporter:
         async with self._second.turn:
             try:
                 self.refuse(path)
-                await self._second.write(place, export=path)
-                # (the program has synced the file before it took the name)
-                sync_folder(Path(os.path.realpath(path)).parent)
+                if is_special(Path(path)):
+                    await self._second.write(place, export=path)
+                    return None
+                # (A program whose hub is killed writes what it has. The disk has its file before it has its name.)
+                with beside(Path(path)) as partial:
+                    await self._second.write(place, export=str(partial))
                 return None
             except (Fault, OSError, ServerLost) as fault:
                 self._say(f"export: {fault}")

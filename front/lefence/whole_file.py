@@ -14,22 +14,31 @@ from .faults import USAGE, Fault
 
 @contextlib.contextmanager
 def whole_file(path: Path) -> Iterator[BinaryIO]:
-    """A new file beside (`FILE.partial0`, or the next free number), which takes the name and the mode at the end of the block.
+    """A new file beside, which takes the name and the mode at the end of the block, as `beside` says.
 
-    After any exception of the block it is gone, and the file stays as it was. The disk has the new one before it has the name,
-    and both at the end. Links are followed. What is no regular file, as a pipe, is written to as it is.
+    The disk has it before it has the name. What is no regular file, as a pipe, is written to as it is.
     """
-    if path.exists() and not path.is_file():
+    if is_special(path):
         with open(path, "wb") as file:
             yield file
         return
+    with beside(path) as partial, open(partial, "wb") as file:
+        yield file
+        file.flush()
+        os.fsync(file.fileno())
+
+
+@contextlib.contextmanager
+def beside(path: Path) -> Iterator[Path]:
+    """A new file beside (`FILE.partial0`, or the next free number), which takes the name and the mode at the end of the block.
+
+    Who writes it sees to it that the disk has it; the disk has its name at the end. After any exception of the block it is gone, and
+    the file stays as it was. Links are followed.
+    """
     target = Path(os.path.realpath(path))
-    descriptor, partial = _beside(target)
+    partial = _made_beside(target)
     try:
-        with open(descriptor, "wb") as file:
-            yield file
-            file.flush()
-            os.fsync(descriptor)
+        yield partial
         if target.exists():
             os.chmod(partial, target.stat().st_mode)
         os.replace(partial, target)
@@ -38,6 +47,11 @@ def whole_file(path: Path) -> Iterator[BinaryIO]:
         with contextlib.suppress(OSError):
             os.unlink(partial)
         raise
+
+
+def is_special(path: Path) -> bool:
+    """Whether something other than a regular file has the path, as a pipe or a device."""
+    return path.exists() and not path.is_file()
 
 
 def sync_folder(path: Path) -> None:
@@ -49,12 +63,13 @@ def sync_folder(path: Path) -> None:
         os.close(folder)
 
 
-def _beside(target: Path) -> tuple[int, str]:
-    """A new file in the same folder: its descriptor and its path."""
+def _made_beside(target: Path) -> Path:
+    """A new file in the same folder."""
     for number in count():
-        partial = f"{target}.partial{number}"
+        partial = Path(f"{target}.partial{number}")
         with contextlib.suppress(FileExistsError):
-            return os.open(partial, os.O_CREAT | os.O_EXCL | os.O_WRONLY, 0o666), partial
+            os.close(os.open(partial, os.O_CREAT | os.O_EXCL | os.O_WRONLY, 0o666))
+            return partial
     raise AssertionError
 
 

@@ -339,6 +339,23 @@ class Checkpoints(HubCase):
         self.assertIn("ready", self.start())
         self.assertEqual(self.talk("f0").ask("open f0", "where f0 0 f0c9"), ["ok 0 150", f"ok {spot(0, 149)}"])
 
+    def test_a_program_whose_hub_was_killed_writes_no_export(self) -> None:
+        script = self.folder / "slow"
+        script.write_text(f"#!/bin/sh\ncase \"$*\" in *--export*) sleep 1;; esac\nexec '{PROGRAM}' \"$@\"\n")
+        script.chmod(0o755)
+        self.program, target = str(script), self.folder / "new.def"
+        target.write_text("older")
+        self.start()
+        self.assertEqual(self.talk("f0").ask("open f0", *self.places(50))[-1], "ok 50")
+        self.talk("operator").socket.sendall(b"export %b\n" % bytes(target))
+        last = time.monotonic() + PATIENCE
+        while not list(self.folder.glob("new.def.partial*")):
+            self.assertLess(time.monotonic(), last, self.hub.told())
+            time.sleep(0.01)
+        time.sleep(0.2)
+        wait_gone(self.hub.kill_alone())
+        self.assertEqual(target.read_text(), "older")
+
 
 class Limited(unittest.TestCase):
     def test_a_checkpoint_is_due_by_bytes_or_seconds_and_after_a_failure_later(self) -> None:
