@@ -26,7 +26,7 @@ from unittest import mock
 
 from support import FRONT, PATIENCE, PROGRAM, FrontCase, Hub as RunningHub, HubCase, design_text, tool_words
 
-from lefence import crowd, exporter, hub_tool
+from lefence import crowd, exporter, hub_tool, whole_file
 from lefence.calm import Calm
 from lefence.faults import Fault
 from lefence.frames import sum_of
@@ -297,7 +297,7 @@ class Shares(unittest.TestCase):
         second = mock.Mock(start=mock.AsyncMock(), restore=mock.AsyncMock(), kill=mock.AsyncMock())
         second.end = mock.AsyncMock(side_effect=lambda: [steps.end(), 0][1])
         self.hub.server.program.texts = []
-        with mock.patch.object(exporter, "Server", return_value=second), mock.patch.object(exporter, "sync_folder", steps.sync):
+        with mock.patch.object(exporter, "Server", return_value=second), mock.patch.object(whole_file, "sync_folder", steps.sync):
             self.assertIsNone(asyncio.run(self.hub.exporter.write(str(target), self.hub.journal.place)))
         self.assertEqual([str(call) for call in steps.mock_calls], ["call.end()", f"call.sync({target.parent!r})"])
 
