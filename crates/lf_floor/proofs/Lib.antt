@@ -17,3 +17,4 @@ pub mod Marking
 pub mod Ends
 pub mod Places
 pub mod Asked
+pub mod Numbered

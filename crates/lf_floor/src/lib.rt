@@ -24,6 +24,7 @@ mod committed;
 mod floor;
 mod keeping;
 mod legal;
+mod looking;
 mod looks;
 mod order;
 mod report;

@@ -1,6 +1,7 @@
 //! A plan: for each cell a place or none.
 
-ghost use Rattle.std.specs.Prelude.{◌≡◌, IfOk, length, vec_len};
+ghost use Rattle.std.specs.Prelude.{◌≡◌, ◌+◌, ◌-◌, ◌*◌, ◌<◌, ◌^◌, IfOk, IsTrue, None, Some, length, set, slice_get, vec_len};
+ghost use Rattle.lf_repair.specs.Plans.{IsFilledTo, IsPlan};
 
 use crate::board::Board;
 use crate::costs::How;
@@ -33,32 +34,89 @@ pub struct Steps {
     pub rounds: usize,
 }
 
-/// Notes where the cells of a span stand.
-fn note_span(spots: &mut Vec<Option<Spot>>, span: usize, cells: &[Cell])
-    ensures { vec_len spots.new ≡ vec_len spots.old }
+/// How far so many sites reach.
+fn length_of(count: u32, step: u32) -> u64
+    ensures is { result ≡ count * step }
+    ensures short { result < 2 ^ 64 - 2 ^ 32 }
 {
+    count as u64 * step as u64
+}
+
+/// Gives the cell of that position this spot.
+fn set_spot(spots: &mut Vec<Option<Spot>>, own: usize, spot: Spot)
+    requires { own < vec_len spots.old }
+    ensures { spots.new.items ≡ set spots.old.items own (Some spot) }
+{
+    spots[own] = Some(spot);
+}
+
+/// Whether the cell of that position is one that has no spot.
+fn is_open(spots: &[Option<Spot>], own: usize) -> bool
+    ensures is { IsTrue result → slice_get spots.now own ≡ Some None }
+    ensures within { IsTrue result → own < length spots.now }
+{
+    match spots.get(own) {
+        Some(spot) => spot.is_none(),
+        None => false,
+    }
+}
+
+/// Notes where a cell of a span stands, behind those before it, and returns where it ends. One that is no cell of the plan, or
+/// that lies in another's way or past the span's end, is passed over.
+fn note_cell(
+    spots: &mut Vec<Option<Spot>>,
+    given: &Given,
+    span: usize,
+    cell: &Cell,
+    free: u64,
+) -> u64
+    requires { IsFilledTo given.now.land.now.spans.items given.now.wishes.now span free spots.old.items }
+    ensures filled { IsFilledTo given.now.land.now.spans.items given.now.wishes.now span result spots.new.items }
+    ensures count { vec_len spots.new ≡ vec_len spots.old }
+{
+    let own = cell.number as usize;
+    let (Some(sites), Some(wish)) = (given.land.spans.get(span), given.wishes.get(own)) else {
+        return free;
+    };
+    let start = length_of(cell.at, sites.step);
+    let end = start + wish.width as u64;
+    if start < free || length_of(sites.count, sites.step) < end || !is_open(spots, own) {
+        return free;
+    }
+    set_spot(spots, own, Spot { span, at: cell.at });
+    end
+}
+
+/// Notes where the cells of a span stand.
+fn note_span(spots: &mut Vec<Option<Spot>>, given: &Given, span: usize, cells: &[Cell])
+    requires { IsFilledTo given.now.land.now.spans.items given.now.wishes.now span 0 spots.old.items }
+    ensures filled { IsFilledTo given.now.land.now.spans.items given.now.wishes.now (span + 1) 0 spots.new.items }
+    ensures count { vec_len spots.new ≡ vec_len spots.old }
+{
+    let mut free = 0;
     for cell in cells {
-        if let Some(spot) = spots.get_mut(cell.number as usize) {
-            *spot = Some(Spot { span, at: cell.at });
-        }
+        free = note_cell(spots, given, span, cell, free);
     }
 }
 
 /// Notes where the cells of all spans stand.
-fn note_spans(spots: &mut Vec<Option<Spot>>, segments: &[Segment])
-    ensures { vec_len spots.new ≡ vec_len spots.old }
+fn note_spans(spots: &mut Vec<Option<Spot>>, given: &Given, segments: &[Segment])
+    requires { IsFilledTo given.now.land.now.spans.items given.now.wishes.now 0 0 spots.old.items }
+    ensures plan { IsPlan given.now.land.now.spans.items given.now.wishes.now spots.new.items }
+    ensures count { vec_len spots.new ≡ vec_len spots.old }
 {
     for (span, segment) in segments.iter().enumerate() {
-        note_span(spots, span, segment.as_slice());
+        note_span(spots, given, span, segment.as_slice());
     }
 }
 
-/// Where each of so many cells stands.
-fn spots_of(alloc: Global, board: &Board, count: usize) -> Result<Vec<Option<Spot>>, AllocError>
-    ensures { IfOk result (λ spots. vec_len spots ≡ count) }
+/// Where each of the cells stands.
+fn spots_of(alloc: Global, given: &Given, board: &Board) -> Result<Vec<Option<Spot>>, AllocError>
+    ensures plan { IfOk result (λ spots. IsPlan given.now.land.now.spans.items given.now.wishes.now spots.items) }
+    ensures count { IfOk result (λ spots. vec_len spots ≡ length given.now.wishes.now) }
 {
-    let mut spots = vec![in alloc; None; count]?;
-    note_spans(&mut spots, board.segments.as_slice());
+    let mut spots = vec![in alloc; None; given.wishes.len()]?;
+    note_spans(&mut spots, given, board.segments.as_slice());
     Ok(spots)
 }
 
@@ -105,6 +163,7 @@ fn improve(
 }
 
 /// Plans a place for each cell: all in turn, then passes, then rounds over those farthest off. A cell with no spot found no room.
+/// Each cell that has one lies within its span there, and two cells of one span lie apart.
 ///
 /// `Err` if an allocation fails.
 pub fn plan_cells(
@@ -113,7 +172,8 @@ pub fn plan_cells(
     wishes: &[Wish],
     steps: &Steps,
 ) -> Result<Vec<Option<Spot>>, AllocError>
-    ensures { IfOk result (λ spots. vec_len spots ≡ length wishes.now) }
+    ensures plan { IfOk result (λ spots. IsPlan land.now.spans.items wishes.now spots.items) }
+    ensures count { IfOk result (λ spots. vec_len spots ≡ length wishes.now) }
 {
     let height = row_height(land);
     let given = Given {
@@ -133,5 +193,5 @@ pub fn plan_cells(
     let order = order_of(alloc, wishes, away.as_slice(), height)?;
     place_all(&given, order.as_slice(), &how, &mut board, &mut curve)?;
     improve(alloc, &given, order.as_slice(), steps, &how, &mut board)?;
-    spots_of(alloc, &board, wishes.len())
+    spots_of(alloc, &given, &board)
 }

@@ -1,0 +1,6 @@
+mod Lines
+mod Runs
+mod Steps
+mod Cells
+mod Legal
+mod Results

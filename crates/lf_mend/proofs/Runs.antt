@@ -1,0 +1,134 @@
+-- Runs one after the other, and what they leave.
+use Rattle.std.proofs.Common.{◌≡◌, ◌≢◌, ℕ, List, [], ◌∷◌, ◌++◌, Bool, true, false, Option, Some, None, refl, ap, sym, ◌∙◌, subst, append-nil}
+use Rattle.std.specs.Prelude.{All, slice_get}
+use Rattle.std.specs.List.{flat_map}
+use Rattle.std.specs.Io.KnownBytes.{Appends}
+use Rattle.std.proofs.lemmas.List.Elements.{All-append, All-cons, All-nil}
+use Rattle.std.proofs.lemmas.List.Concat.{flat_map-append}
+use Rattle.lf_floorplan.specs.declared.place.Place.{Place}
+use Rattle.lf_rules.specs.Legalizer.{Legalizer}
+use Rattle.lf_proto.specs.declared.request.Command.{Command}
+use Rattle.lf_proto.specs.declared.request.Command.TheVariants.{Bye, To}
+use Rattle.lf_proto.specs.declared.reply.Reply.{Reply}
+use Rattle.lf_devices.proofs.Known.{Appends-more, Appends-same}
+use Rattle.lf_teams.specs.States.{FloorState}
+use Rattle.lf_teams.specs.Teams.{state_of}
+use Rattle.lf_teams.specs.Steps.{IsTo, KeepsIfRefused, Step}
+use Rattle.lf_teams.specs.Runs.{Run}
+use Rattle.lf_teams.specs.VerbLaws.{is_granted}
+use Rattle.lf_teams.specs.Committed.{IsCommittedLegal}
+use Rattle.lf_mend.specs.Runs.{IsRunBy, IsRunOf, IsWrittenRun, line_of, lines_of}
+use Rattle.lf_mend.specs.Mending.{ChangesOnly, MarkedStay, place_in}
+
+-- ---- runs
+
+run_append : (l : Legalizer) (a b c : FloorState) (commands others : List (Command (List ℕ) Place)) (replies answers : List Reply)
+    → Run l a commands replies b → Run l b others answers c → Run l a (commands ++ others) (replies ++ answers) c
+run_append l a b c [] others [] answers first second = subst (λ (f : FloorState). Run l f others answers c) first second
+run_append l a b c (d ∷ ds) others (r ∷ rs) answers first second = (first.0, first.1, run_append l first.0 b c ds others rs answers first.2 second)
+run_append l a b c [] others (r ∷ rs) answers first second = absurd first
+run_append l a b c (d ∷ ds) others [] answers first second = absurd first
+
+none_run : (l : Legalizer) (team : List ℕ) (a b : FloorState) → b ≡ a → IsRunBy [] l team a b
+none_run l team a b same = record { replies = []; run = same; granted = All-nil (λ (r : Reply). is_granted r ≡ true); own = All-nil (IsTo team) }
+
+one_run : (l : Legalizer) (team : List ℕ) (a b : FloorState) (command : Command (List ℕ) Place) (reply : Reply) → IsTo team command
+    → Step l a command reply b → is_granted reply ≡ true → IsRunBy (command ∷ []) l team a b
+one_run l team a b command reply to step granted = record {
+  replies = reply ∷ [];
+  run = (b, step, refl);
+  granted = All-cons (λ (r : Reply). is_granted r ≡ true) reply [] granted (All-nil (λ (r : Reply). is_granted r ≡ true));
+  own = All-cons (IsTo team) command [] to (All-nil (IsTo team));
+}
+
+then_run : (l : Legalizer) (team : List ℕ) (a b c : FloorState) (commands others : List (Command (List ℕ) Place))
+    → IsRunBy commands l team a b → IsRunBy others l team b c → IsRunBy (commands ++ others) l team a c
+then_run l team a b c commands others first second = record {
+  replies = first.replies ++ second.replies;
+  run = run_append l a b c commands others first.replies second.replies first.run second.run;
+  granted = All-append (λ (r : Reply). is_granted r ≡ true) first.replies second.replies first.granted second.granted;
+  own = All-append (IsTo team) commands others first.own second.own;
+}
+
+-- ---- what is written
+
+kept_bytes : (a : Option (List ℕ)) → Appends a a []
+kept_bytes None = tt
+kept_bytes (Some xs) = sym (append-nil xs)
+
+-- nothing was asked
+pub nothing : (l : Legalizer) (team : List ℕ) (floor : FloorState) (bytes : Option (List ℕ)) → IsWrittenRun l team floor bytes bytes floor
+nothing l team floor bytes = ([], none_run l team floor floor refl, kept_bytes bytes)
+
+-- what was asked is left out
+pub left_out : (l : Legalizer) (team : List ℕ) (old new : FloorState) (bytes : Option (List ℕ)) (reply : Reply) → KeepsIfRefused reply old new
+    → is_granted reply ≡ false → IsWrittenRun l team old bytes bytes new
+left_out l team old new bytes reply keeps refused = ([], none_run l team old new (keeps refused), kept_bytes bytes)
+
+-- one command, and its line
+pub one_written : (l : Legalizer) (team : List ℕ) (old new : FloorState) (before after : Option (List ℕ)) (line : List ℕ) (command : Command (List ℕ) Place) (reply : Reply)
+    → IsTo team command → Step l old command reply new → is_granted reply ≡ true → line ≡ line_of command → Appends before after line
+    → IsWrittenRun l team old before after new
+one_written l team old new before after line command reply to step granted is appends = (
+  command ∷ [],
+  one_run l team old new command reply to step granted,
+  Appends-same before after line (lines_of (command ∷ [])) (is ∙ sym (append-nil (line_of command))) appends,
+)
+
+-- one command, whatever was written
+pub one_asked : (l : Legalizer) (team : List ℕ) (old new : FloorState) (command : Command (List ℕ) Place) (reply : Reply)
+    → IsTo team command → Step l old command reply new → is_granted reply ≡ true → IsRunOf l team old new
+one_asked l team old new command reply to step granted = (command ∷ [], one_run l team old new command reply to step granted)
+
+pub none_asked : (l : Legalizer) (team : List ℕ) (floor : FloorState) → IsRunOf l team floor floor
+none_asked l team floor = ([], none_run l team floor floor refl)
+
+-- one after the other
+pub then_written : (l : Legalizer) (team : List ℕ) (a b c : FloorState) (x y z : Option (List ℕ)) → IsWrittenRun l team a x y b → IsWrittenRun l team b y z c
+    → IsWrittenRun l team a x z c
+then_written l team a b c x y z first second = (
+  first.0 ++ second.0,
+  then_run l team a b c first.0 second.0 first.1 second.1,
+  Appends-same x z (lines_of first.0 ++ lines_of second.0) (lines_of (first.0 ++ second.0)) (sym (flat_map-append line_of first.0 second.0))
+      (Appends-more x y z (lines_of first.0) (lines_of second.0) first.2 second.2),
+)
+
+pub then_asked : (l : Legalizer) (team : List ℕ) (a b c : FloorState) (x y : Option (List ℕ)) → IsWrittenRun l team a x y b → IsRunOf l team b c → IsRunOf l team a c
+then_asked l team a b c x y first second = (first.0 ++ second.0, then_run l team a b c first.0 second.0 first.1 second.1)
+
+-- ---- what stays
+
+pub unchanged : (team : List ℕ) (floor : FloorState) → ChangesOnly team floor floor
+unchanged team floor = record { others = λ other differ. refl; frame = refl; components = refl; legal = λ legal. legal }
+
+pub then_only : (team : List ℕ) (a b c : FloorState) → ChangesOnly team a b → ChangesOnly team b c → ChangesOnly team a c
+then_only team a b c first second = record {
+  others = λ other differ. second.others other differ ∙ first.others other differ;
+  frame = second.frame ∙ first.frame;
+  components = second.components ∙ first.components;
+  legal = λ legal. second.legal (first.legal legal);
+}
+
+-- a step to the team changes no other
+pub step_only : (team : List ℕ) (command : Command (List ℕ) Place) (old new : FloorState) → IsTo team command
+    → ((other : List ℕ) → ¬ IsTo other command → state_of new other ≡ state_of old other) → new.frame ≡ old.frame → new.components ≡ old.components
+    → (IsCommittedLegal old → IsCommittedLegal new) → ChangesOnly team old new
+step_only team command old new to others frame components legal = record {
+  others = λ other differ. others other (not_to command to other differ);
+  frame = frame;
+  components = components;
+  legal = legal;
+} where
+  not_to : (c : Command (List ℕ) Place) → IsTo team c → (other : List ℕ) → other ≢ team → ¬ IsTo other c
+  not_to Bye to other differ = absurd to
+  not_to (To name order) to other differ = λ (e : name ≡ other). differ (sym e ∙ to)
+
+pub none_moves : (team : List ℕ) (marks : List Bool) (floor : FloorState) → MarkedStay team marks floor floor
+none_moves team marks floor own marked = refl
+
+pub then_stay : (team : List ℕ) (marks : List Bool) (a b c : FloorState) → MarkedStay team marks a b → MarkedStay team marks b c → MarkedStay team marks a c
+then_stay team marks a b c first second own marked = second own marked ∙ first own marked
+
+-- whatever was written
+pub unwritten : (l : Legalizer) (team : List ℕ) (old new : FloorState) (x y : Option (List ℕ)) → IsWrittenRun l team old x y new → IsRunOf l team old new
+unwritten l team old new x y run = (run.0, run.1)

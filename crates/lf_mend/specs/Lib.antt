@@ -1,0 +1,4 @@
+pub mod Words
+pub mod Runs
+pub mod Mending
+pub mod Deeds

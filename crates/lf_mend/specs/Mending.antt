@@ -1,0 +1,41 @@
+-- What a repair of a team leaves.
+use Rattle.std.specs.Prelude.{◌≡◌, ◌≢◌, ◌⊎◌, ℕ, ◌<◌, List, Bool, true, Option, Some, Contains, length, map, slice_get, option_and_then}
+use Rattle.lf_floorplan.specs.declared.place.Place.{Place}
+use Rattle.lf_rules.specs.Team.{StandsLegal}
+use Rattle.lf_cells.specs.Cells.{working_at}
+use Rattle.lf_legalize.specs.Members.{member_of}
+use Rattle.lf_teams.specs.States.{FloorState, TeamState}
+use Rattle.lf_teams.specs.Teams.{state_of, team_number}
+use Rattle.lf_teams.specs.Committed.{IsCommittedLegal}
+
+-- where the team's cell of that position stands; None also where there is no such cell
+abbrev pub place_in : FloorState → List ℕ → ℕ → Option Place
+place_in floor team own = option_and_then (λ s. working_at s.cells own) (state_of floor team)
+
+-- only the state of the team of that name may differ, and a fully legal committed design stays fully legal
+pub record ChangesOnly (team : List ℕ) (old new : FloorState) : Type 0 where
+  pub others : (other : List ℕ) → other ≢ team → state_of new other ≡ state_of old other
+  pub frame : new.frame ≡ old.frame
+  pub components : new.components ≡ old.components
+  pub legal : IsCommittedLegal old → IsCommittedLegal new
+
+-- the team's cell of that position is one, and stands legally
+pub record IsLegalIn (floor : FloorState) (team : List ℕ) (own : ℕ) : Type 0 where
+  pub number : ℕ
+  pub state : TeamState
+  pub named : team_number floor.frame team ≡ Some number
+  pub there : state_of floor team ≡ Some state
+  pub within : own < length state.cells
+  pub legal : StandsLegal floor.frame number state.padding (map member_of state.cells) own
+
+-- the cells that stood legally stand where they stood
+abbrev pub LegalStay : List ℕ → FloorState → FloorState → Type 0
+LegalStay team old new = (own : ℕ) → IsLegalIn old team own → place_in new team own ≡ place_in old team own
+
+-- the marked cells stand where they stood
+abbrev pub MarkedStay : List ℕ → List Bool → FloorState → FloorState → Type 0
+MarkedStay team marks old new = (own : ℕ) → slice_get marks own ≡ Some true → place_in new team own ≡ place_in old team own
+
+-- each cell of the team stands legally, or its position is one of these
+abbrev pub AreLegalBut : List ℕ → FloorState → List ℕ → Type 0
+AreLegalBut team floor left = (s : TeamState) → state_of floor team ≡ Some s → (own : ℕ) → own < length s.cells → IsLegalIn floor team own ⊎ Contains left own

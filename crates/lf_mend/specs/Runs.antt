@@ -1,0 +1,37 @@
+-- Runs of one team's own commands, and the lines of them.
+use Rattle.std.specs.Prelude.{◌≡◌, ℕ, List, [], ◌∷◌, ◌++◌, All, Option, true}
+use Rattle.std.specs.List.{flat_map}
+use Rattle.std.specs.Io.KnownBytes.{Appends}
+use Rattle.lf_floorplan.specs.declared.place.Place.{Place}
+use Rattle.lf_rules.specs.Legalizer.{Legalizer}
+use Rattle.lf_proto.specs.declared.request.Command.{Command}
+use Rattle.lf_proto.specs.declared.reply.Reply.{Reply}
+use Rattle.lf_proto.specs.Printed.{printed}
+use Rattle.lf_teams.specs.States.{FloorState}
+use Rattle.lf_teams.specs.Steps.{IsTo}
+use Rattle.lf_teams.specs.Runs.{Run}
+use Rattle.lf_teams.specs.VerbLaws.{is_granted}
+
+-- the line that prints a command, with its line feed
+abbrev pub line_of : Command (List ℕ) Place → List ℕ
+line_of command = printed command ++ 10 ∷ []
+
+-- the lines of these commands
+abbrev pub lines_of : List (Command (List ℕ) Place) → List ℕ
+lines_of commands = flat_map line_of commands
+
+-- the floor goes from old to new by these commands, all of them to this team and each of them accepted
+pub record IsRunBy (commands : List (Command (List ℕ) Place)) (l : Legalizer) (team : List ℕ) (old new : FloorState) : Type 0 where
+  pub replies : List Reply
+  pub run : Run l old commands replies new
+  pub granted : All (λ reply. is_granted reply ≡ true) replies
+  pub own : All (IsTo team) commands
+
+-- the floor goes so by some commands
+abbrev pub IsRunOf : Legalizer → List ℕ → FloorState → FloorState → Type 0
+IsRunOf l team old new = (commands : List (Command (List ℕ) Place)) × IsRunBy commands l team old new
+
+-- the floor goes so by some commands, whose lines are what has been written, where the writer's bytes are known
+abbrev pub IsWrittenRun : Legalizer → List ℕ → FloorState → Option (List ℕ) → Option (List ℕ) → FloorState → Type 0
+IsWrittenRun l team old before after new =
+    (commands : List (Command (List ℕ) Place)) × IsRunBy commands l team old new × Appends before after (lines_of commands)

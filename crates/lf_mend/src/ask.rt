@@ -1,0 +1,76 @@
+//! Commands that are asked of a floor, and written if it accepts them.
+
+ghost use Rattle.std.specs.Prelude.{◌≡◌, IfOk, List, OnErr, OnOk, ℕ};
+ghost use Rattle.std.specs.Io.KnownBytes.{Appends};
+ghost use Rattle.lf_rules.specs.Legalizer.{Legalizer};
+ghost use Rattle.lf_proto.specs.Commands.{command_of};
+ghost use Rattle.lf_teams.specs.VerbLaws.{is_granted};
+ghost use Rattle.lf_teams.specs.Steps.{CommitsLegally, IsTo, Step};
+ghost use Rattle.lf_mend.specs.Runs.{IsRunOf, IsWrittenRun};
+ghost use Rattle.lf_mend.specs.Mending.{ChangesOnly};
+
+use crate::line::put_request;
+use lf_devices::{DeviceFault, Sink};
+use lf_floor::Floor;
+use lf_legalize::Seeker;
+use lf_proto::{Refusal, Reply, Request};
+
+/// Why the repair of a team broke off.
+#[derive(Clone, Copy, Debug, PartialEq, Eq)]
+pub enum Fault {
+    /// No team has the name; nothing was asked.
+    NoTeam,
+    /// An allocation failed.
+    OutOfMemory,
+    /// The lines could not be written: of the last command's line a front was, perhaps nothing.
+    Lines,
+    /// The floor refused to open a session, or to commit the team.
+    Refused(Refusal),
+}
+
+/// Whether the reply is no refusal.
+fn is_granted(reply: &Reply) -> bool
+    ensures { result ≡ is_granted reply.now }
+{
+    !matches!(reply, Reply::Refused(_))
+}
+
+/// Writes all the bytes, in as many calls as it takes.
+fn write_whole<K: Sink>(lines: &mut K, bytes: &[u8]) -> Result<(), DeviceFault>
+    ensures { OnOk result (Appends (K.contents lines.old) (K.contents lines.new) bytes.now) }
+{
+    let mut at = 0;
+    while at < bytes.len() {
+        at += lines.write(&bytes[at..])?;
+    }
+    Ok(())
+}
+
+/// Asks a command of the floor, and writes its line if the reply is no refusal. The line is made first: where there is no memory
+/// for it, nothing is asked.
+pub(crate) fn ask_and_write<S: Seeker + Drop, K: Sink>(
+    floor: &mut Floor<S>,
+    request: &Request,
+    line: &mut Vec<u8>,
+    lines: &mut K,
+) -> Result<Reply, Fault>
+    ensures run { (l : Legalizer) (team : List ℕ) → IsTo team (command_of request.now)
+        → IfOk result (λ _. IsWrittenRun l team floor.old (K.contents lines.old) (K.contents lines.new) floor.new) }
+    ensures err { (l : Legalizer) (team : List ℕ) → IsTo team (command_of request.now) → OnErr result (IsRunOf l team floor.old floor.new) }
+    ensures only { (team : List ℕ) → IsTo team (command_of request.now) → ChangesOnly team floor.old floor.new }
+    ensures step { (l : Legalizer) → IfOk result (λ reply. Step l floor.old (command_of request.now) reply floor.new) }
+    ensures committed { (l : Legalizer) → IfOk result (λ reply. CommitsLegally l (command_of request.now) reply floor.new) }
+{
+    line.clear();
+    if put_request(line, request).is_err() {
+        return Err(Fault::OutOfMemory);
+    }
+    let reply = floor.step(request);
+    if !is_granted(&reply) {
+        return Ok(reply);
+    }
+    if write_whole(lines, line.as_slice()).is_err() {
+        return Err(Fault::Lines);
+    }
+    Ok(reply)
+}

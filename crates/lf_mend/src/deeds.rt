@@ -1,0 +1,210 @@
+//! Changes of single cells, which leave all other cells where they stand.
+
+ghost use Rattle.std.specs.Prelude.{◌≡◌, ◌≢◌, ◌↔◌, IfOk, IsTrue, OnErr, Some, ℕ, slice_get, true};
+ghost use Rattle.lf_rules.specs.Legalizer.{Legalizer};
+ghost use Rattle.lf_proto.specs.Verbs.{change_of};
+ghost use Rattle.lf_cells.specs.Cells.{cell_named};
+ghost use Rattle.lf_teams.specs.States.{TeamState};
+ghost use Rattle.lf_teams.specs.Outcomes.{name_at};
+ghost use Rattle.lf_teams.specs.Teams.{state_of};
+ghost use Rattle.lf_mend.specs.Deeds.{IsOfCell};
+ghost use Rattle.lf_mend.specs.Mending.{ChangesOnly, MarkedStay, place_in};
+ghost use Rattle.lf_mend.specs.Runs.{IsRunOf, IsWrittenRun};
+
+use crate::ask::{Fault, ask_and_write};
+use lf_devices::Sink;
+use lf_floor::Floor;
+use lf_floorplan::Place;
+use lf_legalize::Seeker;
+use lf_proto::{Action, Change, Command, Order, Refusal, Reply};
+use lf_rules::legalizer_is_there;
+use lf_units::Point;
+use std::alloc::{AllocError, Global};
+
+/// A session of a team.
+#[derive(Clone, Copy)]
+pub(crate) struct Seat<'a> {
+    pub(crate) team: &'a [u8],
+    pub(crate) number: usize,
+    pub(crate) session: u32,
+}
+
+/// What is asked for a cell.
+#[derive(Clone, Copy)]
+pub(crate) enum Step {
+    Unplace,
+    Place(Place),
+    Legalize(Point),
+}
+
+/// What is asked for the cell of that position.
+#[derive(Clone, Copy)]
+pub(crate) struct Deed {
+    pub(crate) own: u32,
+    pub(crate) step: Step,
+}
+
+/// The name of a cell, and the line of a command, while it is asked.
+#[derive(Drop)]
+pub(crate) struct Texts {
+    pub(crate) name: Vec<u8>,
+    pub(crate) line: Vec<u8>,
+}
+
+impl Texts {
+    /// Empty texts, which allocate nothing.
+    pub(crate) fn new(alloc: Global) -> Texts {
+        Texts {
+            name: Vec::new(alloc),
+            line: Vec::new(alloc),
+        }
+    }
+}
+
+/// The change of the cell of that name.
+fn change_of<'x>(step: &Step, cell: &'x [u8]) -> Change<&'x [u8]>
+    ensures { IsOfCell cell.now (change_of result) }
+{
+    match step {
+        Step::Unplace => Change::Unplace { cell },
+        Step::Place(place) => Change::Place {
+            cell,
+            place: *place,
+        },
+        Step::Legalize(target) => Change::Legalize {
+            cell,
+            target: *target,
+        },
+    }
+}
+
+/// What a reply to a change means for the repair: it goes on unless memory ran out.
+pub(crate) fn went_on(reply: &Reply) -> Result<(), Fault> {
+    match reply {
+        Reply::Refused(Refusal::OutOfMemory) => Err(Fault::OutOfMemory),
+        _ => Ok(()),
+    }
+}
+
+/// Asks the step for the cell of that name.
+fn send_named<S: Seeker + Drop, K: Sink>(
+    floor: &mut Floor<S>,
+    seat: &Seat<'_>,
+    cell: &[u8],
+    step: &Step,
+    line: &mut Vec<u8>,
+    lines: &mut K,
+) -> Result<(), Fault>
+    ensures run { (l : Legalizer) → IfOk result (λ _. IsWrittenRun l seat.now.team.now floor.old (K.contents lines.old) (K.contents lines.new) floor.new) }
+    ensures err { (l : Legalizer) → OnErr result (IsRunOf l seat.now.team.now floor.old floor.new) }
+    ensures only { ChangesOnly seat.now.team.now floor.old floor.new }
+    ensures cells { (other : ℕ) → IfOk result (λ _. ((s : TeamState) → state_of floor.old seat.now.team.now ≡ Some s → cell_named cell.now s.cells ≡ Some other → ⊥)
+        → place_in floor.new seat.now.team.now other ≡ place_in floor.old seat.now.team.now other) }
+{
+    legalizer_is_there();
+    let request = Command::To {
+        team: seat.team,
+        order: Order::Within {
+            session: seat.session,
+            action: Action::Change(change_of(step, cell)),
+        },
+    };
+    match ask_and_write(floor, &request, line, lines) {
+        Ok(reply) => went_on(&reply),
+        Err(fault) => Err(fault),
+    }
+}
+
+/// Copies the name of the team's cell of that position; false if there is none.
+fn copy_name<S: Seeker + Drop>(
+    floor: &Floor<S>,
+    team: &[u8],
+    own: usize,
+    name: &mut Vec<u8>,
+) -> Result<bool, AllocError>
+    ensures { (s : TeamState) → IfOk result (λ there. IsTrue there → state_of floor.now team.now ≡ Some s → name_at s.cells own ≡ Some name.new.items) }
+{
+    name.clear();
+    let Some(bytes) = floor.name_of(team, own) else {
+        return Ok(false);
+    };
+    name.extend_from_slice(bytes)?;
+    Ok(true)
+}
+
+/// Asks the step for the team's cell of that position.
+fn send<S: Seeker + Drop, K: Sink>(
+    floor: &mut Floor<S>,
+    seat: &Seat<'_>,
+    own: usize,
+    step: &Step,
+    texts: &mut Texts,
+    lines: &mut K,
+) -> Result<(), Fault>
+    ensures run { (l : Legalizer) → IfOk result (λ _. IsWrittenRun l seat.now.team.now floor.old (K.contents lines.old) (K.contents lines.new) floor.new) }
+    ensures err { (l : Legalizer) → OnErr result (IsRunOf l seat.now.team.now floor.old floor.new) }
+    ensures only { ChangesOnly seat.now.team.now floor.old floor.new }
+    ensures cells { (other : ℕ) → other ≢ own → IfOk result (λ _. place_in floor.new seat.now.team.now other ≡ place_in floor.old seat.now.team.now other) }
+{
+    floor.teams_are_of_the_frame();
+    let Texts { name, line } = texts;
+    match copy_name(floor, seat.team, own, name) {
+        Ok(true) => send_named(floor, seat, name.as_slice(), step, line, lines),
+        Ok(false) => Ok(()),
+        Err(_) => Err(Fault::OutOfMemory),
+    }
+}
+
+/// Whether the cell of that position is marked.
+pub(crate) fn is_marked(marks: &[bool], own: usize) -> bool
+    ensures { IsTrue result ↔ slice_get marks.now own ≡ Some true }
+{
+    match marks.get(own) {
+        Some(marked) => *marked,
+        None => false,
+    }
+}
+
+/// Asks what the deed says, unless its cell is marked.
+fn send_unmarked<S: Seeker + Drop, K: Sink>(
+    floor: &mut Floor<S>,
+    seat: &Seat<'_>,
+    marks: &[bool],
+    deed: &Deed,
+    texts: &mut Texts,
+    lines: &mut K,
+) -> Result<(), Fault>
+    ensures run { (l : Legalizer) → IfOk result (λ _. IsWrittenRun l seat.now.team.now floor.old (K.contents lines.old) (K.contents lines.new) floor.new) }
+    ensures err { (l : Legalizer) → OnErr result (IsRunOf l seat.now.team.now floor.old floor.new) }
+    ensures only { ChangesOnly seat.now.team.now floor.old floor.new }
+    ensures marked { IfOk result (λ _. MarkedStay seat.now.team.now marks.now floor.old floor.new) }
+{
+    let own = deed.own as usize;
+    if is_marked(marks, own) {
+        return Ok(());
+    }
+    send(floor, seat, own, &deed.step, texts, lines)
+}
+
+/// Asks all deeds in their order, but for those of marked cells.
+pub(crate) fn send_all<S: Seeker + Drop, K: Sink>(
+    floor: &mut Floor<S>,
+    seat: &Seat<'_>,
+    marks: &[bool],
+    deeds: &[Deed],
+    texts: &mut Texts,
+    lines: &mut K,
+) -> Result<(), Fault>
+    ensures run { (l : Legalizer) → IfOk result (λ _. IsWrittenRun l seat.now.team.now floor.old (K.contents lines.old) (K.contents lines.new) floor.new) }
+    ensures err { (l : Legalizer) → OnErr result (IsRunOf l seat.now.team.now floor.old floor.new) }
+    ensures only { ChangesOnly seat.now.team.now floor.old floor.new }
+    ensures marked { IfOk result (λ _. MarkedStay seat.now.team.now marks.now floor.old floor.new) }
+{
+    for deed in deeds {
+        match send_unmarked(floor, seat, marks, deed, texts, lines) {
+            Ok(()) => {}
+            Err(fault) => return Err(fault),
+        }
+    }
+    Ok(())
+}

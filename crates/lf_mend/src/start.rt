@@ -1,0 +1,160 @@
+//! A team before its repair: which cells stand legally, which of them are held fast, and where all stand.
+
+ghost use Rattle.std.specs.Prelude.{◌≡◌, [], List, ℕ, IfOk, IsTrue, OnOk, Some};
+ghost use Rattle.lf_teams.specs.Teams.{team_number};
+ghost use Rattle.lf_mend.specs.Deeds.{AreMarked, IsMarkedMore};
+ghost use Rattle.lf_mend.specs.Mending.{AreLegalBut};
+ghost use Rattle.lf_mend.specs.declared.start.How.TheVariants.{Keep};
+
+use lf_cells::CellId;
+use lf_floor::Floor;
+use lf_floorplan::Place;
+use lf_legalize::Seeker;
+use lf_placement::Placement;
+use std::alloc::{AllocError, Global};
+
+/// Which of a team's cells a repair may move.
+#[derive(Clone, Copy, Debug, PartialEq, Eq)]
+pub enum How {
+    /// Those that break a rule or have no place.
+    Keep,
+    /// These, and all others of one row's height.
+    All,
+}
+
+/// Of a team's cells before its repair, in loading order: whether each stood legally, whether it is held fast, and where it stood.
+#[derive(Drop)]
+pub(crate) struct Start {
+    pub(crate) legal: Vec<bool>,
+    pub(crate) marks: Vec<bool>,
+    pub(crate) homes: Vec<Option<Place>>,
+}
+
+/// Whether all cells of the team of that name are placed and team-legal; false also if there is no such team. It allocates nothing.
+pub fn stands_whole<S: Seeker + Drop>(floor: &Floor<S>, team: &[u8]) -> bool
+    ensures { IsTrue result → AreLegalBut team.now floor.now [] }
+{
+    let Some(number) = floor.number_of(team) else {
+        return false;
+    };
+    for id in floor.placement().cells().cells_of(number) {
+        if !floor.stands_legal(number, id.own as usize) {
+            return false;
+        }
+    }
+    true
+}
+
+/// Notes whether the cell stands legally, behind the others.
+fn mark_cell<S: Seeker + Drop>(
+    floor: &Floor<S>,
+    number: usize,
+    id: CellId,
+    legal: &mut Vec<bool>,
+) -> Result<(), AllocError>
+    ensures { OnOk result (IsMarkedMore floor.now number id.own legal.old.items legal.new.items) }
+{
+    legal.push(floor.stands_legal(number, id.own as usize))?;
+    Ok(())
+}
+
+/// Whether each of the team's cells stands legally.
+fn legal_of<S: Seeker + Drop>(
+    alloc: Global,
+    floor: &Floor<S>,
+    number: usize,
+) -> Result<Vec<bool>, AllocError>
+    ensures { (team : List ℕ) → team_number floor.now.frame team ≡ Some number → IfOk result (λ legal. AreMarked team floor.now legal.items) }
+{
+    let mut legal = Vec::new(alloc);
+    for id in floor.placement().cells().cells_of(number) {
+        mark_cell(floor, number, *id, &mut legal)?;
+    }
+    Ok(legal)
+}
+
+/// Whether the cell is of several rows.
+fn is_tall(placement: &Placement, id: CellId) -> bool {
+    let frame = placement.frame();
+    let Some(facts) = placement.cells().cell(id) else {
+        return false;
+    };
+    match frame.macros.as_slice().get(facts.mac) {
+        Some(mac) => frame.site.size.y < mac.size.y,
+        None => false,
+    }
+}
+
+/// A copy of the marks.
+fn copied(alloc: Global, marks: &[bool]) -> Result<Vec<bool>, AllocError>
+    ensures { IfOk result (λ copy. copy.items ≡ marks.now) }
+{
+    let mut copy = Vec::new(alloc);
+    copy.extend_from_slice(marks)?;
+    Ok(copy)
+}
+
+/// Of the marked cells those of several rows.
+fn tall_of(
+    alloc: Global,
+    placement: &Placement,
+    number: usize,
+    legal: &[bool],
+) -> Result<Vec<bool>, AllocError> {
+    let mut marks = Vec::with_capacity(alloc, legal.len())?;
+    for (id, stands) in placement.cells().cells_of(number).iter().zip(legal.iter()) {
+        marks.push(*stands && is_tall(placement, *id))?;
+    }
+    Ok(marks)
+}
+
+/// The cells that are held fast: those that stand legally, or with `All` those of them that are of several rows.
+fn marks_of(
+    alloc: Global,
+    placement: &Placement,
+    number: usize,
+    legal: &[bool],
+    how: How,
+) -> Result<Vec<bool>, AllocError>
+    ensures { how ≡ Keep → IfOk result (λ marks. marks.items ≡ legal.now) }
+{
+    match how {
+        How::Keep => copied(alloc, legal),
+        How::All => tall_of(alloc, placement, number, legal),
+    }
+}
+
+/// Where the team's cells stand.
+fn homes_of(
+    alloc: Global,
+    placement: &Placement,
+    number: usize,
+) -> Result<Vec<Option<Place>>, AllocError> {
+    let ids = placement.cells().cells_of(number);
+    let mut homes = Vec::with_capacity(alloc, ids.len())?;
+    for id in ids {
+        homes.push(placement.cells().working(*id))?;
+    }
+    Ok(homes)
+}
+
+/// The team of that number before its repair.
+///
+/// `Err` if an allocation fails.
+pub(crate) fn start_of<S: Seeker + Drop>(
+    alloc: Global,
+    floor: &Floor<S>,
+    number: usize,
+    how: How,
+) -> Result<Start, AllocError>
+    ensures { (team : List ℕ) → how ≡ Keep → team_number floor.now.frame team ≡ Some number → IfOk result (λ start. AreMarked team floor.now start.marks.items) }
+{
+    let legal = legal_of(alloc, floor, number)?;
+    let marks = marks_of(alloc, floor.placement(), number, legal.as_slice(), how)?;
+    let homes = homes_of(alloc, floor.placement(), number)?;
+    Ok(Start {
+        legal,
+        marks,
+        homes,
+    })
+}

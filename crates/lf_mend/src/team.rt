@@ -1,0 +1,307 @@
+//! The repair of one team.
+
+ghost use Rattle.std.specs.Prelude.{◌≡◌, [], List, Bool, IfOk, OnErr, OnOk, Some, true};
+ghost use Rattle.lf_rules.specs.Legalizer.{Legalizer};
+ghost use Rattle.lf_teams.specs.Steps.{AllCommittedIn};
+ghost use Rattle.lf_teams.specs.Teams.{team_number};
+ghost use Rattle.lf_teams.specs.VerbLaws.{is_granted};
+ghost use Rattle.lf_mend.specs.Deeds.{IsNamed, SameCells};
+ghost use Rattle.lf_mend.specs.Mending.{AreLegalBut, ChangesOnly, LegalStay, MarkedStay};
+ghost use Rattle.lf_mend.specs.Runs.{IsRunOf, IsWrittenRun};
+ghost use Rattle.lf_mend.specs.declared.start.How.TheVariants.{Keep};
+
+use crate::advice::{Phase, deeds_of};
+use crate::ask::{Fault, ask_and_write};
+use crate::deeds::{Seat, Texts, send_all, went_on};
+use crate::start::{How, Start, start_of};
+use crate::told::{Repaired, tell};
+use lf_cells::CellId;
+use lf_devices::Sink;
+use lf_floor::{Floor, look_keeps};
+use lf_legalize::Seeker;
+use lf_proto::{Action, Change, Command, Order, Refusal, Reply};
+use lf_rules::legalizer_is_there;
+use std::alloc::{AllocError, Global};
+
+/// Opens a session of the team.
+fn open<S: Seeker + Drop, K: Sink>(
+    floor: &mut Floor<S>,
+    team: &[u8],
+    texts: &mut Texts,
+    lines: &mut K,
+) -> Result<u32, Fault>
+    ensures run { (l : Legalizer) → IfOk result (λ _. IsWrittenRun l team.now floor.old (K.contents lines.old) (K.contents lines.new) floor.new) }
+    ensures err { (l : Legalizer) → OnErr result (IsRunOf l team.now floor.old floor.new) }
+    ensures only { ChangesOnly team.now floor.old floor.new }
+    ensures marked { (marks : List Bool) → IfOk result (λ _. MarkedStay team.now marks floor.old floor.new) }
+{
+    legalizer_is_there();
+    look_keeps();
+    let request = Command::To {
+        team,
+        order: Order::Open,
+    };
+    match ask_and_write(floor, &request, &mut texts.line, lines) {
+        Ok(reply) => session_of(&reply),
+        Err(fault) => Err(fault),
+    }
+}
+
+/// The session that was opened.
+fn session_of(reply: &Reply) -> Result<u32, Fault> {
+    match reply {
+        Reply::Opened { session, .. } => Ok(*session),
+        Reply::Refused(refusal) => Err(Fault::Refused(*refusal)),
+        _ => Err(Fault::Refused(Refusal::NoSession)),
+    }
+}
+
+/// Commits the team.
+fn commit<S: Seeker + Drop, K: Sink>(
+    floor: &mut Floor<S>,
+    seat: &Seat<'_>,
+    texts: &mut Texts,
+    lines: &mut K,
+) -> Result<(), Fault>
+    ensures run { (l : Legalizer) → IfOk result (λ _. IsWrittenRun l seat.now.team.now floor.old (K.contents lines.old) (K.contents lines.new) floor.new) }
+    ensures err { (l : Legalizer) → OnErr result (IsRunOf l seat.now.team.now floor.old floor.new) }
+    ensures only { ChangesOnly seat.now.team.now floor.old floor.new }
+    ensures marked { (marks : List Bool) → IfOk result (λ _. MarkedStay seat.now.team.now marks floor.old floor.new) }
+    ensures committed { (l : Legalizer) → IfOk result (λ _. AllCommittedIn l floor.new seat.now.team.now) }
+{
+    legalizer_is_there();
+    let request = Command::To {
+        team: seat.team,
+        order: Order::Within {
+            session: seat.session,
+            action: Action::Change(Change::Commit),
+        },
+    };
+    match ask_and_write(floor, &request, &mut texts.line, lines) {
+        Ok(reply) => granted(&reply),
+        Err(fault) => Err(fault),
+    }
+}
+
+/// Whether the reply is no refusal: `Err` with the refusal if it is one.
+fn granted(reply: &Reply) -> Result<(), Fault>
+    ensures { IfOk result (λ _. is_granted reply.now ≡ true) }
+{
+    match reply {
+        Reply::Refused(refusal) => Err(Fault::Refused(*refusal)),
+        _ => Ok(()),
+    }
+}
+
+/// Commits the team if no cell of it is left; else nothing is asked.
+fn commit_whole<S: Seeker + Drop, K: Sink>(
+    floor: &mut Floor<S>,
+    seat: &Seat<'_>,
+    left: &[u32],
+    texts: &mut Texts,
+    lines: &mut K,
+) -> Result<(), Fault>
+    ensures run { (l : Legalizer) → IfOk result (λ _. IsWrittenRun l seat.now.team.now floor.old (K.contents lines.old) (K.contents lines.new) floor.new) }
+    ensures err { (l : Legalizer) → OnErr result (IsRunOf l seat.now.team.now floor.old floor.new) }
+    ensures only { ChangesOnly seat.now.team.now floor.old floor.new }
+    ensures marked { (marks : List Bool) → IfOk result (λ _. MarkedStay seat.now.team.now marks floor.old floor.new) }
+    ensures named { AreLegalBut seat.now.team.now floor.old left.now → IfOk result (λ _. AreLegalBut seat.now.team.now floor.new left.now) }
+    ensures committed { (l : Legalizer) → left.now ≡ [] → IfOk result (λ _. AllCommittedIn l floor.new seat.now.team.now) }
+{
+    legalizer_is_there();
+    if !left.is_empty() {
+        return Ok(());
+    }
+    commit(floor, seat, texts, lines)
+}
+
+/// Closes the session, so that its slot is free again.
+fn close<S: Seeker + Drop, K: Sink>(
+    floor: &mut Floor<S>,
+    seat: &Seat<'_>,
+    texts: &mut Texts,
+    lines: &mut K,
+) -> Result<(), Fault>
+    ensures run { (l : Legalizer) → IfOk result (λ _. IsWrittenRun l seat.now.team.now floor.old (K.contents lines.old) (K.contents lines.new) floor.new) }
+    ensures err { (l : Legalizer) → OnErr result (IsRunOf l seat.now.team.now floor.old floor.new) }
+    ensures only { ChangesOnly seat.now.team.now floor.old floor.new }
+    ensures cells { IfOk result (λ _. SameCells seat.now.team.now floor.old floor.new) }
+{
+    legalizer_is_there();
+    look_keeps();
+    let request = Command::To {
+        team: seat.team,
+        order: Order::Within {
+            session: seat.session,
+            action: Action::Close,
+        },
+    };
+    match ask_and_write(floor, &request, &mut texts.line, lines) {
+        Ok(reply) => went_on(&reply),
+        Err(fault) => Err(fault),
+    }
+}
+
+/// Names the cell, unless it stands legally.
+fn name_left<S: Seeker + Drop>(
+    floor: &Floor<S>,
+    seat: &Seat<'_>,
+    id: CellId,
+    left: &mut Vec<u32>,
+) -> Result<(), AllocError>
+    requires { team_number floor.now.frame seat.now.team.now ≡ Some seat.now.number }
+    ensures { OnOk result (IsNamed seat.now.team.now floor.now id.own left.old.items left.new.items) }
+{
+    if floor.stands_legal(seat.number, id.own as usize) {
+        return Ok(());
+    }
+    left.push(id.own)?;
+    Ok(())
+}
+
+/// The positions of the team's cells that do not stand legally.
+fn left_of<S: Seeker + Drop>(
+    alloc: Global,
+    floor: &Floor<S>,
+    seat: &Seat<'_>,
+) -> Result<Vec<u32>, AllocError>
+    requires { team_number floor.now.frame seat.now.team.now ≡ Some seat.now.number }
+    ensures { IfOk result (λ left. AreLegalBut seat.now.team.now floor.now left.items) }
+{
+    let mut left = Vec::new(alloc);
+    for id in floor.placement().cells().cells_of(seat.number) {
+        name_left(floor, seat, *id, &mut left)?;
+    }
+    Ok(left)
+}
+
+/// Names the cells that are left; commits the team if there are none; and closes the session.
+fn finish<S: Seeker + Drop, K: Sink>(
+    alloc: Global,
+    floor: &mut Floor<S>,
+    seat: &Seat<'_>,
+    texts: &mut Texts,
+    lines: &mut K,
+) -> Result<Vec<u32>, Fault>
+    requires { team_number floor.old.frame seat.now.team.now ≡ Some seat.now.number }
+    ensures run { (l : Legalizer) → IfOk result (λ _. IsWrittenRun l seat.now.team.now floor.old (K.contents lines.old) (K.contents lines.new) floor.new) }
+    ensures err { (l : Legalizer) → OnErr result (IsRunOf l seat.now.team.now floor.old floor.new) }
+    ensures only { ChangesOnly seat.now.team.now floor.old floor.new }
+    ensures marked { (marks : List Bool) → IfOk result (λ _. MarkedStay seat.now.team.now marks floor.old floor.new) }
+    ensures named { IfOk result (λ left. AreLegalBut seat.now.team.now floor.new left.items) }
+    ensures committed { (l : Legalizer) → IfOk result (λ left. left.items ≡ [] → AllCommittedIn l floor.new seat.now.team.now) }
+{
+    let Ok(left) = left_of(alloc, floor, seat) else {
+        return Err(Fault::OutOfMemory);
+    };
+    if let Err(fault) = commit_whole(floor, seat, left.as_slice(), texts, lines) {
+        return Err(fault);
+    }
+    if let Err(fault) = close(floor, seat, texts, lines) {
+        return Err(fault);
+    }
+    Ok(left)
+}
+
+/// The rounds of a repair.
+const PHASES: [Phase; 4] = [Phase::Lift, Phase::Tall, Phase::Plan, Phase::Rest];
+
+/// All rounds: what is asked in each is looked up on the floor as the round before left it.
+fn go_round<S: Seeker + Drop, K: Sink>(
+    alloc: Global,
+    floor: &mut Floor<S>,
+    seat: &Seat<'_>,
+    start: &Start,
+    texts: &mut Texts,
+    lines: &mut K,
+) -> Result<(), Fault>
+    ensures run { (l : Legalizer) → IfOk result (λ _. IsWrittenRun l seat.now.team.now floor.old (K.contents lines.old) (K.contents lines.new) floor.new) }
+    ensures err { (l : Legalizer) → OnErr result (IsRunOf l seat.now.team.now floor.old floor.new) }
+    ensures only { ChangesOnly seat.now.team.now floor.old floor.new }
+    ensures marked { IfOk result (λ _. MarkedStay seat.now.team.now start.now.marks.items floor.old floor.new) }
+{
+    for phase in &PHASES {
+        let Ok(deeds) = deeds_of(alloc, floor, seat.number, start, *phase) else {
+            return Err(Fault::OutOfMemory);
+        };
+        match send_all(
+            floor,
+            seat,
+            start.marks.as_slice(),
+            deeds.as_slice(),
+            texts,
+            lines,
+        ) {
+            Ok(()) => {}
+            Err(fault) => return Err(fault),
+        }
+    }
+    Ok(())
+}
+
+/// Opens a session, makes all rounds, and finishes.
+fn work<S: Seeker + Drop, K: Sink>(
+    alloc: Global,
+    floor: &mut Floor<S>,
+    team: &[u8],
+    number: usize,
+    start: &Start,
+    lines: &mut K,
+) -> Result<Vec<u32>, Fault>
+    requires { team_number floor.old.frame team.now ≡ Some number }
+    ensures run { (l : Legalizer) → IfOk result (λ _. IsWrittenRun l team.now floor.old (K.contents lines.old) (K.contents lines.new) floor.new) }
+    ensures err { (l : Legalizer) → OnErr result (IsRunOf l team.now floor.old floor.new) }
+    ensures only { ChangesOnly team.now floor.old floor.new }
+    ensures marked { IfOk result (λ _. MarkedStay team.now start.now.marks.items floor.old floor.new) }
+    ensures named { IfOk result (λ left. AreLegalBut team.now floor.new left.items) }
+    ensures committed { (l : Legalizer) → IfOk result (λ left. left.items ≡ [] → AllCommittedIn l floor.new team.now) }
+{
+    let mut texts = Texts::new(alloc);
+    let session = match open(floor, team, &mut texts, lines) {
+        Ok(session) => session,
+        Err(fault) => return Err(fault),
+    };
+    let seat = Seat {
+        team,
+        number,
+        session,
+    };
+    if let Err(fault) = go_round(alloc, floor, &seat, start, &mut texts, lines) {
+        return Err(fault);
+    }
+    finish(alloc, floor, &seat, &mut texts, lines)
+}
+
+/// Repairs a team: its cells that break a rule or have no place go to legal places; with `All` other cells may be moved too.
+///
+/// Each command is asked of the floor, and its line is written exactly if the floor accepts it. Cells that stand legally stay with
+/// `Keep`. At the end the team is committed if no cell is left; else its cells stand where the repair left them, those that are
+/// left without a place or illegal, and the committed places are as before. No other team changes, and a committed design that was
+/// fully legal stays so.
+///
+/// `Err` tells why a repair broke off: the floor is then where the commands so far have led it.
+pub fn repair_team<S: Seeker + Drop, K: Sink>(
+    alloc: Global,
+    floor: &mut Floor<S>,
+    team: &[u8],
+    how: How,
+    lines: &mut K,
+) -> Result<Repaired, Fault>
+    ensures run { (l : Legalizer) → IfOk result (λ _. IsWrittenRun l team.now floor.old (K.contents lines.old) (K.contents lines.new) floor.new) }
+    ensures err { (l : Legalizer) → OnErr result (IsRunOf l team.now floor.old floor.new) }
+    ensures only { ChangesOnly team.now floor.old floor.new }
+    ensures kept { how ≡ Keep → IfOk result (λ _. LegalStay team.now floor.old floor.new) }
+    ensures named { IfOk result (λ repaired. AreLegalBut team.now floor.new repaired.left.items) }
+    ensures committed { (l : Legalizer) → IfOk result (λ repaired. repaired.left.items ≡ [] → AllCommittedIn l floor.new team.now) }
+{
+    let Some(number) = floor.number_of(team) else {
+        return Err(Fault::NoTeam);
+    };
+    let Ok(start) = start_of(alloc, floor, number, how) else {
+        return Err(Fault::OutOfMemory);
+    };
+    match work(alloc, floor, team, number, &start, lines) {
+        Ok(left) => Ok(tell(floor, number, &start, left)),
+        Err(fault) => Err(fault),
+    }
+}
