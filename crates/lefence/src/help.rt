@@ -1,18 +1,22 @@
 //! What the program says of itself.
 
-use lf_app::Help;
+use lf_app::{Help, Subcommand};
 
 /// What the program can be asked.
 pub(crate) const USAGE: &str =
     "  lefence [demo]                answers the lines of standard input over the built-in design
-  lefence check DEF LEF...      writes a report of the design
-  lefence describe DEF LEF...   writes the design as JSON Lines: rows, fences, obstacles, cells with boxes and
+  lefence check DEF LEF... [--state FILE]
+                                writes a report of the design
+  lefence describe DEF LEF... [--state FILE]
+                                writes the design as JSON Lines: rows, fences, obstacles, cells with boxes and
                                 broken rules
-  lefence replay DEF LEF... [--export FILE] [--lines N]
+  lefence replay DEF LEF... [--state FILE] [--save FILE] [--export FILE] [--lines N]
                                 answers the lines of standard input over the design, N at most; then its text,
                                 with the committed places in it, goes to FILE
-  lefence serve DEF LEF... --port P --connections N [--export FILE]
+  lefence serve DEF LEF... --port P --connections N [--state FILE] [--save FILE] [--export FILE]
                                 answers the lines of N connections to port P of this machine, one after the other
+  lefence repair DEF LEF... [--team NAME]... [--keep | --all] [--export FILE] [--lines FILE]
+                                gives the cells that break a rule or have no place legal places
   (a path that begins with '-' stands behind '--'; docs/PROTOCOL.md says more)
 ";
 
@@ -32,51 +36,75 @@ example:
   printf 'open A\\nplace A 0 a1 0 0 N\\nwhere A 0 a1\\n' | lefence demo
 ";
 
-const CHECK: &str = "lefence check DEF LEF...
+const CHECK: &str = "lefence check DEF LEF... [--state FILE]
 
 Writes a report of the design as one line of JSON: how many cells there are, how many are unplaced, which break
-which rule, which overlap which. The exit status is 0 if the design is fully legal, and 4 if it is not.
+which rule, which overlap which. The exit status is 0 if the design is fully legal, and 4 if it is not. With
+--state, the cells stand where the saved state FILE has them.
 
 example:
   lefence check chip.def tech.lef cells.lef
 ";
 
-const DESCRIBE: &str = "lefence describe DEF LEF...
+const DESCRIBE: &str = "lefence describe DEF LEF... [--state FILE]
 
-Writes the design as JSON Lines: rows, fences, obstacles, cells with boxes and broken rules.
+Writes the design as JSON Lines: rows, fences, obstacles, cells with boxes and broken rules. With --state, the cells
+stand where the saved state FILE has them.
 
 example:
   lefence describe chip.def tech.lef cells.lef > chip.jsonl
 ";
 
-const REPLAY: &str = "lefence replay DEF LEF... [--export FILE] [--lines N]
+const REPLAY: &str = "lefence replay DEF LEF... [--state FILE] [--save FILE] [--export FILE] [--lines N]
 
 Answers the lines of standard input over the design, one reply to each line, to the end of the input or a line
 'bye'. N is the most lines that are answered (1 to 4294967295; 1000000 if not given). With --export, the DEF text
-with the committed places in it then goes to FILE; all else in it stays.
+with the committed places in it then goes to FILE; all else in it stays. With --save, the state at the end is saved
+to FILE, and with --state the lines go on from a state so saved.
 
 example:
   lefence replay chip.def tech.lef cells.lef --export new.def < session.txt
 ";
 
-const SERVE: &str = "lefence serve DEF LEF... --port P --connections N [--export FILE]
+const SERVE: &str = "lefence serve DEF LEF... --port P --connections N [--state FILE] [--save FILE] [--export FILE]
 
 Listens on port P (1 to 65535) of 127.0.0.1, writes a line 'listening', and answers the lines of N connections
 (1 to 1000000), one after the other. With --export, the DEF text with the committed places in it then goes to FILE.
+With --save, the state at the end is saved to FILE, and with --state the lines go on from a state so saved.
 
 example:
   lefence serve chip.def tech.lef cells.lef --port 5800 --connections 100 --export new.def
 ";
+
+const REPAIR: &str = "lefence repair DEF LEF... [--team NAME]... [--keep | --all] [--export FILE] [--lines FILE]
+
+Gives the cells that break a rule or have no place legal places, of the teams that are named, or of all, and commits
+each team of which no cell is left. Legal cells move only where a cell would have no place or would go far; with --keep
+they stay, and with --all they move wherever that makes the whole way shorter. Writes a line of JSON for each team and
+one for all. With --export, the DEF text with the committed places in it goes to FILE; with --lines, the commands that
+did it. The exit status is 0 if the design is then fully legal, and 4 if it is not.
+
+example:
+  lefence repair chip.def tech.lef cells.lef --export new.def
+";
+
+/// What a subcommand does.
+fn text_of(chosen: Subcommand) -> &'static str {
+    match chosen {
+        Subcommand::Demo => DEMO,
+        Subcommand::Check => CHECK,
+        Subcommand::Describe => DESCRIBE,
+        Subcommand::Replay => REPLAY,
+        Subcommand::Serve => SERVE,
+        Subcommand::Repair => REPAIR,
+    }
+}
 
 /// The texts of what was asked, one behind the other.
 pub(crate) fn texts_of(help: Help) -> [&'static str; 2] {
     match help {
         Help::Program => [USAGE, MORE],
         Help::Version => [VERSION, ""],
-        Help::Demo => [DEMO, ""],
-        Help::Check => [CHECK, ""],
-        Help::Describe => [DESCRIBE, ""],
-        Help::Replay => [REPLAY, ""],
-        Help::Serve => [SERVE, ""],
+        Help::Of(chosen) => [text_of(chosen), ""],
     }
 }

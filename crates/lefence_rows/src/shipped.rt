@@ -105,6 +105,7 @@ pub fn report(texts: &RowTexts<'_>) -> Result<Vec<u8>, AllocError> {
     let task = Task::Check {
         def: "row.def",
         lefs: lef_alone(texts.alloc)?,
+        state: None,
     };
     Ok(performed(texts, &task, b"")?.written)
 }
@@ -114,7 +115,9 @@ pub fn replay(texts: &RowTexts<'_>, lines: &[u8]) -> Result<Shipped, AllocError>
     let task = Task::Replay {
         def: "row.def",
         lefs: lef_alone(texts.alloc)?,
+        state: None,
         lines: 1_000,
+        save: None,
         export: Some("row.out"),
     };
     performed(texts, &task, lines)

@@ -4,8 +4,8 @@ use Rattle.std.specs.Prelude.{IfErr, IfOk, Result}
 use Rattle.std.proofs.lemmas.Result.{IfErr-weaker, IfOk-weaker}
 use Rattle.lf_floorplan.specs.declared.loaded.Loaded.{Loaded}
 use Rattle.lf_command.specs.declared.command.Task.{Task}
-use Rattle.lf_command.specs.declared.command.Task.TheVariants.{Demo, Replay, Serve, Check, Describe}
-use Rattle.lf_command.specs.Command.{Job, ReadsNone, as_job, check, demo, describe, replay, serve}
+use Rattle.lf_command.specs.declared.command.Task.TheVariants.{Demo, Check, Describe, Replay, Serve, Repair}
+use Rattle.lf_command.specs.Command.{Job, ReadsNone, as_job, check, demo, describe, repair, replay, serve}
 use Rattle.lf_app.specs.declared.faults.Fault.{Fault}
 use Rattle.lf_app.specs.declared.faults.Fault.TheVariants.{Refused, File, ReadFault, WriteFault, TooManyLines, OutOfMemory, Output, Bind, Accept, Unwritten, NoMemory, NoRoom}
 use Rattle.lf_app.specs.Designs.{Gives}
@@ -49,25 +49,28 @@ not_both status (inr is) (inr fails) = omega (arith, is, fails)
 -- the status of the outcome of a job is one of a task that was done
 pub succeeds : (gives : Gives) (job : Job) (io : Streams) (status : ℕ) → IsOutcome gives job io status → IsDone status
 succeeds gives demo io status is = inl is.3
-succeeds gives (replay def lefs lines export) io status is = inl is.1
-succeeds gives (serve def lefs port connections export) io status is = inl is.1
-succeeds gives (check def lefs) io status is = is.2.done
-succeeds gives (describe def lefs) io status is = is.described.done
+succeeds gives (replay def lefs state lines save export) io status is = inl is.1
+succeeds gives (serve def lefs state port connections save export) io status is = inl is.1
+succeeds gives (check def lefs state) io status is = is.2.done
+succeeds gives (describe def lefs state) io status is = is.described.done
+succeeds gives (repair def lefs teams legal export lines) io status is = is.2.done
 
 -- a job on the lines of a design that asks for no file has no path for one
-pub replay_asks : (def : List ℕ) (lefs : List (List ℕ)) (lines : ℕ) (export : Option (List ℕ)) → AsksForNoFile (replay def lefs lines export) → export ≡ None
-replay_asks def lefs lines None asks = refl
-replay_asks def lefs lines (Some path) asks = absurd asks
+pub replay_asks : (def : List ℕ) (lefs : List (List ℕ)) (state : Option (List ℕ)) (lines : ℕ) (save export : Option (List ℕ))
+    → AsksForNoFile (replay def lefs state lines save export) → export ≡ None
+replay_asks def lefs state lines save None asks = refl
+replay_asks def lefs state lines save (Some path) asks = absurd asks
 
-pub serve_asks : (def : List ℕ) (lefs : List (List ℕ)) (port connections : ℕ) (export : Option (List ℕ))
-    → AsksForNoFile (serve def lefs port connections export) → export ≡ None
-serve_asks def lefs port connections None asks = refl
-serve_asks def lefs port connections (Some path) asks = absurd asks
+pub serve_asks : (def : List ℕ) (lefs : List (List ℕ)) (state : Option (List ℕ)) (port connections : ℕ) (save export : Option (List ℕ))
+    → AsksForNoFile (serve def lefs state port connections save export) → export ≡ None
+serve_asks def lefs state port connections save None asks = refl
+serve_asks def lefs state port connections save (Some path) asks = absurd asks
 
 -- 4 is the status of a check or a description alone
 pub checked : (gives : Gives) (task : Task) (io : Streams) (status : ℕ) → IsOutcome gives (as_job task) io status → status ≡ 4 → ReadsNone task
 checked gives Demo io status is four = let zero : status ≡ 0 = is.3 in absurd (omega (arith, zero, four))
-checked gives (Replay def lefs lines export) io status is four = let zero : status ≡ 0 = is.1 in absurd (omega (arith, zero, four))
-checked gives (Serve def lefs port connections export) io status is four = let zero : status ≡ 0 = is.1 in absurd (omega (arith, zero, four))
-checked gives (Check def lefs) io status is four = tt
-checked gives (Describe def lefs) io status is four = tt
+checked gives (Replay def lefs state lines save export) io status is four = let zero : status ≡ 0 = is.1 in absurd (omega (arith, zero, four))
+checked gives (Serve def lefs state port connections save export) io status is four = let zero : status ≡ 0 = is.1 in absurd (omega (arith, zero, four))
+checked gives (Check def lefs state) io status is four = tt
+checked gives (Describe def lefs state) io status is four = tt
+checked gives (Repair def lefs teams legal export lines) io status is four = tt

@@ -16,7 +16,7 @@ use Rattle.lf_teams.specs.Designs.{opening}
 use Rattle.lf_teams.specs.Places.{AreCommittedPlaces}
 use Rattle.lf_server.specs.Connections.{Connects}
 use Rattle.lf_server.specs.declared.serving.Ending.{Ending}
-use Rattle.lf_command.specs.Command.{Job, demo, replay, serve, check, describe}
+use Rattle.lf_command.specs.Command.{Job, demo, check, describe, replay, serve, repair}
 use Rattle.lf_app.specs.declared.opened.Opened.{Opened}
 use Rattle.lf_app.specs.declared.faults.Fault.{Fault}
 use Rattle.lf_app.specs.declared.faults.Fault.TheVariants.{NoMemory}
@@ -105,13 +105,13 @@ pub record IsWorked (gives : Gives) (def : List ℕ) (lefs : List (List ℕ)) (e
 
 -- a job that asks for no exported text
 abbrev pub AsksForNoFile : Job → Type 0
-AsksForNoFile (replay def lefs lines (Some path)) = ⊥
-AsksForNoFile (serve def lefs port connections (Some path)) = ⊥
+AsksForNoFile (replay def lefs state lines save (Some path)) = ⊥
+AsksForNoFile (serve def lefs state port connections save (Some path)) = ⊥
 AsksForNoFile job = Unit {0}
 
 -- the most lines of its input that a job answers
 abbrev pub reads_of : Job → ℕ
-reads_of (replay def lefs lines export) = lines
+reads_of (replay def lefs state lines save export) = lines
 reads_of _ = most_lines
 
 -- the description of the design is appended to the output, and the status says whether the design is fully legal
@@ -133,12 +133,14 @@ pub record IsOpenDescribed (gives : Gives) (def : List ℕ) (lefs : List (List �
 abbrev pub IsOutcome : Gives → Job → Streams → ℕ → Type 0
 IsOutcome gives demo io status =
     (loaded : Loaded) × IsTextDesign W_DEF.now W_LEF.now loaded × ((floor : FloorState) × IsAnswered most_lines loaded floor io.input io.left io.before io.after) × (status ≡ 0)
-IsOutcome gives (replay def lefs lines export) io status =
+IsOutcome gives (replay def lefs state lines save export) io status =
     IsWorked gives def lefs export (λ loaded floor io. IsAnswered lines loaded floor io.input io.left io.before io.after) io × (status ≡ 0)
-IsOutcome gives (serve def lefs port connections export) io status =
+IsOutcome gives (serve def lefs state port connections save export) io status =
     IsWorked gives def lefs export (λ loaded floor io. IsOffered loaded floor connections io.before io.after) io × (status ≡ 0)
-IsOutcome gives (check def lefs) io status = (loaded : Loaded) × IsDesignOf gives def lefs loaded × IsReported loaded io.before io.after status
-IsOutcome gives (describe def lefs) io status = IsOpenDescribed gives def lefs io status
+IsOutcome gives (check def lefs state) io status = (loaded : Loaded) × IsDesignOf gives def lefs loaded × IsReported loaded io.before io.after status
+IsOutcome gives (describe def lefs state) io status = IsOpenDescribed gives def lefs io status
+IsOutcome gives (repair def lefs teams legal export lines) io status =
+    (loaded : Loaded) × IsDesignOf gives def lefs loaded × IsReported loaded io.before io.after status
 
 -- ---- faults
 
@@ -174,15 +176,17 @@ abbrev pub IsJobFault : Gives → Job → Fault → Streams → Type 0
 IsJobFault gives demo fault io =
     IsJobStop (IsTextFault W_DEF.now W_LEF.now) (IsTextDesign W_DEF.now W_LEF.now)
     (λ loaded fault io. IsLinesFault most_lines loaded fault io.input io.left io.before io.after) fault io
-IsJobFault gives (replay def lefs lines export) fault io =
+IsJobFault gives (replay def lefs state lines save export) fault io =
     IsJobStop (IsDesignFault gives def lefs) (IsDesignOf gives def lefs)
     (λ loaded. IsWorkFault export (λ fault io. IsLinesFault lines loaded fault io.input io.left io.before io.after)
     (λ floor io. IsAnswered lines loaded floor io.input io.left io.before io.after)) fault io
-IsJobFault gives (serve def lefs port connections export) fault io =
+IsJobFault gives (serve def lefs state port connections save export) fault io =
     IsJobStop (IsDesignFault gives def lefs) (IsDesignOf gives def lefs)
     (λ loaded. IsWorkFault export (λ fault io. (fault ≡ NoMemory) ⊎ IsServiceFault port fault)
     (λ floor io. IsOffered loaded floor connections io.before io.after)) fault io
-IsJobFault gives (check def lefs) fault io =
+IsJobFault gives (check def lefs state) fault io =
     IsJobStop (IsDesignFault gives def lefs) (IsDesignOf gives def lefs) (λ loaded fault io. IsReportFault fault) fault io
-IsJobFault gives (describe def lefs) fault io =
+IsJobFault gives (describe def lefs state) fault io =
     IsJobStop (IsDesignFault gives def lefs) (IsDesignOf gives def lefs) (λ loaded fault io. IsDescriptionFault fault) fault io
+IsJobFault gives (repair def lefs teams legal export lines) fault io =
+    IsJobStop (IsDesignFault gives def lefs) (IsDesignOf gives def lefs) (λ loaded fault io. IsReportFault fault) fault io

@@ -44,7 +44,9 @@ mod work;
 
 pub use faults::{Exit, Fault, TextFile, TextKind, status_of, write_fault};
 pub use hints::Hint;
-pub use lf_command::{Help, Task, UsageFault, command_of, complaint_of, help_of};
+pub use lf_command::{
+    Help, LegalCells, Subcommand, Task, UsageFault, command_of, complaint_of, help_of,
+};
 pub use lines::answer_lines;
 pub use refusals::Refusal;
 pub use services::{NetServices, Offer, Services, Unbound, Unserved};

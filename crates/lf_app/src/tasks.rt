@@ -87,6 +87,7 @@ fn outcome<'a, T: Texts, E: Exports, V: Services, R: Source, W: Sink, F>(
             lefs,
             lines,
             export,
+            ..
         } => {
             let lines = Lines::Stream { most: *lines };
             work(alloc, around, def, lefs.as_slice(), lines, *export)
@@ -97,6 +98,7 @@ fn outcome<'a, T: Texts, E: Exports, V: Services, R: Source, W: Sink, F>(
             port,
             connections,
             export,
+            ..
         } => {
             let lines = Lines::Port {
                 port: *port,
@@ -104,14 +106,14 @@ fn outcome<'a, T: Texts, E: Exports, V: Services, R: Source, W: Sink, F>(
             };
             work(alloc, around, def, lefs.as_slice(), lines, *export)
         }
-        Task::Check { def, lefs } => check(
+        Task::Check { def, lefs, .. } | Task::Repair { def, lefs, .. } => check(
             alloc,
             &around.texts,
             def,
             lefs.as_slice(),
             &mut around.writer,
         ),
-        Task::Describe { def, lefs } => describe_files(
+        Task::Describe { def, lefs, .. } => describe_files(
             alloc,
             &around.texts,
             def,

@@ -1,7 +1,2 @@
-mod Arguments
-mod Fronts
+mod Found
 mod Numbers
-mod Rows
-mod Steps
-mod Texts
-mod Walks

@@ -1,215 +1,224 @@
--- The jobs that the words of a command line name.
-use Rattle.std.specs.Prelude.{◌==◌, ◌&&◌, ℕ, Bool, true, false, List, [], ◌∷◌, ◌++◌, drop, length, map, nat_le, nat_lt, take, Option, Some, None, is_some}
-use Rattle.std.specs.Prelude.{option_map, option_and_then, bytes_eq, codes, if◌then◌else◌}
+-- The command line as it is declared to the argument parser, and the jobs that its words name.
+use Rattle.std.specs.Prelude.{◌&&◌, ℕ, Bool, true, false, List, [], ◌∷◌, fold, length, map, nat_le, nat_lt, Option, Some, None}
+use Rattle.std.specs.Prelude.{option_map, option_and_then, unwrap_or, bytes_eq, codes, if◌then◌else◌}
 use Rattle.std.specs.Char.{digit_value}
 use Rattle.std.specs.List.{list_all}
-use Rattle.std.specs.Option.{option_or}
+use Rattle.std.specs.Option.{option_map_or}
 use Rattle.std.specs.Str.Parse.{digits_value, without_leading_plus}
+use Rattle.clap.specs.Faults.{fault_of}
+use Rattle.clap.specs.Kinds.{Kinds}
+use Rattle.clap.specs.Lexer.{usize_max}
+use Rattle.clap.specs.Simple.{App, new_app, new_rule, subcommand_of, with_rule, with_subcommand}
+use Rattle.clap.specs.Walk.{Row, Rule, Text, all_of, first_of}
+use Rattle.clap.specs.declared.builder.action.ArgAction.TheVariants.{Append, SetTrue}
+use Rattle.clap.specs.declared.builder.value_parser.ValueParser.TheVariants as parser
+use Rattle.lf_command.specs.declared.command.LegalCells.{LegalCells}
+use Rattle.lf_command.specs.declared.command.LegalCells.TheVariants.{MoveAsNeeded, Stay, Move}
 use Rattle.lf_command.specs.declared.command.Task.{Task}
-use Rattle.lf_command.specs.declared.command.Task.TheVariants.{Demo, Replay, Serve, Check, Describe}
-use Rattle.lf_command.specs.declared.words.Next.{Next}
-use Rattle.lf_command.specs.declared.words.Next.TheVariants.{Any, Value, Path}
-use Rattle.lf_command.specs.declared.words.Setting.{Setting}
-use Rattle.lf_command.specs.declared.words.Setting.TheVariants.{Export, Port, Connections, Lines}
-use Rattle.lf_command.specs.declared.words.Subcommand.{Subcommand}
-use Rattle.lf_command.specs.declared.words.Subcommand.TheVariants as subcommand
+use Rattle.lf_command.specs.declared.command.Task.TheVariants as task
+use Rattle.lf_command.specs.declared.subcommand.Subcommand.{Subcommand}
+use Rattle.lf_command.specs.declared.subcommand.Subcommand.TheVariants.{Demo, Check, Describe, Replay, Serve, Repair}
 
--- what a command line asks for, with the paths as they are written: of the DEF text, of the LEF texts in order, and of the
--- exported text; a replay has a bound on the lines that are answered, and a service a port and a number of connections
-pub data Job : Type 0 where
-  demo : Job
-  replay : List ℕ → List (List ℕ) → ℕ → Option (List ℕ) → Job
-  serve : List ℕ → List (List ℕ) → ℕ → ℕ → Option (List ℕ) → Job
-  check : List ℕ → List (List ℕ) → Job
-  describe : List ℕ → List (List ℕ) → Job
-
--- a word that begins with '-' and is longer is an option, or '--'
-abbrev pub is_option : List ℕ → Bool
-is_option (first ∷ next ∷ rest) = first == 45
-is_option _ = false
-
--- the word of an option
-abbrev pub flag_of : Setting → List ℕ
-flag_of Export = codes "--export"
-flag_of Port = codes "--port"
-flag_of Connections = codes "--connections"
-flag_of Lines = codes "--lines"
-
--- the options of a subcommand
-abbrev pub has_setting : Subcommand → Setting → Bool
-has_setting subcommand.Replay Export = true
-has_setting subcommand.Replay Lines = true
-has_setting subcommand.Serve Export = true
-has_setting subcommand.Serve Port = true
-has_setting subcommand.Serve Connections = true
-has_setting _ _ = false
-
--- the rest of a word after this front
-abbrev pub text_behind : List ℕ → List ℕ → Option (List ℕ)
-text_behind front word = if bytes_eq (take (length front) word) front then Some (drop (length front) word) else None
-
--- the word is this option: alone, or with its value after '='
-abbrev pub value_in : List ℕ → Setting → Option (Option (List ℕ))
-value_in word setting =
-    if bytes_eq word (flag_of setting) then Some None else option_map (λ value. Some value) (text_behind (flag_of setting ++ codes "=") word)
-
--- the word as this option, with its value if that is in the word
-abbrev pub option_at : List ℕ → Setting → Option (Setting × Option (List ℕ))
-option_at word setting = option_map (λ value. (setting, value)) (value_in word setting)
-
--- the option that a word is
-abbrev pub option_of : List ℕ → Option (Setting × Option (List ℕ))
-option_of word =
-    option_or (option_at word Export) (option_or (option_at word Port) (option_or (option_at word Connections) (option_at word Lines)))
-
--- what words say: the paths in order, and the values of options
-pub record Given : Type 0 where
-  pub paths : List (List ℕ)
-  pub export : Option (List ℕ)
-  pub port : Option (List ℕ)
-  pub connections : Option (List ℕ)
-  pub lines : Option (List ℕ)
-
--- before the first word is read
-abbrev pub nothing : Given
-nothing = record { paths = []; export = None; port = None; connections = None; lines = None }
-
--- one more path
-abbrev pub with_path : List ℕ → Given → Given
-with_path path given = record given { paths = given.paths ++ path ∷ [] }
-
--- the value of an option
-abbrev pub value_of : Setting → Given → Option (List ℕ)
-value_of Export given = given.export
-value_of Port given = given.port
-value_of Connections given = given.connections
-value_of Lines given = given.lines
-
--- an option has this value
-abbrev pub set : Setting → List ℕ → Given → Given
-set Export value given = record given { export = Some value }
-set Port value given = record given { port = Some value }
-set Connections value given = record given { connections = Some value }
-set Lines value given = record given { lines = Some value }
-
--- one more value of an option: each has one at most
-abbrev pub with_value : Setting → List ℕ → Given → Option Given
-with_value setting value given = if is_some (value_of setting given) then None else Some (set setting value given)
-
--- what was read, with what the next word may be
-abbrev pub read_to : Given → Option Next → Option (Given × Next)
-read_to given next = option_map (λ n. (given, n)) next
-
--- an option with this value is read
-abbrev pub with_text : Setting → List ℕ → Given → Option (Given × Next)
-with_text setting value given = option_map (λ more. (more, Any)) (with_value setting value given)
-
--- an option of the subcommand with its value, or one whose value is the next word
-abbrev pub with_option : Subcommand → Given → Setting × Option (List ℕ) → Option (Given × Next)
-with_option chosen given (setting, Some value) = if has_setting chosen setting then with_text setting value given else None
-with_option chosen given (setting, None) = if has_setting chosen setting then Some (given, Value setting) else None
-
--- what the words say with one more, and what the next one may be: after '--' each word is a path; before it a longer word that
--- begins with '-' is an option and no value, and any other is the value that is due, or else a path
-abbrev pub read_word : Subcommand → List ℕ → Given → Next → Option (Given × Next)
-read_word chosen word given Path = Some (with_path word given, Path)
-read_word chosen word given (Value setting) = if is_option word then None else with_text setting word given
-read_word chosen word given Any =
-    if bytes_eq word (codes "--") then Some (given, Path)
-    else if is_option word then option_and_then (with_option chosen given) (option_of word)
-    else Some (with_path word given, Any)
-
--- what the words say at their end; none if a value is due
-abbrev pub read_end : Given → Next → Option Given
-read_end given (Value setting) = None
-read_end given _ = Some given
-
--- what these words say after what was said before them
-abbrev pub given_behind : Subcommand → List (List ℕ) → Given → Next → Option Given
-given_behind chosen [] given next = read_end given next
-given_behind chosen (word ∷ rest) given next = option_and_then (λ read. given_behind chosen rest read.0 read.1) (read_word chosen word given next)
-
--- what the words of a subcommand say
-abbrev pub given_by : Subcommand → List (List ℕ) → Option Given
-given_by chosen words = given_behind chosen words nothing Any
+-- ---- the subcommands
 
 -- the word of a subcommand
-abbrev pub word_of : Subcommand → List ℕ
-word_of subcommand.Replay = codes "replay"
-word_of subcommand.Serve = codes "serve"
-word_of subcommand.Check = codes "check"
-word_of subcommand.Describe = codes "describe"
+abbrev pub word_of : Subcommand → Text
+word_of Demo = codes "demo"
+word_of Check = codes "check"
+word_of Describe = codes "describe"
+word_of Replay = codes "replay"
+word_of Serve = codes "serve"
+word_of Repair = codes "repair"
 
 -- the subcommand of that word
-abbrev pub subcommand_named : List ℕ → Option Subcommand
+abbrev pub subcommand_named : Text → Option Subcommand
 subcommand_named word =
-    if bytes_eq word (word_of subcommand.Replay) then Some subcommand.Replay
-    else if bytes_eq word (word_of subcommand.Serve) then Some subcommand.Serve
-    else if bytes_eq word (word_of subcommand.Check) then Some subcommand.Check
-    else if bytes_eq word (word_of subcommand.Describe) then Some subcommand.Describe
+    if bytes_eq word (word_of Demo) then Some Demo
+    else if bytes_eq word (word_of Check) then Some Check
+    else if bytes_eq word (word_of Describe) then Some Describe
+    else if bytes_eq word (word_of Replay) then Some Replay
+    else if bytes_eq word (word_of Serve) then Some Serve
+    else if bytes_eq word (word_of Repair) then Some Repair
     else None
 
+-- ---- what is declared
+
+-- the path of the DEF text
+abbrev pub def_rule : Rule
+def_rule = record (new_rule (codes "def")) { required = true }
+
+-- the paths of the LEF texts, one at least
+abbrev pub lef_rule : Rule
+lef_rule = record (new_rule (codes "lef")) {
+  required = true;
+  range = Some (record { start_inclusive = 1; end_inclusive = usize_max });
+  action = Some Append;
+}
+
+-- an option whose value is a text: it stands once at most
+abbrev pub text_rule : Text → Rule
+text_rule name = record (new_rule name) { long = Some name }
+
+-- an option whose value is a text: it may stand more than once
+abbrev pub repeated_rule : Text → Rule
+repeated_rule name = record (text_rule name) { action = Some Append }
+
+-- an option whose value is a number up to this one, and 1 at least
+abbrev pub number_rule : Text → ℕ → Rule
+number_rule name most = record (text_rule name) { parser = Some (parser.Unsigned 1 most) }
+
+-- an option without a value
+abbrev pub flag_rule : Text → Rule
+flag_rule name = record (text_rule name) { action = Some SetTrue }
+
+-- the option may not be left out
+abbrev pub needed : Rule → Rule
+needed rule = record rule { required = true }
+
+-- a subcommand of that name, whose words are the paths of a design and these options
+abbrev pub design_line : Text → List Rule → App
+design_line name options = fold with_rule (new_app name) (def_rule ∷ lef_rule ∷ options)
+
+-- the words that a subcommand takes
+abbrev pub line_of : Subcommand → App
+line_of Demo = new_app (word_of Demo)
+line_of Check = design_line (word_of Check) (text_rule (codes "state") ∷ [])
+line_of Describe = design_line (word_of Describe) (text_rule (codes "state") ∷ [])
+line_of Replay = design_line (word_of Replay)
+    (number_rule (codes "lines") 4294967295 ∷ text_rule (codes "state") ∷ text_rule (codes "save") ∷ text_rule (codes "export") ∷ [])
+line_of Serve = design_line (word_of Serve)
+    (needed (number_rule (codes "port") 65535) ∷ needed (number_rule (codes "connections") 1000000)
+    ∷ text_rule (codes "state") ∷ text_rule (codes "save") ∷ text_rule (codes "export") ∷ [])
+line_of Repair = design_line (word_of Repair)
+    (repeated_rule (codes "team") ∷ flag_rule (codes "keep") ∷ flag_rule (codes "all")
+    ∷ text_rule (codes "export") ∷ text_rule (codes "lines") ∷ [])
+
+-- the program with its subcommands
+abbrev pub command_line : App
+command_line = fold (λ app chosen. with_subcommand app (line_of chosen).top) (new_app (codes "lefence"))
+    (Demo ∷ Check ∷ Describe ∷ Replay ∷ Serve ∷ Repair ∷ [])
+
+-- ---- jobs
+
+-- what a command line asks for, with the paths as they are written: of the DEF text and of the LEF texts in order; then, of
+-- check, describe, replay and serve, of the saved state; then of each what its comment says
+pub data Job : Type 0 where
+  demo : Job
+  check : Text → List Text → Option Text → Job
+  describe : Text → List Text → Option Text → Job
+  -- the most lines that are answered; the paths of the state and of the text that are written
+  replay : Text → List Text → Option Text → ℕ → Option Text → Option Text → Job
+  -- the port and the number of connections; the paths of the state and of the text that are written
+  serve : Text → List Text → Option Text → ℕ → ℕ → Option Text → Option Text → Job
+  -- the teams, all of them if none is named; what may be done with legal cells; the paths of the text and of the lines
+  repair : Text → List Text → List Text → LegalCells → Option Text → Option Text → Job
+
+-- ---- numbers
+
 -- the text is a number: digits, one at least, which may follow '+' and begin with zeros
-abbrev pub is_number : List ℕ → Bool
+abbrev pub is_number : Text → Bool
 is_number text = nat_lt 0 (length (without_leading_plus text)) && list_all (λ digit. nat_lt (digit_value digit) 10) (without_leading_plus text)
 
 -- the number that the digits of a text write
-abbrev pub number_of : List ℕ → ℕ
+abbrev pub number_of : Text → ℕ
 number_of text = digits_value 10 (without_leading_plus text)
 
 -- the number that the text writes; none if it is not in this range
-abbrev pub number_in : ℕ → ℕ → List ℕ → Option ℕ
+abbrev pub number_in : ℕ → ℕ → Text → Option ℕ
 number_in least most text =
     if is_number text && (nat_le least (number_of text) && nat_le (number_of text) most) then Some (number_of text) else None
 
--- the port and the number of connections of a service: both are needed
-abbrev pub service_of : Given → Option (ℕ × ℕ)
-service_of given =
-    option_and_then (λ port. option_map (λ connections. (port, connections)) (option_and_then (number_in 1 1000000) given.connections))
-    (option_and_then (number_in 1 65535) given.port)
+-- ---- what the parser finds of a subcommand's arguments
+
+-- the values of an argument, in order
+abbrev pub values_of : Text → List Row → List Text
+values_of name rows = unwrap_or (all_of name rows) []
+
+-- the option without a value stands among the words
+abbrev pub is_set : Text → List Row → Bool
+is_set name rows = option_map_or (λ text. bytes_eq text (codes "true")) (first_of name rows) false
 
 -- the most lines that are answered: a million if none is asked for
-abbrev pub most_lines : Option (List ℕ) → Option ℕ
+abbrev pub most_lines : Option Text → Option ℕ
 most_lines None = Some 1000000
 most_lines (Some text) = number_in 1 4294967295 text
 
+-- the port and the number of connections of a service: both are needed
+abbrev pub service_of : List Row → Option (ℕ × ℕ)
+service_of rows =
+    option_and_then (λ port. option_map (λ connections. (port, connections))
+    (option_and_then (number_in 1 1000000) (first_of (codes "connections") rows)))
+    (option_and_then (number_in 1 65535) (first_of (codes "port") rows))
+
+-- what '--keep' and '--all' say of legal cells: one of them at most may stand
+abbrev pub legal_cells : Bool → Bool → Option LegalCells
+legal_cells false false = Some MoveAsNeeded
+legal_cells true false = Some Stay
+legal_cells false true = Some Move
+legal_cells true true = None
+
+-- ---- what the words name
+
 -- the job of a subcommand on these paths
-abbrev pub job_on : Subcommand → List ℕ → List (List ℕ) → Given → Option Job
-job_on subcommand.Replay def lefs given = option_map (λ lines. replay def lefs lines given.export) (most_lines given.lines)
-job_on subcommand.Serve def lefs given = option_map (λ service. serve def lefs service.0 service.1 given.export) (service_of given)
-job_on subcommand.Check def lefs given = Some (check def lefs)
-job_on subcommand.Describe def lefs given = Some (describe def lefs)
+abbrev pub job_on : Subcommand → Text → List Text → List Row → Option Job
+job_on Demo def lefs rows = Some demo
+job_on Check def lefs rows = Some (check def lefs (first_of (codes "state") rows))
+job_on Describe def lefs rows = Some (describe def lefs (first_of (codes "state") rows))
+job_on Replay def lefs rows = option_map
+    (λ lines. replay def lefs (first_of (codes "state") rows) lines (first_of (codes "save") rows) (first_of (codes "export") rows))
+    (most_lines (first_of (codes "lines") rows))
+job_on Serve def lefs rows = option_map
+    (λ service. serve def lefs (first_of (codes "state") rows) service.0 service.1 (first_of (codes "save") rows) (first_of (codes "export") rows))
+    (service_of rows)
+job_on Repair def lefs rows = option_map
+    (λ legal. repair def lefs (values_of (codes "team") rows) legal (first_of (codes "export") rows) (first_of (codes "lines") rows))
+    (legal_cells (is_set (codes "keep") rows) (is_set (codes "all") rows))
 
--- a subcommand takes the path of a DEF text and then one path at least of a LEF text
-abbrev pub job_over : Subcommand → List (List ℕ) → Given → Option Job
-job_over chosen (def ∷ lef ∷ lefs) given = job_on chosen def (lef ∷ lefs) given
-job_over chosen _ given = None
+-- a subcommand takes the path of a DEF text and one path at least of a LEF text
+abbrev pub job_over : Subcommand → Option Text → List Text → List Row → Option Job
+job_over chosen None lefs rows = None
+job_over chosen (Some def) [] rows = None
+job_over chosen (Some def) (lef ∷ lefs) rows = job_on chosen def (lef ∷ lefs) rows
 
--- the job of a subcommand with these words
-abbrev pub job_by : Subcommand → List (List ℕ) → Option Job
-job_by chosen words = option_and_then (λ given. job_over chosen given.paths given) (given_by chosen words)
+-- the subcommand has no design
+abbrev pub is_demo : Subcommand → Bool
+is_demo Demo = true
+is_demo _ = false
 
--- the job that a word names, with the words after it
-abbrev pub job_named : List ℕ → List (List ℕ) → Option Job
-job_named word [] = if bytes_eq word (codes "demo") then Some demo else None
-job_named word (next ∷ rest) = option_and_then (λ chosen. job_by chosen (next ∷ rest)) (subcommand_named word)
+-- the job of a subcommand of which this was found
+abbrev pub job_by : Subcommand → List Row → Option Job
+job_by chosen rows = if is_demo chosen then Some demo else job_over chosen (first_of (codes "def") rows) (values_of (codes "lef") rows) rows
 
--- the job of a command line: its first word is the program's name, and that name alone is the demo
-abbrev pub job_of : List (List ℕ) → Option Job
-job_of [] = Some demo
-job_of (name ∷ []) = Some demo
-job_of (name ∷ word ∷ rest) = job_named word rest
+-- the job where the parser finds this subcommand; where it finds none it is the demo
+abbrev pub job_found : Option (Text × List Row) → Option Job
+job_found None = Some demo
+job_found (Some (word, rows)) = option_and_then (λ chosen. job_by chosen rows) (subcommand_named word)
+
+-- the job, if the parser finds no fault
+abbrev pub unless_fault : Kinds → Option Job → Option Job
+unless_fault [] job = job
+unless_fault (kind ∷ kinds) job = None
+
+-- the job of a command line, of which the first word is the program's name: by what the parser's own specification finds in
+-- the words
+abbrev pub job_of : List Text → Option Job
+job_of words = unless_fault (fault_of command_line words) (job_found (subcommand_of command_line words))
 
 -- the job that a task does
 abbrev pub as_job : Task → Job
-as_job Demo = demo
-as_job (Replay def lefs lines export) = replay def.now (map (λ lef. lef.now) lefs) lines (option_map (λ path. path.now) export)
-as_job (Serve def lefs port connections export) = serve def.now (map (λ lef. lef.now) lefs) port connections (option_map (λ path. path.now) export)
-as_job (Check def lefs) = check def.now (map (λ lef. lef.now) lefs)
-as_job (Describe def lefs) = describe def.now (map (λ lef. lef.now) lefs)
+as_job task.Demo = demo
+as_job (task.Check def lefs state) = check def.now (map (λ lef. lef.now) lefs) (option_map (λ path. path.now) state)
+as_job (task.Describe def lefs state) = describe def.now (map (λ lef. lef.now) lefs) (option_map (λ path. path.now) state)
+as_job (task.Replay def lefs state lines save export) = replay def.now (map (λ lef. lef.now) lefs) (option_map (λ path. path.now) state)
+    lines (option_map (λ path. path.now) save) (option_map (λ path. path.now) export)
+as_job (task.Serve def lefs state port connections save export) = serve def.now (map (λ lef. lef.now) lefs) (option_map (λ path. path.now) state)
+    port connections (option_map (λ path. path.now) save) (option_map (λ path. path.now) export)
+as_job (task.Repair def lefs teams legal export lines) = repair def.now (map (λ lef. lef.now) lefs) (map (λ team. team.now) teams)
+    legal (option_map (λ path. path.now) export) (option_map (λ path. path.now) lines)
 
 -- the task reads no line
 abbrev pub ReadsNone : Task → Type 0
-ReadsNone (Check def lefs) = Unit {0}
-ReadsNone (Describe def lefs) = Unit {0}
-ReadsNone _ = ⊥
+ReadsNone task.Demo = ⊥
+ReadsNone (task.Replay def lefs state lines save export) = ⊥
+ReadsNone (task.Serve def lefs state port connections save export) = ⊥
+ReadsNone _ = Unit {0}

@@ -1,63 +1,92 @@
 //! The words of the command line.
 
-ghost use Rattle.std.specs.Prelude.{◌≡◌, false, None, Some, map, IfErr, IfOk, IfSome, option_map};
+ghost use Rattle.std.specs.Prelude.{◌≡◌, None, Some, codes, map, IfErr, IfOk, option_map};
 ghost use Rattle.clap.specs.Matches.{found_of};
-ghost use Rattle.clap.specs.Simple.{HasMatchesOf, app_of};
-ghost use Rattle.clap.specs.Walk.{rule_of};
-ghost use Rattle.clap.specs.declared.builder.command.Command.TheViews.{out-Command};
-ghost use Rattle.lf_command.specs.declared.command.UsageFault.TheVariants.{Usage, OutOfMemory};
-ghost use Rattle.lf_command.specs.declared.words.Subcommand.TheVariants as subcommand;
-ghost use Rattle.lf_command.specs.CommandLine.{as_given, command_line, def_rule, design_line, export_rule, found_given, input_line, lef_rule, line_of, needed, number_rule};
-ghost use Rattle.lf_command.specs.Command.{Job, as_job, given_by, job_by, job_of, job_on, job_over, most_lines, number_in, service_of};
+ghost use Rattle.clap.specs.Simple.{subcommand_rows_of};
+ghost use Rattle.clap.specs.Walk.{all_of, first_of, rows_of};
+ghost use Rattle.lf_command.specs.declared.subcommand.Subcommand.TheVariants.{Repair, Replay, Serve};
+ghost use Rattle.lf_command.specs.declared.command.UsageFault.TheVariants.{Usage};
+ghost use Rattle.lf_command.specs.Command.{as_job, is_demo, is_set, job_by, job_found, job_of, job_on, legal_cells, most_lines, number_in, service_of, values_of};
 
-use crate::words::{Reading, Subcommand, is_same_reading, read_words, subcommand_named};
-use clap::builder::ValueParser;
+use crate::subcommand::{MOST_CONNECTIONS, Subcommand, command_line, subcommand_named};
+use clap::ArgMatches;
 use clap::error::ErrorKind;
-use clap::{Arg, ArgAction, ArgMatches, Command};
 use lf_units::Sequence;
 use std::alloc::{AllocError, Global};
 use thiserror::Error;
 
-/// The most connections that a service accepts.
-const MOST_CONNECTIONS: u32 = 1_000_000;
-
 /// The most lines that are answered if none is asked for.
 const USUAL_LINES: u32 = 1_000_000;
 
-/// What the program is to do.
+/// What a repair does with cells that stand legally.
+#[derive(Clone, Copy, Debug, PartialEq, Eq)]
+pub enum LegalCells {
+    /// They stay, unless a cell would have no place or would go far.
+    MoveAsNeeded,
+    /// They stay.
+    Stay,
+    /// They move wherever that makes the whole way shorter.
+    Move,
+}
+
+/// What the program is to do. A design is given by the path of a DEF text and by those of LEF texts, one at least, in order.
 #[derive(Drop)]
 pub enum Task<'a> {
     /// Answers the lines of standard input over the built-in design.
     Demo,
-    /// Answers the lines of standard input over the design of a DEF text and of LEF texts, given by paths.
+    /// Reports on a design.
+    Check {
+        def: &'a str,
+        lefs: Sequence<&'a str>,
+        /// The path of the saved state that is looked at, if not the places of the DEF text are.
+        state: Option<&'a str>,
+    },
+    /// Writes a design as JSON Lines.
+    Describe {
+        def: &'a str,
+        lefs: Sequence<&'a str>,
+        /// The path of the saved state that is looked at, if not the places of the DEF text are.
+        state: Option<&'a str>,
+    },
+    /// Answers the lines of standard input over a design.
     Replay {
         def: &'a str,
         lefs: Sequence<&'a str>,
+        /// The path of the saved state that is gone on from, if one is.
+        state: Option<&'a str>,
         /// The most lines that are answered: from 1 to 4,294,967,295; 1,000,000 if none is asked for.
         lines: u32,
+        /// The path that the state at the end is saved to, if that is asked for.
+        save: Option<&'a str>,
         /// The path of the exported text, if one is asked for.
         export: Option<&'a str>,
     },
-    /// Answers the lines of connections over the design of a DEF text and of LEF texts, given by paths.
+    /// Answers the lines of connections over a design.
     Serve {
         def: &'a str,
         lefs: Sequence<&'a str>,
+        /// The path of the saved state that is gone on from, if one is.
+        state: Option<&'a str>,
         /// The port to listen on: 1 at least.
         port: u16,
         /// The number of connections to serve: from 1 to 1,000,000.
         connections: u32,
+        /// The path that the state at the end is saved to, if that is asked for.
+        save: Option<&'a str>,
         /// The path of the exported text, if one is asked for.
         export: Option<&'a str>,
     },
-    /// Reports on the design of a DEF text and of LEF texts, given by paths.
-    Check {
+    /// Gives the cells of a design legal places.
+    Repair {
         def: &'a str,
         lefs: Sequence<&'a str>,
-    },
-    /// Writes the design of a DEF text and of LEF texts, given by paths, as JSON Lines.
-    Describe {
-        def: &'a str,
-        lefs: Sequence<&'a str>,
+        /// The names of the teams whose cells are repaired, in order; all teams are if there is none.
+        teams: Sequence<&'a str>,
+        legal: LegalCells,
+        /// The path of the exported text, if one is asked for.
+        export: Option<&'a str>,
+        /// The path of the lines of commands that do the repair, if they are asked for.
+        lines: Option<&'a str>,
     },
 }
 
@@ -70,138 +99,6 @@ pub enum UsageFault {
     /// An allocation failed.
     #[error("24 OutOfMemory")]
     OutOfMemory,
-}
-
-/// The path of the DEF text.
-fn def_path<'a>(alloc: Global) -> Arg<'a>
-    ensures rule { rule_of result ≡ def_rule }
-    ensures local { result.global ≡ false }
-{
-    Arg::new(alloc, "def").required(true)
-}
-
-/// The paths of the LEF texts, one at least.
-fn lef_paths<'a>(alloc: Global) -> Arg<'a>
-    ensures rule { rule_of result ≡ lef_rule }
-    ensures local { result.global ≡ false }
-{
-    Arg::new(alloc, "lef")
-        .required(true)
-        .num_args(1..)
-        .action(ArgAction::Append)
-}
-
-/// The path of the exported text.
-fn export_path<'a>(alloc: Global) -> Arg<'a>
-    ensures rule { rule_of result ≡ export_rule }
-    ensures local { result.global ≡ false }
-{
-    Arg::new(alloc, "export").long("export")
-}
-
-/// An option whose value is a number from 1 up to this one.
-fn number<'a>(alloc: Global, name: &'a str, most: u64) -> Arg<'a>
-    ensures rule { rule_of result ≡ number_rule name.now most }
-    ensures local { result.global ≡ false }
-{
-    Arg::new(alloc, name)
-        .long(name)
-        .value_parser(ValueParser::unsigned(1, most))
-}
-
-/// An option that may not be left out, whose value is a number from 1 up to this one.
-fn needed_number<'a>(alloc: Global, name: &'a str, most: u64) -> Arg<'a>
-    ensures rule { rule_of result ≡ needed (number_rule name.now most) }
-    ensures local { result.global ≡ false }
-{
-    number(alloc, name, most).required(true)
-}
-
-/// A subcommand of that name, whose words are the paths of a design.
-fn over_design<'a>(alloc: Global, name: &'a str) -> Result<Command<'a>, AllocError>
-    ensures line { IfOk result (λ made. app_of made ≡ design_line name.now) }
-    ensures local { IfOk result (λ made. (out-Command made).has_globals ≡ false) }
-{
-    Command::new(alloc, name)
-        .arg(def_path(alloc))?
-        .arg(lef_paths(alloc))
-}
-
-/// The subcommand that answers the lines of standard input.
-fn replay<'a>(alloc: Global) -> Result<Command<'a>, AllocError>
-    ensures line { IfOk result (λ made. app_of made ≡ line_of subcommand.Replay) }
-    ensures local { IfOk result (λ made. (out-Command made).has_globals ≡ false) }
-{
-    over_design(alloc, "replay")?
-        .arg(number(alloc, "lines", u32::MAX as u64))?
-        .arg(export_path(alloc))
-}
-
-/// The subcommand that answers the lines of connections.
-fn serve<'a>(alloc: Global) -> Result<Command<'a>, AllocError>
-    ensures line { IfOk result (λ made. app_of made ≡ line_of subcommand.Serve) }
-    ensures local { IfOk result (λ made. (out-Command made).has_globals ≡ false) }
-{
-    over_design(alloc, "serve")?
-        .arg(needed_number(alloc, "port", u16::MAX as u64))?
-        .arg(needed_number(alloc, "connections", MOST_CONNECTIONS as u64))?
-        .arg(export_path(alloc))
-}
-
-/// The subcommand that reports on a design.
-fn check<'a>(alloc: Global) -> Result<Command<'a>, AllocError>
-    ensures line { IfOk result (λ made. app_of made ≡ line_of subcommand.Check) }
-    ensures local { IfOk result (λ made. (out-Command made).has_globals ≡ false) }
-{
-    over_design(alloc, "check")
-}
-
-/// The subcommand that writes a design.
-fn describe<'a>(alloc: Global) -> Result<Command<'a>, AllocError>
-    ensures line { IfOk result (λ made. app_of made ≡ line_of subcommand.Describe) }
-    ensures local { IfOk result (λ made. (out-Command made).has_globals ≡ false) }
-{
-    over_design(alloc, "describe")
-}
-
-/// The program with the subcommands that answer the lines of standard input.
-fn over_input<'a>(alloc: Global) -> Result<Command<'a>, AllocError>
-    ensures line { IfOk result (λ made. app_of made ≡ input_line) }
-    ensures local { IfOk result (λ made. (out-Command made).has_globals ≡ false) }
-{
-    Command::new(alloc, "lefence")
-        .subcommand(Command::new(alloc, "demo"))?
-        .subcommand(replay(alloc)?)
-}
-
-/// The command line that the program takes.
-fn command<'a>(alloc: Global) -> Result<Command<'a>, AllocError>
-    ensures { IfOk result (λ made. app_of made ≡ command_line) }
-{
-    over_input(alloc)?
-        .subcommand(serve(alloc)?)?
-        .subcommand(check(alloc)?)?
-        .subcommand(describe(alloc)?)
-}
-
-/// What `clap` found in the words of a subcommand.
-fn found_in<'a>(alloc: Global, matches: &ArgMatches<'a>) -> Result<Reading<'a>, AllocError>
-    ensures { IfOk result (λ found. as_given found ≡ found_given (found_of matches.now)) }
-{
-    let mut paths = Vec::new(alloc);
-    if let Some(def) = matches.get_str("def") {
-        paths.push(def)?;
-    }
-    if let Some(lefs) = matches.get_strs("lef") {
-        paths.extend_from_slice(lefs)?;
-    }
-    Ok(Reading {
-        paths,
-        export: matches.get_str("export"),
-        port: matches.get_str("port"),
-        connections: matches.get_str("connections"),
-        lines: matches.get_str("lines"),
-    })
 }
 
 /// The port that the text writes.
@@ -249,158 +146,234 @@ fn lines_of(text: &str) -> Option<u32>
     Some(lines)
 }
 
-/// The most lines that are answered.
-fn most_lines(found: &Reading<'_>) -> Option<u32>
-    ensures { result ≡ most_lines (as_given found.now).lines }
+/// The first value of the argument of that name.
+fn value_of<'a>(matches: &ArgMatches<'a>, name: &str) -> Option<&'a str>
+    ensures { option_map (λ text. text.now) result ≡ first_of name.now (rows_of (found_of matches.now)) }
 {
-    match found.lines {
+    matches.get_str(name)
+}
+
+/// The values of the argument of that name, in order, if there are any.
+fn all_of<'m, 'a>(matches: &'m ArgMatches<'a>, name: &str) -> Option<&'m [&'a str]>
+    ensures { option_map (λ texts. map (λ text. text.now) texts.now) result ≡ all_of name.now (rows_of (found_of matches.now)) }
+{
+    matches.get_strs(name)
+}
+
+/// The values of the argument of that name, in order.
+fn values_of<'a>(
+    alloc: Global,
+    matches: &ArgMatches<'a>,
+    name: &str,
+) -> Result<Sequence<&'a str>, AllocError>
+    ensures { IfOk result (λ texts. map (λ text. text.now) texts ≡ values_of name.now (rows_of (found_of matches.now))) }
+{
+    match all_of(matches, name) {
+        Some(found) => Ok(Sequence::from_vec(Vec::from_slice(alloc, found)?)),
+        None => Ok(Sequence::new(alloc)),
+    }
+}
+
+/// Whether the option of that name, which has no value, stands among the words.
+fn is_set(matches: &ArgMatches<'_>, name: &str) -> bool
+    ensures { result ≡ is_set name.now (rows_of (found_of matches.now)) }
+{
+    match value_of(matches, name) {
+        Some(text) => text == "true",
+        None => false,
+    }
+}
+
+/// The most lines that are answered.
+fn most_lines(matches: &ArgMatches<'_>) -> Option<u32>
+    ensures { result ≡ most_lines (first_of (codes "lines") (rows_of (found_of matches.now))) }
+{
+    match value_of(matches, "lines") {
         Some(text) => lines_of(text),
         None => Some(USUAL_LINES),
     }
 }
 
 /// The port and the number of connections of a service.
-fn service_of(found: &Reading<'_>) -> Option<(u16, u32)>
-    ensures { result ≡ service_of (as_given found.now) }
+fn service_of(matches: &ArgMatches<'_>) -> Option<(u16, u32)>
+    ensures { result ≡ service_of (rows_of (found_of matches.now)) }
 {
-    let port = port_of(found.port?)?;
-    let connections = connections_of(found.connections?)?;
+    let port = port_of(value_of(matches, "port")?)?;
+    let connections = connections_of(value_of(matches, "connections")?)?;
     Some((port, connections))
+}
+
+/// What `--keep` and `--all` say of legal cells: one of them at most may stand.
+fn legal_cells(keep: bool, all: bool) -> Option<LegalCells>
+    ensures { result ≡ legal_cells keep all }
+{
+    match (keep, all) {
+        (false, false) => Some(LegalCells::MoveAsNeeded),
+        (true, false) => Some(LegalCells::Stay),
+        (false, true) => Some(LegalCells::Move),
+        (true, true) => None,
+    }
+}
+
+/// The task of a replay on these paths.
+fn replay_on<'a>(
+    def: &'a str,
+    lefs: Sequence<&'a str>,
+    matches: &ArgMatches<'a>,
+) -> Option<Task<'a>>
+    ensures { option_map as_job result ≡ job_on Replay def.now (map (λ lef. lef.now) lefs.entry) (rows_of (found_of matches.now)) }
+{
+    let lines = most_lines(matches)?;
+    Some(Task::Replay {
+        def,
+        lefs,
+        state: value_of(matches, "state"),
+        lines,
+        save: value_of(matches, "save"),
+        export: value_of(matches, "export"),
+    })
+}
+
+/// The task of a service on these paths.
+fn serve_on<'a>(def: &'a str, lefs: Sequence<&'a str>, matches: &ArgMatches<'a>) -> Option<Task<'a>>
+    ensures { option_map as_job result ≡ job_on Serve def.now (map (λ lef. lef.now) lefs.entry) (rows_of (found_of matches.now)) }
+{
+    let (port, connections) = service_of(matches)?;
+    Some(Task::Serve {
+        def,
+        lefs,
+        state: value_of(matches, "state"),
+        port,
+        connections,
+        save: value_of(matches, "save"),
+        export: value_of(matches, "export"),
+    })
+}
+
+/// The task of a repair on these paths.
+fn repair_on<'a>(
+    alloc: Global,
+    def: &'a str,
+    lefs: Sequence<&'a str>,
+    matches: &ArgMatches<'a>,
+) -> Result<Option<Task<'a>>, AllocError>
+    ensures { IfOk result (λ task. option_map as_job task
+        ≡ job_on Repair def.now (map (λ lef. lef.now) lefs.entry) (rows_of (found_of matches.now))) }
+{
+    let Some(legal) = legal_cells(is_set(matches, "keep"), is_set(matches, "all")) else {
+        return Ok(None);
+    };
+    match values_of(alloc, matches, "team") {
+        Ok(teams) => Ok(Some(Task::Repair {
+            def,
+            lefs,
+            teams,
+            legal,
+            export: value_of(matches, "export"),
+            lines: value_of(matches, "lines"),
+        })),
+        Err(error) => Err(error),
+    }
 }
 
 /// The task of a subcommand on these paths.
 fn task_on<'a>(
+    alloc: Global,
     chosen: Subcommand,
     def: &'a str,
     lefs: Sequence<&'a str>,
-    found: &Reading<'a>,
-) -> Option<Task<'a>>
-    ensures { option_map as_job result ≡ job_on chosen def.now (map (λ lef. lef.now) lefs.entry) (as_given found.now) }
+    matches: &ArgMatches<'a>,
+) -> Result<Option<Task<'a>>, AllocError>
+    ensures { IfOk result (λ task. option_map as_job task
+        ≡ job_on chosen def.now (map (λ lef. lef.now) lefs.entry) (rows_of (found_of matches.now))) }
 {
-    let export = found.export;
+    let state = value_of(matches, "state");
     match chosen {
-        Subcommand::Check => Some(Task::Check { def, lefs }),
-        Subcommand::Describe => Some(Task::Describe { def, lefs }),
-        Subcommand::Replay => {
-            let lines = most_lines(found)?;
-            Some(Task::Replay {
-                def,
-                lefs,
-                lines,
-                export,
-            })
-        }
-        Subcommand::Serve => {
-            let (port, connections) = service_of(found)?;
-            Some(Task::Serve {
-                def,
-                lefs,
-                port,
-                connections,
-                export,
-            })
-        }
+        Subcommand::Demo => Ok(Some(Task::Demo)),
+        Subcommand::Check => Ok(Some(Task::Check { def, lefs, state })),
+        Subcommand::Describe => Ok(Some(Task::Describe { def, lefs, state })),
+        Subcommand::Replay => Ok(replay_on(def, lefs, matches)),
+        Subcommand::Serve => Ok(serve_on(def, lefs, matches)),
+        Subcommand::Repair => repair_on(alloc, def, lefs, matches),
     }
 }
 
-/// The task of a subcommand from what its words give.
-fn task_for<'a>(
-    alloc: Global,
-    chosen: Subcommand,
-    found: &Reading<'a>,
-) -> Result<Option<Task<'a>>, AllocError>
-    ensures { IfOk result (λ task. option_map as_job task ≡ job_over chosen (as_given found.now).paths (as_given found.now)) }
+/// Whether the subcommand has no design.
+fn is_demo(chosen: Subcommand) -> bool
+    ensures { result ≡ is_demo chosen }
 {
-    let Some((def, lefs)) = found.paths.split_first() else {
-        return Ok(None);
-    };
-    if lefs.is_empty() {
-        return Ok(None);
-    }
-    let lefs = Sequence::from_vec(Vec::from_slice(alloc, lefs)?);
-    Ok(task_on(chosen, *def, lefs, found))
+    matches!(chosen, Subcommand::Demo)
 }
 
-/// The task of a subcommand with these words, in which this was found: it is checked against the
-/// words.
-fn task_tested<'a>(
-    alloc: Global,
-    chosen: Subcommand,
-    words: &[&'a str],
-    found: &Reading<'a>,
-) -> Result<Option<Task<'a>>, AllocError>
-    ensures ok { IfOk result (λ task. IfSome task (λ task. job_by chosen (map (λ word. word.now) words.now) ≡ Some (as_job task))) }
-    ensures same { given_by chosen (map (λ word. word.now) words.now) ≡ Some (as_given found.now)
-        → IfOk result (λ task. option_map as_job task ≡ job_by chosen (map (λ word. word.now) words.now)) }
-{
-    let Some(read) = read_words(alloc, chosen, words)? else {
-        return Ok(None);
-    };
-    if !is_same_reading(&read, found) {
-        return Ok(None);
-    }
-    task_for(alloc, chosen, found)
-}
-
-/// The task of a subcommand with these words, as `clap` has read them: it is checked against the
-/// words.
+/// The task of a subcommand of which `clap` found this.
 fn task_over<'a>(
     alloc: Global,
     chosen: Subcommand,
-    words: &[&'a str],
     matches: &ArgMatches<'a>,
-) -> Result<Task<'a>, UsageFault>
-    ensures ok { IfOk result (λ task. job_by chosen (map (λ word. word.now) words.now) ≡ Some (as_job task)) }
-    ensures err { (job : Job) → job_by chosen (map (λ word. word.now) words.now) ≡ Some job
-        → given_by chosen (map (λ word. word.now) words.now) ≡ Some (found_given (found_of matches.now))
-        → IfErr result (λ fault. fault ≡ OutOfMemory) }
+) -> Result<Option<Task<'a>>, AllocError>
+    ensures { IfOk result (λ task. option_map as_job task ≡ job_by chosen (rows_of (found_of matches.now))) }
 {
-    let Ok(found) = found_in(alloc, matches) else {
-        return Err(UsageFault::OutOfMemory);
+    if is_demo(chosen) {
+        return Ok(Some(Task::Demo));
+    }
+    let Some(def) = value_of(matches, "def") else {
+        return Ok(None);
     };
-    match task_tested(alloc, chosen, words, &found) {
-        Ok(Some(task)) => Ok(task),
-        Ok(None) => Err(UsageFault::Usage),
-        Err(_) => Err(UsageFault::OutOfMemory),
+    match values_of(alloc, matches, "lef") {
+        Ok(lefs) => {
+            if lefs.is_empty() {
+                return Ok(None);
+            }
+            task_on(alloc, chosen, def, lefs, matches)
+        }
+        Err(error) => Err(error),
     }
 }
 
-/// The task of these words, as `clap` has read them.
-fn task_of<'a>(
-    alloc: Global,
-    words: &[&'a str],
-    matches: &ArgMatches<'a>,
-) -> Result<Task<'a>, UsageFault>
-    ensures ok { IfOk result (λ task. job_of (map (λ word. word.now) words.now) ≡ Some (as_job task)) }
-    ensures err { (job : Job) → job_of (map (λ word. word.now) words.now) ≡ Some job
-        → HasMatchesOf command_line (map (λ word. word.now) words.now) matches.now → IfErr result (λ fault. fault ≡ OutOfMemory) }
+/// The subcommand that `clap` found, with what it found of it.
+fn subcommand_found<'m, 'a>(matches: &'m ArgMatches<'a>) -> Option<(&'a str, &'m ArgMatches<'a>)>
+    ensures { option_map (λ found. (found.0.now, rows_of (found_of found.1.now))) result ≡ subcommand_rows_of matches.now }
 {
-    if words.len() <= 1 {
-        return Ok(Task::Demo);
-    }
-    if words.len() == 2 {
-        if words[1] == "demo" {
-            return Ok(Task::Demo);
-        }
-        return Err(UsageFault::Usage);
-    }
-    let Some(chosen) = subcommand_named(words[1]) else {
-        return Err(UsageFault::Usage);
+    matches.subcommand()
+}
+
+/// The task of what `clap` found.
+fn task_of<'a>(alloc: Global, matches: &ArgMatches<'a>) -> Result<Option<Task<'a>>, AllocError>
+    ensures { IfOk result (λ task. option_map as_job task ≡ job_found (subcommand_rows_of matches.now)) }
+{
+    let Some((word, inner)) = subcommand_found(matches) else {
+        return Ok(Some(Task::Demo));
     };
-    match matches.subcommand() {
-        Some((_, inner)) => task_over(alloc, chosen, &words[2..], inner),
-        None => Err(UsageFault::Usage),
+    match subcommand_named(word) {
+        Some(chosen) => task_over(alloc, chosen, inner),
+        None => Ok(None),
+    }
+}
+
+/// What `clap` finds in the words.
+fn matches_of<'a>(alloc: Global, words: &'a [&'a str]) -> Result<ArgMatches<'a>, UsageFault>
+    ensures ok { IfOk result (λ matches. job_of (map (λ word. word.now) words.now) ≡ job_found (subcommand_rows_of matches)) }
+    ensures err { IfErr result (λ fault. fault ≡ Usage → job_of (map (λ word. word.now) words.now) ≡ None) }
+{
+    let Ok(command) = command_line(alloc) else {
+        return Err(UsageFault::OutOfMemory);
+    };
+    match command.try_get_matches_from(words) {
+        Ok(matches) => Ok(matches),
+        Err(error) if error.kind() == ErrorKind::OutOfMemory => Err(UsageFault::OutOfMemory),
+        Err(_) => Err(UsageFault::Usage),
     }
 }
 
 /// The task that the words name; the first word is the program's name, and that name alone is the
 /// demo.
 ///
-/// `replay`, `serve`, `check` and `describe` take the path of a DEF text, then of one LEF text or
-/// more; `serve` needs `--port P`, from 1 to 65535, and `--connections N`, from 1 to 1,000,000;
-/// `replay` may have `--lines N`, from 1 to 4,294,967,295, and it and `serve` `--export FILE`.
+/// The others take the path of a DEF text, then of one LEF text or more. `serve` needs `--port P`, from 1 to 65535, and
+/// `--connections N`, from 1 to 1,000,000; `replay` may have `--lines N`, from 1 to 4,294,967,295; both may have
+/// `--export FILE` and `--save FILE`, and they, `check` and `describe` `--state FILE`. `repair` may have `--export FILE`,
+/// `--lines FILE`, `--keep` or `--all`, and `--team NAME` any number of times; each other option stands once at most.
 /// Numbers are digits; `+` in front and leading zeros are allowed. Options are before, between or after
-/// the paths, each once at most, with the value after `=` or as the next word, which may not begin with
+/// the paths, with the value after `=` or as the next word, which may not begin with
 /// '-' unless it is '-'. After `--` each word is a path. Words for help and for the version are usage
 /// faults like any others.
 ///
@@ -409,13 +382,11 @@ pub fn command_of<'a>(alloc: Global, words: &'a [&'a str]) -> Result<Task<'a>, U
     ensures ok { IfOk result (λ task. job_of (map (λ word. word.now) words.now) ≡ Some (as_job task)) }
     ensures err { IfErr result (λ fault. fault ≡ Usage → job_of (map (λ word. word.now) words.now) ≡ None) }
 {
-    let Ok(command) = command(alloc) else {
-        return Err(UsageFault::OutOfMemory);
-    };
-    match command.try_get_matches_from(words) {
-        Ok(matches) => task_of(alloc, words, &matches),
-        Err(error) if error.kind() == ErrorKind::OutOfMemory => Err(UsageFault::OutOfMemory),
-        Err(_) => Err(UsageFault::Usage),
+    let matches = matches_of(alloc, words)?;
+    match task_of(alloc, &matches) {
+        Ok(Some(task)) => Ok(task),
+        Ok(None) => Err(UsageFault::Usage),
+        Err(_) => Err(UsageFault::OutOfMemory),
     }
 }
 
@@ -428,12 +399,21 @@ fn said_by(alloc: Global, error: &clap::Error) -> Result<Option<String>, AllocEr
     Ok(Some(text))
 }
 
-/// What `clap` says of words that it does not take: which of them is wrong, or which is missing, and what it may be. None of
-/// words that it takes, or that ask for help or the version. Contracts know nothing of the text.
+/// What is said of words in which `clap` finds no fault: they name a task, or hold options that exclude each other.
+fn excluded_in(alloc: Global, matches: &ArgMatches<'_>) -> Result<Option<String>, AllocError> {
+    if task_of(alloc, matches)?.is_some() {
+        return Ok(None);
+    }
+    let text = format!(in alloc; "error: the argument '--keep' cannot be used with '--all'")?;
+    Ok(Some(text))
+}
+
+/// What is said of words that name no task: which of them is wrong, or which is missing, and what it may be, as `clap` says it.
+/// None of words that name one, or that ask for help or the version. Contracts know nothing of the text.
 pub fn complaint_of<'a>(alloc: Global, words: &'a [&'a str]) -> Result<Option<String>, AllocError> {
-    let command = command(alloc)?;
+    let command = command_line(alloc)?;
     match command.try_get_matches_from(words) {
-        Ok(_matches) => Ok(None),
+        Ok(matches) => excluded_in(alloc, &matches),
         Err(error) => said_by(alloc, &error),
     }
 }

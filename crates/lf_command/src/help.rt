@@ -1,7 +1,9 @@
 //! Words that ask what the program can be asked.
 
 ghost use Rattle.std.specs.Prelude.{◌≡◌, ◌∷◌, [], map};
-ghost use Rattle.lf_command.specs.Help.{help_asked, topic_named};
+ghost use Rattle.lf_command.specs.Help.{help_asked};
+
+use crate::subcommand::{Subcommand, subcommand_named};
 
 /// What the words ask to be told.
 #[derive(Clone, Copy, Debug, PartialEq, Eq)]
@@ -10,30 +12,8 @@ pub enum Help {
     Program,
     /// Its version.
     Version,
-    /// What `demo` does.
-    Demo,
-    /// What `check` does.
-    Check,
-    /// What `describe` does.
-    Describe,
-    /// What `replay` does.
-    Replay,
-    /// What `serve` does.
-    Serve,
-}
-
-/// What the subcommand of that word does.
-fn topic_named(word: &str) -> Option<Help>
-    ensures { result ≡ topic_named word.now }
-{
-    match word {
-        "demo" => Some(Help::Demo),
-        "check" => Some(Help::Check),
-        "describe" => Some(Help::Describe),
-        "replay" => Some(Help::Replay),
-        "serve" => Some(Help::Serve),
-        _ => None,
-    }
+    /// What a subcommand does.
+    Of(Subcommand),
 }
 
 /// What the one word behind the program's name asks to be told.
@@ -56,7 +36,7 @@ pub fn help_of(words: &[&str]) -> Option<Help>
         return program_topic(words[1]);
     }
     if words.len() == 3 && words[2] == "--help" {
-        return topic_named(words[1]);
+        return Some(Help::Of(subcommand_named(words[1])?));
     }
     None
 }

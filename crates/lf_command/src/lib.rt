@@ -1,8 +1,9 @@
 //! The words of the command line: the task that they name, or what they ask to be told.
 //!
-//! The first word is the program's name. `lefence` alone and `lefence demo` are the demo; `replay`, `serve`, `check` and
-//! `describe` take the path of a DEF text, then those of one LEF text or more, and their options. Paths are taken as they are
-//! written, and no file is looked at. Which task words name is said by a definition (`job_of`) that knows nothing of `clap`.
+//! The first word is the program's name. `lefence` alone and `lefence demo` are the demo; the other subcommands take the path of a
+//! DEF text, then those of one LEF text or more, and their options. Paths are taken as they are written, and no file is looked at.
+//! Which task words name is said by a definition (`job_of`): what `clap`, by its own specification, finds in them of the command
+//! line that is declared (`command_line`).
 //!
 //! ```
 //! let words = ["lefence", "replay", "design.def", "cells.lef", "--lines", "10"];
@@ -12,7 +13,8 @@
 
 mod command;
 mod help;
-mod words;
+mod subcommand;
 
-pub use command::{Task, UsageFault, command_of, complaint_of};
+pub use command::{LegalCells, Task, UsageFault, command_of, complaint_of};
 pub use help::{Help, help_of};
+pub use subcommand::Subcommand;

@@ -376,7 +376,9 @@ fn replayed(
     let task = Task::Replay {
         def: "w.def",
         lefs: Sequence::from_vec(Vec::from_slice(rt.alloc(), lefs)?),
+        state: None,
         lines: 1_000_000,
+        save: None,
         export: None,
     };
     Ok(done(rt, files, &task, input))
@@ -396,6 +398,7 @@ fn check_of_w<'a>(alloc: Global) -> Result<Task<'a>, AllocError> {
     Ok(Task::Check {
         def: "w.def",
         lefs: only_lef(alloc)?,
+        state: None,
     })
 }
 
@@ -447,7 +450,9 @@ fn answers_at_most(
     let task = Task::Replay {
         def: "w.def",
         lefs: only_lef(rt.alloc())?,
+        state: None,
         lines,
+        save: None,
         export: None,
     };
     let run = done(rt, &files_of(W_DEF), &task, "open A\nopen A\nopen A\n");
@@ -583,6 +588,7 @@ fn a_design_is_described(rt: HostRuntime) -> Result<(), Fail> {
     let task = Task::Describe {
         def: "w.def",
         lefs: only_lef(rt.alloc())?,
+        state: None,
     };
     assert!(rt; done(&rt, &files_of(W_DEF), &task, "open A\n").is(4, DESCRIPTION, ""));
     Ok(())
@@ -695,7 +701,9 @@ fn exporting_replay<'a>(alloc: Global) -> Result<Task<'a>, AllocError> {
     Ok(Task::Replay {
         def: "w.def",
         lefs: only_lef(alloc)?,
+        state: None,
         lines: 1_000_000,
+        save: None,
         export: Some("new.def"),
     })
 }
@@ -785,8 +793,10 @@ fn service<'a>(alloc: Global, port: u16) -> Result<Task<'a>, AllocError> {
     Ok(Task::Serve {
         def: "w.def",
         lefs: only_lef(alloc)?,
+        state: None,
         port,
         connections: 1,
+        save: None,
         export: None,
     })
 }

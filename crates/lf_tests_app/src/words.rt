@@ -1,6 +1,6 @@
 //! The words of the command line.
 
-use lf_app::{Task, UsageFault, command_of};
+use lf_app::{LegalCells, Task, UsageFault, command_of};
 use std::alloc::{AllocError, Global};
 use std::test::Fail;
 
@@ -8,26 +8,40 @@ use std::test::Fail;
 #[derive(Clone, Copy, PartialEq, Eq)]
 enum Named<'a> {
     Demo,
+    Check {
+        def: &'a str,
+        lefs: &'a [&'a str],
+        state: Option<&'a str>,
+    },
+    Describe {
+        def: &'a str,
+        lefs: &'a [&'a str],
+        state: Option<&'a str>,
+    },
     Replay {
         def: &'a str,
         lefs: &'a [&'a str],
+        state: Option<&'a str>,
         lines: u32,
+        save: Option<&'a str>,
         export: Option<&'a str>,
     },
     Serve {
         def: &'a str,
         lefs: &'a [&'a str],
+        state: Option<&'a str>,
         port: u16,
         connections: u32,
+        save: Option<&'a str>,
         export: Option<&'a str>,
     },
-    Check {
+    Repair {
         def: &'a str,
         lefs: &'a [&'a str],
-    },
-    Describe {
-        def: &'a str,
-        lefs: &'a [&'a str],
+        teams: &'a [&'a str],
+        legal: LegalCells,
+        export: Option<&'a str>,
+        lines: Option<&'a str>,
     },
     Nothing(UsageFault),
 }
@@ -36,37 +50,62 @@ enum Named<'a> {
 fn as_named<'a>(task: &'a Task<'a>) -> Named<'a> {
     match task {
         Task::Demo => Named::Demo,
+        Task::Check { def, lefs, state } => Named::Check {
+            def: *def,
+            lefs: lefs.as_slice(),
+            state: *state,
+        },
+        Task::Describe { def, lefs, state } => Named::Describe {
+            def: *def,
+            lefs: lefs.as_slice(),
+            state: *state,
+        },
         Task::Replay {
             def,
             lefs,
+            state,
             lines,
+            save,
             export,
         } => Named::Replay {
             def: *def,
             lefs: lefs.as_slice(),
+            state: *state,
             lines: *lines,
+            save: *save,
             export: *export,
         },
         Task::Serve {
             def,
             lefs,
+            state,
             port,
             connections,
+            save,
             export,
         } => Named::Serve {
             def: *def,
             lefs: lefs.as_slice(),
+            state: *state,
             port: *port,
             connections: *connections,
+            save: *save,
             export: *export,
         },
-        Task::Check { def, lefs } => Named::Check {
+        Task::Repair {
+            def,
+            lefs,
+            teams,
+            legal,
+            export,
+            lines,
+        } => Named::Repair {
             def: *def,
             lefs: lefs.as_slice(),
-        },
-        Task::Describe { def, lefs } => Named::Describe {
-            def: *def,
-            lefs: lefs.as_slice(),
+            teams: teams.as_slice(),
+            legal: *legal,
+            export: *export,
+            lines: *lines,
         },
     }
 }
@@ -107,11 +146,13 @@ fn words_name_the_demo_a_check_and_a_description(rt: HostRuntime) -> Result<(), 
     let check = Named::Check {
         def: "x.def",
         lefs: &["x.lef"],
+        state: None,
     };
     assert!(rt; names(rt.alloc(), "lefence check x.def x.lef", &check)?);
     let describe = Named::Describe {
         def: "x.def",
         lefs: &["x.lef"],
+        state: None,
     };
     assert!(rt; names(rt.alloc(), "lefence describe x.def x.lef", &describe)?);
     Ok(())
@@ -128,14 +169,18 @@ fn words_name_a_replay(rt: HostRuntime) -> Result<(), Fail> {
     let replay = Named::Replay {
         def: "w.def",
         lefs: &["w.lef", "x.lef"],
+        state: None,
         lines: 1_000_000,
+        save: None,
         export: None,
     };
     assert!(rt; all_name(rt.alloc(), lines.as_slice(), &replay)?);
     let replay = Named::Replay {
         def: "-w.def",
         lefs: &["--"],
+        state: None,
         lines: 1_000_000,
+        save: None,
         export: None,
     };
     assert!(rt; names(rt.alloc(), "lefence replay -- -w.def --", &replay)?);
@@ -152,7 +197,9 @@ fn words_name_the_file_of_an_export(rt: HostRuntime) -> Result<(), Fail> {
         let replay = Named::Replay {
             def: "a",
             lefs: &["b"],
+            state: None,
             lines: 1_000_000,
+            save: None,
             export: Some(path),
         };
         assert!(rt; names(rt.alloc(), line, &replay)?);
@@ -169,7 +216,9 @@ fn words_name_the_most_lines(rt: HostRuntime) -> Result<(), Fail> {
         let replay = Named::Replay {
             def: "a",
             lefs: &["b"],
+            state: None,
             lines,
+            save: None,
             export: None,
         };
         assert!(rt; names(rt.alloc(), line, &replay)?);
@@ -186,11 +235,73 @@ fn words_name_a_service(rt: HostRuntime) -> Result<(), Fail> {
         let service = Named::Serve {
             def: "a",
             lefs: &["b"],
+            state: None,
             port,
             connections: 3,
+            save: None,
             export: None,
         };
         assert!(rt; names(rt.alloc(), line, &service)?);
+    }
+    Ok(())
+}
+
+/// A saved state is gone on from, saved, or looked at.
+#[test]
+fn words_name_the_files_of_states(rt: HostRuntime) -> Result<(), Fail> {
+    let replay = Named::Replay {
+        def: "a",
+        lefs: &["b"],
+        state: Some("s"),
+        lines: 1_000_000,
+        save: Some("s"),
+        export: None,
+    };
+    let lines = ["lefence replay a b --state s --save s", "lefence replay --save=s a --state=s b"];
+    assert!(rt; all_name(rt.alloc(), lines.as_slice(), &replay)?);
+    let service = Named::Serve {
+        def: "a",
+        lefs: &["b"],
+        state: None,
+        port: 80,
+        connections: 3,
+        save: Some("s"),
+        export: None,
+    };
+    assert!(rt; names(rt.alloc(), "lefence serve a b --port 80 --save s --connections 3", &service)?);
+    let check = Named::Check {
+        def: "a",
+        lefs: &["b"],
+        state: Some("s"),
+    };
+    assert!(rt; names(rt.alloc(), "lefence check a b --state s", &check)?);
+    let describe = Named::Describe {
+        def: "a",
+        lefs: &["b"],
+        state: Some("s"),
+    };
+    assert!(rt; names(rt.alloc(), "lefence describe --state s a b", &describe)?);
+    Ok(())
+}
+
+#[test]
+fn words_name_a_repair(rt: HostRuntime) -> Result<(), Fail> {
+    let no_team: &[&str] = &[];
+    for (line, teams, legal) in [
+        ("lefence repair a b --lines c", no_team, LegalCells::MoveAsNeeded),
+        ("lefence repair --keep a b --lines=c", no_team, LegalCells::Stay),
+        ("lefence repair --team A a b --team=A --all --lines c", &["A", "A"], LegalCells::Move),
+        ("lefence repair a --team - b --lines c", &["-"], LegalCells::MoveAsNeeded),
+    ] {
+        let repair = Named::Repair {
+            def: "a",
+            lefs: &["b"],
+            teams,
+            legal,
+            export: None,
+            lines: Some("c"),
+        };
+        assert!(rt; names(rt.alloc(), line, &repair)?);
     }
     Ok(())
 }
@@ -223,6 +334,17 @@ fn other_words_are_refused(rt: HostRuntime) -> Result<(), Fail> {
         "lefence replay w.def w.lef --lines 5 --lines 5",
         "lefence describe x.def",
         "lefence describe x.def x.lef --lines 5",
+        "lefence describe x.def x.lef --save s",
+        "lefence check x.def x.lef --state s --state s",
+        "lefence replay x.def x.lef --save s --save s",
+        "lefence repair x.def",
+        "lefence repair x.def x.lef --keep --all",
+        "lefence repair x.def x.lef --all --keep",
+        "lefence repair x.def x.lef --keep --keep",
+        "lefence repair x.def x.lef --keep=true",
+        "lefence repair x.def x.lef --team",
+        "lefence repair x.def x.lef --team -x",
+        "lefence repair x.def x.lef --state s",
     ];
     let nothing = Named::Nothing(UsageFault::Usage);
     assert!(rt; all_name(rt.alloc(), lines.as_slice(), &nothing)?);

@@ -33,10 +33,12 @@ returns-in-Describe-clause-err g c =
 
 pub returns-in-Replay-clause-unasked : goal.returns-in-Replay-clause-unasked
 returns-in-Replay-clause-unasked g c = λ asks.
-    c.work.ensures.leaves.unasked (replay_asks c.in-Replay.def.now (map (λ lef. lef.now) c.in-Replay.lefs) c.in-Replay.lines
+    c.work.ensures.leaves.unasked (replay_asks c.in-Replay.def.now (map (λ lef. lef.now) c.in-Replay.lefs)
+    (option_map (λ path. path.now) c.in-Replay.state) c.in-Replay.lines (option_map (λ path. path.now) c.in-Replay.save)
     (option_map (λ path. path.now) c.in-Replay.export) (rw c.in-Replay.is at asks))
 
 pub returns-in-Serve-clause-unasked : goal.returns-in-Serve-clause-unasked
 returns-in-Serve-clause-unasked g c = λ asks.
-    c.work-in-Serve.ensures.leaves.unasked (serve_asks c.in-Serve.def.now (map (λ lef. lef.now) c.in-Serve.lefs) c.in-Serve.port c.in-Serve.connections
+    c.work-in-Serve.ensures.leaves.unasked (serve_asks c.in-Serve.def.now (map (λ lef. lef.now) c.in-Serve.lefs)
+    (option_map (λ path. path.now) c.in-Serve.state) c.in-Serve.port c.in-Serve.connections (option_map (λ path. path.now) c.in-Serve.save)
     (option_map (λ path. path.now) c.in-Serve.export) (rw c.in-Serve.is at asks))
