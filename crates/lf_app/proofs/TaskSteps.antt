@@ -7,7 +7,7 @@ use Rattle.lf_command.specs.declared.command.Task.{Task}
 use Rattle.lf_command.specs.declared.command.Task.TheVariants.{Demo, Replay, Serve, Check, Describe}
 use Rattle.lf_command.specs.Command.{Job, ReadsNone, as_job, check, demo, describe, replay, serve}
 use Rattle.lf_app.specs.declared.faults.Fault.{Fault}
-use Rattle.lf_app.specs.declared.faults.Fault.TheVariants.{Refused, File, NoState, ReadFault, WriteFault, TooManyLines, OutOfMemory, Output, Bind, Accept, Unwritten, Unsaved, NoMemory, NoRoom}
+use Rattle.lf_app.specs.declared.faults.Fault.TheVariants.{Refused, File, NoState, NoTeam, ReadFault, WriteFault, TooManyLines, OutOfMemory, Output, Bind, Accept, Unwritten, Unsaved, Unlisted, NoMemory, NoRoom}
 use Rattle.lf_app.specs.Designs.{Gives}
 use Rattle.lf_app.specs.Exits.{IsOutcome, Streams}
 use Rattle.lf_app.specs.Faults.{IsDone, IsFailure, status_of}
@@ -29,6 +29,7 @@ pub failing : (fault : Fault) (status : ℕ) → status ≡ status_of fault → 
 failing (Refused file refusal) status is = inl is
 failing (File file why) status is = inr is
 failing (NoState path refusal) status is = inl is
+failing (NoTeam name) status is = inl is
 failing ReadFault status is = inr is
 failing WriteFault status is = inr is
 failing TooManyLines status is = inr is
@@ -38,6 +39,7 @@ failing (Bind port why) status is = inr is
 failing Accept status is = inr is
 failing (Unwritten path) status is = inr is
 failing (Unsaved path) status is = inr is
+failing (Unlisted path) status is = inr is
 failing NoMemory status is = inl is
 failing NoRoom status is = inl is
 
