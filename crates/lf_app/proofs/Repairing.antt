@@ -1,0 +1,143 @@
+-- Runs of repairs, one after the other, and what they leave.
+use Rattle.std.proofs.Common.{◌≡◌, ℕ, zero, suc, ◌+◌, List, [], ◌∷◌, ◌++◌, length, Bool, true, false, map, Option, Some, None, cond, is_some, refl, ap, sym, ◌∙◌, subst, append-nil}
+use Rattle.std.specs.Prelude.{All, MatchBool, bytes_eq, position, slice_get, slice_set}
+use Rattle.std.specs.Borrow.{Bor}
+use Rattle.std.specs.List.{flat_map, position_from}
+use Rattle.std.specs.Io.KnownBytes.{Appends}
+use Rattle.std.proofs.lemmas.Bool.{false≢true}
+use Rattle.std.proofs.lemmas.Iterator.Adapters.{position_from-zero}
+use Rattle.std.proofs.lemmas.List.Elements.{All-append, All-nil}
+use Rattle.std.proofs.lemmas.List.Concat.{flat_map-append}
+use Rattle.lf_floorplan.specs.declared.place.Place.{Place}
+use Rattle.lf_rules.specs.Legalizer.{Legalizer}
+use Rattle.lf_proto.specs.declared.request.Command.{Command}
+use Rattle.lf_proto.specs.declared.request.Command.TheVariants.{Bye, To}
+use Rattle.lf_proto.specs.declared.request.Order.{Order}
+use Rattle.lf_proto.specs.declared.reply.Reply.{Reply}
+use Rattle.lf_devices.proofs.Known.{Appends-more, Appends-same}
+use Rattle.lf_teams.specs.States.{FloorState, TeamState}
+use Rattle.lf_teams.specs.Teams.{team_number}
+use Rattle.lf_teams.specs.Outcomes.{is_short}
+use Rattle.lf_teams.specs.Steps.{Answers, RunsShort, Step, answer_at, answer_by, answer_of}
+use Rattle.lf_teams.specs.Runs.{Run}
+use Rattle.lf_teams.specs.VerbLaws.{is_granted}
+use Rattle.lf_mend.specs.Mending.{ChangesOnly}
+use Rattle.lf_mend.specs.Runs.{IsWrittenRun, line_of, lines_of}
+use Rattle.lf_app.specs.Repairs.{IsAcceptedRun, IsKeptRun, OnlyAsked, is_asked}
+
+-- ---- runs
+
+run_append : (l : Legalizer) (a b c : FloorState) (commands others : List (Command (List ℕ) Place)) (replies answers : List Reply)
+    → Run l a commands replies b → Run l b others answers c → Run l a (commands ++ others) (replies ++ answers) c
+run_append l a b c [] others [] answers first second = subst (λ (f : FloorState). Run l f others answers c) first second
+run_append l a b c (d ∷ ds) others (r ∷ rs) answers first second = (first.0, first.1, run_append l first.0 b c ds others rs answers first.2 second)
+run_append l a b c [] others (r ∷ rs) answers first second = absurd first
+run_append l a b c (d ∷ ds) others [] answers first second = absurd first
+
+kept_bytes_stay : (a : Option (List ℕ)) → Appends a a []
+kept_bytes_stay None = tt
+kept_bytes_stay (Some xs) = sym (append-nil xs)
+
+-- nothing was asked
+pub nothing_asked : (l : Legalizer) (floor : FloorState) (bytes : Option (List ℕ)) → IsKeptRun l floor bytes bytes floor
+nothing_asked l floor bytes =
+    ([], record { replies = []; run = refl; granted = All-nil (λ (r : Reply). is_granted r ≡ true) }, kept_bytes_stay bytes)
+
+-- one run after the other
+pub then_kept : (l : Legalizer) (a b c : FloorState) (x y z : Option (List ℕ)) → IsKeptRun l a x y b → IsKeptRun l b y z c → IsKeptRun l a x z c
+then_kept l a b c x y z first second = (
+  first.0 ++ second.0,
+  record {
+    replies = first.1.replies ++ second.1.replies;
+    run = run_append l a b c first.0 second.0 first.1.replies second.1.replies first.1.run second.1.run;
+    granted = All-append (λ (r : Reply). is_granted r ≡ true) first.1.replies second.1.replies first.1.granted second.1.granted;
+  },
+  Appends-same x z (lines_of first.0 ++ lines_of second.0) (lines_of (first.0 ++ second.0)) (sym (flat_map-append line_of first.0 second.0))
+      (Appends-more x y z (lines_of first.0) (lines_of second.0) first.2 second.2),
+)
+
+-- the run of one team is one
+pub of_team : (l : Legalizer) (team : List ℕ) (old new : FloorState) (before after : Option (List ℕ)) → IsWrittenRun l team old before after new
+    → IsKeptRun l old before after new
+of_team l team old new before after run =
+    (run.0, record { replies = run.1.replies; run = run.1.run; granted = run.1.granted }, run.2)
+
+-- ---- who changes
+
+pub none_changes : (teams : List (List ℕ)) (floor : FloorState) → OnlyAsked teams floor floor
+none_changes teams floor = record { others = λ team asked. refl; frame = refl; components = refl; legal = λ legal. legal }
+
+pub then_asked : (teams : List (List ℕ)) (a b c : FloorState) → OnlyAsked teams a b → OnlyAsked teams b c → OnlyAsked teams a c
+then_asked teams a b c first second = record {
+  others = λ team asked. second.others team asked ∙ first.others team asked;
+  frame = second.frame ∙ first.frame;
+  components = second.components ∙ first.components;
+  legal = λ legal. second.legal (first.legal legal);
+}
+
+-- a team that is asked for changes
+pub one_asked : (teams : List (List ℕ)) (name : List ℕ) (old new : FloorState) → is_asked teams name ≡ true → ChangesOnly name old new → OnlyAsked teams old new
+one_asked teams name old new asked only = record {
+  others = λ team none. only.others team (λ (same : team ≡ name). false≢true (sym none ∙ (ap (is_asked teams) same ∙ asked)));
+  frame = only.frame;
+  components = only.components;
+  legal = only.legal;
+}
+
+-- ---- names
+
+position_mapped : (name : List ℕ) (i : ℕ) (teams : List (Bor (List ℕ)))
+    → position_from (λ (t : Bor (List ℕ)). bytes_eq t.now name) i teams ≡ position_from (λ (t : List ℕ). bytes_eq t name) i (map (λ (t : Bor (List ℕ)). t.now) teams)
+position_mapped name i [] = refl
+position_mapped name i (t ∷ ts) = go (bytes_eq t.now name) where
+  go : (b : Bool) → cond b (Some i) (position_from (λ (t : Bor (List ℕ)). bytes_eq t.now name) (i + 1) ts)
+      ≡ cond b (Some i) (position_from (λ (t : List ℕ). bytes_eq t name) (i + 1) (map (λ (t : Bor (List ℕ)). t.now) ts))
+  go true = refl
+  go false = position_mapped name (i + 1) ts
+
+-- the same name is found first among the names
+pub position_named : (name : List ℕ) (teams : List (Bor (List ℕ)))
+    → position (λ (t : Bor (List ℕ)). bytes_eq t.now name) teams ≡ position (λ (t : List ℕ). bytes_eq t name) (map (λ (t : Bor (List ℕ)). t.now) teams)
+position_named name teams =
+    position_from-zero (λ (t : Bor (List ℕ)). bytes_eq t.now name) teams ∙ position_mapped name 0 teams
+    ∙ sym (position_from-zero (λ (t : List ℕ). bytes_eq t name) (map (λ (t : Bor (List ℕ)). t.now) teams))
+
+-- ---- how many teams there are
+
+set_long : {X : Type 0} (xs : List X) (i : ℕ) (x : X) → length (slice_set xs i x) ≡ length xs
+set_long [] i x = refl
+set_long (y ∷ ys) zero x = refl
+set_long (y ∷ ys) (suc i) x = ap suc (set_long ys i x)
+
+by_long : (l : Legalizer) (floor : FloorState) (number : ℕ) (order : Order (List ℕ) Place) (o : Option TeamState)
+    → length (answer_by o l floor number order).floor.teams ≡ length floor.teams
+by_long l floor number order None = refl
+by_long l floor number order (Some s) = set_long floor.teams number _
+
+at_long : (l : Legalizer) (floor : FloorState) (order : Order (List ℕ) Place) (o : Option ℕ)
+    → length (answer_at o l floor order).floor.teams ≡ length floor.teams
+at_long l floor order None = refl
+at_long l floor order (Some number) = by_long l floor number order (slice_get floor.teams number)
+
+answer_long : (l : Legalizer) (floor : FloorState) (command : Command (List ℕ) Place) → length (answer_of l floor command).floor.teams ≡ length floor.teams
+unfolding answer_of
+answer_long l floor Bye = refl
+answer_long l floor (To name order) = at_long l floor order (team_number floor.frame name)
+
+step_long : (l : Legalizer) (old new : FloorState) (command : Command (List ℕ) Place) (reply : Reply) (short : Bool)
+    → MatchBool short (RunsShort l old command new) (Answers l old command reply new) → length new.teams ≡ length old.teams
+step_long l old new command reply true step = ap (λ (f : FloorState). length f.teams) step.short.kept
+step_long l old new command reply false step = ap (λ (f : FloorState). length f.teams) step.floor_is ∙ answer_long l old command
+
+run_long : (l : Legalizer) (commands : List (Command (List ℕ) Place)) (replies : List Reply) (old new : FloorState) → Run l old commands replies new
+    → length new.teams ≡ length old.teams
+run_long l [] [] old new run = ap (λ (f : FloorState). length f.teams) run
+run_long l (c ∷ cs) (r ∷ rs) old new run = run_long l cs rs run.0 new run.2 ∙ step_long l old run.0 c r (is_short r) run.1
+run_long l [] (r ∷ rs) old new run = absurd run
+run_long l (c ∷ cs) [] old new run = absurd run
+
+-- a run leaves as many teams as there were
+pub as_many : (l : Legalizer) (teams : List (List ℕ)) (old new : FloorState) (before after : Option (List ℕ)) → IsKeptRun l old before after new
+    → OnlyAsked teams old new → length old.teams ≡ length old.frame.teams + 1 → length new.teams ≡ length new.frame.teams + 1
+as_many l teams old new before after run only many =
+    run_long l run.0 run.1.replies old new run.1.run ∙ many ∙ ap (λ f. length f.teams + 1) (sym only.frame)
