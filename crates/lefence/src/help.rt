@@ -77,9 +77,9 @@ example:
 const REPAIR: &str = "lefence repair DEF LEF... [--team NAME]... [--keep | --all] [--export FILE] [--lines FILE]
 
 Gives the cells that break a rule or have no place legal places, of the teams that are named, or of all, and commits
-each team of which no cell is left. Legal cells move only where a cell would have no place or would go far; with --keep
-they stay, and with --all they move wherever that makes the whole way shorter. Writes a line of JSON for each team and
-one for all. With --export, the DEF text with the committed places in it goes to FILE; with --lines, the commands that
+each team of which no cell is left. Legal cells may move only where a cell would have no place or would go far; with
+--keep they stay, and with --all they move wherever that makes the whole way shorter. Writes a line of JSON for each
+team and one for all. With --export, the DEF text with the committed places in it goes to FILE; with --lines, the commands that
 did it. The exit status is 0 if the design is then fully legal, and 4 if it is not.
 
 example:

@@ -21,7 +21,7 @@ const USUAL_LINES: u32 = 1_000_000;
 /// What a repair does with cells that stand legally.
 #[derive(Clone, Copy, Debug, PartialEq, Eq)]
 pub enum LegalCells {
-    /// They stay, unless a cell would have no place or would go far.
+    /// They may move, but only where a cell would have no place or would go far.
     MoveAsNeeded,
     /// They stay.
     Stay,
