@@ -1,6 +1,6 @@
 -- Runs of repairs, one after the other, and what they leave.
-use Rattle.std.proofs.Common.{◌≡◌, ℕ, zero, suc, ◌+◌, List, [], ◌∷◌, ◌++◌, length, Bool, true, false, map, Option, Some, None, cond, is_some, refl, ap, sym, ◌∙◌, subst, append-nil}
-use Rattle.std.specs.Prelude.{All, MatchBool, bytes_eq, position, slice_get, slice_set}
+use Rattle.std.proofs.Common.{◌≡◌, ◌⊎◌, inl, inr, ℕ, zero, suc, ◌+◌, List, [], ◌∷◌, ◌++◌, length, Bool, true, false, map, Option, Some, None, cond, is_some, refl, ap, sym, ◌∙◌, subst, append-nil}
+use Rattle.std.specs.Prelude.{All, Err, IfOk, MatchBool, Ok, OnOk, Result, bytes_eq, position, slice_get, slice_set}
 use Rattle.std.specs.Borrow.{Bor}
 use Rattle.std.specs.List.{flat_map, position_from}
 use Rattle.std.specs.Io.KnownBytes.{Appends}
@@ -23,7 +23,13 @@ use Rattle.lf_teams.specs.Runs.{Run}
 use Rattle.lf_teams.specs.VerbLaws.{is_granted}
 use Rattle.lf_mend.specs.Mending.{ChangesOnly}
 use Rattle.lf_mend.specs.Runs.{IsWrittenRun, line_of, lines_of}
-use Rattle.lf_app.specs.Repairs.{IsAcceptedRun, IsKeptRun, OnlyAsked, is_asked}
+use Rattle.lf_files.specs.Shelf.{Put}
+use Rattle.lf_floorplan.specs.declared.frame.Frame.{Frame}
+use Rattle.lf_app.specs.declared.faults.Fault.{Fault}
+use Rattle.lf_app.specs.declared.faults.Fault.TheVariants.{Refused, File, NoState, NoTeam, ReadFault, WriteFault, TooManyLines, OutOfMemory, Output, Bind, Accept, Unwritten, Unsaved, Unlisted, NoMemory, NoRoom}
+use Rattle.lf_app.specs.Exits.{IsNotPut, IsUnrepaired}
+use Rattle.lf_app.specs.Faults.{Blames, IsEarly, IsExportFault, IsLinesFileFault, IsOfWriter}
+use Rattle.lf_app.specs.Repairs.{IsAcceptedRun, IsKeptRun, IsRepairFault, IsUnknown, OnlyAsked, is_asked}
 
 -- ---- runs
 
@@ -141,3 +147,69 @@ pub as_many : (l : Legalizer) (teams : List (List ℕ)) (old new : FloorState) (
     → OnlyAsked teams old new → length old.teams ≡ length old.frame.teams + 1 → length new.teams ≡ length new.frame.teams + 1
 as_many l teams old new before after run only many =
     run_long l run.0 run.1.replies old new run.1.run ∙ many ∙ ap (λ f. length f.teams + 1) (sym only.frame)
+
+-- ---- what is written
+
+-- where no lines are asked for none fail to be put
+pub none_unlisted : (lines : Option (List ℕ)) (fault : Fault) → lines ≡ None → IsLinesFileFault lines fault → ⊥
+none_unlisted lines fault none is = subst (λ (l : Option (List ℕ)). IsLinesFileFault l fault) none is
+
+-- an unknown name is told before anything is written
+pub unknown_early : (f : Frame) (teams : List (List ℕ)) (fault : Fault) → IsUnknown f teams fault → IsEarly fault
+unknown_early f teams (Refused file its) is = absurd is
+unknown_early f teams (File file why) is = absurd is
+unknown_early f teams (NoState path its) is = absurd is
+unknown_early f teams (NoTeam name) is = tt
+unknown_early f teams ReadFault is = absurd is
+unknown_early f teams WriteFault is = absurd is
+unknown_early f teams TooManyLines is = absurd is
+unknown_early f teams OutOfMemory is = absurd is
+unknown_early f teams Output is = absurd is
+unknown_early f teams (Bind port why) is = absurd is
+unknown_early f teams Accept is = absurd is
+unknown_early f teams (Unwritten path) is = absurd is
+unknown_early f teams (Unsaved path) is = absurd is
+unknown_early f teams (Unlisted path) is = absurd is
+unknown_early f teams NoMemory is = absurd is
+unknown_early f teams NoRoom is = absurd is
+
+-- so is want of memory in the repair
+pub memory_early : (fault : Fault) → fault ≡ NoMemory → IsEarly fault
+memory_early fault is = subst IsEarly (sym is) tt
+
+-- a report that is not written blames the writer
+pub output_blames : (kept reader writer export service sound : Type 0) (fault : Fault) → fault ≡ Output → writer → Blames fault kept reader writer export service sound
+output_blames kept reader writer export service sound fault is failed =
+    subst (λ (f : Fault). Blames f kept reader writer export service sound) (sym is) (record {
+      early = λ of. absurd of;
+      reading = λ same. absurd (subst IsOfWriter same tt);
+      writing = λ _. failed;
+      exporting = λ of. absurd of;
+      serving = λ of. absurd of;
+      sparing = λ of. absurd of;
+    })
+
+-- what holds of a value, and what holds where there is one, give what is asked of it
+pub ok_and : {A E : Type 0} (r : Result A E) (P R : A → Type 0) (Q : Type 0) → IfOk r P → OnOk r Q → ((value : A) → P value → Q → R value) → IfOk r R
+ok_and (Ok value) P R Q is also gives = gives value is also
+ok_and (Err fault) P R Q is also gives = tt
+
+-- a fault of what is put is one of the whole
+pub unput_as : (export lines before after : Option (List ℕ)) (old new : Option (List Put)) (fault : Fault) → ((bytes : List ℕ) × Appends before after bytes)
+    → (IsExportFault export fault × (new ≡ old)) ⊎ IsLinesFileFault lines fault → IsNotPut export lines before after old new fault
+unput_as export lines before after old new fault front (inl unexported) = record { why = inl unexported.0; front = front; unput = inl unexported.1 }
+unput_as export lines before after old new fault front (inr unlisted) = record { why = inr (inl unlisted); front = front; unput = inr unlisted }
+
+-- and so is one of the repair
+pub unrepaired_as : (teams : List (List ℕ)) (export lines : Option (List ℕ)) (begin : FloorState) (before after : Option (List ℕ)) (old new : Option (List Put))
+    (fault : Fault) → IsNotPut export lines before after old new fault → IsUnrepaired teams export lines begin before after old new fault
+unrepaired_as teams export lines begin before after old new fault is = record { why = by is.why; front = is.front; unput = is.unput } where
+  by : IsExportFault export fault ⊎ (IsLinesFileFault lines fault ⊎ (fault ≡ Output)) → IsRepairFault begin.frame teams export lines fault
+  by (inl exported) = inr (inl exported)
+  by (inr (inl listed)) = inr (inr (inl listed))
+  by (inr (inr written)) = inr (inr (inr (inr written)))
+
+-- nothing is written, and nothing put
+pub untouched : (teams : List (List ℕ)) (export lines : Option (List ℕ)) (begin : FloorState) (bytes : Option (List ℕ)) (old new : Option (List Put)) (fault : Fault)
+    → new ≡ old → IsRepairFault begin.frame teams export lines fault → IsUnrepaired teams export lines begin bytes bytes old new fault
+untouched teams export lines begin bytes old new fault unput why = record { why = why; front = ([], kept_bytes_stay bytes); unput = inl unput }

@@ -314,7 +314,7 @@ unbegun_early gives state loaded fault (inl memory) = subst IsEarly (sym memory)
 unbegun_early gives state loaded fault (inr state_fault) = state_early gives state (opening loaded) fault state_fault
 
 -- a design that is opened is that of its files
-design_opened : (gives : Gives) (def : List ℕ) (lefs : List (List ℕ)) (text : List ℕ) (document : Document) (loaded : Loaded)
+pub design_opened : (gives : Gives) (def : List ℕ) (lefs : List (List ℕ)) (text : List ℕ) (document : Document) (loaded : Loaded)
     → IsOpened gives def lefs text document loaded → IsDesignOf gives def lefs loaded
 design_opened gives def lefs text document loaded is =
     (is.library, is.lefs_are, record { text = text; given = is.given; design = (document, is.read, is.loads) })

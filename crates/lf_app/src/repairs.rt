@@ -43,7 +43,7 @@ use std::alloc::Global;
 
 /// A repair that is asked for: of a design of files, and what is written of it.
 #[derive(Clone, Copy)]
-pub(crate) struct Repair<'a> {
+pub(crate) struct RepairAsked<'a> {
     pub(crate) def: &'a str,
     pub(crate) lefs: &'a [&'a str],
     /// The names of the teams; all teams are repaired if there is none.
@@ -124,7 +124,7 @@ fn repair_numbered<'a>(
     alloc: Global,
     floor: &mut Floor<IndexSeeker>,
     number: usize,
-    asked: &Repair<'a>,
+    asked: &RepairAsked<'a>,
     lines: &mut KeptLines,
     report: &mut RepairReport,
 ) -> Result<(), Fault<'a>>
@@ -143,7 +143,7 @@ fn repair_numbered<'a>(
 fn repair_teams<'a>(
     alloc: Global,
     floor: &mut Floor<IndexSeeker>,
-    asked: &Repair<'a>,
+    asked: &RepairAsked<'a>,
     lines: &mut KeptLines,
     report: &mut RepairReport,
 ) -> Result<(), Fault<'a>>
@@ -184,7 +184,7 @@ fn judge<'f>(
 
 /// A repair that is done on a floor, and not written yet.
 #[derive(Drop)]
-struct Repaired {
+struct RepairDone {
     lines: KeptLines,
     report: RepairReport,
     /// The exit status.
@@ -195,8 +195,8 @@ struct Repaired {
 fn repaired<'a>(
     alloc: Global,
     floor: &mut Floor<IndexSeeker>,
-    asked: &Repair<'a>,
-) -> Result<Repaired, Fault<'a>>
+    asked: &RepairAsked<'a>,
+) -> Result<RepairDone, Fault<'a>>
     requires { length floor.old.teams ≡ length floor.old.frame.teams + 1 }
     ensures run { (l : Legalizer) → IfOk result (λ done. IsKeptRun l floor.old (begun_lines (path_of asked.now.lines)) (kept_text done.lines) floor.new) }
     ensures only { OnOk result (OnlyAsked (map (λ team. team.now) asked.now.teams.now) floor.old floor.new) }
@@ -208,7 +208,7 @@ fn repaired<'a>(
     let mut report = RepairReport::new(alloc);
     repair_teams(alloc, floor, asked, &mut lines, &mut report)?;
     let status = judge(alloc, floor, &mut report)?;
-    Ok(Repaired {
+    Ok(RepairDone {
         lines,
         report,
         status,
@@ -231,7 +231,7 @@ fn put_report<'f, W: Sink>(writer: &mut W, report: &RepairReport) -> Result<(), 
 }
 
 /// Makes sure, as far as that shows beforehand, that what is asked for can be written.
-fn try_files<'a, E: Exports>(asked: &Repair<'a>, exports: &mut E) -> Result<(), Fault<'a>>
+fn try_files<'a, E: Exports>(asked: &RepairAsked<'a>, exports: &mut E) -> Result<(), Fault<'a>>
     ensures err { IfErr result (λ fault. IsExportFault (path_of asked.now.export) fault ⊎ IsLinesFileFault (path_of asked.now.lines) fault) }
     ensures fails { IfErr result (λ fault. ExportFails fault (E.has_failed exports.old) (E.has_failed exports.new)) }
     ensures sound { OnOk result (E.has_failed exports.new ≡ E.has_failed exports.old) }
@@ -247,7 +247,7 @@ fn put_files<'a, E: Exports>(
     floor: &Floor<IndexSeeker>,
     original: &Original,
     lines: &KeptLines,
-    asked: &Repair<'a>,
+    asked: &RepairAsked<'a>,
     exports: &mut E,
 ) -> Result<(), Fault<'a>>
     requires fits { (places : List (ℕ × Option Place)) → AreCommittedPlaces floor.now places
@@ -270,8 +270,8 @@ fn put_files<'a, E: Exports>(
 fn put_all<'a, E: Exports, W: Sink>(
     floor: &Floor<IndexSeeker>,
     original: &Original,
-    done: &Repaired,
-    asked: &Repair<'a>,
+    done: &RepairDone,
+    asked: &RepairAsked<'a>,
     exports: &mut E,
     writer: &mut W,
 ) -> Result<u8, Fault<'a>>
@@ -299,7 +299,7 @@ fn repair_on_floor<'a, E: Exports, W: Sink>(
     alloc: Global,
     floor: &mut Floor<IndexSeeker>,
     original: &Original,
-    asked: &Repair<'a>,
+    asked: &RepairAsked<'a>,
     exports: &mut E,
     writer: &mut W,
 ) -> Result<u8, Fault<'a>>
@@ -326,7 +326,7 @@ fn repair_on_floor<'a, E: Exports, W: Sink>(
 fn repair_opened<'a, E: Exports, W: Sink>(
     alloc: Global,
     opened: Opened,
-    asked: &Repair<'a>,
+    asked: &RepairAsked<'a>,
     exports: &mut E,
     writer: &mut W,
 ) -> Result<u8, Fault<'a>>
@@ -357,7 +357,7 @@ pub(crate) fn repair<'a, T: Texts, E: Exports, W: Sink>(
     texts: &T,
     exports: &mut E,
     writer: &mut W,
-    asked: &Repair<'a>,
+    asked: &RepairAsked<'a>,
 ) -> Result<u8, Fault<'a>>
     ensures ok { IfOk result (IsOpenRepaired (T.gives texts.now) asked.now.def.now (map (λ lef. lef.now) asked.now.lefs.now)
         (map (λ team. team.now) asked.now.teams.now) (path_of asked.now.export) (path_of asked.now.lines)

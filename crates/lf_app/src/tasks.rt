@@ -17,7 +17,7 @@ use crate::descriptions::describe_files;
 use crate::designs::design_of_texts;
 use crate::faults::{Exit, Fault, done, tell};
 use crate::outputs::Outputs;
-use crate::repairs::{Repair, repair};
+use crate::repairs::{RepairAsked, repair};
 use crate::services::{NetServices, Services};
 use crate::surroundings::Surroundings;
 use crate::texts::{FileTexts, Texts};
@@ -148,7 +148,7 @@ fn outcome<'a, T: Texts, E: Exports, V: Services, R: Source, W: Sink, F>(
             export,
             lines,
         } => {
-            let asked = Repair {
+            let asked = RepairAsked {
                 def: *def,
                 lefs: lefs.as_slice(),
                 teams: teams.as_slice(),
