@@ -1,7 +1,9 @@
 -- Whether the committed places of each team are legal, by what is found of its listed cells.
 use Rattle.std.proofs.Common.{◌≡◌, ◌⊎◌, inl, inr, ℕ, zero, suc, ◌+◌, ◌<◌, List, [], ◌∷◌, ◌++◌, length, map, Option, Some, None, refl, ap, sym, ◌∙◌, subst, arith}
-use Rattle.std.specs.Prelude.{◌↔◌, All, count_by, is_none, is_some, slice_get, option_map}
+use Rattle.std.specs.Prelude.{◌↔◌, All, Bool, IfOk, IsTrue, Result, count_by, is_none, is_some, slice_get, option_map}
+use Rattle.std.specs.declared.alloc.AllocError.{AllocError}
 use Rattle.std.specs.Borrow.{Bor}
+use Rattle.std.proofs.lemmas.Result.{IfOk-weaker}
 use Rattle.std.proofs.lemmas.List.Elements.{All-cons, All-nil, All-head, All-tail}
 use Rattle.lf_floorplan.specs.declared.frame.Frame.{Frame}
 use Rattle.lf_floorplan.specs.declared.place.Place.{Place}
@@ -49,7 +51,7 @@ legal_list l f cells verdicts known are =
 -- ---- one team alone
 
 -- a team with that many teams without cells before it
-padded : ℕ → List Member → List (List Member)
+abbrev padded : ℕ → List Member → List (List Member)
 padded zero members = members ∷ []
 padded (suc before) members = [] ∷ padded before members
 
@@ -120,3 +122,20 @@ committed_known f number (c ∷ cells) sized printed =
     All-cons (IsListed f) (committed_listed number c) (map (committed_listed number) cells)
     (record { known = size.known; sized = size.sized; printed = name })
     (committed_known f number cells (All-tail (λ (x : Cell). IsSizedCell f x) c cells sized) (All-tail (λ (x : Cell). IsName x.name) c cells printed))
+
+-- what is found of the listed cells of a team is so of its committed places
+pub judged_as : (f g : Frame) (number : ℕ) (s : TeamState) (cells : List (Listed (List ℕ))) (r : Result Bool AllocError) → g ≡ f
+    → cells ≡ map (committed_listed number) s.cells → IfOk r (λ legal. IsTrue legal ↔ IsFullyLegal g (map standing_of cells))
+    → IfOk r (λ legal. IsTrue legal ↔ AreCommittedLegal f number s)
+judged_as f g number s cells r frame are found =
+    IfOk-weaker r (λ legal. IsTrue legal ↔ IsFullyLegal g (map standing_of cells)) (λ legal. IsTrue legal ↔ AreCommittedLegal f number s) (λ legal is.
+    let same : IsTrue legal ↔ IsFullyLegal f (map standing_of (map (committed_listed number) s.cells)) =
+    subst (λ (h : Frame). IsTrue legal ↔ IsFullyLegal h (map standing_of (map (committed_listed number) s.cells))) frame
+    (subst (λ (cs : List (Listed (List ℕ))). IsTrue legal ↔ IsFullyLegal g (map standing_of cs)) are is) in
+    let judged = team_judged f number s in (λ yes. judged.0 (same.0 yes), λ legal_there. same.1 (judged.1 legal_there)))
+    found
+
+pub there_is : {X : Type 0} (xs : List X) (k : ℕ) → k < length xs → (x : X) × (slice_get xs k ≡ Some x)
+there_is [] k less = absurd (omega (arith, less))
+there_is (x ∷ xs) zero less = (x, refl)
+there_is (x ∷ xs) (suc k) less = there_is xs k (omega (arith, less))
