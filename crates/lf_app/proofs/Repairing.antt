@@ -1,9 +1,10 @@
 -- Runs of repairs, one after the other, and what they leave.
 use Rattle.std.proofs.Common.{◌≡◌, ◌⊎◌, inl, inr, ℕ, zero, suc, ◌+◌, List, [], ◌∷◌, ◌++◌, length, Bool, true, false, map, Option, Some, None, cond, is_some, refl, ap, sym, ◌∙◌, subst, append-nil}
-use Rattle.std.specs.Prelude.{All, Err, IfOk, MatchBool, Ok, OnOk, Result, bytes_eq, position, slice_get, slice_set}
+use Rattle.std.specs.Prelude.{◌==◌, ◌||◌, All, Err, IfOk, MatchBool, Ok, OnOk, Result, bytes_eq, position, slice_get, slice_set}
 use Rattle.std.specs.Borrow.{Bor}
 use Rattle.std.specs.List.{flat_map, position_from}
 use Rattle.std.specs.Io.KnownBytes.{Appends}
+use Rattle.std.proofs.Math.ListN.{length-map}
 use Rattle.std.proofs.lemmas.Bool.{false≢true}
 use Rattle.std.proofs.lemmas.Iterator.Adapters.{position_from-zero}
 use Rattle.std.proofs.lemmas.List.Elements.{All-append, All-nil}
@@ -95,11 +96,7 @@ one_asked teams name old new asked only = record {
 position_mapped : (name : List ℕ) (i : ℕ) (teams : List (Bor (List ℕ)))
     → position_from (λ (t : Bor (List ℕ)). bytes_eq t.now name) i teams ≡ position_from (λ (t : List ℕ). bytes_eq t name) i (map (λ (t : Bor (List ℕ)). t.now) teams)
 position_mapped name i [] = refl
-position_mapped name i (t ∷ ts) = go (bytes_eq t.now name) where
-  go : (b : Bool) → cond b (Some i) (position_from (λ (t : Bor (List ℕ)). bytes_eq t.now name) (i + 1) ts)
-      ≡ cond b (Some i) (position_from (λ (t : List ℕ). bytes_eq t name) (i + 1) (map (λ (t : Bor (List ℕ)). t.now) ts))
-  go true = refl
-  go false = position_mapped name (i + 1) ts
+position_mapped name i (t ∷ ts) = ap (λ (o : Option ℕ). cond (bytes_eq t.now name) (Some i) o) (position_mapped name (i + 1) ts)
 
 -- the same name is found first among the names
 pub position_named : (name : List ℕ) (teams : List (Bor (List ℕ)))
@@ -107,6 +104,15 @@ pub position_named : (name : List ℕ) (teams : List (Bor (List ℕ)))
 position_named name teams =
     position_from-zero (λ (t : Bor (List ℕ)). bytes_eq t.now name) teams ∙ position_mapped name 0 teams
     ∙ sym (position_from-zero (λ (t : List ℕ). bytes_eq t name) (map (λ (t : Bor (List ℕ)). t.now) teams))
+
+-- a team that is found among the names is asked for
+pub asked_named : (name : List ℕ) (teams : List (Bor (List ℕ))) (found : Bool) → (length teams == 0) ≡ false
+    → found ≡ is_some (position (λ (t : Bor (List ℕ)). bytes_eq t.now name) teams) → found ≡ is_asked (map (λ (t : Bor (List ℕ)). t.now) teams) name
+asked_named name teams found some is =
+    let names = map (λ (t : Bor (List ℕ)). t.now) teams in
+    let here = is_some (position (λ (t : List ℕ). bytes_eq t name) names) in
+    let many : (length names == 0) ≡ false = ap (λ (n : ℕ). n == 0) (length-map teams (λ (t : Bor (List ℕ)). t.now)) ∙ some in
+    is ∙ ap (λ (o : Option ℕ). is_some o) (position_named name teams) ∙ sym (ap (λ (b : Bool). b || here) many)
 
 -- ---- how many teams there are
 

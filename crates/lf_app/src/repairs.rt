@@ -1,6 +1,6 @@
 //! The repair of the teams of a design: the floor's own commands give their cells legal places.
 
-ghost use Rattle.std.specs.Prelude.{◌≡◌, ◌⊎◌, ◌+◌, ℕ, Bool, List, None, Option, IfErr, IfOk, IsTrue, OnErr, OnOk, length, map, true};
+ghost use Rattle.std.specs.Prelude.{◌≡◌, ◌⊎◌, ◌+◌, ℕ, Bool, List, None, Option, IfErr, IfOk, IsTrue, OnErr, OnOk, bytes_eq, length, map, position, true};
 ghost use Rattle.std.specs.Io.KnownBytes.{Appends};
 ghost use Rattle.lf_def.specs.Document.{Document};
 ghost use Rattle.lf_files.specs.Shelf.{Put};
@@ -64,6 +64,13 @@ fn how_of(legal: LegalCells) -> How {
     }
 }
 
+/// Where the name stands first among these; none if it is none of them.
+fn position_of(teams: &[&str], name: &[u8]) -> Option<usize>
+    ensures { result ≡ position (λ team. bytes_eq team.now name.now) teams.now }
+{
+    teams.iter().position(|team| team.as_bytes() == name)
+}
+
 /// Whether the team of that name is to be repaired: it is one of these, or none is named.
 fn is_asked(teams: &[&str], name: &[u8]) -> bool
     ensures { result ≡ is_asked (map (λ team. team.now) teams.now) name.now }
@@ -71,10 +78,7 @@ fn is_asked(teams: &[&str], name: &[u8]) -> bool
     if teams.len() == 0 {
         return true;
     }
-    teams
-        .iter()
-        .position(|team| team.as_bytes() == name)
-        .is_some()
+    position_of(teams, name).is_some()
 }
 
 /// Makes sure that each of the names is that of a team.
@@ -120,6 +124,7 @@ fn team_name(frame: &Frame, number: usize) -> &[u8] {
 }
 
 /// Repairs the team of that number, if it is asked for.
+#[tactic(auto, using(crate::proofs::Repairing::nothing_asked, crate::proofs::Repairing::none_changes))]
 fn repair_numbered<'a>(
     alloc: Global,
     floor: &mut Floor<IndexSeeker>,
