@@ -1,4 +1,4 @@
-use Rattle.std.proofs.Common.{◌≡◌, ◌∙◌, ap, inl, inr, refl, subst, sym, List, length}
+use Rattle.std.proofs.Common.{◌≡◌, ◌∙◌, ◌+◌, ap, inl, inr, refl, subst, sym, List, length}
 use Rattle.std.proofs.lemmas.Result.{IfErr-weaker, err_from_is_err_and}
 use Rattle.lf_teams.specs.Designs.{opening}
 use Rattle.lf_teams.specs.States.{FloorState}
@@ -10,8 +10,8 @@ use Rattle.lf_app.proofs.repairs.repair_opened.Goals as goal
 
 pub repair_on_floor-requires : goal.repair_on_floor-requires
 repair_on_floor-requires g c =
-    let document = c.requires.1 in
-    let kept = c.requires.2 in
+    let document = c.requires.loads.1 in
+    let kept = c.requires.loads.2 in
     let is = c.in_ok-floor.ensures in
     record {
       teams = subst (λ (f : FloorState). length f.teams ≡ length f.frame.teams + 1) (sym is) (opening_whole c.args.opened.loaded).0;
