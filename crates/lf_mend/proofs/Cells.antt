@@ -1,6 +1,6 @@
 -- A change of one cell leaves the places of all others.
 use Rattle.std.proofs.Common.{◌≡◌, ◌≢◌, ◌⊎◌, inl, inr, ⊎_elim, ℕ, zero, suc, ◌<◌, List, [], ◌∷◌, length, map, get_or, Bool, true, false, cond, eqb, ltb, Option, Some, None, refl, ap, sym, ◌∙◌, subst, arith}
-use Rattle.std.specs.Prelude.{AllPairs, position, bytes_eq, slice_get, option_and_then}
+use Rattle.std.specs.Prelude.{AllPairs, bytes_eq, slice_get, option_and_then}
 use Rattle.std.specs.Option.{option_map}
 use Rattle.std.proofs.lemmas.Bool.{cases_eq}
 use Rattle.std.proofs.lemmas.List.Quantifiers.{position-Some}
@@ -15,7 +15,6 @@ use Rattle.lf_proto.specs.declared.request.Order.TheVariants.{Within}
 use Rattle.lf_proto.specs.declared.verb.Action.TheVariants.{Change as Changing}
 use Rattle.lf_proto.specs.declared.verb.Change.{Change}
 use Rattle.lf_proto.specs.declared.verb.Change.TheVariants.{Place as PlaceAt, Legalize, Tidy, Unplace, Swap, Undo, Commit, Revert, Pad}
-use Rattle.lf_proto.specs.declared.reply.Reply.{Reply}
 use Rattle.lf_proto.specs.declared.reply.Refusal.TheVariants.{RevisionsSpent, Stale}
 use Rattle.lf_reports.specs.declared.illegal.BrokenCell.{BrokenCell}
 use Rattle.lf_cells.specs.declared.cell.Cell.{Cell}
@@ -26,11 +25,10 @@ use Rattle.lf_teams.specs.Outcomes.{Outcome, name_at, refused}
 use Rattle.lf_teams.specs.Sessions.{seen_at}
 use Rattle.lf_teams.specs.Looks.{best_at}
 use Rattle.lf_teams.specs.Changes.{placed, placed_own, placed_unless, unplaced, unplaced_own, unplaced_from, legalized, legalized_own, legalized_at, committed, committed_unless, first_unplaced, broken_cells, outcome_of_change}
-use Rattle.lf_teams.specs.Verbs.{unless_spent, unless_stale, outcome_by_slot}
-use Rattle.lf_teams.specs.VerbLaws.{outcome_of_asking}
-use Rattle.lf_teams.specs.Steps.{Step}
+use Rattle.lf_teams.specs.Verbs.{unless_spent, outcome_by_slot}
+use Rattle.lf_teams.specs.VerbLaws.{is_commit, outcome_of_asking}
 use Rattle.lf_teams.proofs.Standing.{moved_there}
-use Rattle.lf_mend.specs.Deeds.{IsOfCell}
+use Rattle.lf_mend.specs.Deeds.{IsAsked, IsOfCell, PlacesStay}
 use Rattle.lf_mend.specs.Mending.{place_in}
 use Rattle.lf_mend.proofs.Steps.{place_stays}
 
@@ -162,13 +160,25 @@ named_is cells own other name differ at named = ⊎_elim (λ (same : other ≡ o
 
 -- ---- the floor
 
+-- a change of one cell is no commit
+pub no_commit : (session : ℕ) (cell : List ℕ) (change : Change (List ℕ) Place) → IsOfCell cell change → is_commit (Within session (Changing change)) ≡ false
+no_commit session cell (PlaceAt name place) is = refl
+no_commit session cell (Legalize name target) is = refl
+no_commit session cell (Unplace name) is = refl
+no_commit session cell Tidy is = refl
+no_commit session cell (Swap first second) is = refl
+no_commit session cell Undo is = refl
+no_commit session cell Commit is = absurd is
+no_commit session cell Revert is = refl
+no_commit session cell (Pad padding) is = refl
+
 -- a change of the cell of that name leaves the place of each cell that it is not
-pub others_stay : (l : Legalizer) (old new : FloorState) (team cell : List ℕ) (session : ℕ) (change : Change (List ℕ) Place) (reply : Reply) (other : ℕ)
-    → IsOfCell cell change → Step l old (To team (Within session (Changing change))) reply new
+pub others_stay : (l : Legalizer) (old new : FloorState) (team cell : List ℕ) (session : ℕ) (change : Change (List ℕ) Place) (other : ℕ)
+    → IsOfCell cell change → IsAsked l old (To team (Within session (Changing change))) new
     → ((s : TeamState) → state_of old team ≡ Some s → cell_named cell s.cells ≡ Some other → ⊥)
     → place_in new team other ≡ place_in old team other
-others_stay l old new team cell session change reply other is step differ =
-    place_stays l old new team (Within session (Changing change)) reply other step
+others_stay l old new team cell session change other is asked differ =
+    place_stays l old new team (Within session (Changing change)) other asked
     (λ number s there. asked_of (λ cells. working_at cells other ≡ working_at s.cells other) (setting l old.frame number s.padding) session change s refl
     (change_stays s cell other (differ s there) (setting l old.frame number s.padding) session change is))
 
@@ -186,9 +196,9 @@ commit_done t session own s = go (first_unplaced s.cells) (broken_cells t s.cell
   go None [] = committed_working s.cells own
 
 -- a commit leaves all places
-pub commit_stays : (l : Legalizer) (old new : FloorState) (team : List ℕ) (session : ℕ) (reply : Reply) (own : ℕ)
-    → Step l old (To team (Within session (Changing Commit))) reply new → place_in new team own ≡ place_in old team own
-commit_stays l old new team session reply own step =
-    place_stays l old new team (Within session (Changing Commit)) reply own step
+pub commit_stays : (l : Legalizer) (old new : FloorState) (team : List ℕ) (session : ℕ) → IsAsked l old (To team (Within session (Changing Commit))) new
+    → PlacesStay team old new
+commit_stays l old new team session asked own =
+    place_stays l old new team (Within session (Changing Commit)) own asked
     (λ number s there. asked_of (λ cells. working_at cells own ≡ working_at s.cells own) (setting l old.frame number s.padding) session Commit s refl
     (commit_done (setting l old.frame number s.padding) session own s))

@@ -2,5 +2,9 @@ mod Lines
 mod Runs
 mod Steps
 mod Cells
+mod Lists
 mod Legal
+mod Ids
+mod Marking
+mod Finding
 mod Results

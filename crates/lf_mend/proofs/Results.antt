@@ -1,6 +1,6 @@
 -- What holds of a result, from what holds in any case.
-use Rattle.std.proofs.Common.{◌≡◌, ℕ, List, Bool, true, false, Option, None, Some, Result, Ok, Err, OnOk, OnErr, sym, ap, ◌∙◌, subst}
-use Rattle.std.specs.Prelude.{All, IfOk, is_err, slice_get}
+use Rattle.std.proofs.Common.{◌≡◌, ℕ, List, false, Option, None, Some, Result, Ok, Err, OnOk, OnErr, subst}
+use Rattle.std.specs.Prelude.{All, IfOk, is_err}
 use Rattle.std.proofs.lemmas.Option.{slice_get_within, get_or_from_slice_get}
 use Rattle.lf_teams.specs.States.{FloorState, TeamState}
 use Rattle.lf_teams.specs.Teams.{state_at, state_of, team_number}
@@ -17,9 +17,13 @@ pub ok_then : {T E : Type 0} (r : Result T E) (A B : Type 0) → (A → B) → I
 ok_then (Ok x) A B f a = f a
 ok_then (Err e) A B f a = tt
 
-pub ok_each : {T E : Type 0} (r : Result T E) (A B : ℕ → Type 0) → ((k : ℕ) → A k → IfOk r (λ x. B k)) → IfOk r (λ x. (k : ℕ) → A k → B k)
-ok_each (Ok x) A B f = f
-ok_each (Err e) A B f = tt
+pub err_then : {T E : Type 0} (r : Result T E) (A B : Type 0) → (A → B) → OnErr r A → OnErr r B
+err_then (Ok x) A B f a = tt
+err_then (Err e) A B f a = f a
+
+pub ok_weaker : {T E : Type 0} (r : Result T E) (P Q : T → Type 0) → ((x : T) → P x → Q x) → IfOk r P → IfOk r Q
+ok_weaker (Ok x) P Q f p = f x p
+ok_weaker (Err e) P Q f p = tt
 
 pub ok_is : {T E : Type 0} (r : Result T E) (P : Type 0) → is_err r ≡ false → OnOk r P → P
 ok_is (Ok x) P e p = p

@@ -1,15 +1,15 @@
 -- Runs one after the other, and what they leave.
-use Rattle.std.proofs.Common.{◌≡◌, ◌≢◌, ℕ, List, [], ◌∷◌, ◌++◌, Bool, true, false, Option, Some, None, refl, ap, sym, ◌∙◌, subst, append-nil}
-use Rattle.std.specs.Prelude.{All, slice_get}
-use Rattle.std.specs.List.{flat_map}
+use Rattle.std.proofs.Common.{◌≡◌, ◌≢◌, ℕ, List, [], ◌∷◌, ◌++◌, Bool, true, false, Option, Some, None, refl, sym, ◌∙◌, subst, append-nil}
 use Rattle.std.specs.Io.KnownBytes.{Appends}
 use Rattle.std.proofs.lemmas.List.Elements.{All-append, All-cons, All-nil}
 use Rattle.std.proofs.lemmas.List.Concat.{flat_map-append}
 use Rattle.lf_floorplan.specs.declared.place.Place.{Place}
+use Rattle.lf_proto.specs.Lines.{IsName}
 use Rattle.lf_rules.specs.Legalizer.{Legalizer}
 use Rattle.lf_proto.specs.declared.request.Command.{Command}
 use Rattle.lf_proto.specs.declared.request.Command.TheVariants.{Bye, To}
 use Rattle.lf_proto.specs.declared.reply.Reply.{Reply}
+use Rattle.lf_proto.specs.Requests.{IsPlain}
 use Rattle.lf_devices.proofs.Known.{Appends-more, Appends-same}
 use Rattle.lf_teams.specs.States.{FloorState}
 use Rattle.lf_teams.specs.Teams.{state_of}
@@ -18,7 +18,8 @@ use Rattle.lf_teams.specs.Runs.{Run}
 use Rattle.lf_teams.specs.VerbLaws.{is_granted}
 use Rattle.lf_teams.specs.Committed.{IsCommittedLegal}
 use Rattle.lf_mend.specs.Runs.{IsRunBy, IsRunOf, IsWrittenRun, line_of, lines_of}
-use Rattle.lf_mend.specs.Mending.{ChangesOnly, MarkedStay, place_in}
+use Rattle.lf_mend.specs.Deeds.{MarkedStay}
+use Rattle.lf_mend.specs.Mending.{ChangesOnly, names_in}
 
 -- ---- runs
 
@@ -30,15 +31,16 @@ run_append l a b c [] others (r ∷ rs) answers first second = absurd first
 run_append l a b c (d ∷ ds) others [] answers first second = absurd first
 
 none_run : (l : Legalizer) (team : List ℕ) (a b : FloorState) → b ≡ a → IsRunBy [] l team a b
-none_run l team a b same = record { replies = []; run = same; granted = All-nil (λ (r : Reply). is_granted r ≡ true); own = All-nil (IsTo team) }
+none_run l team a b same = record { replies = []; run = same; granted = All-nil (λ (r : Reply). is_granted r ≡ true); own = All-nil (IsTo team); plain = λ name. All-nil IsPlain }
 
 one_run : (l : Legalizer) (team : List ℕ) (a b : FloorState) (command : Command (List ℕ) Place) (reply : Reply) → IsTo team command
-    → Step l a command reply b → is_granted reply ≡ true → IsRunBy (command ∷ []) l team a b
-one_run l team a b command reply to step granted = record {
+    → (IsName team → IsPlain command) → Step l a command reply b → is_granted reply ≡ true → IsRunBy (command ∷ []) l team a b
+one_run l team a b command reply to plain step granted = record {
   replies = reply ∷ [];
   run = (b, step, refl);
   granted = All-cons (λ (r : Reply). is_granted r ≡ true) reply [] granted (All-nil (λ (r : Reply). is_granted r ≡ true));
   own = All-cons (IsTo team) command [] to (All-nil (IsTo team));
+  plain = λ name. All-cons IsPlain command [] (plain name) (All-nil IsPlain);
 }
 
 then_run : (l : Legalizer) (team : List ℕ) (a b c : FloorState) (commands others : List (Command (List ℕ) Place))
@@ -48,6 +50,7 @@ then_run l team a b c commands others first second = record {
   run = run_append l a b c commands others first.replies second.replies first.run second.run;
   granted = All-append (λ (r : Reply). is_granted r ≡ true) first.replies second.replies first.granted second.granted;
   own = All-append (IsTo team) commands others first.own second.own;
+  plain = λ name. All-append IsPlain commands others (first.plain name) (second.plain name);
 }
 
 -- ---- what is written
@@ -67,18 +70,18 @@ left_out l team old new bytes reply keeps refused = ([], none_run l team old new
 
 -- one command, and its line
 pub one_written : (l : Legalizer) (team : List ℕ) (old new : FloorState) (before after : Option (List ℕ)) (line : List ℕ) (command : Command (List ℕ) Place) (reply : Reply)
-    → IsTo team command → Step l old command reply new → is_granted reply ≡ true → line ≡ line_of command → Appends before after line
+    → IsTo team command → (IsName team → IsPlain command) → Step l old command reply new → is_granted reply ≡ true → line ≡ line_of command → Appends before after line
     → IsWrittenRun l team old before after new
-one_written l team old new before after line command reply to step granted is appends = (
+one_written l team old new before after line command reply to plain step granted is appends = (
   command ∷ [],
-  one_run l team old new command reply to step granted,
+  one_run l team old new command reply to plain step granted,
   Appends-same before after line (lines_of (command ∷ [])) (is ∙ sym (append-nil (line_of command))) appends,
 )
 
 -- one command, whatever was written
 pub one_asked : (l : Legalizer) (team : List ℕ) (old new : FloorState) (command : Command (List ℕ) Place) (reply : Reply)
-    → IsTo team command → Step l old command reply new → is_granted reply ≡ true → IsRunOf l team old new
-one_asked l team old new command reply to step granted = (command ∷ [], one_run l team old new command reply to step granted)
+    → IsTo team command → (IsName team → IsPlain command) → Step l old command reply new → is_granted reply ≡ true → IsRunOf l team old new
+one_asked l team old new command reply to plain step granted = (command ∷ [], one_run l team old new command reply to plain step granted)
 
 pub none_asked : (l : Legalizer) (team : List ℕ) (floor : FloorState) → IsRunOf l team floor floor
 none_asked l team floor = ([], none_run l team floor floor refl)
@@ -99,24 +102,26 @@ then_asked l team a b c x y first second = (first.0 ++ second.0, then_run l team
 -- ---- what stays
 
 pub unchanged : (team : List ℕ) (floor : FloorState) → ChangesOnly team floor floor
-unchanged team floor = record { others = λ other differ. refl; frame = refl; components = refl; legal = λ legal. legal }
+unchanged team floor = record { others = λ other differ. refl; frame = refl; components = refl; names = refl; legal = λ legal. legal }
 
 pub then_only : (team : List ℕ) (a b c : FloorState) → ChangesOnly team a b → ChangesOnly team b c → ChangesOnly team a c
 then_only team a b c first second = record {
   others = λ other differ. second.others other differ ∙ first.others other differ;
   frame = second.frame ∙ first.frame;
   components = second.components ∙ first.components;
+  names = second.names ∙ first.names;
   legal = λ legal. second.legal (first.legal legal);
 }
 
 -- a step to the team changes no other
 pub step_only : (team : List ℕ) (command : Command (List ℕ) Place) (old new : FloorState) → IsTo team command
     → ((other : List ℕ) → ¬ IsTo other command → state_of new other ≡ state_of old other) → new.frame ≡ old.frame → new.components ≡ old.components
-    → (IsCommittedLegal old → IsCommittedLegal new) → ChangesOnly team old new
-step_only team command old new to others frame components legal = record {
+    → names_in new team ≡ names_in old team → (IsCommittedLegal old → IsCommittedLegal new) → ChangesOnly team old new
+step_only team command old new to others frame components names legal = record {
   others = λ other differ. others other (not_to command to other differ);
   frame = frame;
   components = components;
+  names = names;
   legal = legal;
 } where
   not_to : (c : Command (List ℕ) Place) → IsTo team c → (other : List ℕ) → other ≢ team → ¬ IsTo other c

@@ -1,24 +1,26 @@
 -- What a step to a team does to it.
-use Rattle.std.proofs.Common.{◌≡◌, ◌≢◌, ◌⊎◌, inl, inr, ℕ, zero, suc, ◌<◌, List, [], ◌∷◌, length, map, Bool, true, false, Option, Some, None, refl, ap, sym, ◌∙◌, subst}
+use Rattle.std.proofs.Common.{◌≡◌, ◌⊎◌, inl, inr, ℕ, List, map, Bool, true, false, Option, Some, None, refl, ap, sym, ◌∙◌, subst}
 use Rattle.std.specs.Prelude.{MatchBool, slice_get, option_and_then}
 use Rattle.std.specs.Option.{option_map}
-use Rattle.std.proofs.lemmas.Option.{slice_get-map}
-use Rattle.lf_floorplan.specs.declared.frame.Frame.{Frame}
 use Rattle.lf_floorplan.specs.declared.place.Place.{Place}
 use Rattle.lf_rules.specs.Legalizer.{Legalizer}
 use Rattle.lf_proto.specs.declared.request.Command.{Command}
-use Rattle.lf_proto.specs.declared.request.Command.TheVariants.{To}
+use Rattle.lf_proto.specs.declared.request.Command.TheVariants.{Bye, To}
 use Rattle.lf_proto.specs.declared.request.Order.{Order}
 use Rattle.lf_proto.specs.declared.reply.Reply.{Reply}
 use Rattle.lf_cells.specs.declared.cell.Cell.{Cell}
 use Rattle.lf_cells.specs.Cells.{working_at}
 use Rattle.lf_teams.specs.States.{FloorState, TeamState}
-use Rattle.lf_teams.specs.Teams.{setting, state_at, state_of, team_number}
-use Rattle.lf_teams.specs.Outcomes.{is_short}
-use Rattle.lf_teams.specs.Steps.{Answer, Answers, RunsShort, Step, answer_at, answer_by, answer_of, no_team, ruled}
-use Rattle.lf_teams.specs.VerbLaws.{KeepsCells, LookKeeps, is_change}
+use Rattle.lf_teams.specs.Teams.{Setting, setting, state_at, state_of, team_number}
+use Rattle.lf_teams.specs.Outcomes.{Outcome, is_short}
+use Rattle.lf_teams.specs.Steps.{Answers, IsTo, RunsShort, Step, answer_at, answer_by, answer_of, ruled}
+use Rattle.lf_teams.specs.Verbs.{outcome_of}
+use Rattle.lf_teams.specs.VerbLaws.{LookKeeps, committed_places, is_change, is_commit}
 use Rattle.lf_teams.proofs.Answering.{own_answer}
-use Rattle.lf_mend.specs.Mending.{place_in}
+use Rattle.lf_teams.proofs.Cases.{Facts, names_stay, order_facts}
+use Rattle.lf_teams.proofs.Kept.{committed_stay}
+use Rattle.lf_mend.specs.Deeds.{CommittedStay, IsAsked, SameCells}
+use Rattle.lf_mend.specs.Mending.{names_in, place_in}
 
 -- ---- the team before and after
 
@@ -65,17 +67,23 @@ team_step l old new team order reply step = short (is_short reply) step where
   short true runs = inl runs.short.kept
   short false answers = answered answers (team_number old.frame team) refl (state_of old team) refl
 
+-- the same where it may be that nothing was asked
+pub asked_step : (l : Legalizer) (old new : FloorState) (team : List ℕ) (order : Order (List ℕ) Place) → IsAsked l old (To team order) new
+    → (new ≡ old) ⊎ IsServed l old new team order
+asked_step l old new team order (inl same) = inl same
+asked_step l old new team order (inr (reply, step)) = team_step l old new team order reply step
+
 -- ---- places
 
 pub place_of_state : (floor : FloorState) (team : List ℕ) (own : ℕ) (s : TeamState) → state_of floor team ≡ Some s → place_in floor team own ≡ working_at s.cells own
 place_of_state floor team own s there = ap (λ (o : Option TeamState). option_and_then (λ (s : TeamState). working_at s.cells own) o) there
 
 -- the place of a cell stays where the rules leave it
-pub place_stays : (l : Legalizer) (old new : FloorState) (team : List ℕ) (order : Order (List ℕ) Place) (reply : Reply) (own : ℕ)
-    → Step l old (To team order) reply new
+pub place_stays : (l : Legalizer) (old new : FloorState) (team : List ℕ) (order : Order (List ℕ) Place) (own : ℕ)
+    → IsAsked l old (To team order) new
     → ((number : ℕ) (s : TeamState) → state_of old team ≡ Some s → working_at (ruled l old.frame number order s).team.cells own ≡ working_at s.cells own)
     → place_in new team own ≡ place_in old team own
-place_stays l old new team order reply own step stays = elim (team_step l old new team order reply step) [
+place_stays l old new team order own asked stays = elim (asked_step l old new team order asked) [
   | inl same ↦ ap (λ (f : FloorState). place_in f team own) same
   | inr served ↦
       place_of_state new team own (ruled l old.frame served.number order served.state).team served.after
@@ -83,9 +91,58 @@ place_stays l old new team order reply own step stays = elim (team_step l old ne
       ∙ sym (place_of_state old team own served.state served.before)
 ]
 
--- a look leaves each place
-pub look_stays : (l : Legalizer) (old new : FloorState) (team : List ℕ) (order : Order (List ℕ) Place) (reply : Reply) (own : ℕ)
-    → LookKeeps → is_change order ≡ false → Step l old (To team order) reply new → place_in new team own ≡ place_in old team own
-look_stays l old new team order reply own keeps look step =
-    place_stays l old new team order reply own step
-    (λ number s there. ap (λ (cells : List Cell). working_at cells own) (keeps (setting l old.frame number s.padding) order s look).cells)
+-- a look leaves each cell
+pub look_same : (l : Legalizer) (old new : FloorState) (team : List ℕ) (order : Order (List ℕ) Place)
+    → LookKeeps → is_change order ≡ false → IsAsked l old (To team order) new → SameCells team old new
+look_same l old new team order keeps look asked = elim (asked_step l old new team order asked) [
+  | inl same ↦ inl (ap (λ (f : FloorState). state_of f team) same)
+  | inr served ↦ inr (record {
+    before = served.state;
+    after = (ruled l old.frame served.number order served.state).team;
+    was = served.before;
+    is = served.after;
+    keeps = keeps (setting l old.frame served.number served.state.padding) order served.state look;
+  })
+]
+
+-- ---- committed places
+
+-- they stay, unless the order is a commit
+pub committed_stays : (l : Legalizer) (old new : FloorState) (team : List ℕ) (order : Order (List ℕ) Place) → is_commit order ≡ false
+    → IsAsked l old (To team order) new → CommittedStay team old new
+committed_stays l old new team order plain asked = elim (asked_step l old new team order asked) [
+  | inl same ↦ ap (λ (f : FloorState). option_map committed_places (state_of f team)) same
+  | inr served ↦
+      ap (λ (o : Option TeamState). option_map committed_places o) served.after
+      ∙ ap (λ (places : List (Option Place)). Some places) (committed_stay (setting l old.frame served.number served.state.padding) order served.state plain)
+      ∙ sym (ap (λ (o : Option TeamState). option_map committed_places o) served.before)
+]
+
+-- ---- names
+
+abbrev names_of : TeamState → List (List ℕ)
+names_of s = map (λ (c : Cell). c.name) s.cells
+
+verb_names : (t : Setting) (order : Order (List ℕ) Place) (s : TeamState) → names_of (outcome_of t order s).team ≡ names_of s
+verb_names t order s = by (outcome_of t order s) (order_facts t order s) where
+  by : (o : Outcome) → Facts t s order o → names_of o.team ≡ names_of s
+  by o (inl refusal) = ap (λ (o : Outcome). names_of o.team) refusal.is
+  by o (inr (inl look)) = elim look.team [ inl same ↦ ap names_of same | inr slot ↦ ap names_of slot.is ]
+  by o (inr (inr done)) = names_stay t s done.change o.team.cells done.is.cells
+
+order_names : (l : Legalizer) (old new : FloorState) (team : List ℕ) (order : Order (List ℕ) Place) (reply : Reply) → Step l old (To team order) reply new
+    → names_in new team ≡ names_in old team
+order_names l old new team order reply step = elim (team_step l old new team order reply step) [
+  | inl same ↦ ap (λ (f : FloorState). names_in f team) same
+  | inr served ↦
+      ap (λ (o : Option TeamState). option_map names_of o) served.after
+      ∙ ap (λ (names : List (List ℕ)). Some names) (verb_names (setting l old.frame served.number served.state.padding) order served.state)
+      ∙ sym (ap (λ (o : Option TeamState). option_map names_of o) served.before)
+]
+
+-- a team has the same cells after a command to it
+pub step_names : (l : Legalizer) (team : List ℕ) (command : Command (List ℕ) Place) (old new : FloorState) (reply : Reply) → IsTo team command
+    → Step l old command reply new → names_in new team ≡ names_in old team
+step_names l team Bye old new reply to step = absurd to
+step_names l team (To name order) old new reply to step =
+    subst (λ (n : List ℕ). names_in new n ≡ names_in old n) to (order_names l old new name order reply step)

@@ -1,14 +1,24 @@
--- Changes of one cell; no public clause cites it.
-use Rattle.std.specs.Prelude.{◌≡◌, ◌⊎◌, ℕ, ◌<◌, ◌++◌, ◌∷◌, [], List, Bool, true, Some, length, map, slice_get}
+-- Changes of one cell, and what is looked up before and after them; no public clause cites it.
+use Rattle.std.specs.Prelude.{◌≡◌, ◌≢◌, ◌⊎◌, ℕ, ◌<◌, ◌++◌, ◌∷◌, [], List, Bool, true, All, Contains, Option, Some, length, map, slice_get, option_and_then}
 use Rattle.lf_floorplan.specs.declared.place.Place.{Place}
+use Rattle.lf_rules.specs.Legalizer.{Legalizer}
 use Rattle.lf_rules.specs.Team.{StandsLegal}
+use Rattle.lf_proto.specs.declared.request.Command.{Command}
+use Rattle.lf_proto.specs.declared.reply.Reply.{Reply}
 use Rattle.lf_proto.specs.declared.verb.Change.{Change}
 use Rattle.lf_proto.specs.declared.verb.Change.TheVariants.{Place as PlaceAt, Legalize, Unplace}
+use Rattle.lf_cells.specs.declared.cell.Cell.{Cell}
+use Rattle.lf_cells.specs.Cells.{working_at}
 use Rattle.lf_legalize.specs.Members.{member_of}
 use Rattle.lf_teams.specs.States.{FloorState, TeamState}
+use Rattle.lf_teams.specs.Steps.{Step}
 use Rattle.lf_teams.specs.Teams.{state_of}
 use Rattle.lf_teams.specs.VerbLaws.{KeepsCells}
-use Rattle.lf_mend.specs.Mending.{IsLegalIn}
+use Rattle.lf_mend.specs.Mending.{IsLegalIn, committed_in, names_in, place_in}
+
+-- the floor is as it was, or has answered the command
+abbrev pub IsAsked : Legalizer → FloorState → Command (List ℕ) Place → FloorState → Type 0
+IsAsked l old command new = (new ≡ old) ⊎ ((reply : Reply) × Step l old command reply new)
 
 -- the change is a place, a legalize or an unplace of the cell of that name
 abbrev pub IsOfCell : List ℕ → Change (List ℕ) Place → Type 0
@@ -29,6 +39,22 @@ pub record HasSameCells (team : List ℕ) (old new : FloorState) : Type 0 where
 abbrev pub SameCells : List ℕ → FloorState → FloorState → Type 0
 SameCells team old new = (state_of new team ≡ state_of old team) ⊎ HasSameCells team old new
 
+-- ---- what stays
+
+-- all cells stand where they stood
+abbrev pub PlacesStay : List ℕ → FloorState → FloorState → Type 0
+PlacesStay team old new = (own : ℕ) → place_in new team own ≡ place_in old team own
+
+-- the marked cells stand where they stood
+abbrev pub MarkedStay : List ℕ → List Bool → FloorState → FloorState → Type 0
+MarkedStay team marks old new = (own : ℕ) → slice_get marks own ≡ Some true → place_in new team own ≡ place_in old team own
+
+-- the committed places are as they were
+abbrev pub CommittedStay : List ℕ → FloorState → FloorState → Type 0
+CommittedStay team old new = committed_in new team ≡ committed_in old team
+
+-- ---- before a repair
+
 -- the cells that stand legally are marked
 abbrev pub AreMarked : List ℕ → FloorState → List Bool → Type 0
 AreMarked team floor marks = (own : ℕ) → IsLegalIn floor team own → slice_get marks own ≡ Some true
@@ -40,7 +66,39 @@ pub record IsMarkedMore (floor : FloorState) (number own : ℕ) (old new : List 
   pub told : (s : TeamState) → slice_get floor.teams number ≡ Some s → own < length s.cells
       → StandsLegal floor.frame number s.padding (map member_of s.cells) own → mark ≡ true
 
--- the cell of that position stands legally, or it is named behind the others
-abbrev pub IsNamed : List ℕ → FloorState → ℕ → List ℕ → List ℕ → Type 0
-IsNamed team floor own old new =
-    ((new ≡ old) × ((s : TeamState) → state_of floor team ≡ Some s → own < length s.cells → IsLegalIn floor team own)) ⊎ (new ≡ old ++ own ∷ [])
+-- the place of that position in a list of places; None also behind its end
+abbrev pub home_at : List (Option Place) → ℕ → Option Place
+home_at homes own = option_and_then (λ home. home) (slice_get homes own)
+
+-- these are the working places of these cells
+abbrev pub AreHomes : List Cell → List (Option Place) → Type 0
+AreHomes cells homes = (own : ℕ) → home_at homes own ≡ working_at cells own
+
+-- ---- after it
+
+-- so it is of that position, or the position is named behind the others and it is not so
+abbrev pub IsNamed : Type 0 → Type 0 → ℕ → List ℕ → List ℕ → Type 0
+IsNamed So Not own old new = ((new ≡ old) × So) ⊎ ((new ≡ old ++ own ∷ []) × Not)
+
+-- the cell of that position stands legally, where there is one, or it is named and does not
+abbrev pub IsLegalOrNamed : List ℕ → FloorState → ℕ → List ℕ → List ℕ → Type 0
+IsLegalOrNamed team floor own old new =
+    IsNamed ((s : TeamState) → state_of floor team ≡ Some s → own < length s.cells → IsLegalIn floor team own) (IsLegalIn floor team own → ⊥) own old new
+
+-- each of these cells has its place in the list, or is named
+abbrev pub AreHomeBut : List Cell → List (Option Place) → List ℕ → Type 0
+AreHomeBut cells homes changed = (own : ℕ) → own < length cells → (working_at cells own ≡ home_at homes own) ⊎ Contains changed own
+
+-- the same of the team's cells
+abbrev pub StandHomeBut : List ℕ → List (Option Place) → FloorState → List ℕ → Type 0
+StandHomeBut team homes floor changed =
+    (names : List (List ℕ)) → names_in floor team ≡ Some names → (own : ℕ) → own < length names → (place_in floor team own ≡ home_at homes own) ⊎ Contains changed own
+
+-- each of the named cells has another place than in the list
+abbrev pub HaveLeftHome : List Cell → List (Option Place) → List ℕ → Type 0
+HaveLeftHome cells homes changed = All (λ own. working_at cells own ≢ home_at homes own) changed
+
+-- the same of the team's cells
+abbrev pub StandElsewhere : List ℕ → List (Option Place) → FloorState → List ℕ → Type 0
+StandElsewhere team homes floor changed =
+    (s : TeamState) → state_of floor team ≡ Some s → All (λ own. place_in floor team own ≢ home_at homes own) changed

@@ -3,10 +3,12 @@ use Rattle.std.specs.Prelude.{◌≡◌, ℕ, List, [], ◌∷◌, ◌++◌, All
 use Rattle.std.specs.List.{flat_map}
 use Rattle.std.specs.Io.KnownBytes.{Appends}
 use Rattle.lf_floorplan.specs.declared.place.Place.{Place}
+use Rattle.lf_proto.specs.Lines.{IsName}
 use Rattle.lf_rules.specs.Legalizer.{Legalizer}
 use Rattle.lf_proto.specs.declared.request.Command.{Command}
 use Rattle.lf_proto.specs.declared.reply.Reply.{Reply}
 use Rattle.lf_proto.specs.Printed.{printed}
+use Rattle.lf_proto.specs.Requests.{IsPlain}
 use Rattle.lf_teams.specs.States.{FloorState}
 use Rattle.lf_teams.specs.Steps.{IsTo}
 use Rattle.lf_teams.specs.Runs.{Run}
@@ -20,12 +22,14 @@ line_of command = printed command ++ 10 ∷ []
 abbrev pub lines_of : List (Command (List ℕ) Place) → List ℕ
 lines_of commands = flat_map line_of commands
 
--- the floor goes from old to new by these commands, all of them to this team and each of them accepted
+-- the floor goes from old to new by these commands, all of them to this team and each of them accepted; if the team's name is of
+-- visible bytes, a line can ask each, so that its line reads as that command
 pub record IsRunBy (commands : List (Command (List ℕ) Place)) (l : Legalizer) (team : List ℕ) (old new : FloorState) : Type 0 where
   pub replies : List Reply
   pub run : Run l old commands replies new
   pub granted : All (λ reply. is_granted reply ≡ true) replies
   pub own : All (IsTo team) commands
+  pub plain : IsName team → All IsPlain commands
 
 -- the floor goes so by some commands
 abbrev pub IsRunOf : Legalizer → List ℕ → FloorState → FloorState → Type 0

@@ -2,10 +2,13 @@
 
 ghost use Rattle.std.specs.Prelude.{◌≡◌, IfOk, List, OnErr, OnOk, ℕ};
 ghost use Rattle.std.specs.Io.KnownBytes.{Appends};
+ghost use Rattle.lf_proto.specs.Lines.{IsName};
 ghost use Rattle.lf_rules.specs.Legalizer.{Legalizer};
 ghost use Rattle.lf_proto.specs.Commands.{command_of};
+ghost use Rattle.lf_proto.specs.Requests.{IsPlain};
 ghost use Rattle.lf_teams.specs.VerbLaws.{is_granted};
-ghost use Rattle.lf_teams.specs.Steps.{CommitsLegally, IsTo, Step};
+ghost use Rattle.lf_teams.specs.Steps.{CommitsLegally, IsTo};
+ghost use Rattle.lf_mend.specs.Deeds.{IsAsked};
 ghost use Rattle.lf_mend.specs.Runs.{IsRunOf, IsWrittenRun};
 ghost use Rattle.lf_mend.specs.Mending.{ChangesOnly};
 
@@ -14,6 +17,7 @@ use lf_devices::{DeviceFault, Sink};
 use lf_floor::Floor;
 use lf_legalize::Seeker;
 use lf_proto::{Refusal, Reply, Request};
+use lf_rules::legalizer_is_there;
 
 /// Why the repair of a team broke off.
 #[derive(Clone, Copy, Debug, PartialEq, Eq)]
@@ -54,13 +58,15 @@ pub(crate) fn ask_and_write<S: Seeker + Drop, K: Sink>(
     line: &mut Vec<u8>,
     lines: &mut K,
 ) -> Result<Reply, Fault>
-    ensures run { (l : Legalizer) (team : List ℕ) → IsTo team (command_of request.now)
+    ensures run { (l : Legalizer) (team : List ℕ) → IsTo team (command_of request.now) → (IsName team → IsPlain (command_of request.now))
         → IfOk result (λ _. IsWrittenRun l team floor.old (K.contents lines.old) (K.contents lines.new) floor.new) }
-    ensures err { (l : Legalizer) (team : List ℕ) → IsTo team (command_of request.now) → OnErr result (IsRunOf l team floor.old floor.new) }
+    ensures err { (l : Legalizer) (team : List ℕ) → IsTo team (command_of request.now) → (IsName team → IsPlain (command_of request.now))
+        → OnErr result (IsRunOf l team floor.old floor.new) }
     ensures only { (team : List ℕ) → IsTo team (command_of request.now) → ChangesOnly team floor.old floor.new }
-    ensures step { (l : Legalizer) → IfOk result (λ reply. Step l floor.old (command_of request.now) reply floor.new) }
+    ensures asked { (l : Legalizer) → IsAsked l floor.old (command_of request.now) floor.new }
     ensures committed { (l : Legalizer) → IfOk result (λ reply. CommitsLegally l (command_of request.now) reply floor.new) }
 {
+    legalizer_is_there();
     line.clear();
     if put_request(line, request).is_err() {
         return Err(Fault::OutOfMemory);

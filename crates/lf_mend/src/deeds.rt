@@ -1,14 +1,17 @@
 //! Changes of single cells, which leave all other cells where they stand.
 
 ghost use Rattle.std.specs.Prelude.{◌≡◌, ◌≢◌, ◌↔◌, IfOk, IsTrue, OnErr, Some, ℕ, slice_get, true};
+ghost use Rattle.lf_proto.specs.Lines.{IsName};
 ghost use Rattle.lf_rules.specs.Legalizer.{Legalizer};
+ghost use Rattle.lf_proto.specs.Requests.{IsInRange, IsPlainAction, IsTarget};
 ghost use Rattle.lf_proto.specs.Verbs.{change_of};
+ghost use Rattle.lf_proto.specs.declared.verb.Action.TheVariants.{Change as Changing};
 ghost use Rattle.lf_cells.specs.Cells.{cell_named};
 ghost use Rattle.lf_teams.specs.States.{TeamState};
 ghost use Rattle.lf_teams.specs.Outcomes.{name_at};
 ghost use Rattle.lf_teams.specs.Teams.{state_of};
-ghost use Rattle.lf_mend.specs.Deeds.{IsOfCell};
-ghost use Rattle.lf_mend.specs.Mending.{ChangesOnly, MarkedStay, place_in};
+ghost use Rattle.lf_mend.specs.Deeds.{CommittedStay, IsOfCell, MarkedStay};
+ghost use Rattle.lf_mend.specs.Mending.{ChangesOnly, place_in};
 ghost use Rattle.lf_mend.specs.Runs.{IsRunOf, IsWrittenRun};
 
 use crate::ask::{Fault, ask_and_write};
@@ -61,19 +64,38 @@ impl Texts {
     }
 }
 
+/// The target, moved to the end of the range of coordinates that a line can write if it lies past it.
+fn target_in_range(target: &Point) -> Point
+    ensures { IsTarget result }
+{
+    Point {
+        x: target.x.clamp(-2_147_483_647, 2_147_483_647),
+        y: target.y.clamp(-2_147_483_647, 2_147_483_647),
+    }
+}
+
+/// The same place: that a line can write it follows from its numbers, which are read here.
+fn place_in_range(place: &Place) -> Place
+    ensures { IsInRange result }
+{
+    Place::new(place.x, place.y, place.orient)
+}
+
 /// The change of the cell of that name.
 fn change_of<'x>(step: &Step, cell: &'x [u8]) -> Change<&'x [u8]>
-    ensures { IsOfCell cell.now (change_of result) }
+    requires { IsName cell.now }
+    ensures cell { IsOfCell cell.now (change_of result) }
+    ensures plain { IsPlainAction (Changing (change_of result)) }
 {
     match step {
         Step::Unplace => Change::Unplace { cell },
         Step::Place(place) => Change::Place {
             cell,
-            place: *place,
+            place: place_in_range(place),
         },
         Step::Legalize(target) => Change::Legalize {
             cell,
-            target: *target,
+            target: target_in_range(target),
         },
     }
 }
@@ -95,11 +117,13 @@ fn send_named<S: Seeker + Drop, K: Sink>(
     line: &mut Vec<u8>,
     lines: &mut K,
 ) -> Result<(), Fault>
+    requires { IsName cell.now }
     ensures run { (l : Legalizer) → IfOk result (λ _. IsWrittenRun l seat.now.team.now floor.old (K.contents lines.old) (K.contents lines.new) floor.new) }
     ensures err { (l : Legalizer) → OnErr result (IsRunOf l seat.now.team.now floor.old floor.new) }
     ensures only { ChangesOnly seat.now.team.now floor.old floor.new }
-    ensures cells { (other : ℕ) → IfOk result (λ _. ((s : TeamState) → state_of floor.old seat.now.team.now ≡ Some s → cell_named cell.now s.cells ≡ Some other → ⊥)
-        → place_in floor.new seat.now.team.now other ≡ place_in floor.old seat.now.team.now other) }
+    ensures cells { (other : ℕ) → ((s : TeamState) → state_of floor.old seat.now.team.now ≡ Some s → cell_named cell.now s.cells ≡ Some other → ⊥)
+        → place_in floor.new seat.now.team.now other ≡ place_in floor.old seat.now.team.now other }
+    ensures committed { CommittedStay seat.now.team.now floor.old floor.new }
 {
     legalizer_is_there();
     let request = Command::To {
@@ -115,21 +139,22 @@ fn send_named<S: Seeker + Drop, K: Sink>(
     }
 }
 
-/// Copies the name of the team's cell of that position; false if there is none.
+/// Copies the name of the team's cell of that position; false if there is none, or no line can write it.
 fn copy_name<S: Seeker + Drop>(
     floor: &Floor<S>,
     team: &[u8],
     own: usize,
     name: &mut Vec<u8>,
 ) -> Result<bool, AllocError>
-    ensures { (s : TeamState) → IfOk result (λ there. IsTrue there → state_of floor.now team.now ≡ Some s → name_at s.cells own ≡ Some name.new.items) }
+    ensures name { (s : TeamState) → IfOk result (λ there. IsTrue there → state_of floor.now team.now ≡ Some s → name_at s.cells own ≡ Some name.new.items) }
+    ensures plain { IfOk result (λ there. IsTrue there → IsName name.new.items) }
 {
     name.clear();
     let Some(bytes) = floor.name_of(team, own) else {
         return Ok(false);
     };
     name.extend_from_slice(bytes)?;
-    Ok(true)
+    Ok(!bytes.is_empty())
 }
 
 /// Asks the step for the team's cell of that position.
@@ -144,7 +169,8 @@ fn send<S: Seeker + Drop, K: Sink>(
     ensures run { (l : Legalizer) → IfOk result (λ _. IsWrittenRun l seat.now.team.now floor.old (K.contents lines.old) (K.contents lines.new) floor.new) }
     ensures err { (l : Legalizer) → OnErr result (IsRunOf l seat.now.team.now floor.old floor.new) }
     ensures only { ChangesOnly seat.now.team.now floor.old floor.new }
-    ensures cells { (other : ℕ) → other ≢ own → IfOk result (λ _. place_in floor.new seat.now.team.now other ≡ place_in floor.old seat.now.team.now other) }
+    ensures cells { (other : ℕ) → other ≢ own → place_in floor.new seat.now.team.now other ≡ place_in floor.old seat.now.team.now other }
+    ensures committed { CommittedStay seat.now.team.now floor.old floor.new }
 {
     floor.teams_are_of_the_frame();
     let Texts { name, line } = texts;
@@ -177,7 +203,8 @@ fn send_unmarked<S: Seeker + Drop, K: Sink>(
     ensures run { (l : Legalizer) → IfOk result (λ _. IsWrittenRun l seat.now.team.now floor.old (K.contents lines.old) (K.contents lines.new) floor.new) }
     ensures err { (l : Legalizer) → OnErr result (IsRunOf l seat.now.team.now floor.old floor.new) }
     ensures only { ChangesOnly seat.now.team.now floor.old floor.new }
-    ensures marked { IfOk result (λ _. MarkedStay seat.now.team.now marks.now floor.old floor.new) }
+    ensures marked { MarkedStay seat.now.team.now marks.now floor.old floor.new }
+    ensures committed { CommittedStay seat.now.team.now floor.old floor.new }
 {
     let own = deed.own as usize;
     if is_marked(marks, own) {
@@ -198,7 +225,8 @@ pub(crate) fn send_all<S: Seeker + Drop, K: Sink>(
     ensures run { (l : Legalizer) → IfOk result (λ _. IsWrittenRun l seat.now.team.now floor.old (K.contents lines.old) (K.contents lines.new) floor.new) }
     ensures err { (l : Legalizer) → OnErr result (IsRunOf l seat.now.team.now floor.old floor.new) }
     ensures only { ChangesOnly seat.now.team.now floor.old floor.new }
-    ensures marked { IfOk result (λ _. MarkedStay seat.now.team.now marks.now floor.old floor.new) }
+    ensures marked { MarkedStay seat.now.team.now marks.now floor.old floor.new }
+    ensures committed { CommittedStay seat.now.team.now floor.old floor.new }
 {
     for deed in deeds {
         match send_unmarked(floor, seat, marks, deed, texts, lines) {

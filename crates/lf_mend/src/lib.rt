@@ -13,6 +13,7 @@
 mod advice;
 mod ask;
 mod deeds;
+mod found;
 mod ground;
 mod line;
 mod start;

@@ -1,8 +1,10 @@
 //! A team before its repair: which cells stand legally, which of them are held fast, and where all stand.
 
-ghost use Rattle.std.specs.Prelude.{◌≡◌, [], List, ℕ, IfOk, IsTrue, OnOk, Some};
-ghost use Rattle.lf_teams.specs.Teams.{team_number};
-ghost use Rattle.lf_mend.specs.Deeds.{AreMarked, IsMarkedMore};
+ghost use Rattle.std.specs.Prelude.{◌≡◌, [], List, ℕ, IfOk, IsTrue, OnOk, Some, slice_get};
+ghost use Rattle.lf_cells.specs.Cells.{cells_of};
+ghost use Rattle.lf_teams.specs.States.{TeamState};
+ghost use Rattle.lf_teams.specs.Teams.{state_of, team_number};
+ghost use Rattle.lf_mend.specs.Deeds.{AreHomes, AreMarked, IsMarkedMore};
 ghost use Rattle.lf_mend.specs.Mending.{AreLegalBut};
 ghost use Rattle.lf_mend.specs.declared.start.How.TheVariants.{Keep};
 
@@ -32,7 +34,8 @@ pub(crate) struct Start {
 
 /// Whether all cells of the team of that name are placed and team-legal; false also if there is no such team. It allocates nothing.
 pub fn stands_whole<S: Seeker + Drop>(floor: &Floor<S>, team: &[u8]) -> bool
-    ensures { IsTrue result → AreLegalBut team.now floor.now [] }
+    ensures whole { IsTrue result → AreLegalBut team.now floor.now [] }
+    ensures told { (s : TeamState) → state_of floor.now team.now ≡ Some s → AreLegalBut team.now floor.now [] → IsTrue result }
 {
     let Some(number) = floor.number_of(team) else {
         return false;
@@ -129,10 +132,11 @@ fn homes_of(
     alloc: Global,
     placement: &Placement,
     number: usize,
-) -> Result<Vec<Option<Place>>, AllocError> {
-    let ids = placement.cells().cells_of(number);
-    let mut homes = Vec::with_capacity(alloc, ids.len())?;
-    for id in ids {
+) -> Result<Vec<Option<Place>>, AllocError>
+    ensures { IfOk result (λ homes. AreHomes (cells_of placement.now.cells number) homes.items) }
+{
+    let mut homes = Vec::new(alloc);
+    for id in placement.cells().cells_of(number) {
         homes.push(placement.cells().working(*id))?;
     }
     Ok(homes)
@@ -147,7 +151,9 @@ pub(crate) fn start_of<S: Seeker + Drop>(
     number: usize,
     how: How,
 ) -> Result<Start, AllocError>
-    ensures { (team : List ℕ) → how ≡ Keep → team_number floor.now.frame team ≡ Some number → IfOk result (λ start. AreMarked team floor.now start.marks.items) }
+    ensures marked { (team : List ℕ) → how ≡ Keep → team_number floor.now.frame team ≡ Some number
+        → IfOk result (λ start. AreMarked team floor.now start.marks.items) }
+    ensures homes { (s : TeamState) → slice_get floor.now.teams number ≡ Some s → IfOk result (λ start. AreHomes s.cells start.homes.items) }
 {
     let legal = legal_of(alloc, floor, number)?;
     let marks = marks_of(alloc, floor.placement(), number, legal.as_slice(), how)?;

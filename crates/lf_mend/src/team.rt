@@ -1,27 +1,28 @@
 //! The repair of one team.
 
-ghost use Rattle.std.specs.Prelude.{◌≡◌, [], List, Bool, IfOk, OnErr, OnOk, Some, true};
+ghost use Rattle.std.specs.Prelude.{◌≡◌, ◌≢◌, ◌↔◌, [], All, IfOk, OnErr, Some, true};
 ghost use Rattle.lf_rules.specs.Legalizer.{Legalizer};
 ghost use Rattle.lf_teams.specs.Steps.{AllCommittedIn};
 ghost use Rattle.lf_teams.specs.Teams.{team_number};
 ghost use Rattle.lf_teams.specs.VerbLaws.{is_granted};
-ghost use Rattle.lf_mend.specs.Deeds.{IsNamed, SameCells};
-ghost use Rattle.lf_mend.specs.Mending.{AreLegalBut, ChangesOnly, LegalStay, MarkedStay};
+ghost use Rattle.lf_mend.specs.Deeds.{CommittedStay, MarkedStay, PlacesStay, SameCells, StandElsewhere, StandHomeBut};
+ghost use Rattle.lf_mend.specs.Mending.{AllMove, AreLegalBut, ChangesOnly, IsLeftIn, LegalStay, OnlyMove, committed_in};
 ghost use Rattle.lf_mend.specs.Runs.{IsRunOf, IsWrittenRun};
 ghost use Rattle.lf_mend.specs.declared.start.How.TheVariants.{Keep};
 
 use crate::advice::{Phase, deeds_of};
 use crate::ask::{Fault, ask_and_write};
 use crate::deeds::{Seat, Texts, send_all, went_on};
+use crate::found::{Found, found_of};
 use crate::start::{How, Start, start_of};
 use crate::told::{Repaired, tell};
-use lf_cells::CellId;
 use lf_devices::Sink;
 use lf_floor::{Floor, look_keeps};
+use lf_floorplan::Place;
 use lf_legalize::Seeker;
 use lf_proto::{Action, Change, Command, Order, Refusal, Reply};
 use lf_rules::legalizer_is_there;
-use std::alloc::{AllocError, Global};
+use std::alloc::Global;
 
 /// Opens a session of the team.
 fn open<S: Seeker + Drop, K: Sink>(
@@ -33,7 +34,7 @@ fn open<S: Seeker + Drop, K: Sink>(
     ensures run { (l : Legalizer) → IfOk result (λ _. IsWrittenRun l team.now floor.old (K.contents lines.old) (K.contents lines.new) floor.new) }
     ensures err { (l : Legalizer) → OnErr result (IsRunOf l team.now floor.old floor.new) }
     ensures only { ChangesOnly team.now floor.old floor.new }
-    ensures marked { (marks : List Bool) → IfOk result (λ _. MarkedStay team.now marks floor.old floor.new) }
+    ensures cells { SameCells team.now floor.old floor.new }
 {
     legalizer_is_there();
     look_keeps();
@@ -66,7 +67,7 @@ fn commit<S: Seeker + Drop, K: Sink>(
     ensures run { (l : Legalizer) → IfOk result (λ _. IsWrittenRun l seat.now.team.now floor.old (K.contents lines.old) (K.contents lines.new) floor.new) }
     ensures err { (l : Legalizer) → OnErr result (IsRunOf l seat.now.team.now floor.old floor.new) }
     ensures only { ChangesOnly seat.now.team.now floor.old floor.new }
-    ensures marked { (marks : List Bool) → IfOk result (λ _. MarkedStay seat.now.team.now marks floor.old floor.new) }
+    ensures places { PlacesStay seat.now.team.now floor.old floor.new }
     ensures committed { (l : Legalizer) → IfOk result (λ _. AllCommittedIn l floor.new seat.now.team.now) }
 {
     legalizer_is_there();
@@ -104,9 +105,9 @@ fn commit_whole<S: Seeker + Drop, K: Sink>(
     ensures run { (l : Legalizer) → IfOk result (λ _. IsWrittenRun l seat.now.team.now floor.old (K.contents lines.old) (K.contents lines.new) floor.new) }
     ensures err { (l : Legalizer) → OnErr result (IsRunOf l seat.now.team.now floor.old floor.new) }
     ensures only { ChangesOnly seat.now.team.now floor.old floor.new }
-    ensures marked { (marks : List Bool) → IfOk result (λ _. MarkedStay seat.now.team.now marks floor.old floor.new) }
-    ensures named { AreLegalBut seat.now.team.now floor.old left.now → IfOk result (λ _. AreLegalBut seat.now.team.now floor.new left.now) }
+    ensures places { PlacesStay seat.now.team.now floor.old floor.new }
     ensures committed { (l : Legalizer) → left.now ≡ [] → IfOk result (λ _. AllCommittedIn l floor.new seat.now.team.now) }
+    ensures kept { left.now ≢ [] → floor.new ≡ floor.old }
 {
     legalizer_is_there();
     if !left.is_empty() {
@@ -125,7 +126,7 @@ fn close<S: Seeker + Drop, K: Sink>(
     ensures run { (l : Legalizer) → IfOk result (λ _. IsWrittenRun l seat.now.team.now floor.old (K.contents lines.old) (K.contents lines.new) floor.new) }
     ensures err { (l : Legalizer) → OnErr result (IsRunOf l seat.now.team.now floor.old floor.new) }
     ensures only { ChangesOnly seat.now.team.now floor.old floor.new }
-    ensures cells { IfOk result (λ _. SameCells seat.now.team.now floor.old floor.new) }
+    ensures cells { SameCells seat.now.team.now floor.old floor.new }
 {
     legalizer_is_there();
     look_keeps();
@@ -142,65 +143,39 @@ fn close<S: Seeker + Drop, K: Sink>(
     }
 }
 
-/// Names the cell, unless it stands legally.
-fn name_left<S: Seeker + Drop>(
-    floor: &Floor<S>,
-    seat: &Seat<'_>,
-    id: CellId,
-    left: &mut Vec<u32>,
-) -> Result<(), AllocError>
-    requires { team_number floor.now.frame seat.now.team.now ≡ Some seat.now.number }
-    ensures { OnOk result (IsNamed seat.now.team.now floor.now id.own left.old.items left.new.items) }
-{
-    if floor.stands_legal(seat.number, id.own as usize) {
-        return Ok(());
-    }
-    left.push(id.own)?;
-    Ok(())
-}
-
-/// The positions of the team's cells that do not stand legally.
-fn left_of<S: Seeker + Drop>(
-    alloc: Global,
-    floor: &Floor<S>,
-    seat: &Seat<'_>,
-) -> Result<Vec<u32>, AllocError>
-    requires { team_number floor.now.frame seat.now.team.now ≡ Some seat.now.number }
-    ensures { IfOk result (λ left. AreLegalBut seat.now.team.now floor.now left.items) }
-{
-    let mut left = Vec::new(alloc);
-    for id in floor.placement().cells().cells_of(seat.number) {
-        name_left(floor, seat, *id, &mut left)?;
-    }
-    Ok(left)
-}
-
-/// Names the cells that are left; commits the team if there are none; and closes the session.
+/// Looks at what the rounds have left; commits the team if no cell is left; and closes the session.
 fn finish<S: Seeker + Drop, K: Sink>(
     alloc: Global,
     floor: &mut Floor<S>,
     seat: &Seat<'_>,
+    homes: &[Option<Place>],
     texts: &mut Texts,
     lines: &mut K,
-) -> Result<Vec<u32>, Fault>
+) -> Result<Found, Fault>
     requires { team_number floor.old.frame seat.now.team.now ≡ Some seat.now.number }
     ensures run { (l : Legalizer) → IfOk result (λ _. IsWrittenRun l seat.now.team.now floor.old (K.contents lines.old) (K.contents lines.new) floor.new) }
     ensures err { (l : Legalizer) → OnErr result (IsRunOf l seat.now.team.now floor.old floor.new) }
     ensures only { ChangesOnly seat.now.team.now floor.old floor.new }
-    ensures marked { (marks : List Bool) → IfOk result (λ _. MarkedStay seat.now.team.now marks floor.old floor.new) }
-    ensures named { IfOk result (λ left. AreLegalBut seat.now.team.now floor.new left.items) }
-    ensures committed { (l : Legalizer) → IfOk result (λ left. left.items ≡ [] → AllCommittedIn l floor.new seat.now.team.now) }
+    ensures places { PlacesStay seat.now.team.now floor.old floor.new }
+    ensures changed { IfOk result (λ found. StandHomeBut seat.now.team.now homes.now floor.new found.changed.items) }
+    ensures moved { IfOk result (λ found. StandElsewhere seat.now.team.now homes.now floor.new found.changed.items) }
+    ensures named { IfOk result (λ found. AreLegalBut seat.now.team.now floor.new found.left.items) }
+    ensures illegal { IfOk result (λ found. All (λ own. IsLeftIn floor.new seat.now.team.now own) found.left.items) }
+    ensures committed { (l : Legalizer) → IfOk result (λ found. found.left.items ≡ [] → AllCommittedIn l floor.new seat.now.team.now) }
+    ensures uncommitted { IfOk result (λ found. found.left.items ≢ [] → CommittedStay seat.now.team.now floor.old floor.new) }
 {
-    let Ok(left) = left_of(alloc, floor, seat) else {
+    legalizer_is_there();
+    let Ok(found) = found_of(alloc, floor, seat, homes) else {
         return Err(Fault::OutOfMemory);
     };
-    if let Err(fault) = commit_whole(floor, seat, left.as_slice(), texts, lines) {
-        return Err(fault);
+    match commit_whole(floor, seat, found.left.as_slice(), texts, lines) {
+        Ok(()) => {}
+        Err(fault) => return Err(fault),
     }
-    if let Err(fault) = close(floor, seat, texts, lines) {
-        return Err(fault);
+    match close(floor, seat, texts, lines) {
+        Ok(()) => Ok(found),
+        Err(fault) => Err(fault),
     }
-    Ok(left)
 }
 
 /// The rounds of a repair.
@@ -218,7 +193,8 @@ fn go_round<S: Seeker + Drop, K: Sink>(
     ensures run { (l : Legalizer) → IfOk result (λ _. IsWrittenRun l seat.now.team.now floor.old (K.contents lines.old) (K.contents lines.new) floor.new) }
     ensures err { (l : Legalizer) → OnErr result (IsRunOf l seat.now.team.now floor.old floor.new) }
     ensures only { ChangesOnly seat.now.team.now floor.old floor.new }
-    ensures marked { IfOk result (λ _. MarkedStay seat.now.team.now start.now.marks.items floor.old floor.new) }
+    ensures marked { MarkedStay seat.now.team.now start.now.marks.items floor.old floor.new }
+    ensures committed { CommittedStay seat.now.team.now floor.old floor.new }
 {
     for phase in &PHASES {
         let Ok(deeds) = deeds_of(alloc, floor, seat.number, start, *phase) else {
@@ -247,14 +223,18 @@ fn work<S: Seeker + Drop, K: Sink>(
     number: usize,
     start: &Start,
     lines: &mut K,
-) -> Result<Vec<u32>, Fault>
+) -> Result<Found, Fault>
     requires { team_number floor.old.frame team.now ≡ Some number }
     ensures run { (l : Legalizer) → IfOk result (λ _. IsWrittenRun l team.now floor.old (K.contents lines.old) (K.contents lines.new) floor.new) }
     ensures err { (l : Legalizer) → OnErr result (IsRunOf l team.now floor.old floor.new) }
     ensures only { ChangesOnly team.now floor.old floor.new }
-    ensures marked { IfOk result (λ _. MarkedStay team.now start.now.marks.items floor.old floor.new) }
-    ensures named { IfOk result (λ left. AreLegalBut team.now floor.new left.items) }
-    ensures committed { (l : Legalizer) → IfOk result (λ left. left.items ≡ [] → AllCommittedIn l floor.new team.now) }
+    ensures marked { MarkedStay team.now start.now.marks.items floor.old floor.new }
+    ensures changed { IfOk result (λ found. StandHomeBut team.now start.now.homes.items floor.new found.changed.items) }
+    ensures moved { IfOk result (λ found. StandElsewhere team.now start.now.homes.items floor.new found.changed.items) }
+    ensures named { IfOk result (λ found. AreLegalBut team.now floor.new found.left.items) }
+    ensures illegal { IfOk result (λ found. All (λ own. IsLeftIn floor.new team.now own) found.left.items) }
+    ensures committed { (l : Legalizer) → IfOk result (λ found. found.left.items ≡ [] → AllCommittedIn l floor.new team.now) }
+    ensures uncommitted { IfOk result (λ found. found.left.items ≢ [] → CommittedStay team.now floor.old floor.new) }
 {
     let mut texts = Texts::new(alloc);
     let session = match open(floor, team, &mut texts, lines) {
@@ -266,18 +246,26 @@ fn work<S: Seeker + Drop, K: Sink>(
         number,
         session,
     };
-    if let Err(fault) = go_round(alloc, floor, &seat, start, &mut texts, lines) {
-        return Err(fault);
+    match go_round(alloc, floor, &seat, start, &mut texts, lines) {
+        Ok(()) => {}
+        Err(fault) => return Err(fault),
     }
-    finish(alloc, floor, &seat, &mut texts, lines)
+    finish(
+        alloc,
+        floor,
+        &seat,
+        start.homes.as_slice(),
+        &mut texts,
+        lines,
+    )
 }
 
 /// Repairs a team: its cells that break a rule or have no place go to legal places; with `All` other cells may be moved too.
 ///
-/// Each command is asked of the floor, and its line is written exactly if the floor accepts it. Cells that stand legally stay with
-/// `Keep`. At the end the team is committed if no cell is left; else its cells stand where the repair left them, those that are
-/// left without a place or illegal, and the committed places are as before. No other team changes, and a committed design that was
-/// fully legal stays so.
+/// Each command is asked of the floor, and its line is written exactly if the floor accepts it. With `Keep` cells that stand
+/// legally stay, whatever comes of the repair. At the end the team is committed if and only if no cell is left; else its cells
+/// stand where the repair left them, those that are left without a place or illegal, and the committed places are as before. No
+/// other team changes, and a committed design that was fully legal stays so.
 ///
 /// `Err` tells why a repair broke off: the floor is then where the commands so far have led it.
 pub fn repair_team<S: Seeker + Drop, K: Sink>(
@@ -290,9 +278,14 @@ pub fn repair_team<S: Seeker + Drop, K: Sink>(
     ensures run { (l : Legalizer) → IfOk result (λ _. IsWrittenRun l team.now floor.old (K.contents lines.old) (K.contents lines.new) floor.new) }
     ensures err { (l : Legalizer) → OnErr result (IsRunOf l team.now floor.old floor.new) }
     ensures only { ChangesOnly team.now floor.old floor.new }
-    ensures kept { how ≡ Keep → IfOk result (λ _. LegalStay team.now floor.old floor.new) }
+    ensures unknown { team_number floor.old.frame team.now ≡ None → result ≡ Err Fault.NoTeam }
+    ensures kept { how ≡ Keep → LegalStay team.now floor.old floor.new }
+    ensures changed { IfOk result (λ repaired. OnlyMove team.now floor.old floor.new repaired.changed.items) }
+    ensures moved { IfOk result (λ repaired. AllMove team.now floor.old floor.new repaired.changed.items) }
     ensures named { IfOk result (λ repaired. AreLegalBut team.now floor.new repaired.left.items) }
-    ensures committed { (l : Legalizer) → IfOk result (λ repaired. repaired.left.items ≡ [] → AllCommittedIn l floor.new team.now) }
+    ensures illegal { IfOk result (λ repaired. All (λ own. IsLeftIn floor.new team.now own) repaired.left.items) }
+    ensures committed { (l : Legalizer) → IfOk result (λ repaired. repaired.left.items ≡ [] ↔ AllCommittedIn l floor.new team.now) }
+    ensures uncommitted { IfOk result (λ repaired. repaired.left.items ≢ [] → committed_in floor.new team.now ≡ committed_in floor.old team.now) }
 {
     let Some(number) = floor.number_of(team) else {
         return Err(Fault::NoTeam);
@@ -301,7 +294,7 @@ pub fn repair_team<S: Seeker + Drop, K: Sink>(
         return Err(Fault::OutOfMemory);
     };
     match work(alloc, floor, team, number, &start, lines) {
-        Ok(left) => Ok(tell(floor, number, &start, left)),
+        Ok(found) => Ok(tell(floor, number, &start, found)),
         Err(fault) => Err(fault),
     }
 }

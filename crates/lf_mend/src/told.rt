@@ -2,6 +2,7 @@
 
 ghost use Rattle.std.specs.Prelude.{◌≡◌};
 
+use crate::found::Found;
 use crate::start::Start;
 use lf_floor::Floor;
 use lf_floorplan::Place;
@@ -25,7 +26,9 @@ pub struct Repaired {
     pub total: u64,
     /// The longest way.
     pub largest: u64,
-    /// The positions in the team, in loading order and the first at 0, of the cells that are unplaced or break a rule.
+    /// The positions in the team, in loading order and the first at 0, of the cells that stand otherwise than before.
+    pub changed: Vec<u32>,
+    /// The positions of the cells that are unplaced or break a rule.
     pub left: Vec<u32>,
 }
 
@@ -36,7 +39,8 @@ fn way(from: &Place, to: &Place) -> u64 {
 
 /// Counts a cell that had a place and has one now.
 fn tell_moved(home: &Place, now: &Place, stood: bool, told: &mut Repaired)
-    ensures { told.new.left ≡ told.old.left }
+    ensures changed { told.new.changed ≡ told.old.changed }
+    ensures left { told.new.left ≡ told.old.left }
 {
     let far = way(home, now);
     let turned = home.orient != now.orient;
@@ -55,7 +59,8 @@ fn tell_moved(home: &Place, now: &Place, stood: bool, told: &mut Repaired)
 
 /// Counts a cell by its place before and now, and whether it stood legally.
 fn tell_cell(home: Option<Place>, now: Option<Place>, stood: bool, told: &mut Repaired)
-    ensures { told.new.left ≡ told.old.left }
+    ensures changed { told.new.changed ≡ told.old.changed }
+    ensures left { told.new.left ≡ told.old.left }
 {
     if !stood {
         told.cells = told.cells.saturating_add(1);
@@ -67,15 +72,17 @@ fn tell_cell(home: Option<Place>, now: Option<Place>, stood: bool, told: &mut Re
     }
 }
 
-/// Tells of the team of that number, of which these cells are left.
+/// Tells of the team of that number, of which this was found.
 pub(crate) fn tell<S: Seeker + Drop>(
     floor: &Floor<S>,
     number: usize,
     start: &Start,
-    left: Vec<u32>,
+    found: Found,
 ) -> Repaired
-    ensures { result.left ≡ left }
+    ensures changed { result.changed ≡ found.changed }
+    ensures left { result.left ≡ found.left }
 {
+    let Found { changed, left } = found;
     let mut told = Repaired {
         cells: 0,
         kept: 0,
@@ -84,6 +91,7 @@ pub(crate) fn tell<S: Seeker + Drop>(
         turned: 0,
         total: 0,
         largest: 0,
+        changed,
         left,
     };
     let cells = floor.placement().cells();

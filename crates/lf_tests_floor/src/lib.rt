@@ -14,6 +14,8 @@ mod devices;
 #[cfg(test)]
 mod floors;
 #[cfg(test)]
+mod mending;
+#[cfg(test)]
 mod saved;
 #[cfg(test)]
 mod segments;

@@ -61,9 +61,12 @@ fn repairs(
     let Ok(told) = repaired(alloc, floor, How::Keep, &mut log) else {
         return Ok(false);
     };
-    let one_moved = told.cells == 2 && told.kept == 1 && told.moved == 1 && told.total == 200;
+    let second: &[u32] = &[1];
+    let one_moved = told.cells == 2 && told.moved == 1 && told.total == 200;
     Ok(
         one_moved
+            && told.kept == 1
+            && told.changed.as_slice() == second
             && told.left.is_empty()
             && stands_whole(floor, b"A")
             && log.taken.as_slice() == lines,
@@ -104,5 +107,41 @@ fn has_left(alloc: Global, mut floor: Floor<PlainSeeker>) -> bool {
 #[test]
 fn names_cells_without_room(rt: HostRuntime) -> Result<(), Fail> {
     assert!(rt; has_left(rt.alloc(), crowded(rt.alloc())?));
+    Ok(())
+}
+
+/// Whether the repair of a team ends so, over a writer that makes so many good writes.
+fn ends_with(
+    alloc: Global,
+    floor: &mut Floor<PlainSeeker>,
+    team: &[u8],
+    good_writes: u32,
+    fault: Fault,
+) -> bool {
+    let mut log = log(alloc);
+    log.good_writes = good_writes;
+    let mut lines = ToWrite::new(&mut log);
+    match repair_team(alloc, floor, team, How::Keep, &mut lines) {
+        Ok(_) => false,
+        Err(told) => told == fault,
+    }
+}
+
+/// The same of a floor that is let go then.
+fn is_broken_off(
+    alloc: Global,
+    mut floor: Floor<PlainSeeker>,
+    team: &[u8],
+    good_writes: u32,
+    fault: Fault,
+) -> bool {
+    ends_with(alloc, &mut floor, team, good_writes, fault)
+}
+
+#[test]
+fn says_why_it_breaks_off(rt: HostRuntime) -> Result<(), Fail> {
+    let alloc = rt.alloc();
+    assert!(rt; is_broken_off(alloc, overlapping(alloc)?, b"Z", 100, Fault::NoTeam));
+    assert!(rt; is_broken_off(alloc, overlapping(alloc)?, b"A", 2, Fault::Lines));
     Ok(())
 }

@@ -1,6 +1,6 @@
 use Rattle.std.proofs.Common.{◌≡◌, List, ℕ, Some}
 use Rattle.lf_teams.specs.Teams.{team_number}
-use Rattle.lf_mend.proofs.Legal.{AreMarkedTo}
+use Rattle.lf_mend.proofs.Marking.{AreMarkedTo}
 use Rattle.lf_mend.proofs.start.legal_of.Given as goal
 
 abbrev pub invariant-loop-id : goal.invariant-loop-id

@@ -1,0 +1,101 @@
+-- The cells of a team before its repair: marks of those that stand legally, and where all stand.
+use Rattle.std.proofs.Common.{◌≡◌, ◌≢◌, ◌⊎◌, inl, inr, ⊎_elim, ℕ, ◌+◌, ◌<◌, List, [], ◌∷◌, ◌++◌, length, map, get_or, Bool, true, Option, Some, None, ap, sym, ◌∙◌, subst, arith}
+use Rattle.std.specs.Prelude.{◌≤◌, slice_get, option_and_then}
+use Rattle.std.proofs.lemmas.Bool.{cases_eq}
+use Rattle.std.proofs.lemmas.Option.{slice_get_cases}
+use Rattle.lf_floorplan.specs.declared.place.Place.{Place}
+use Rattle.lf_rules.specs.Team.{StandsLegal}
+use Rattle.lf_cells.specs.declared.cell.Cell.{Cell}
+use Rattle.lf_cells.specs.declared.cell.CellId.{CellId}
+use Rattle.lf_cells.specs.Cells.{id_of, working_at}
+use Rattle.lf_legalize.specs.Members.{member_of}
+use Rattle.lf_teams.specs.States.{FloorState, TeamState}
+use Rattle.lf_teams.specs.Teams.{team_number}
+use Rattle.lf_teams.proofs.Standing.{some_one}
+use Rattle.lf_mend.specs.Deeds.{AreHomes, AreMarked, IsMarkedMore, home_at}
+use Rattle.lf_mend.specs.Mending.{IsLegalIn}
+use Rattle.lf_mend.proofs.Legal.{state_there}
+use Rattle.lf_mend.proofs.Lists.{before_last, last_is, one_longer}
+
+-- ---- marks
+
+-- the first so many marks are right
+pub record AreMarkedTo (team : List ℕ) (floor : FloorState) (count : ℕ) (marks : List Bool) : Type 0 where
+  pub many : length marks ≡ count
+  pub are : (own : ℕ) → own < count → IsLegalIn floor team own → slice_get marks own ≡ Some true
+
+pub none_marked : (team : List ℕ) (floor : FloorState) (marks : List Bool) → marks ≡ [] → AreMarkedTo team floor 0 marks
+none_marked team floor marks none = record { many = ap (λ (xs : List Bool). length xs) none; are = λ own within legal. absurd (omega (arith, within)) }
+
+pub one_more_marked : (team : List ℕ) (floor : FloorState) (number own : ℕ) (old new : List Bool) → team_number floor.frame team ≡ Some number
+    → AreMarkedTo team floor own old → IsMarkedMore floor number own old new → AreMarkedTo team floor (own + 1) new
+one_more_marked team floor number own old new named marked more = record {
+  many = ap (λ (xs : List Bool). length xs) more.more ∙ one_longer old more.mark ∙ ap (λ (n : ℕ). n + 1) marked.many;
+  are = λ k within legal. ⊎_elim (λ (same : k ≡ own). here k same legal) (λ (differ : k ≢ own). before k (omega (arith, within, differ)) legal) (cases_eq k own);
+} where
+  here : (k : ℕ) → k ≡ own → IsLegalIn floor team k → slice_get new k ≡ Some true
+  here k same legal =
+      let is : legal.number ≡ number = some_one (sym legal.named ∙ named) in
+      let legal' : StandsLegal floor.frame number legal.state.padding (map member_of legal.state.cells) own =
+      subst (λ (n : ℕ). StandsLegal floor.frame n legal.state.padding (map member_of legal.state.cells) own) is
+      (subst (λ (j : ℕ). StandsLegal floor.frame legal.number legal.state.padding (map member_of legal.state.cells) j) same legal.legal) in
+      let mark : more.mark ≡ true = more.told legal.state (state_there floor team number legal.state named legal.there)
+      (subst (λ (j : ℕ). j < length legal.state.cells) same legal.within) legal' in
+      ap (λ (xs : List Bool). slice_get xs k) more.more ∙ ap (λ (j : ℕ). slice_get (old ++ more.mark ∷ []) j) (same ∙ sym marked.many) ∙ last_is old more.mark
+      ∙ ap (λ (b : Bool). Some b) mark
+
+  before : (k : ℕ) → k < own → IsLegalIn floor team k → slice_get new k ≡ Some true
+  before k less legal = ap (λ (xs : List Bool). slice_get xs k) more.more ∙ before_last old more.mark k (omega (arith, less, marked.many)) ∙ marked.are k less legal
+
+-- all cells have their marks
+pub all_marked : (team : List ℕ) (floor : FloorState) (number count : ℕ) (marks : List Bool) → team_number floor.frame team ≡ Some number
+    → ((s : TeamState) → slice_get floor.teams number ≡ Some s → length s.cells ≤ count)
+    → AreMarkedTo team floor count marks → AreMarked team floor marks
+all_marked team floor number count marks named many marked own legal =
+    marked.are own (omega (arith, legal.within, many legal.state (state_there floor team number legal.state named legal.there))) legal
+
+pub marked_at : (team : List ℕ) (floor : FloorState) (number k : ℕ) (id : CellId) (old new : List Bool) → id ≡ id_of number k → team_number floor.frame team ≡ Some number
+    → AreMarkedTo team floor k old → IsMarkedMore floor number id.own old new → AreMarkedTo team floor (k + 1) new
+marked_at team floor number k id old new is named so_far more =
+    one_more_marked team floor number k old new named so_far (subst (λ (i : CellId). IsMarkedMore floor number i.own old new) is more)
+
+-- ---- homes
+
+-- the first so many places are those of the cells
+pub record AreHomesTo (cells : List Cell) (count : ℕ) (homes : List (Option Place)) : Type 0 where
+  pub many : length homes ≡ count
+  pub are : (own : ℕ) → own < count → home_at homes own ≡ working_at cells own
+
+pub none_home : (cells : List Cell) (homes : List (Option Place)) → homes ≡ [] → AreHomesTo cells 0 homes
+none_home cells homes none = record { many = ap (λ (xs : List (Option Place)). length xs) none; are = λ own within. absurd (omega (arith, within)) }
+
+pub one_more_home : (cells : List Cell) (own : ℕ) (old new : List (Option Place)) (place : Option Place) → place ≡ working_at cells own → new ≡ old ++ place ∷ []
+    → AreHomesTo cells own old → AreHomesTo cells (own + 1) new
+one_more_home cells own old new place is more homes = record {
+  many = ap (λ (xs : List (Option Place)). length xs) more ∙ one_longer old place ∙ ap (λ (n : ℕ). n + 1) homes.many;
+  are = λ k within. ⊎_elim (λ (same : k ≡ own). here k same) (λ (differ : k ≢ own). before k (omega (arith, within, differ))) (cases_eq k own);
+} where
+  by : Option (Option Place) → Option Place
+  by o = option_and_then (λ (home : Option Place). home) o
+
+  here : (k : ℕ) → k ≡ own → home_at new k ≡ working_at cells k
+  here k same =
+      ap (λ (xs : List (Option Place)). home_at xs k) more ∙ ap (λ (j : ℕ). home_at (old ++ place ∷ []) j) (same ∙ sym homes.many) ∙ ap by (last_is old place)
+      ∙ is ∙ ap (λ (j : ℕ). working_at cells j) (sym same)
+
+  before : (k : ℕ) → k < own → home_at new k ≡ working_at cells k
+  before k less = ap (λ (xs : List (Option Place)). home_at xs k) more ∙ ap by (before_last old place k (omega (arith, less, homes.many))) ∙ homes.are k less
+
+-- all places
+pub all_home : (cells : List Cell) (count : ℕ) (homes : List (Option Place)) → length cells ≤ count → AreHomesTo cells count homes → AreHomes cells homes
+all_home cells count homes many to own = by_cases (slice_get_cases cells own).1 where
+  by_cases : ((c : Cell) × (own < length cells) × (slice_get cells own ≡ Some c) × (get_or cells own c ≡ c)) ⊎ ((length cells ≤ own) × (slice_get cells own ≡ None))
+      → home_at homes own ≡ working_at cells own
+  by_cases (inl (c, within, is, read)) = to.are own (omega (arith, within, many))
+  by_cases (inr (past, none)) = behind (slice_get_cases homes own).1 where
+    behind : ((p : Option Place) × (own < length homes) × (slice_get homes own ≡ Some p) × (get_or homes own p ≡ p)) ⊎ ((length homes ≤ own) × (slice_get homes own ≡ None))
+        → home_at homes own ≡ working_at cells own
+    behind (inl (p, within, is, read)) = to.are own (omega (arith, within, to.many))
+    behind (inr (past, nothing)) =
+        ap (λ (o : Option (Option Place)). option_and_then (λ (home : Option Place). home) o) nothing
+        ∙ sym (ap (λ (o : Option Cell). option_and_then (λ (c : Cell). c.working) o) none)

@@ -1,0 +1,50 @@
+use Rattle.std.proofs.Common.{◌≢◌, ◌∙◌, [], List, Option, subst}
+use Rattle.std.specs.Prelude.{IfOk}
+use Rattle.lf_floorplan.specs.declared.place.Place.{Place}
+use Rattle.lf_mend.specs.Deeds.{CommittedStay, StandElsewhere, StandHomeBut}
+use Rattle.lf_mend.specs.Runs.{IsRunOf, IsWrittenRun}
+use Rattle.lf_mend.proofs.Legal.{same_committed}
+use Rattle.lf_mend.proofs.Results.{err_then, ok_then, ok_weaker}
+use Rattle.lf_mend.proofs.Runs.{then_asked, then_written}
+use Rattle.lf_mend.proofs.team.work.Goals as goal
+
+pub returns-in-Err-go_round-clause-err : goal.returns-in-Err-go_round-clause-err
+returns-in-Err-go_round-clause-err g c = λ l.
+    then_asked l c.args.team.now c.args.floor.now c.open.new.floor c.go_round.new.floor (g.K.Sink.contents c.args.lines.now) (g.K.Sink.contents c.open.new.lines)
+    (c.in-Ok.ensures.run l) (c.in-Err-go_round.ensures.err l)
+
+pub returns-clause-run : goal.returns-clause-run
+returns-clause-run g c = λ l.
+    let team = c.args.team.now in
+    ok_then c.finish.result (IsWrittenRun l team c.go_round.new.floor (g.K.Sink.contents c.go_round.new.lines) (g.K.Sink.contents c.finish.new.lines) c.finish.new.floor)
+    (IsWrittenRun l team c.args.floor.now (g.K.Sink.contents c.args.lines.now) (g.K.Sink.contents c.finish.new.lines) c.finish.new.floor)
+    (λ last. then_written l team c.args.floor.now c.go_round.new.floor c.finish.new.floor (g.K.Sink.contents c.args.lines.now) (g.K.Sink.contents c.go_round.new.lines)
+    (g.K.Sink.contents c.finish.new.lines)
+    (then_written l team c.args.floor.now c.open.new.floor c.go_round.new.floor (g.K.Sink.contents c.args.lines.now) (g.K.Sink.contents c.open.new.lines)
+    (g.K.Sink.contents c.go_round.new.lines) (c.in-Ok.ensures.run l) (c.in-Ok-go_round.ensures.run l)) last) (c.finish.ensures.run l)
+
+pub returns-clause-err : goal.returns-clause-err
+returns-clause-err g c = λ l.
+    let team = c.args.team.now in
+    err_then c.finish.result (IsRunOf l team c.go_round.new.floor c.finish.new.floor) (IsRunOf l team c.args.floor.now c.finish.new.floor)
+    (λ last. then_asked l team c.args.floor.now c.go_round.new.floor c.finish.new.floor (g.K.Sink.contents c.args.lines.now) (g.K.Sink.contents c.go_round.new.lines)
+    (then_written l team c.args.floor.now c.open.new.floor c.go_round.new.floor (g.K.Sink.contents c.args.lines.now) (g.K.Sink.contents c.open.new.lines)
+    (g.K.Sink.contents c.go_round.new.lines) (c.in-Ok.ensures.run l) (c.in-Ok-go_round.ensures.run l)) last) (c.finish.ensures.err l)
+
+pub returns-clause-changed : goal.returns-clause-changed
+returns-clause-changed g c =
+    subst (λ (homes : List (Option Place)). IfOk c.finish.result (λ found. StandHomeBut c.args.team.now homes c.finish.new.floor found.changed.items))
+    c.as_slice.ensures.value c.finish.ensures.changed
+
+pub returns-clause-moved : goal.returns-clause-moved
+returns-clause-moved g c =
+    subst (λ (homes : List (Option Place)). IfOk c.finish.result (λ found. StandElsewhere c.args.team.now homes c.finish.new.floor found.changed.items))
+    c.as_slice.ensures.value c.finish.ensures.moved
+
+pub returns-clause-uncommitted : goal.returns-clause-uncommitted
+returns-clause-uncommitted g c =
+    let team = c.args.team.now in
+    ok_weaker c.finish.result (λ found. found.left.items ≢ [] → CommittedStay team c.go_round.new.floor c.finish.new.floor)
+    (λ found. found.left.items ≢ [] → CommittedStay team c.args.floor.now c.finish.new.floor)
+    (λ found stay some. stay some ∙ c.in-Ok-go_round.ensures.committed ∙ same_committed team c.args.floor.now c.open.new.floor c.in-Ok.ensures.cells)
+    c.finish.ensures.uncommitted
