@@ -31,7 +31,7 @@ class Mistakes(unittest.TestCase):
             self.said(words, 2, USAGE)
 
     def test_a_subcommand_without_its_files(self) -> None:
-        for verb in ("check", "describe", "replay", "serve"):
+        for verb in ("check", "describe", "replay", "serve", "repair"):
             self.said([verb], 2, USAGE)
             self.said([verb, W_DEF], 2, USAGE)
 
@@ -44,6 +44,7 @@ class Mistakes(unittest.TestCase):
                 ["invalid value '99999' for '--port <port>': 99999 is not in 1..=65535"],
             ),
             (["check", W_DEF], ["the following required arguments were not provided:", "<lef>..."]),
+            (["repair", *DESIGN, "--keep", "--all"], ["the argument '--keep' cannot be used with '--all'"]),
             (["replay", *DESIGN, "--save", "a", "--save", "b"], ["the argument '--save <save>' cannot be used multiple times"]),
         ):
             with self.subTest(" ".join(words)):
@@ -72,6 +73,7 @@ class Mistakes(unittest.TestCase):
             self.said(["serve", *DESIGN, "--port", "5800", "--connections", "1", "--lines", "5"], 2, USAGE)
             self.said(["replay", *DESIGN, "--port", "5800"], 2, USAGE)
             self.said(["replay", *DESIGN, "--exprt", str(target)], 2, USAGE)
+            self.said(["repair", *DESIGN, "--save", str(target)], 2, USAGE)
             self.said(["check", *DESIGN, "--save", str(target)], 2, USAGE)
             self.said(["describe", *DESIGN, "--state", str(target)], 2, USAGE)
             self.assertEqual(os.listdir(folder), [])
@@ -82,6 +84,9 @@ class Mistakes(unittest.TestCase):
         for option in ("--state", "--save"):
             self.said(["replay", *DESIGN, option], 2, USAGE)
             self.said(["replay", *DESIGN, option, "a", f"{option}=a"], 2, USAGE)
+        self.said(["repair", *DESIGN, "--team"], 2, USAGE)
+        self.said(["repair", *DESIGN, "--keep", "--keep"], 2, USAGE)
+        self.said(["repair", *DESIGN, "--keep", "--all"], 2, USAGE)
         self.said(["replay", *DESIGN, "--lines"], 2, USAGE)
         self.said(["replay", *DESIGN, "--lines", "5", "--lines=5"], 2, USAGE)
         self.said(["serve", *DESIGN, "--port", "--connections", "1"], 2, USAGE)
@@ -192,7 +197,7 @@ class Help(unittest.TestCase):
         self.assertTrue(written.startswith(usage) and len(usage) > 500, written)
 
     def test_each_subcommand_has_its_help_with_an_example(self) -> None:
-        for verb in ("demo", "check", "describe", "replay", "serve"):
+        for verb in ("demo", "check", "describe", "replay", "serve", "repair"):
             with self.subTest(verb):
                 status, written, said = run([verb, "--help"])
                 self.assertEqual((status, said), (0, ""))

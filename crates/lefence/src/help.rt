@@ -13,6 +13,8 @@ pub(crate) const USAGE: &str =
                                 with the committed places in it, goes to FILE
   lefence serve DEF LEF... --port P --connections N [--state FILE] [--save FILE] [--export FILE]
                                 answers the lines of N connections to port P of this machine, one after the other
+  lefence repair DEF LEF... [--team NAME]... [--keep | --all] [--export FILE] [--lines FILE]
+                                gives the cells that break a rule or have no place legal places
   (a path that begins with '-' stands behind '--'; docs/PROTOCOL.md says more)
 ";
 
@@ -72,6 +74,19 @@ example:
   lefence serve chip.def tech.lef cells.lef --port 5800 --connections 100 --export new.def
 ";
 
+const REPAIR: &str =
+    "lefence repair DEF LEF... [--team NAME]... [--keep | --all] [--export FILE] [--lines FILE]
+
+Gives the cells that break a rule or have no place legal places, of the teams that are named, or of all, and commits
+each team of which no cell is left. Legal cells may move only where a cell would have no place or would go far; with
+--keep they stay, and with --all they move wherever that makes the whole way shorter. Writes a line of JSON for each
+team and one for all. With --export, the DEF text with the committed places in it goes to FILE; with --lines, the commands that
+did it. The exit status is 0 if the design is then fully legal, and 4 if it is not.
+
+example:
+  lefence repair chip.def tech.lef cells.lef --export new.def
+";
+
 /// What a subcommand does.
 fn text_of(chosen: Subcommand) -> &'static str {
     match chosen {
@@ -80,6 +95,7 @@ fn text_of(chosen: Subcommand) -> &'static str {
         Subcommand::Describe => DESCRIBE,
         Subcommand::Replay => REPLAY,
         Subcommand::Serve => SERVE,
+        Subcommand::Repair => REPAIR,
     }
 }
 

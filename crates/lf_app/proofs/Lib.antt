@@ -1,7 +1,9 @@
 mod Answering
 mod DesignSteps
+mod Judging
 mod Opening
 mod Performing
+mod Repairing
 mod Reporting
 mod Shown
 mod TaskSteps

@@ -4,10 +4,10 @@ use Rattle.std.specs.Prelude.{IfErr, IfOk, Result}
 use Rattle.std.proofs.lemmas.Result.{IfErr-weaker, IfOk-weaker}
 use Rattle.lf_floorplan.specs.declared.loaded.Loaded.{Loaded}
 use Rattle.lf_command.specs.declared.command.Task.{Task}
-use Rattle.lf_command.specs.declared.command.Task.TheVariants.{Demo, Replay, Serve, Check, Describe}
-use Rattle.lf_command.specs.Command.{Job, ReadsNone, as_job, check, demo, describe, replay, serve}
+use Rattle.lf_command.specs.declared.command.Task.TheVariants.{Demo, Replay, Serve, Check, Describe, Repair}
+use Rattle.lf_command.specs.Command.{Job, ReadsNone, as_job, check, demo, describe, repair, replay, serve}
 use Rattle.lf_app.specs.declared.faults.Fault.{Fault}
-use Rattle.lf_app.specs.declared.faults.Fault.TheVariants.{Refused, File, NoState, ReadFault, WriteFault, TooManyLines, OutOfMemory, Output, Bind, Accept, Unwritten, Unsaved, NoMemory, NoRoom}
+use Rattle.lf_app.specs.declared.faults.Fault.TheVariants.{Refused, File, NoState, NoTeam, ReadFault, WriteFault, TooManyLines, OutOfMemory, Output, Bind, Accept, Unwritten, Unsaved, Unlisted, NoMemory, NoRoom}
 use Rattle.lf_app.specs.Designs.{Gives}
 use Rattle.lf_app.specs.Exits.{IsOutcome, Streams}
 use Rattle.lf_app.specs.Faults.{IsDone, IsFailure, status_of}
@@ -29,6 +29,7 @@ pub failing : (fault : Fault) (status : ℕ) → status ≡ status_of fault → 
 failing (Refused file refusal) status is = inl is
 failing (File file why) status is = inr is
 failing (NoState path refusal) status is = inl is
+failing (NoTeam name) status is = inl is
 failing ReadFault status is = inr is
 failing WriteFault status is = inr is
 failing TooManyLines status is = inr is
@@ -38,6 +39,7 @@ failing (Bind port why) status is = inr is
 failing Accept status is = inr is
 failing (Unwritten path) status is = inr is
 failing (Unsaved path) status is = inr is
+failing (Unlisted path) status is = inr is
 failing NoMemory status is = inl is
 failing NoRoom status is = inl is
 
@@ -55,11 +57,13 @@ succeeds gives (replay def lefs state lines save export) io status is = inl is.1
 succeeds gives (serve def lefs state port connections save export) io status is = inl is.1
 succeeds gives (check def lefs) io status is = is.2.done
 succeeds gives (describe def lefs) io status is = is.described.done
+succeeds gives (repair def lefs teams legal export lines) io status is = is.repaired.judged.done
 
--- 4 is the status of a check or a description alone
+-- 4 is the status of a check, a description or a repair alone
 pub checked : (gives : Gives) (task : Task) (io : Streams) (status : ℕ) → IsOutcome gives (as_job task) io status → status ≡ 4 → ReadsNone task
 checked gives Demo io status is four = let zero : status ≡ 0 = is.3 in absurd (omega (arith, zero, four))
 checked gives (Replay def lefs state lines save export) io status is four = let zero : status ≡ 0 = is.1 in absurd (omega (arith, zero, four))
 checked gives (Serve def lefs state port connections save export) io status is four = let zero : status ≡ 0 = is.1 in absurd (omega (arith, zero, four))
 checked gives (Check def lefs) io status is four = tt
 checked gives (Describe def lefs) io status is four = tt
+checked gives (Repair def lefs teams legal export lines) io status is four = tt

@@ -8,7 +8,7 @@ use Rattle.lf_def.specs.Document.{Document, document_of}
 use Rattle.lf_files.specs.Shelf.{Put}
 use Rattle.lf_floorplan.specs.declared.loaded.Loaded.{Loaded}
 use Rattle.lf_app.specs.declared.faults.Fault.{Fault}
-use Rattle.lf_app.specs.declared.faults.Fault.TheVariants.{Refused, File, NoState, ReadFault, WriteFault, TooManyLines, OutOfMemory, Output, Bind, Accept, Unwritten, Unsaved, NoMemory, NoRoom}
+use Rattle.lf_app.specs.declared.faults.Fault.TheVariants.{Refused, File, NoState, NoTeam, ReadFault, WriteFault, TooManyLines, OutOfMemory, Output, Bind, Accept, Unwritten, Unsaved, Unlisted, NoMemory, NoRoom}
 use Rattle.lf_app.specs.declared.faults.TextKind.{TextKind}
 use Rattle.lf_app.specs.declared.faults.TextKind.TheVariants.{Lef, Def, State}
 use Rattle.lf_app.specs.Designs.{Gives, IsDefRefusal, IsDesignFault, IsDesignOf, IsFileFault, IsLefRefusal, IsLibraryFault, IsLibraryOf}
@@ -42,6 +42,7 @@ IsRoom _ = ⊥
 abbrev IsPath : Fault → Type 0
 IsPath (Unwritten path) = Unit {0}
 IsPath (Unsaved path) = Unit {0}
+IsPath (Unlisted path) = Unit {0}
 IsPath _ = ⊥
 
 -- what more is said of the same fault
@@ -79,6 +80,8 @@ early_blames kept reader writer export service sound (File file why) keeps sound
     record { early = λ _. keeps; reading = λ same. absurd (subst IsEarly same tt); writing = λ of. absurd of; exporting = λ of. absurd of; serving = λ of. absurd of; sparing = λ _. sounds }
 early_blames kept reader writer export service sound (NoState path its) keeps sounds early =
     record { early = λ _. keeps; reading = λ same. absurd (subst IsEarly same tt); writing = λ of. absurd of; exporting = λ of. absurd of; serving = λ of. absurd of; sparing = λ _. sounds }
+early_blames kept reader writer export service sound (NoTeam name) keeps sounds early =
+    record { early = λ _. keeps; reading = λ same. absurd (subst IsEarly same tt); writing = λ of. absurd of; exporting = λ of. absurd of; serving = λ of. absurd of; sparing = λ _. sounds }
 early_blames kept reader writer export service sound ReadFault keeps sounds early = absurd early
 early_blames kept reader writer export service sound WriteFault keeps sounds early = absurd early
 early_blames kept reader writer export service sound TooManyLines keeps sounds early = absurd early
@@ -88,6 +91,7 @@ early_blames kept reader writer export service sound (Bind port why) keeps sound
 early_blames kept reader writer export service sound Accept keeps sounds early = absurd early
 early_blames kept reader writer export service sound (Unwritten path) keeps sounds early = absurd early
 early_blames kept reader writer export service sound (Unsaved path) keeps sounds early = absurd early
+early_blames kept reader writer export service sound (Unlisted path) keeps sounds early = absurd early
 early_blames kept reader writer export service sound NoMemory keeps sounds early =
     record { early = λ _. keeps; reading = λ same. absurd (subst IsEarly same tt); writing = λ of. absurd of; exporting = λ of. absurd of; serving = λ of. absurd of; sparing = λ _. sounds }
 early_blames kept reader writer export service sound NoRoom keeps sounds early = absurd early
@@ -98,6 +102,7 @@ pub export_blames : (kept reader writer export service sound : Type 0) (fault : 
 export_blames kept reader writer export service sound (Refused file its) before now is fails sounds = absurd is
 export_blames kept reader writer export service sound (File file why) before now is fails sounds = absurd is
 export_blames kept reader writer export service sound (NoState path its) before now is fails sounds = absurd is
+export_blames kept reader writer export service sound (NoTeam name) before now is fails sounds = absurd is
 export_blames kept reader writer export service sound ReadFault before now is fails sounds = absurd is
 export_blames kept reader writer export service sound WriteFault before now is fails sounds = absurd is
 export_blames kept reader writer export service sound TooManyLines before now is fails sounds = absurd is
@@ -109,6 +114,8 @@ export_blames kept reader writer export service sound (Unwritten path) before no
     record { early = λ of. absurd of; reading = λ same. absurd (subst IsPath same tt); writing = λ of. absurd of; exporting = λ _. fails is; serving = λ of. absurd of; sparing = λ of. absurd of }
 export_blames kept reader writer export service sound (Unsaved path) before now is fails sounds =
     record { early = λ of. absurd of; reading = λ same. absurd (subst IsPath same tt); writing = λ of. absurd of; exporting = λ _. fails is; serving = λ of. absurd of; sparing = λ of. absurd of }
+export_blames kept reader writer export service sound (Unlisted path) before now is fails sounds =
+    record { early = λ of. absurd of; reading = λ same. absurd (subst IsPath same tt); writing = λ of. absurd of; exporting = λ _. fails is; serving = λ of. absurd of; sparing = λ of. absurd of }
 export_blames kept reader writer export service sound NoMemory before now is fails sounds = absurd is
 export_blames kept reader writer export service sound NoRoom before now is fails sounds =
     record { early = λ of. absurd of; reading = λ same. absurd (subst IsRoom same tt); writing = λ of. absurd of; exporting = λ of. absurd of; serving = λ of. absurd of; sparing = λ _. sounds is }
@@ -118,6 +125,7 @@ pub refused_early : (kind : TextKind) (path text : List ℕ) (why : LoadFault �
 refused_early kind path text why (Refused file its) is = tt
 refused_early kind path text why (File file cause) is = absurd is
 refused_early kind path text why (NoState its_path its) is = absurd is
+refused_early kind path text why (NoTeam name) is = absurd is
 refused_early kind path text why ReadFault is = absurd is
 refused_early kind path text why WriteFault is = absurd is
 refused_early kind path text why TooManyLines is = absurd is
@@ -127,6 +135,7 @@ refused_early kind path text why (Bind port cause) is = absurd is
 refused_early kind path text why Accept is = absurd is
 refused_early kind path text why (Unwritten its_path) is = absurd is
 refused_early kind path text why (Unsaved its_path) is = absurd is
+refused_early kind path text why (Unlisted its_path) is = absurd is
 refused_early kind path text why NoMemory is = absurd is
 refused_early kind path text why NoRoom is = absurd is
 
@@ -135,6 +144,7 @@ pub unread_early : (gives : Gives) (kind : TextKind) (path : List ℕ) (fault : 
 unread_early gives kind path (Refused file its) is = absurd is
 unread_early gives kind path (File file why) is = tt
 unread_early gives kind path (NoState its_path its) is = absurd is
+unread_early gives kind path (NoTeam name) is = absurd is
 unread_early gives kind path ReadFault is = absurd is
 unread_early gives kind path WriteFault is = absurd is
 unread_early gives kind path TooManyLines is = absurd is
@@ -144,6 +154,7 @@ unread_early gives kind path (Bind port why) is = absurd is
 unread_early gives kind path Accept is = absurd is
 unread_early gives kind path (Unwritten its_path) is = absurd is
 unread_early gives kind path (Unsaved its_path) is = absurd is
+unread_early gives kind path (Unlisted its_path) is = absurd is
 unread_early gives kind path NoMemory is = tt
 unread_early gives kind path NoRoom is = absurd is
 
@@ -177,6 +188,7 @@ pub refused_as : (kind : TextKind) (path text : List ℕ) (P Q : LoadFault → T
 refused_as kind path text P Q (Refused file its) is gives = (is.0, (is.1.0, gives is.1.0 is.1.1, is.1.2))
 refused_as kind path text P Q (File file why) is gives = absurd is
 refused_as kind path text P Q (NoState its_path its) is gives = absurd is
+refused_as kind path text P Q (NoTeam name) is gives = absurd is
 refused_as kind path text P Q ReadFault is gives = absurd is
 refused_as kind path text P Q WriteFault is gives = absurd is
 refused_as kind path text P Q TooManyLines is gives = absurd is
@@ -186,6 +198,7 @@ refused_as kind path text P Q (Bind port why) is gives = absurd is
 refused_as kind path text P Q Accept is gives = absurd is
 refused_as kind path text P Q (Unwritten its_path) is gives = absurd is
 refused_as kind path text P Q (Unsaved its_path) is gives = absurd is
+refused_as kind path text P Q (Unlisted its_path) is gives = absurd is
 refused_as kind path text P Q NoMemory is gives = absurd is
 refused_as kind path text P Q NoRoom is gives = absurd is
 
@@ -270,6 +283,7 @@ refused_state_early : (path text : List ℕ) (why : StateFault) (fault : Fault) 
 refused_state_early path text why (Refused file its) is = absurd is
 refused_state_early path text why (File file cause) is = absurd is
 refused_state_early path text why (NoState its_path its) is = tt
+refused_state_early path text why (NoTeam name) is = absurd is
 refused_state_early path text why ReadFault is = absurd is
 refused_state_early path text why WriteFault is = absurd is
 refused_state_early path text why TooManyLines is = absurd is
@@ -279,6 +293,7 @@ refused_state_early path text why (Bind port cause) is = absurd is
 refused_state_early path text why Accept is = absurd is
 refused_state_early path text why (Unwritten its_path) is = absurd is
 refused_state_early path text why (Unsaved its_path) is = absurd is
+refused_state_early path text why (Unlisted its_path) is = absurd is
 refused_state_early path text why NoMemory is = tt
 refused_state_early path text why NoRoom is = absurd is
 
@@ -299,7 +314,7 @@ unbegun_early gives state loaded fault (inl memory) = subst IsEarly (sym memory)
 unbegun_early gives state loaded fault (inr state_fault) = state_early gives state (opening loaded) fault state_fault
 
 -- a design that is opened is that of its files
-design_opened : (gives : Gives) (def : List ℕ) (lefs : List (List ℕ)) (text : List ℕ) (document : Document) (loaded : Loaded)
+pub design_opened : (gives : Gives) (def : List ℕ) (lefs : List (List ℕ)) (text : List ℕ) (document : Document) (loaded : Loaded)
     → IsOpened gives def lefs text document loaded → IsDesignOf gives def lefs loaded
 design_opened gives def lefs text document loaded is =
     (is.library, is.lefs_are, record { text = text; given = is.given; design = (document, is.read, is.loads) })

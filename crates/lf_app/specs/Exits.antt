@@ -16,15 +16,16 @@ use Rattle.lf_teams.specs.Designs.{opening}
 use Rattle.lf_teams.specs.Places.{AreCommittedPlaces}
 use Rattle.lf_server.specs.Connections.{AreServed}
 use Rattle.lf_server.specs.declared.serving.Ending.{Ending}
-use Rattle.lf_command.specs.Command.{Job, demo, replay, serve, check, describe}
+use Rattle.lf_command.specs.Command.{Job, demo, replay, serve, check, describe, repair}
 use Rattle.lf_app.specs.declared.opened.Opened.{Opened}
 use Rattle.lf_app.specs.declared.faults.Fault.{Fault}
 use Rattle.lf_app.specs.declared.faults.Fault.TheVariants.{Accept, Bind, NoMemory, Output}
 use Rattle.lf_app.specs.declared.faults.Exit.{Exit}
 use Rattle.lf_app.specs.Checks.{IsLegalDesign, report_line}
 use Rattle.lf_app.specs.Designs.{Gives, IsDesignFault, IsDesignOf, IsLibraryOf, IsLoadedIn, IsTextDesign, IsTextFault, no_library}
-use Rattle.lf_app.specs.Faults.{IsDescriptionFault, IsDone, IsExportFault, IsReportFault, IsSaveFault, ending_fault, status_of, told_text}
+use Rattle.lf_app.specs.Faults.{IsDescriptionFault, IsDone, IsExportFault, IsLinesFileFault, IsReportFault, IsSaveFault, ending_fault, status_of, told_text}
 use Rattle.lf_app.specs.Lines.{IsServed, most_lines}
+use Rattle.lf_app.specs.Repairs.{IsJudged, IsKeptRun, IsListed, IsRepairFault, OnlyAsked, begun_lines}
 use Rattle.lf_app.specs.States.{IsBegun, IsFloorFault, IsFloorOf, IsSaved}
 
 -- a task ends with the fault: with its status, and what is told of it is appended to the faults, unless these have failed
@@ -131,16 +132,18 @@ pub record IsWorked (gives : Gives) (def : List ℕ) (lefs : List (List ℕ)) (s
   pub begins : IsBegun gives state (opening loaded) begin
   pub finished : IsFinished (Work begin) save export text document io
 
--- a job that asks for no state at the end
+-- a job that asks for no state at the end, and for no lines of a repair: nothing is put behind the exported text
 abbrev pub AsksForNoState : Job → Type 0
 AsksForNoState (replay def lefs state lines save export) = save ≡ None
 AsksForNoState (serve def lefs state port connections save export) = save ≡ None
+AsksForNoState (repair def lefs teams legal export lines) = lines ≡ None
 AsksForNoState job = Unit {0}
 
 -- a job that asks for no text to be put into a file
 abbrev pub AsksForNoFile : Job → Type 0
 AsksForNoFile (replay def lefs state lines save export) = (save ≡ None) × (export ≡ None)
 AsksForNoFile (serve def lefs state port connections save export) = (save ≡ None) × (export ≡ None)
+AsksForNoFile (repair def lefs teams legal export lines) = (lines ≡ None) × (export ≡ None)
 AsksForNoFile job = Unit {0}
 
 -- the most lines of its input that a job answers
@@ -163,6 +166,36 @@ pub record IsOpenDescribed (gives : Gives) (def : List ℕ) (lefs : List (List �
   pub opened : IsOpened gives def lefs text document loaded
   pub described : IsDescribed document loaded before after status
 
+-- a report was written; the exported text was put where one was asked for, and then the lines
+pub record IsPut (export lines : Option (List ℕ)) (text : List ℕ) (document : Document) (floor : FloorState) (kept before after : Option (List ℕ))
+    (old_puts new_puts : Option (List Put)) : Type 0 where
+  pub report : List ℕ
+  pub told : Appends before after report
+  pub between : Option (List Put)
+  pub exports : IsExported export text document floor old_puts between
+  pub lists : IsListed lines kept between new_puts
+
+-- the floor went from the one that was begun with to this one by commands that were each accepted, which are the lines that are
+-- kept, and only teams that were asked for changed; a report was written; the exported text was put where one was asked for, and then
+-- the lines; and the status says whether the committed design is then fully legal
+pub record IsRepaired (teams : List (List ℕ)) (export lines : Option (List ℕ)) (text : List ℕ) (document : Document) (begin : FloorState)
+    (before after : Option (List ℕ)) (old_puts new_puts : Option (List Put)) (status : ℕ) : Type 0 where
+  pub floor : FloorState
+  pub kept : Option (List ℕ)
+  pub run : (l : Legalizer) → IsKeptRun l begin (begun_lines lines) kept floor
+  pub only : OnlyAsked teams begin floor
+  pub put : IsPut export lines text document floor kept before after old_puts new_puts
+  pub judged : IsJudged floor status
+
+-- the design was opened, and its teams were repaired
+pub record IsOpenRepaired (gives : Gives) (def : List ℕ) (lefs teams : List (List ℕ)) (export lines : Option (List ℕ))
+    (before after : Option (List ℕ)) (old_puts new_puts : Option (List Put)) (status : ℕ) : Type 0 where
+  pub text : List ℕ
+  pub document : Document
+  pub loaded : Loaded
+  pub opened : IsOpened gives def lefs text document loaded
+  pub repaired : IsRepaired teams export lines text document (opening loaded) before after old_puts new_puts status
+
 -- the outcome of a job that is done, with this status
 abbrev pub IsOutcome : Gives → Job → Streams → ℕ → Type 0
 IsOutcome gives demo io status =
@@ -175,6 +208,8 @@ IsOutcome gives (serve def lefs state port connections save export) io status =
     (λ begin floor io. IsOffered begin floor connections io.before io.after io.old_accepted io.new_accepted) io × (status ≡ 0)
 IsOutcome gives (check def lefs) io status = (loaded : Loaded) × IsDesignOf gives def lefs loaded × IsReported loaded io.before io.after status
 IsOutcome gives (describe def lefs) io status = IsOpenDescribed gives def lefs io.before io.after status
+IsOutcome gives (repair def lefs teams legal export lines) io status =
+    IsOpenRepaired gives def lefs teams export lines io.before io.after io.old_puts io.new_puts status
 
 -- ---- faults
 
@@ -218,6 +253,27 @@ pub record IsOpenUndescribed (gives : Gives) (def : List ℕ) (lefs : List (List
   pub opened : IsOpened gives def lefs text document loaded
   pub undescribed : IsUndescribed document loaded before after fault
 
+-- a report is not written, or only a front of it, or what is asked for is not put: then no text is, unless the lines alone are not put
+pub record IsNotPut (export lines before after : Option (List ℕ)) (old_puts new_puts : Option (List Put)) (fault : Fault) : Type 0 where
+  pub why : IsExportFault export fault ⊎ (IsLinesFileFault lines fault ⊎ (fault ≡ Output))
+  pub front : (bytes : List ℕ) × Appends before after bytes
+  pub unput : (new_puts ≡ old_puts) ⊎ IsLinesFileFault lines fault
+
+-- teams are not repaired, or it is not told or put: at most a front of a report was written; and no text was put, unless the lines alone are
+-- not put
+pub record IsUnrepaired (teams : List (List ℕ)) (export lines : Option (List ℕ)) (begin : FloorState) (before after : Option (List ℕ))
+    (old_puts new_puts : Option (List Put)) (fault : Fault) : Type 0 where
+  pub why : IsRepairFault begin.frame teams export lines fault
+  pub front : (bytes : List ℕ) × Appends before after bytes
+  pub unput : (new_puts ≡ old_puts) ⊎ IsLinesFileFault lines fault
+
+-- there is no floor of the design, and nothing was put; or there is, and its teams are not repaired
+abbrev pub IsNotRepaired : Gives → List ℕ → List (List ℕ) → List (List ℕ) → Option (List ℕ) → Option (List ℕ) → Option (List ℕ) → Option (List ℕ)
+    → Option (List Put) → Option (List Put) → Fault → Type 0
+IsNotRepaired gives def lefs teams export lines before after old_puts new_puts fault =
+    (IsFloorFault gives def lefs None fault × (new_puts ≡ old_puts))
+    ⊎ ((begin : FloorState) × IsFloorOf gives def lefs None begin × IsUnrepaired teams export lines begin before after old_puts new_puts fault)
+
 -- nothing was read, written, put or accepted
 pub record IsUntouched (io : Streams) : Type 0 where
   pub unread : io.left ≡ io.input
@@ -245,7 +301,7 @@ IsUndone gives def lefs state save export why Work fault io =
     ⊎ (IsSaveFault save fault × IsWorked gives def lefs state None export Work io)
 
 -- why a job is not done: there is no design, or no floor in the state that was asked for; or there is, and the lines, the service,
--- what is put, the report or the description fails
+-- what is put, the report, the description or the repair fails
 abbrev pub IsJobFault : Gives → Job → Fault → Streams → Type 0
 IsJobFault gives demo fault io =
     IsJobStop (IsTextFault W_DEF.now W_LEF.now) (IsTextDesign W_DEF.now W_LEF.now)
@@ -261,3 +317,5 @@ IsJobFault gives (serve def lefs state port connections save export) fault io =
 IsJobFault gives (check def lefs) fault io =
     IsJobStop (IsDesignFault gives def lefs) (IsDesignOf gives def lefs) (λ loaded fault io. IsUnreported loaded io.before io.after fault) fault io
 IsJobFault gives (describe def lefs) fault io = IsDesignFault gives def lefs fault ⊎ IsOpenUndescribed gives def lefs io.before io.after fault
+IsJobFault gives (repair def lefs teams legal export lines) fault io =
+    IsNotRepaired gives def lefs teams export lines io.before io.after io.old_puts io.new_puts fault

@@ -9,7 +9,7 @@ use Rattle.lf_state.specs.declared.fault.FaultNumber.TheVariants as state
 use Rattle.lf_server.specs.declared.serving.Ending.{Ending}
 use Rattle.lf_server.specs.declared.serving.Ending.TheVariants as ending
 use Rattle.lf_app.specs.declared.faults.Fault.{Fault}
-use Rattle.lf_app.specs.declared.faults.Fault.TheVariants.{Refused, File, NoState, ReadFault, WriteFault, TooManyLines, OutOfMemory, Output, Bind, Accept, Unwritten, Unsaved, NoMemory, NoRoom}
+use Rattle.lf_app.specs.declared.faults.Fault.TheVariants.{Refused, File, NoState, NoTeam, ReadFault, WriteFault, TooManyLines, OutOfMemory, Output, Bind, Accept, Unwritten, Unsaved, Unlisted, NoMemory, NoRoom}
 use Rattle.lf_app.specs.declared.faults.TextFile.{TextFile}
 use Rattle.lf_app.specs.declared.faults.TextKind.{TextKind}
 use Rattle.lf_app.specs.declared.faults.TextKind.TheVariants.{Lef, Def, State}
@@ -84,6 +84,7 @@ abbrev pub fault_text : Fault → List ℕ
 fault_text (Refused file refusal) = refusal_text refusal
 fault_text (File file why) = codes "File"
 fault_text (NoState path refusal) = state_refusal_text refusal
+fault_text (NoTeam name) = codes "NoTeam"
 fault_text ReadFault = codes "ReadFault"
 fault_text WriteFault = codes "WriteFault"
 fault_text TooManyLines = codes "TooManyLines"
@@ -93,6 +94,7 @@ fault_text (Bind port why) = codes "Bind"
 fault_text Accept = codes "Accept"
 fault_text (Unwritten path) = codes "File"
 fault_text (Unsaved path) = codes "File"
+fault_text (Unlisted path) = codes "File"
 fault_text NoMemory = codes "24 OutOfMemory"
 fault_text NoRoom = codes "24 OutOfMemory"
 
@@ -147,6 +149,14 @@ export_words path = codes "export file " ++ shown path
 abbrev pub state_words : List ℕ → List ℕ
 state_words path = codes "state file " ++ shown path
 
+-- the path of the lines of a repair
+abbrev pub lines_words : List ℕ → List ℕ
+lines_words path = codes "lines file " ++ shown path
+
+-- the name of a team
+abbrev pub team_words : List ℕ → List ℕ
+team_words name = codes "team " ++ shown name
+
 -- where a state text is refused
 abbrev pub state_line : List ℕ → StateRefusal → List ℕ
 state_line path refusal = codes "lefence: " ++ state_words path ++ number_words refusal.line None ++ shown refusal.shown.items ++ 10 ∷ []
@@ -173,11 +183,13 @@ abbrev pub refusal_words : TextFile → Refusal → List ℕ
 refusal_words file refusal =
     if is_memory refusal.number then [] else codes "lefence: " ++ file_words file ++ hint_words file.kind refusal.hint ++ shown_line refusal ++ 10 ∷ []
 
--- the file, the path or the port that is at fault
+-- the file, the path, the port or the team that is at fault
 abbrev pub subject_words : Fault → List ℕ
 subject_words (File file why) = file_words file
 subject_words (Unwritten path) = export_words path.now
 subject_words (Unsaved path) = state_words path.now
+subject_words (Unlisted path) = lines_words path.now
+subject_words (NoTeam name) = team_words name.now
 subject_words (Bind port why) = port_words port
 subject_words _ = []
 
@@ -186,6 +198,8 @@ abbrev pub complaint_words : Fault → List ℕ
 complaint_words (File file why) = codes " cannot be read"
 complaint_words (Unwritten path) = codes " cannot be written"
 complaint_words (Unsaved path) = codes " cannot be written"
+complaint_words (Unlisted path) = codes " cannot be written"
+complaint_words (NoTeam name) = codes " is not in the design"
 complaint_words (Bind port why) = codes " cannot be listened on"
 complaint_words _ = []
 
@@ -212,13 +226,15 @@ reason_words _ = []
 abbrev pub complaint_line : Fault → List ℕ
 complaint_line fault = codes "lefence: " ++ subject_words fault ++ complaint_words fault ++ reason_words fault ++ 10 ∷ []
 
--- the second line on standard error: the line of a text, or the file, the path or the port that is at fault; none for other faults
+-- the second line on standard error: the line of a text, or the file, the path, the port or the team that is at fault; none for other faults
 abbrev pub second_line : Fault → List ℕ
 second_line (Refused file refusal) = refusal_words file refusal
 second_line (File file why) = complaint_line (File file why)
 second_line (NoState path refusal) = state_line path.now refusal
 second_line (Unwritten path) = complaint_line (Unwritten path)
 second_line (Unsaved path) = complaint_line (Unsaved path)
+second_line (Unlisted path) = complaint_line (Unlisted path)
+second_line (NoTeam name) = complaint_line (NoTeam name)
 second_line (Bind port why) = complaint_line (Bind port why)
 second_line _ = []
 
@@ -232,6 +248,7 @@ told_text fault = fault_line fault ++ second_line fault
 abbrev pub status_of : Fault → ℕ
 status_of (Refused file refusal) = 1
 status_of (NoState path refusal) = 1
+status_of (NoTeam name) = 1
 status_of NoMemory = 1
 status_of NoRoom = 1
 status_of _ = 3
@@ -249,7 +266,7 @@ ending_fault ending.OutOfMemory = Some OutOfMemory
 abbrev pub IsFailure : ℕ → Type 0
 IsFailure status = (status ≡ 1) ⊎ (status ≡ 3)
 
--- the exit statuses of tasks that were done: 4 is that of a check of a design that is not fully legal
+-- the exit statuses of tasks that were done: 4 is that of a check, a description or a repair of a design that is not fully legal
 abbrev pub IsDone : ℕ → Type 0
 IsDone status = (status ≡ 0) ⊎ (status ≡ 4)
 
@@ -291,6 +308,16 @@ abbrev pub IsSaveFault : Option (List ℕ) → Fault → Type 0
 IsSaveFault None fault = ⊥
 IsSaveFault (Some path) fault = (fault ≡ NoRoom) ⊎ IsNotSaved path fault
 
+-- the lines of a repair are not written to that path
+abbrev pub IsNotListed : List ℕ → Fault → Type 0
+IsNotListed path (Unlisted its) = its.now ≡ path
+IsNotListed path _ = ⊥
+
+-- why the lines that were asked for are not put into their file: an allocation for them failed, or the file cannot be written
+abbrev pub IsLinesFileFault : Option (List ℕ) → Fault → Type 0
+IsLinesFileFault None fault = ⊥
+IsLinesFileFault (Some path) fault = (fault ≡ NoRoom) ⊎ IsNotListed path fault
+
 -- ---- who is to blame
 
 -- the faults before anything is written
@@ -298,6 +325,7 @@ abbrev pub IsEarly : Fault → Type 0
 IsEarly (Refused file refusal) = Unit {0}
 IsEarly (File file why) = Unit {0}
 IsEarly (NoState path refusal) = Unit {0}
+IsEarly (NoTeam name) = Unit {0}
 IsEarly NoMemory = Unit {0}
 IsEarly _ = ⊥
 
@@ -307,10 +335,11 @@ IsOfWriter WriteFault = Unit {0}
 IsOfWriter Output = Unit {0}
 IsOfWriter _ = ⊥
 
--- the faults of the file of the exported text, and of that of the state
+-- the faults of the file of the exported text, of that of the state and of that of the lines of a repair
 abbrev pub IsOfExport : Fault → Type 0
 IsOfExport (Unwritten path) = Unit {0}
 IsOfExport (Unsaved path) = Unit {0}
+IsOfExport (Unlisted path) = Unit {0}
 IsOfExport _ = ⊥
 
 -- the faults of a service
@@ -319,11 +348,12 @@ IsOfService (Bind port why) = Unit {0}
 IsOfService Accept = Unit {0}
 IsOfService _ = ⊥
 
--- the faults of nothing that a task works on: of a text, of memory, or of too many lines
+-- the faults of nothing that a task works on: of a text, of a team's name, of memory, or of too many lines
 abbrev pub IsOfNone : Fault → Type 0
 IsOfNone (Refused file refusal) = Unit {0}
 IsOfNone (File file why) = Unit {0}
 IsOfNone (NoState path refusal) = Unit {0}
+IsOfNone (NoTeam name) = Unit {0}
 IsOfNone TooManyLines = Unit {0}
 IsOfNone OutOfMemory = Unit {0}
 IsOfNone NoMemory = Unit {0}
@@ -331,7 +361,7 @@ IsOfNone NoRoom = Unit {0}
 IsOfNone _ = ⊥
 
 -- what a fault says of what a task works on: the writer is kept if it is early, and has failed if it is the writer's own; the reader
--- has failed, or was read as often as is allowed, if it is the reader's; the file of the exported text or of the state, or the service, has failed
+-- has failed, or was read as often as is allowed, if it is the reader's; the file of the exported text, of the state or of the lines, or the service, has failed
 -- if it is that one's; and if it is the fault of none of them, nothing has failed
 pub record Blames (fault : Fault) (kept reader writer export service sound : Type 0) : Type 0 where
   pub early : IsEarly fault → kept
@@ -350,9 +380,15 @@ abbrev pub BlamesStreams : ℕ → Fault → Type 0 → Bool → ℕ → ℕ →
 BlamesStreams limit fault kept read_failed old_reads new_reads write_failed =
     Blames fault kept (ReadsFail limit read_failed old_reads new_reads) (write_failed ≡ true) ⊥ ⊥ ((read_failed ≡ false) × (write_failed ≡ false))
 
--- the file of the exported text or of the state has failed if it is not written for its own fault, and not if memory ran out
+-- the same where only a writer and files are worked on, each of which had failed before or not, and has now or not
+abbrev pub BlamesOutputs : Fault → Type 0 → Bool → Bool → Bool → Bool → Type 0
+BlamesOutputs fault kept write_before write_now file_before file_now =
+    Blames fault kept ⊥ (write_now ≡ true) (file_now ≡ true) ⊥ ((write_now ≡ write_before) × (file_now ≡ file_before))
+
+-- the file of the exported text, of the state or of the lines has failed if it is not written for its own fault, and not if memory ran out
 abbrev pub ExportFails : Fault → Bool → Bool → Type 0
 ExportFails (Unwritten path) before now = now ≡ true
 ExportFails (Unsaved path) before now = now ≡ true
+ExportFails (Unlisted path) before now = now ≡ true
 ExportFails NoRoom before now = now ≡ before
 ExportFails _ before now = ⊥

@@ -5,6 +5,7 @@ pub mod Faults
 pub mod Hints
 pub mod Lines
 pub mod Refusals
+pub mod Repairs
 pub mod Reporting
 pub mod Services
 pub mod States

@@ -49,6 +49,8 @@ pub enum Fault<'a> {
     File(TextFile<'a>, Unreadable),
     /// The text of the file of that path was refused: it tells no state of the design.
     NoState(&'a str, StateRefusal),
+    /// No team of the design has this name.
+    NoTeam(&'a str),
     /// Standard input could not be read.
     ReadFault,
     /// A reply could not be written.
@@ -67,9 +69,11 @@ pub enum Fault<'a> {
     Unwritten(&'a str),
     /// The file of that path could not be written; it was to get the state.
     Unsaved(&'a str),
+    /// The file of that path could not be written; it was to get the lines of a repair.
+    Unlisted(&'a str),
     /// An allocation failed before the first line, or for a report.
     NoMemory,
-    /// An allocation for the exported text, for the state, or for a line of a description, failed.
+    /// An allocation for the exported text, for the state, for a line of a description, or for a repair, failed.
     NoRoom,
 }
 
@@ -193,6 +197,7 @@ fn put_fault<W: Sink>(sink: &mut W, fault: &Fault<'_>) -> Result<(), DeviceFault
         Fault::Refused { refusal, .. } => put_refusal(sink, refusal),
         Fault::File(_, _) => send(sink, b"File"),
         Fault::NoState(_, refusal) => put_state_refusal(sink, refusal),
+        Fault::NoTeam(_) => send(sink, b"NoTeam"),
         Fault::ReadFault => send(sink, b"ReadFault"),
         Fault::WriteFault => send(sink, b"WriteFault"),
         Fault::TooManyLines => send(sink, b"TooManyLines"),
@@ -202,6 +207,7 @@ fn put_fault<W: Sink>(sink: &mut W, fault: &Fault<'_>) -> Result<(), DeviceFault
         Fault::Accept => send(sink, b"Accept"),
         Fault::Unwritten(_) => send(sink, b"File"),
         Fault::Unsaved(_) => send(sink, b"File"),
+        Fault::Unlisted(_) => send(sink, b"File"),
         Fault::NoMemory => send(sink, b"24 OutOfMemory"),
         Fault::NoRoom => send(sink, b"24 OutOfMemory"),
     }
@@ -218,13 +224,14 @@ pub fn write_fault<W: Sink>(sink: &mut W, fault: &Fault<'_>) -> Result<(), Devic
     send(sink, b"\n")
 }
 
-/// The exit status of a fault: 1 for `Refused`, `NoState`, `NoMemory` and `NoRoom`, else 3.
+/// The exit status of a fault: 1 for `Refused`, `NoState`, `NoTeam`, `NoMemory` and `NoRoom`, else 3.
 pub fn status_of(fault: &Fault<'_>) -> u8
     ensures { result ≡ status_of fault.now }
 {
     match fault {
         Fault::Refused { .. } => 1,
         Fault::NoState(_, _) => 1,
+        Fault::NoTeam(_) => 1,
         Fault::NoMemory => 1,
         Fault::NoRoom => 1,
         _ => 3,
@@ -242,7 +249,7 @@ pub(crate) fn done(status: u8) -> Exit
     }
 }
 
-/// Writes all that is printed of a fault: its line, and a second one where a file, a line of it or a port is at fault.
+/// Writes all that is printed of a fault: its line, and a second one where a file, a line of it, a port or a team is at fault.
 fn put_told<W: Sink>(sink: &mut W, fault: &Fault<'_>) -> Result<(), DeviceFault>
     ensures ok { OnOk result (Appends (W.contents sink.old) (W.contents sink.new) (told_text fault.now)) }
     ensures failed { OnErr result (W.has_failed sink.new ≡ true) }

@@ -8,9 +8,10 @@
 //! the DEF text, within the standard limits; a demo has the built-in texts. Demo and replay have served the lines, at most as many
 //! as asked for, to their end or a `bye`; serve has written `listening` and served that many connections, at 127.0.0.1 and that
 //! port, within 1,000,000 lines each and 4,200 reads for each line; check has written the report of all cells at their places in
-//! the DEF text, and describe the description. 4, which only these two return, says that the design is not fully legal. With
-//! `--export` exactly the exported text, with the committed places of the floor at the end, was put at the path; nothing else ever
-//! is, and after a fault nothing was put.
+//! the DEF text, and describe the description; repair has asked the floor commands, each of them accepted, and written a report. 4,
+//! which only these three return, says that the design is not fully legal: of repair the committed one at the end. With `--export`
+//! exactly the exported text, with the committed places of the floor at the end, was put at the path, with `--save` then the state,
+//! and with `--lines` of repair then the lines of its commands; nothing else ever is.
 //!
 //! Status 1 or 3: there is one fault (`Fault`), whose status it is. It is the first of: the files and texts, LEF before DEF; what
 //! loading finds; the export's path and the port, before a line is read; how the lines ended; the report, the description, the
@@ -31,11 +32,15 @@ mod designs;
 mod exported;
 mod faults;
 mod hints;
+mod judged;
+mod kept_lines;
 mod lines;
 mod opened;
 mod origins;
 mod outputs;
 mod refusals;
+mod repair_reports;
+mod repairs;
 mod reports;
 mod saved;
 mod services;
@@ -47,7 +52,9 @@ mod work;
 
 pub use faults::{Exit, Fault, TextFile, TextKind, status_of, write_fault};
 pub use hints::Hint;
-pub use lf_command::{Help, Subcommand, Task, UsageFault, command_of, complaint_of, help_of};
+pub use lf_command::{
+    Help, LegalCells, Subcommand, Task, UsageFault, command_of, complaint_of, help_of,
+};
 pub use lf_devices::{FromRead, ToWrite};
 pub use lf_files::FileExports;
 pub use lf_server::{Acceptor, Connection, Offer};

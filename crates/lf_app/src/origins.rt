@@ -1,11 +1,11 @@
-//! Where a fault lies: the file, the line of it with its text, or the port.
+//! Where a fault lies: the file, the line of it with its text, the port, or the team.
 
 ghost use Rattle.std.specs.Prelude.{◌≡◌, ◌<◌, OnErr, OnOk, true};
 ghost use Rattle.std.specs.Io.KnownBytes.{Appends};
 ghost use Rattle.std.specs.Char.{digit_char};
-ghost use Rattle.lf_app.specs.Faults.{complaint_line, complaint_words, earlier_words, export_words, file_words, first_words, hint_words, is_memory, number_words};
+ghost use Rattle.lf_app.specs.Faults.{complaint_line, complaint_words, earlier_words, export_words, file_words, first_words, hint_words, is_memory, lines_words, number_words};
 ghost use Rattle.lf_app.specs.Faults.{port_words, reason_words, refusal_words, second_line, shown, shown_byte, shown_line, state_line, state_words};
-ghost use Rattle.lf_app.specs.Faults.{subject_words, unbound_words, unreadable_words};
+ghost use Rattle.lf_app.specs.Faults.{subject_words, team_words, unbound_words, unreadable_words};
 
 use crate::faults::{Fault, TextFile, TextKind};
 use crate::hints::Hint;
@@ -182,6 +182,26 @@ fn put_state_path<W: Sink>(sink: &mut W, path: &str) -> Result<(), DeviceFault>
     put_shown(sink, path.as_bytes())
 }
 
+/// Writes the path of the lines of a repair.
+fn put_lines_path<W: Sink>(sink: &mut W, path: &str) -> Result<(), DeviceFault>
+    ensures ok { OnOk result (Appends (W.contents sink.old) (W.contents sink.new) (lines_words path.now)) }
+    ensures failed { OnErr result (W.has_failed sink.new ≡ true) }
+    ensures held { W.holds sink.new ≡ W.holds sink.old }
+{
+    send(sink, b"lines file ")?;
+    put_shown(sink, path.as_bytes())
+}
+
+/// Writes the name of a team.
+fn put_team<W: Sink>(sink: &mut W, name: &str) -> Result<(), DeviceFault>
+    ensures ok { OnOk result (Appends (W.contents sink.old) (W.contents sink.new) (team_words name.now)) }
+    ensures failed { OnErr result (W.has_failed sink.new ≡ true) }
+    ensures held { W.holds sink.new ≡ W.holds sink.old }
+{
+    send(sink, b"team ")?;
+    put_shown(sink, name.as_bytes())
+}
+
 /// Writes where a state text is refused: the number of its line, and that line's first bytes.
 fn put_no_state<W: Sink>(
     sink: &mut W,
@@ -210,7 +230,7 @@ fn put_port<W: Sink>(sink: &mut W, port: u16) -> Result<(), DeviceFault>
     send(sink, b" of 127.0.0.1")
 }
 
-/// Writes the file, the path or the port that is at fault.
+/// Writes the file, the path, the port or the team that is at fault.
 fn put_subject<W: Sink>(sink: &mut W, fault: &Fault<'_>) -> Result<(), DeviceFault>
     ensures ok { OnOk result (Appends (W.contents sink.old) (W.contents sink.new) (subject_words fault.now)) }
     ensures failed { OnErr result (W.has_failed sink.new ≡ true) }
@@ -220,6 +240,8 @@ fn put_subject<W: Sink>(sink: &mut W, fault: &Fault<'_>) -> Result<(), DeviceFau
         Fault::File(file, _) => put_file(sink, file),
         Fault::Unwritten(path) => put_export_path(sink, path),
         Fault::Unsaved(path) => put_state_path(sink, path),
+        Fault::Unlisted(path) => put_lines_path(sink, path),
+        Fault::NoTeam(name) => put_team(sink, name),
         Fault::Bind(port, _) => put_port(sink, *port),
         _ => Ok(()),
     }
@@ -233,6 +255,8 @@ fn complaint_of(fault: &Fault<'_>) -> &'static [u8]
         Fault::File(_, _) => b" cannot be read",
         Fault::Unwritten(_) => b" cannot be written",
         Fault::Unsaved(_) => b" cannot be written",
+        Fault::Unlisted(_) => b" cannot be written",
+        Fault::NoTeam(_) => b" is not in the design",
         Fault::Bind(_, _) => b" cannot be listened on",
         _ => b"",
     }
@@ -297,6 +321,8 @@ pub(crate) fn put_second<W: Sink>(sink: &mut W, fault: &Fault<'_>) -> Result<(),
         Fault::NoState(path, refusal) => put_no_state(sink, path, refusal),
         Fault::Unwritten(_) => put_complaint(sink, fault),
         Fault::Unsaved(_) => put_complaint(sink, fault),
+        Fault::Unlisted(_) => put_complaint(sink, fault),
+        Fault::NoTeam(_) => put_complaint(sink, fault),
         Fault::Bind(_, _) => put_complaint(sink, fault),
         _ => Ok(()),
     }

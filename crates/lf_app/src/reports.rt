@@ -47,7 +47,7 @@ fn unplaced_in(places: &[Option<Place>]) -> usize
 }
 
 /// How many of the verdicts say that a rule is broken.
-fn illegal_in(verdicts: &[Option<Broken>]) -> usize
+pub(crate) fn illegal_in(verdicts: &[Option<Broken>]) -> usize
     ensures { result ≡ count_by is_some verdicts.now }
 {
     verdicts.iter().filter(|verdict| verdict.is_some()).count()

@@ -17,6 +17,7 @@ use crate::descriptions::describe_files;
 use crate::designs::design_of_texts;
 use crate::faults::{Exit, Fault, done, tell};
 use crate::outputs::Outputs;
+use crate::repairs::{RepairAsked, repair};
 use crate::services::{NetServices, Services};
 use crate::surroundings::Surroundings;
 use crate::texts::{FileTexts, Texts};
@@ -34,7 +35,7 @@ use std::rt::Files;
 /// The exit status of a task that was done.
 pub(crate) const DONE: u8 = 0;
 
-/// The exit status of a check or a description that was done and found the design not fully legal.
+/// The exit status of a check, a description or a repair that was done where the design is not fully legal.
 pub(crate) const ILLEGAL: u8 = 4;
 
 /// Answers the lines of the reader over the design that the program holds.
@@ -139,20 +140,40 @@ fn outcome<'a, T: Texts, E: Exports, V: Services, R: Source, W: Sink, F>(
             lefs.as_slice(),
             &mut around.writer,
         ),
+        Task::Repair {
+            def,
+            lefs,
+            teams,
+            legal,
+            export,
+            lines,
+        } => {
+            let asked = RepairAsked {
+                def: *def,
+                lefs: lefs.as_slice(),
+                teams: teams.as_slice(),
+                legal: *legal,
+                export: *export,
+                lines: *lines,
+            };
+            let exports = &mut around.exports;
+            repair(alloc, &around.texts, exports, &mut around.writer, &asked)
+        }
     }
 }
 
-/// Does the task and returns how it ended: with status 0 if it is done, 1 if a text or the design was refused, or an
-/// allocation failed before the first line, for the report, for the exported text or for the state, 3 if a file, the reader, the
-/// writer, the port or a connection failed, too many lines came, or an allocation for the lines failed; 4 if a check or a
-/// description is done and the design is not fully legal. A fault is told once, here: in a line of its own, and then in a second
-/// line that names the file and its line, the path or the port that is at fault, and why, where that is known.
+/// Does the task and returns how it ended: with status 0 if it is done, 1 if a text or the design was refused, a team is not one of
+/// it, or an allocation failed before the first line, for the report, for a repair, for the exported text or for the state, 3 if a
+/// file, the reader, the writer, the port or a connection failed, too many lines came, or an allocation for the lines failed; 4 if
+/// a check, a description or a repair is done and the design is not fully legal. A fault is told once, here: in a line of its own,
+/// and then in a second line that names the file and its line, the path, the port or the team that is at fault, and why, where that
+/// is known.
 ///
 /// The LEF files are read in the order of the words, then the DEF file, then the design is loaded, then the saved state is read and
 /// its floor restored, then the paths of the exported text and of the state at the end are tried, then the port is listened on, up
-/// to the first fault; only then is the first line read, or the report made. A check and a description read no line. After all that
-/// has ended without a fault the exported text is written, and then the state, to `exports`: no other text ever is. What is served
-/// is the port of this machine that is asked for, and nothing else.
+/// to the first fault; only then is the first line read, or the report made. A check, a description and a repair read no line. After
+/// all that has ended without a fault the exported text is written, and then the state, or the lines of a repair, to `exports`: no
+/// other text ever is. What is served is the port of this machine that is asked for, and nothing else.
 pub fn perform_over<T: Texts, E: Exports, V: Services, R: Source, W: Sink, F: Sink>(
     alloc: Global,
     around: &mut Surroundings<T, E, V, R, W, F>,

@@ -47,7 +47,7 @@ pub(crate) enum Lines {
 }
 
 /// The floor of the design, with an index of its rows for the search for best places.
-fn floor_of(alloc: Global, loaded: Loaded) -> Result<Floor<IndexSeeker>, AllocError>
+pub(crate) fn floor_of(alloc: Global, loaded: Loaded) -> Result<Floor<IndexSeeker>, AllocError>
     ensures { IfOk result (λ floor. floor ≡ opening loaded) }
 {
     let seeker = IndexSeeker::build(alloc, &loaded.frame)?;

@@ -3,18 +3,21 @@ use Rattle.std.specs.Prelude.{◌&&◌, ℕ, Bool, true, false, List, [], ◌∷
 use Rattle.std.specs.Prelude.{option_map, option_and_then, unwrap_or, bytes_eq, codes, if◌then◌else◌}
 use Rattle.std.specs.Char.{digit_value}
 use Rattle.std.specs.List.{list_all}
+use Rattle.std.specs.Option.{option_map_or}
 use Rattle.std.specs.Str.Parse.{digits_value, without_leading_plus}
 use Rattle.clap.specs.Faults.{fault_of}
 use Rattle.clap.specs.Kinds.{Kinds}
 use Rattle.clap.specs.Lexer.{usize_max}
 use Rattle.clap.specs.Simple.{App, new_app, new_rule, subcommand_of, with_rule, with_subcommand}
 use Rattle.clap.specs.Walk.{Row, Rule, Text, all_of, first_of}
-use Rattle.clap.specs.declared.builder.action.ArgAction.TheVariants.{Append}
+use Rattle.clap.specs.declared.builder.action.ArgAction.TheVariants.{Append, SetTrue}
 use Rattle.clap.specs.declared.builder.value_parser.ValueParser.TheVariants as parser
+use Rattle.lf_command.specs.declared.command.LegalCells.{LegalCells}
+use Rattle.lf_command.specs.declared.command.LegalCells.TheVariants.{MoveAsNeeded, Stay, Move}
 use Rattle.lf_command.specs.declared.command.Task.{Task}
 use Rattle.lf_command.specs.declared.command.Task.TheVariants as task
 use Rattle.lf_command.specs.declared.subcommand.Subcommand.{Subcommand}
-use Rattle.lf_command.specs.declared.subcommand.Subcommand.TheVariants.{Demo, Check, Describe, Replay, Serve}
+use Rattle.lf_command.specs.declared.subcommand.Subcommand.TheVariants.{Demo, Check, Describe, Replay, Serve, Repair}
 
 -- ---- the subcommands
 
@@ -25,6 +28,7 @@ word_of Check = codes "check"
 word_of Describe = codes "describe"
 word_of Replay = codes "replay"
 word_of Serve = codes "serve"
+word_of Repair = codes "repair"
 
 -- the subcommand of that word
 abbrev pub subcommand_named : Text → Option Subcommand
@@ -34,6 +38,7 @@ subcommand_named word =
     else if bytes_eq word (word_of Describe) then Some Describe
     else if bytes_eq word (word_of Replay) then Some Replay
     else if bytes_eq word (word_of Serve) then Some Serve
+    else if bytes_eq word (word_of Repair) then Some Repair
     else None
 
 -- ---- what is declared
@@ -54,9 +59,17 @@ lef_rule = record (new_rule (codes "lef")) {
 abbrev pub text_rule : Text → Rule
 text_rule name = record (new_rule name) { long = Some name }
 
+-- an option whose value is a text: it may stand more than once
+abbrev pub repeated_rule : Text → Rule
+repeated_rule name = record (text_rule name) { action = Some Append }
+
 -- an option whose value is a number up to this one, and 1 at least
 abbrev pub number_rule : Text → ℕ → Rule
 number_rule name most = record (text_rule name) { parser = Some (parser.Unsigned 1 most) }
+
+-- an option without a value
+abbrev pub flag_rule : Text → Rule
+flag_rule name = record (text_rule name) { action = Some SetTrue }
 
 -- the option may not be left out
 abbrev pub needed : Rule → Rule
@@ -76,16 +89,19 @@ line_of Replay = design_line (word_of Replay)
 line_of Serve = design_line (word_of Serve)
     (needed (number_rule (codes "port") 65535) ∷ needed (number_rule (codes "connections") 1000000)
     ∷ text_rule (codes "state") ∷ text_rule (codes "save") ∷ text_rule (codes "export") ∷ [])
+line_of Repair = design_line (word_of Repair)
+    (repeated_rule (codes "team") ∷ flag_rule (codes "keep") ∷ flag_rule (codes "all")
+    ∷ text_rule (codes "export") ∷ text_rule (codes "lines") ∷ [])
 
 -- the program with its subcommands
 abbrev pub command_line : App
 command_line = fold (λ app chosen. with_subcommand app (line_of chosen).top) (new_app (codes "lefence"))
-    (Demo ∷ Check ∷ Describe ∷ Replay ∷ Serve ∷ [])
+    (Demo ∷ Check ∷ Describe ∷ Replay ∷ Serve ∷ Repair ∷ [])
 
 -- ---- jobs
 
--- what a command line asks for, with the paths as they are written: of the DEF text, of the LEF texts in order, and of the
--- saved state; then of each what its comment says
+-- what a command line asks for, with the paths as they are written: of the DEF text and of the LEF texts in order; then, of
+-- replay and serve, of the saved state; then of each what its comment says
 pub data Job : Type 0 where
   demo : Job
   check : Text → List Text → Job
@@ -94,6 +110,8 @@ pub data Job : Type 0 where
   replay : Text → List Text → Option Text → ℕ → Option Text → Option Text → Job
   -- the port and the number of connections; the paths of the state and of the text that are written
   serve : Text → List Text → Option Text → ℕ → ℕ → Option Text → Option Text → Job
+  -- the teams, all of them if none is named; what may be done with legal cells; the paths of the text and of the lines
+  repair : Text → List Text → List Text → LegalCells → Option Text → Option Text → Job
 
 -- ---- numbers
 
@@ -116,6 +134,10 @@ number_in least most text =
 abbrev pub values_of : Text → List Row → List Text
 values_of name rows = unwrap_or (all_of name rows) []
 
+-- the option without a value stands among the words
+abbrev pub is_set : Text → List Row → Bool
+is_set name rows = option_map_or (λ text. bytes_eq text (codes "true")) (first_of name rows) false
+
 -- the most lines that are answered: a million if none is asked for
 abbrev pub most_lines : Option Text → Option ℕ
 most_lines None = Some 1000000
@@ -127,6 +149,13 @@ service_of rows =
     option_and_then (λ port. option_map (λ connections. (port, connections))
     (option_and_then (number_in 1 1000000) (first_of (codes "connections") rows)))
     (option_and_then (number_in 1 65535) (first_of (codes "port") rows))
+
+-- what '--keep' and '--all' say of legal cells: one of them at most may stand
+abbrev pub legal_cells : Bool → Bool → Option LegalCells
+legal_cells false false = Some MoveAsNeeded
+legal_cells true false = Some Stay
+legal_cells false true = Some Move
+legal_cells true true = None
 
 -- ---- what the words name
 
@@ -141,6 +170,9 @@ job_on Replay def lefs rows = option_map
 job_on Serve def lefs rows = option_map
     (λ service. serve def lefs (first_of (codes "state") rows) service.0 service.1 (first_of (codes "save") rows) (first_of (codes "export") rows))
     (service_of rows)
+job_on Repair def lefs rows = option_map
+    (λ legal. repair def lefs (values_of (codes "team") rows) legal (first_of (codes "export") rows) (first_of (codes "lines") rows))
+    (legal_cells (is_set (codes "keep") rows) (is_set (codes "all") rows))
 
 -- a subcommand takes the path of a DEF text and one path at least of a LEF text
 abbrev pub job_over : Subcommand → Option Text → List Text → List Row → Option Job
@@ -181,6 +213,8 @@ as_job (task.Replay def lefs state lines save export) = replay def.now (map (λ 
     lines (option_map (λ path. path.now) save) (option_map (λ path. path.now) export)
 as_job (task.Serve def lefs state port connections save export) = serve def.now (map (λ lef. lef.now) lefs) (option_map (λ path. path.now) state)
     port connections (option_map (λ path. path.now) save) (option_map (λ path. path.now) export)
+as_job (task.Repair def lefs teams legal export lines) = repair def.now (map (λ lef. lef.now) lefs) (map (λ team. team.now) teams)
+    legal (option_map (λ path. path.now) export) (option_map (λ path. path.now) lines)
 
 -- the task reads no line
 abbrev pub ReadsNone : Task → Type 0

@@ -4,9 +4,9 @@ ghost use Rattle.std.specs.Prelude.{◌≡◌, None, Some, codes, map, IfErr, If
 ghost use Rattle.clap.specs.Matches.{found_of};
 ghost use Rattle.clap.specs.Simple.{subcommand_rows_of};
 ghost use Rattle.clap.specs.Walk.{all_of, first_of, rows_of};
-ghost use Rattle.lf_command.specs.declared.subcommand.Subcommand.TheVariants.{Replay, Serve};
+ghost use Rattle.lf_command.specs.declared.subcommand.Subcommand.TheVariants.{Repair, Replay, Serve};
 ghost use Rattle.lf_command.specs.declared.command.UsageFault.TheVariants.{Usage};
-ghost use Rattle.lf_command.specs.Command.{as_job, is_demo, job_by, job_found, job_of, job_on, most_lines, number_in, service_of, values_of};
+ghost use Rattle.lf_command.specs.Command.{as_job, is_demo, is_set, job_by, job_found, job_of, job_on, legal_cells, most_lines, number_in, service_of, values_of};
 
 use crate::subcommand::{MOST_CONNECTIONS, Subcommand, command_line, subcommand_named};
 use clap::ArgMatches;
@@ -17,6 +17,17 @@ use thiserror::Error;
 
 /// The most lines that are answered if none is asked for.
 const USUAL_LINES: u32 = 1_000_000;
+
+/// What a repair does with cells that stand legally.
+#[derive(Clone, Copy, Debug, PartialEq, Eq)]
+pub enum LegalCells {
+    /// They may move, but only where a cell would have no place or would go far.
+    MoveAsNeeded,
+    /// They stay.
+    Stay,
+    /// They move wherever that makes the whole way shorter.
+    Move,
+}
 
 /// What the program is to do. A design is given by the path of a DEF text and by those of LEF texts, one at least, in order.
 #[derive(Drop)]
@@ -60,6 +71,18 @@ pub enum Task<'a> {
         save: Option<&'a str>,
         /// The path of the exported text, if one is asked for.
         export: Option<&'a str>,
+    },
+    /// Gives the cells of a design legal places.
+    Repair {
+        def: &'a str,
+        lefs: Sequence<&'a str>,
+        /// The names of the teams whose cells are repaired, in order; all teams are if there is none.
+        teams: Sequence<&'a str>,
+        legal: LegalCells,
+        /// The path of the exported text, if one is asked for.
+        export: Option<&'a str>,
+        /// The path of the lines of commands that do the repair, if they are asked for.
+        lines: Option<&'a str>,
     },
 }
 
@@ -147,6 +170,16 @@ fn values_of<'a>(
     }
 }
 
+/// Whether the option of that name, which has no value, stands among the words.
+fn is_set(matches: &ArgMatches<'_>, name: &str) -> bool
+    ensures { result ≡ is_set name.now (rows_of (found_of matches.now)) }
+{
+    match value_of(matches, name) {
+        Some(text) => text == "true",
+        None => false,
+    }
+}
+
 /// The most lines that are answered.
 fn most_lines(matches: &ArgMatches<'_>) -> Option<u32>
     ensures { result ≡ most_lines (first_of (codes "lines") (rows_of (found_of matches.now))) }
@@ -164,6 +197,18 @@ fn service_of(matches: &ArgMatches<'_>) -> Option<(u16, u32)>
     let port = port_of(value_of(matches, "port")?)?;
     let connections = connections_of(value_of(matches, "connections")?)?;
     Some((port, connections))
+}
+
+/// What `--keep` and `--all` say of legal cells: one of them at most may stand.
+fn legal_cells(keep: bool, all: bool) -> Option<LegalCells>
+    ensures { result ≡ legal_cells keep all }
+{
+    match (keep, all) {
+        (false, false) => Some(LegalCells::MoveAsNeeded),
+        (true, false) => Some(LegalCells::Stay),
+        (false, true) => Some(LegalCells::Move),
+        (true, true) => None,
+    }
 }
 
 /// The task of a replay on these paths.
@@ -201,21 +246,50 @@ fn serve_on<'a>(def: &'a str, lefs: Sequence<&'a str>, matches: &ArgMatches<'a>)
     })
 }
 
+/// The task of a repair on these paths.
+fn repair_on<'a>(
+    alloc: Global,
+    def: &'a str,
+    lefs: Sequence<&'a str>,
+    matches: &ArgMatches<'a>,
+) -> Result<Option<Task<'a>>, AllocError>
+    ensures { IfOk result (λ task. option_map as_job task
+        ≡ job_on Repair def.now (map (λ lef. lef.now) lefs.entry) (rows_of (found_of matches.now))) }
+{
+    let Some(legal) = legal_cells(is_set(matches, "keep"), is_set(matches, "all")) else {
+        return Ok(None);
+    };
+    match values_of(alloc, matches, "team") {
+        Ok(teams) => Ok(Some(Task::Repair {
+            def,
+            lefs,
+            teams,
+            legal,
+            export: value_of(matches, "export"),
+            lines: value_of(matches, "lines"),
+        })),
+        Err(error) => Err(error),
+    }
+}
+
 /// The task of a subcommand on these paths.
 fn task_on<'a>(
+    alloc: Global,
     chosen: Subcommand,
     def: &'a str,
     lefs: Sequence<&'a str>,
     matches: &ArgMatches<'a>,
-) -> Option<Task<'a>>
-    ensures { option_map as_job result ≡ job_on chosen def.now (map (λ lef. lef.now) lefs.entry) (rows_of (found_of matches.now)) }
+) -> Result<Option<Task<'a>>, AllocError>
+    ensures { IfOk result (λ task. option_map as_job task
+        ≡ job_on chosen def.now (map (λ lef. lef.now) lefs.entry) (rows_of (found_of matches.now))) }
 {
     match chosen {
-        Subcommand::Demo => Some(Task::Demo),
-        Subcommand::Check => Some(Task::Check { def, lefs }),
-        Subcommand::Describe => Some(Task::Describe { def, lefs }),
-        Subcommand::Replay => replay_on(def, lefs, matches),
-        Subcommand::Serve => serve_on(def, lefs, matches),
+        Subcommand::Demo => Ok(Some(Task::Demo)),
+        Subcommand::Check => Ok(Some(Task::Check { def, lefs })),
+        Subcommand::Describe => Ok(Some(Task::Describe { def, lefs })),
+        Subcommand::Replay => Ok(replay_on(def, lefs, matches)),
+        Subcommand::Serve => Ok(serve_on(def, lefs, matches)),
+        Subcommand::Repair => repair_on(alloc, def, lefs, matches),
     }
 }
 
@@ -245,7 +319,7 @@ fn task_over<'a>(
             if lefs.is_empty() {
                 return Ok(None);
             }
-            Ok(task_on(chosen, def, lefs, matches))
+            task_on(alloc, chosen, def, lefs, matches)
         }
         Err(error) => Err(error),
     }
@@ -291,9 +365,10 @@ fn matches_of<'a>(alloc: Global, words: &'a [&'a str]) -> Result<ArgMatches<'a>,
 ///
 /// The others take the path of a DEF text, then of one LEF text or more. `serve` needs `--port P`, from 1 to 65535, and
 /// `--connections N`, from 1 to 1,000,000; `replay` may have `--lines N`, from 1 to 4,294,967,295; both may have
-/// `--state FILE`, `--save FILE` and `--export FILE`.
+/// `--state FILE`, `--save FILE` and `--export FILE`. `repair` may have `--export FILE`, `--lines FILE`, `--keep` or `--all`, and
+/// `--team NAME` any number of times; each other option stands once at most.
 /// Numbers are digits; `+` in front and leading zeros are allowed. Options are before, between or after
-/// the paths, each once at most, with the value after `=` or as the next word, which may not begin with
+/// the paths, with the value after `=` or as the next word, which may not begin with
 /// '-' unless it is '-'. After `--` each word is a path. Words for help and for the version are usage
 /// faults like any others.
 ///
@@ -319,12 +394,21 @@ fn said_by(alloc: Global, error: &clap::Error) -> Result<Option<String>, AllocEr
     Ok(Some(text))
 }
 
-/// What `clap` says of words that it does not take: which of them is wrong, or which is missing, and what it may be. None of
-/// words that it takes, or that ask for help or the version. Contracts know nothing of the text.
+/// What is said of words in which `clap` finds no fault: they name a task, or hold options that exclude each other.
+fn excluded_in(alloc: Global, matches: &ArgMatches<'_>) -> Result<Option<String>, AllocError> {
+    if task_of(alloc, matches)?.is_some() {
+        return Ok(None);
+    }
+    let text = format!(in alloc; "error: the argument '--keep' cannot be used with '--all'")?;
+    Ok(Some(text))
+}
+
+/// What is said of words that name no task: which of them is wrong, or which is missing, and what it may be, as `clap` says it.
+/// None of words that name one, or that ask for help or the version. Contracts know nothing of the text.
 pub fn complaint_of<'a>(alloc: Global, words: &'a [&'a str]) -> Result<Option<String>, AllocError> {
     let command = command_line(alloc)?;
     match command.try_get_matches_from(words) {
-        Ok(_matches) => Ok(None),
+        Ok(matches) => excluded_in(alloc, &matches),
         Err(error) => said_by(alloc, &error),
     }
 }

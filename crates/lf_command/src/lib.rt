@@ -15,6 +15,6 @@ mod command;
 mod help;
 mod subcommand;
 
-pub use command::{Task, UsageFault, command_of, complaint_of};
+pub use command::{LegalCells, Task, UsageFault, command_of, complaint_of};
 pub use help::{Help, help_of};
 pub use subcommand::Subcommand;

@@ -4,8 +4,8 @@ ghost use Rattle.std.specs.Prelude.{◌≡◌, [], ◌∷◌, codes, false, fold
 ghost use Rattle.clap.specs.Simple.{app_of, with_rule, with_subcommand};
 ghost use Rattle.clap.specs.Walk.{rule_of};
 ghost use Rattle.clap.specs.declared.builder.command.Command.TheViews.{out-Command};
-ghost use Rattle.lf_command.specs.declared.subcommand.Subcommand.TheVariants.{Replay, Serve};
-ghost use Rattle.lf_command.specs.Command.{command_line, def_rule, design_line, lef_rule, line_of, needed, number_rule, subcommand_named, text_rule};
+ghost use Rattle.lf_command.specs.declared.subcommand.Subcommand.TheVariants.{Repair, Replay, Serve};
+ghost use Rattle.lf_command.specs.Command.{command_line, def_rule, design_line, flag_rule, lef_rule, line_of, needed, number_rule, repeated_rule, subcommand_named, text_rule};
 
 use clap::builder::ValueParser;
 use clap::{Arg, ArgAction, Command};
@@ -27,6 +27,8 @@ pub enum Subcommand {
     Replay,
     /// Answers the lines of connections over a design.
     Serve,
+    /// Gives the cells of a design legal places.
+    Repair,
 }
 
 /// The subcommand of that word.
@@ -39,6 +41,7 @@ pub(crate) fn subcommand_named(word: &str) -> Option<Subcommand>
         "describe" => Some(Subcommand::Describe),
         "replay" => Some(Subcommand::Replay),
         "serve" => Some(Subcommand::Serve),
+        "repair" => Some(Subcommand::Repair),
         _ => None,
     }
 }
@@ -68,6 +71,22 @@ fn text<'a>(alloc: Global, name: &'a str) -> Arg<'a>
     ensures local { result.global ≡ false }
 {
     Arg::new(alloc, name).long(name)
+}
+
+/// An option whose value is a text, which may stand more than once.
+fn repeated<'a>(alloc: Global, name: &'a str) -> Arg<'a>
+    ensures rule { rule_of result ≡ repeated_rule name.now }
+    ensures local { result.global ≡ false }
+{
+    text(alloc, name).action(ArgAction::Append)
+}
+
+/// An option without a value.
+fn flag<'a>(alloc: Global, name: &'a str) -> Arg<'a>
+    ensures rule { rule_of result ≡ flag_rule name.now }
+    ensures local { result.global ≡ false }
+{
+    text(alloc, name).action(ArgAction::SetTrue)
 }
 
 /// An option whose value is a number from 1 up to this one.
@@ -131,6 +150,28 @@ fn serve<'a>(alloc: Global) -> Result<Command<'a>, AllocError>
     with_outputs(alloc, command)
 }
 
+/// The subcommand that gives cells legal places, with the options that say which cells move.
+fn repair_of_cells<'a>(alloc: Global) -> Result<Command<'a>, AllocError>
+    ensures line { IfOk result (λ made. app_of made
+        ≡ design_line (codes "repair") (repeated_rule (codes "team") ∷ flag_rule (codes "keep") ∷ flag_rule (codes "all") ∷ [])) }
+    ensures local { IfOk result (λ made. (out-Command made).has_globals ≡ false) }
+{
+    over_design(alloc, "repair")?
+        .arg(repeated(alloc, "team"))?
+        .arg(flag(alloc, "keep"))?
+        .arg(flag(alloc, "all"))
+}
+
+/// The subcommand that gives cells legal places.
+fn repair<'a>(alloc: Global) -> Result<Command<'a>, AllocError>
+    ensures line { IfOk result (λ made. app_of made ≡ line_of Repair) }
+    ensures local { IfOk result (λ made. (out-Command made).has_globals ≡ false) }
+{
+    repair_of_cells(alloc)?
+        .arg(text(alloc, "export"))?
+        .arg(text(alloc, "lines"))
+}
+
 /// The words that a subcommand takes.
 fn line_of<'a>(alloc: Global, chosen: Subcommand) -> Result<Command<'a>, AllocError>
     ensures line { IfOk result (λ made. app_of made ≡ line_of chosen) }
@@ -142,6 +183,7 @@ fn line_of<'a>(alloc: Global, chosen: Subcommand) -> Result<Command<'a>, AllocEr
         Subcommand::Describe => over_design(alloc, "describe"),
         Subcommand::Replay => replay(alloc),
         Subcommand::Serve => serve(alloc),
+        Subcommand::Repair => repair(alloc),
     }
 }
 
@@ -166,5 +208,6 @@ pub(crate) fn command_line<'a>(alloc: Global) -> Result<Command<'a>, AllocError>
     let describe = with(alloc, check, Subcommand::Describe)?;
     let replay = with(alloc, describe, Subcommand::Replay)?;
     let serve = with(alloc, replay, Subcommand::Serve)?;
-    Ok(serve)
+    let repair = with(alloc, serve, Subcommand::Repair)?;
+    Ok(repair)
 }

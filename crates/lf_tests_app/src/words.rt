@@ -1,6 +1,6 @@
 //! The words of the command line.
 
-use lf_app::{Task, UsageFault, command_of};
+use lf_app::{LegalCells, Task, UsageFault, command_of};
 use std::alloc::{AllocError, Global};
 use std::test::Fail;
 
@@ -32,6 +32,14 @@ enum Named<'a> {
         connections: u32,
         save: Option<&'a str>,
         export: Option<&'a str>,
+    },
+    Repair {
+        def: &'a str,
+        lefs: &'a [&'a str],
+        teams: &'a [&'a str],
+        legal: LegalCells,
+        export: Option<&'a str>,
+        lines: Option<&'a str>,
     },
     Nothing(UsageFault),
 }
@@ -79,6 +87,21 @@ fn as_named<'a>(task: &'a Task<'a>) -> Named<'a> {
             connections: *connections,
             save: *save,
             export: *export,
+        },
+        Task::Repair {
+            def,
+            lefs,
+            teams,
+            legal,
+            export,
+            lines,
+        } => Named::Repair {
+            def: *def,
+            lefs: lefs.as_slice(),
+            teams: teams.as_slice(),
+            legal: *legal,
+            export: *export,
+            lines: *lines,
         },
     }
 }
@@ -253,6 +276,44 @@ fn words_name_the_files_of_states(rt: HostRuntime) -> Result<(), Fail> {
 }
 
 #[test]
+fn words_name_a_repair(rt: HostRuntime) -> Result<(), Fail> {
+    let no_team: &[&str] = &[];
+    for (line, teams, legal) in [
+        (
+            "lefence repair a b --lines c",
+            no_team,
+            LegalCells::MoveAsNeeded,
+        ),
+        (
+            "lefence repair --keep a b --lines=c",
+            no_team,
+            LegalCells::Stay,
+        ),
+        (
+            "lefence repair --team A a b --team=A --all --lines c",
+            &["A", "A"],
+            LegalCells::Move,
+        ),
+        (
+            "lefence repair a --team - b --lines c",
+            &["-"],
+            LegalCells::MoveAsNeeded,
+        ),
+    ] {
+        let repair = Named::Repair {
+            def: "a",
+            lefs: &["b"],
+            teams,
+            legal,
+            export: None,
+            lines: Some("c"),
+        };
+        assert!(rt; names(rt.alloc(), line, &repair)?);
+    }
+    Ok(())
+}
+
+#[test]
 fn other_words_are_refused(rt: HostRuntime) -> Result<(), Fail> {
     let lines = [
         "lefence verify",
@@ -283,6 +344,14 @@ fn other_words_are_refused(rt: HostRuntime) -> Result<(), Fail> {
         "lefence describe x.def x.lef --save s",
         "lefence check x.def x.lef --state s",
         "lefence replay x.def x.lef --state s --state s",
+        "lefence repair x.def",
+        "lefence repair x.def x.lef --keep --all",
+        "lefence repair x.def x.lef --all --keep",
+        "lefence repair x.def x.lef --keep --keep",
+        "lefence repair x.def x.lef --keep=true",
+        "lefence repair x.def x.lef --team",
+        "lefence repair x.def x.lef --team -x",
+        "lefence repair x.def x.lef --state s",
         "lefence replay x.def x.lef --save s --save s",
     ];
     let nothing = Named::Nothing(UsageFault::Usage);

@@ -55,3 +55,20 @@ returns-in-Demo-clause-err g c =
     rw c.in-Demo.is (also_fails c.demo.result _ _ _ c.demo.ensures.err
     (λ fault blames. streams_blame most_lines fault _ _ _ _ _ _ _ _ blames
     (λ sound. record { exports = refl; services = refl; reader = sound.0 ∙ sym c.requires.ready.readable; writer = sound.1 ∙ sym c.requires.ready.writable })))
+
+pub returns-in-Repair-clause-ok : goal.returns-in-Repair-clause-ok
+returns-in-Repair-clause-ok g c = rw c.in-Repair.is (rw (c.as_slice-in-Repair.ensures, c.as_slice-in-Repair-2.ensures) at c.repair.ensures.ok)
+
+pub returns-in-Repair-clause-err : goal.returns-in-Repair-clause-err
+returns-in-Repair-clause-err g c =
+    rw c.in-Repair.is (also_fails c.repair.result _ _ _ (rw (c.as_slice-in-Repair.ensures, c.as_slice-in-Repair-2.ensures) at c.repair.ensures.err)
+    (λ fault blames. blames_as fault _ _ _ _ _ _ _ _ _ _ _ _ blames (λ k. k) (λ none. absurd none) (λ w. w) (λ e. e) (λ none. absurd none)
+    (λ sound. record { exports = sound.1; services = refl; reader = refl; writer = sound.0 })))
+
+pub returns-in-Repair-clause-unput : goal.returns-in-Repair-clause-unput
+returns-in-Repair-clause-unput g c = λ none. c.repair.ensures.unput (rw c.in-Repair.is at none)
+
+pub returns-in-Repair-clause-unasked : goal.returns-in-Repair-clause-unasked
+returns-in-Repair-clause-unasked g c = λ asks.
+    let none = rw c.in-Repair.is at asks in
+    c.repair.ensures.unasked none.0 none.1

@@ -1,0 +1,18 @@
+use Rattle.std.proofs.Common.{map}
+use Rattle.lf_app.specs.Repairs.{kept_text}
+use Rattle.lf_app.proofs.Repairing.{none_changes, nothing_asked, then_asked, then_kept}
+use Rattle.lf_app.proofs.repairs.repair_teams.Goals as goal
+
+pub loop-number-init : goal.loop-number-init
+loop-number-init c = record {
+  run = λ lz. nothing_asked lz c.args.floor.now (kept_text c.args.lines.now);
+  only = none_changes (map (λ team. team.now) c.args.asked.now.teams.now) c.args.floor.now;
+}
+
+pub loop-number-preserved : goal.loop-number-preserved
+loop-number-preserved c = record {
+  run = λ lz. then_kept lz c.args.floor.now c.loop-number.floor c.repair_numbered.new.floor (kept_text c.args.lines.now) (kept_text c.loop-number.lines)
+      (kept_text c.repair_numbered.new.lines) (c.loop-number.invariant.run lz) (c.in_ok-repair_numbered.ensures.run lz);
+  only = then_asked (map (λ team. team.now) c.args.asked.now.teams.now) c.args.floor.now c.loop-number.floor c.repair_numbered.new.floor
+      c.loop-number.invariant.only c.in_ok-repair_numbered.ensures.only;
+}

@@ -1,0 +1,12 @@
+use Rattle.std.proofs.Common.{map}
+use Rattle.lf_app.proofs.Repairing.{as_many}
+use Rattle.lf_app.proofs.repairs.repaired.Goals as goal
+
+pub judge-requires : goal.judge-requires
+judge-requires c =
+    let l = c.legalizer_is_there.ensures in
+    as_many l (map (λ team. team.now) c.args.asked.now.teams.now) c.args.floor.now c.repair_teams.new.floor _ _ (c.in_ok-repair_teams.ensures.run l)
+    c.in_ok-repair_teams.ensures.only c.requires
+
+pub returns-clause-run : goal.returns-clause-run
+returns-clause-run c = λ l. rw c.new-lines.ensures at (c.in_ok-repair_teams.ensures.run l)

@@ -1,0 +1,148 @@
+"""What `repair` writes: the report, the exported text, the lines, the status and the message.
+
+No contract knows what files hold, nor what the report counts.
+"""
+
+from __future__ import annotations
+
+import json
+import tempfile
+import unittest
+from pathlib import Path
+
+from program import DEF, LEF, run
+
+# The keys of the line of a team, and of the line of all teams, in their order.
+TEAM_KEYS = ["cells", "kept", "largest", "left", "mean", "moved", "placed", "team", "total", "turned"]
+ALL_KEYS = ["cells", "kept", "largest", "left_cells", "legal", "mean", "moved", "placed", "teams", "total", "turned"]
+# The cells of team A, a2 one site right of a1 and over it, and those of the others at legal places.
+STANDING = {
+    "- a1 INV + SOURCE DIST ;": "- a1 INV + SOURCE DIST + PLACED ( 0 0 ) N ;",
+    "- a2 INV + UNPLACED ;": "- a2 INV + PLACED ( 200 0 ) N ;",
+    "- a3 DBL + WEIGHT 3 ;": "- a3 DBL + WEIGHT 3 + PLACED ( 2000 0 ) N ;",
+    "- b1 INV ;": "- b1 INV + PLACED ( 6000 0 ) N ;",
+    "- g1 INV ;": "- g1 INV + PLACED ( 4400 0 ) N ;",
+}
+# A fence of A that has room for one of its cells.
+NARROW = {"- A ( 0 0 ) ( 4000 4000 ) + TYPE FENCE ;": "- A ( 0 0 ) ( 400 2000 ) + TYPE FENCE ;"}
+
+
+def design(changes: dict[str, str]) -> str:
+    """The text of the small design with lines exchanged."""
+    text = DEF.read_text()
+    for old, new in changes.items():
+        assert text.count(old) == 1, old
+        text = text.replace(old, new)
+    return text
+
+
+class Repairs(unittest.TestCase):
+    """Repairs of the small design, in a folder of their own."""
+
+    def setUp(self) -> None:
+        folder = tempfile.TemporaryDirectory(prefix="lefence-repairs-")
+        self.addCleanup(folder.cleanup)
+        self.folder = Path(folder.name).resolve()
+        self.text = self.folder / "old.def"
+        self.new = self.folder / "new.def"
+        self.lines = self.folder / "lines.txt"
+
+    def repair(self, changes: dict[str, str], *words: str) -> tuple[int, list[dict[str, object]]]:
+        """Repairs the design: the status and the lines of the report. Nothing is said on standard error."""
+        self.text.write_text(design(changes))
+        status, written, said = run(["repair", str(self.text), str(LEF), *words])
+        self.assertEqual(said, "")
+        report = [json.loads(line) for line in written.splitlines()]
+        self.assertEqual([list(line) for line in report], [TEAM_KEYS] * (len(report) - 1) + [ALL_KEYS])
+        return status, report
+
+    def check(self, text: Path) -> int:
+        """The status of a check of that text."""
+        return run(["check", str(text), str(LEF)])[0]
+
+    def names(self) -> list[str]:
+        """What stands in the folder."""
+        return sorted(path.name for path in self.folder.iterdir())
+
+    def test_a_cell_that_overlaps_moves(self) -> None:
+        status, report = self.repair(STANDING, "--export", str(self.new))
+        self.assertEqual((status, self.check(self.new)), (0, 0))
+        self.assertEqual([line["team"] for line in report[:-1]], ["A", "B", "-"])
+        first, last = report[0], report[-1]
+        self.assertEqual((first["cells"], first["kept"], first["placed"], first["left"]), (2, 1, 0, []))
+        self.assertEqual((last["cells"], last["kept"], last["teams"], last["left_cells"], last["legal"]), (2, 3, 3, 0, True))
+        self.assertEqual(last["total"], first["total"])
+
+    def test_cells_without_a_place_get_one(self) -> None:
+        status, report = self.repair({}, "--export", str(self.new))
+        self.assertEqual((status, self.check(self.text), self.check(self.new)), (0, 4, 0))
+        self.assertEqual([line["placed"] for line in report], [3, 1, 1, 5])
+
+    def test_the_lines_do_the_repair_again(self) -> None:
+        self.assertEqual(self.repair(STANDING, "--export", str(self.new), "--lines", str(self.lines))[0], 0)
+        again = self.folder / "again.def"
+        status, replies, said = run(["replay", str(self.text), str(LEF), "--export", str(again)], self.lines.read_text())
+        self.assertEqual((status, said), (0, ""))
+        self.assertTrue(all(reply.startswith("ok ") for reply in replies.splitlines()), replies)
+        self.assertEqual(again.read_text(), self.new.read_text())
+
+    def test_only_teams_that_are_named_change(self) -> None:
+        status, report = self.repair({}, "--team", "B", "--team=B", "--export", str(self.new))
+        self.assertEqual((status, [line["team"] for line in report[:-1]]), (4, ["B"]))
+        old, new = self.text.read_text().splitlines(), self.new.read_text().splitlines()
+        self.assertEqual([a.split()[1] for a, b in zip(old, new, strict=True) if a != b], ["b1"])
+
+    def test_legal_cells_stay(self) -> None:
+        for more in ("", "--keep"):
+            with self.subTest(more):
+                self.repair(STANDING, "--export", str(self.new), *more.split())
+                new = self.new.read_text()
+                for name in ("a3", "b1", "g1"):
+                    line = next(line for line in self.text.read_text().splitlines() if line.startswith(f"- {name} "))
+                    self.assertIn(line, new)
+
+    def test_all_cells_may_move(self) -> None:
+        status, report = self.repair(STANDING, "--all", "--export", str(self.new))
+        self.assertEqual((status, self.check(self.new)), (0, 0))
+        self.assertEqual(report[-1]["left_cells"], 0)
+
+    def test_a_cell_without_room_is_named_and_its_team_is_as_it_was(self) -> None:
+        status, report = self.repair({**STANDING, **NARROW}, "--export", str(self.new), "--lines", str(self.lines))
+        self.assertEqual(status, 4)
+        left = report[0]["left"]
+        assert isinstance(left, list)
+        self.assertTrue(left and set(left) <= {"a1", "a2", "a3"}, left)
+        self.assertEqual((report[-1]["left_cells"], report[-1]["legal"]), (len(left), False))
+        self.assertEqual(self.new.read_text(), self.text.read_text())
+        self.assertNotIn("commit A", self.lines.read_text())
+
+    def test_a_team_that_is_not_in_the_design(self) -> None:
+        self.text.write_text(design(STANDING))
+        words = ["repair", str(self.text), str(LEF), "--team", "A", "--team", "x\ty", "--export", str(self.new)]
+        said = "lefence: NoTeam\nlefence: team x\\x09y is not in the design\n"
+        self.assertEqual(run(words), (1, "", said))
+        self.assertEqual(self.names(), ["old.def"])
+
+    def test_files_that_cannot_be_written_are_told_before_the_work(self) -> None:
+        self.text.write_text(design(STANDING))
+        missing = self.folder / "no" / "file"
+        for option, word in (("--export", "export"), ("--lines", "lines")):
+            words = ["repair", str(self.text), str(LEF), option, str(missing)]
+            said = f"lefence: File\nlefence: {word} file {missing} cannot be written\n"
+            self.assertEqual(run(words), (3, "", said))
+        self.assertEqual(self.names(), ["old.def"])
+
+    def test_the_text_itself_may_be_replaced(self) -> None:
+        self.assertEqual(self.repair(STANDING, "--export", str(self.text))[0], 0)
+        self.assertEqual(self.check(self.text), 0)
+        self.assertEqual(self.names(), ["old.def"])
+
+    def test_a_legal_design_stays(self) -> None:
+        legal = {**STANDING, "- a2 INV + UNPLACED ;": "- a2 INV + PLACED ( 400 0 ) N ;"}
+        status, report = self.repair(legal, "--export", str(self.new))
+        self.assertEqual((status, report[-1]["cells"], report[-1]["kept"], report[-1]["moved"]), (0, 0, 5, 0))
+        self.assertEqual(self.new.read_text(), self.text.read_text())
+
+
+if __name__ == "__main__":
+    unittest.main()
