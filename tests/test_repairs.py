@@ -83,7 +83,7 @@ class Repairs(unittest.TestCase):
         again = self.folder / "again.def"
         status, replies, said = run(["replay", str(self.text), str(LEF), "--export", str(again)], self.lines.read_text())
         self.assertEqual((status, said), (0, ""))
-        self.assertTrue(all(reply.startswith("ok ") for reply in replies.splitlines()), replies)
+        self.assertTrue(all(reply.split()[0] == "ok" for reply in replies.splitlines()), replies)
         self.assertEqual(again.read_text(), self.new.read_text())
 
     def test_only_teams_that_are_named_change(self) -> None:
