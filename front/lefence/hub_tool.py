@@ -79,10 +79,11 @@ async def serve(hub: Hub, options: argparse.Namespace, stopped: asyncio.Event) -
         if options.roll:
             return None
         hub.crowd.most_clients = max(1, min(MOST_CLIENTS, (files - 64) // (len(teams) + 1) - 1))
+        # (the first turn of the pump closes sessions that were left open, which are changes too)
+        ready = f"ready: {len(teams)} teams, {hub.journal.changes} changes restored"
         pump = asyncio.create_task(hub.pump())
         tasks.append(pump)
         listeners = await listen(hub, options.sockets, groups)
-        ready = f"ready: {len(teams)} teams, {hub.journal.changes} changes restored"
         say(ready)
         notify("READY=1", f"STATUS={ready}")
         await asyncio.wait({pump, stop, watch}, return_when=asyncio.FIRST_COMPLETED)
