@@ -276,44 +276,6 @@ fn words_name_the_files_of_states(rt: HostRuntime) -> Result<(), Fail> {
 }
 
 #[test]
-fn words_name_a_repair(rt: HostRuntime) -> Result<(), Fail> {
-    let no_team: &[&str] = &[];
-    for (line, teams, legal) in [
-        (
-            "lefence repair a b --lines c",
-            no_team,
-            LegalCells::MoveAsNeeded,
-        ),
-        (
-            "lefence repair --keep a b --lines=c",
-            no_team,
-            LegalCells::Stay,
-        ),
-        (
-            "lefence repair --team A a b --team=A --all --lines c",
-            &["A", "A"],
-            LegalCells::Move,
-        ),
-        (
-            "lefence repair a --team - b --lines c",
-            &["-"],
-            LegalCells::MoveAsNeeded,
-        ),
-    ] {
-        let repair = Named::Repair {
-            def: "a",
-            lefs: &["b"],
-            teams,
-            legal,
-            export: None,
-            lines: Some("c"),
-        };
-        assert!(rt; names(rt.alloc(), line, &repair)?);
-    }
-    Ok(())
-}
-
-#[test]
 fn other_words_are_refused(rt: HostRuntime) -> Result<(), Fail> {
     let lines = [
         "lefence verify",
