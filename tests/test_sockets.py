@@ -207,21 +207,23 @@ class Cut(unittest.TestCase):
             self.assertEqual(service.end(), (0, LISTENING, ""))
 
     def test_replies_go_on_after_the_service_was_stopped_and_continued(self) -> None:
-        # That interrupts a send that waits, if there is a bound on how long it may.
-        # (The replies are more than the system's own buffers take, so that the service has to wait.)
-        count = 400_000
+        # That interrupts a send that waits, if there is a bound on how long it may. (The replies are more than the system's own
+        # buffers take, so that the service has to wait.)
+        count, (_, written, _) = 30_000, run(["replay", *DESIGN], "open A\ndef A 0\n")
+        first, text = written[:7].encode(), written[7:].encode()
+        self.assertEqual(first, b"ok 0 0\n")
         with Service(1) as service, service.client() as client:
             client.socket.setsockopt(socket.SOL_SOCKET, socket.SO_RCVBUF, 65_536)
-            sender = threading.Thread(target=client.send, args=(b"\n" * count,))
+            sender = threading.Thread(target=client.send, args=(b"open A\n" + b"def A 0\n" * count,))
             sender.start()
             for _ in range(5):
-                time.sleep(0.3)
+                time.sleep(0.5)
                 service.process.send_signal(signal.SIGSTOP)
                 time.sleep(0.05)
                 service.process.send_signal(signal.SIGCONT)
-            replies = client.replies.read(count * len(b"no 1 BadRequest\n"))
+            replies = client.replies.read(len(first) + count * len(text))
             sender.join()
-            self.assertTrue(replies == b"no 1 BadRequest\n" * count, len(replies))
+            self.assertTrue(replies == first + text * count, len(replies))
             client.close()
             self.assertEqual(service.end(), (0, LISTENING, ""))
 
