@@ -1,8 +1,9 @@
 #!/usr/bin/env python3
 """Looks up what the documents name between backticks: each name of more than one word (`team_def`, `IsApart`) must stand in a source,
-and each path that begins with a folder of the repository or with a crate must be there.
+and each path that begins with a folder of the repository or with a crate must be there. No line may be one that a merge left.
 
-usage: tools/names.py     (from the top) prints what is nowhere, with its page and line; status 1 where there is such a thing
+usage: tools/names.py     (from the top) prints what is nowhere, and what a merge left, with its page and line; status 1 where there is
+                          such a thing
 """
 
 from __future__ import annotations
@@ -19,6 +20,8 @@ CODE = re.compile(r"`([^`\n]+)`")
 # A name of several words, as `team_def` or `teamDef`, or one that begins with a capital.
 NAME = re.compile(r"[A-Za-z]\w*_\w*[A-Za-z0-9]|\w*[a-z][A-Z]\w*|[A-Z][a-z]\w+")
 PATH = re.compile(r"(\w+)/[\w./-]*\w")
+# What a merge leaves around a passage that two sides changed.
+UNMERGED = re.compile(r"(?:<{7}|\|{7}|>{7})(?: |$)|={7}$")
 # What stands for many names.
 PATTERN = re.compile(r"\*|\bNAME\b")
 
@@ -58,6 +61,12 @@ def named(page: Path) -> Iterator[tuple[int, str]]:
             yield from ((at, code) for code in CODE.findall(line))
 
 
+def unmerged(page: Path) -> Iterator[tuple[int, str]]:
+    """The lines of the page that a merge left, with their numbers."""
+    lines = page.read_text(encoding="utf-8").split("\n")
+    return ((at, line) for at, line in enumerate(lines, start=1) if UNMERGED.match(line))
+
+
 def lacking(code: str, words: set[str], firsts: set[str]) -> list[str]:
     """What of it is nowhere."""
     if PATTERN.search(code):
@@ -72,15 +81,18 @@ def main(words: list[str]) -> int:
         return 2
     there = known()
     firsts = {*FOLDERS, *(path.name for path in Path("crates").iterdir())}
-    count = missing = 0
+    count = missing = left = 0
     for page in PAGES:
+        for at, line in unmerged(page):
+            left += 1
+            print(f"{page}:{at}: a merge left {line}")
         for at, code in named(page):
             count += 1
             for name in lacking(code, there, firsts):
                 missing += 1
                 print(f"{page}:{at}: {name} is nowhere")
     print(f"{count} names looked up, {missing or 'none'} nowhere")
-    return 1 if missing else 0
+    return 1 if missing or left else 0
 
 
 if __name__ == "__main__":
