@@ -11,7 +11,7 @@ A quote is a comment that names what is quoted, and the fenced block behind it:
     <!-- crates/lf_cells/src/cell.rt: pub struct Cell -->               a type, or likewise some of its fields
     <!-- crates/lf_teams/specs/Runs.antt: own_replies, own_state -->    definitions, with the comments above them
 
-A row of the table says how many definitions a statement rests on, and how many of them the page quotes, or names between backticks.
+A row of the table says how many definitions a statement rests on, and how many of them the page quotes.
 What the statement is made of stands in a comment above the table, one for each row; behind a + beside that of the row before:
 
     <!-- depth: one command: lf_teams.Steps.Step -->
@@ -38,8 +38,7 @@ CLAUSE = re.compile(r"\s*(?:requires|ensures)\b *(\w*)")
 FIELD = re.compile(r"\s*pub (?:ghost )?(\w+):")
 # The comment of a row of the table of depth, and the head of the table.
 ROW = re.compile(r"<!-- depth: (.*?): (\+ )?(.*) -->")
-HEADING = ["| what it rests on | definitions | their lines | types of the code | quoted here | named here |", "|---|---|---|---|---|---|"]
-WORDS = re.compile(r"`([^`\n]+)`")
+HEADING = ["| what it rests on | definitions | their lines | types of the code | quoted here |", "|---|---|---|---|---|"]
 
 
 class NotThere(Exception):
@@ -137,27 +136,24 @@ def source_of(quote: Quote) -> list[str]:
     return [line for text in texts for line in ["", *text]][1:]
 
 
-def row_of(title: str, roots: list[Name], shown: tuple[set[Name], set[str]]) -> str:
-    """A row of the table of depth; `shown` are the definitions that the page quotes, and the words that it has between backticks."""
+def row_of(title: str, roots: list[Name], quoted: set[Name]) -> str:
+    """A row of the table of depth; `quoted` are the definitions that the page quotes."""
     if any(root.name not in module(root.crate, root.module).texts for root in roots):
         raise NotThere
-    depth, (quoted, words) = depth_of(roots), shown
+    depth = depth_of(roots)
     here = depth.definitions & quoted
-    named = [name for name in depth.definitions - quoted if name.name in words]
     counts = f"{len(depth.definitions):,} | {depth.lines:,} | {len(depth.types):,}"
-    return f"| {title} | {counts} | {len(here):,} ({sum(map(lines_of, here)):,} lines) | {len(named):,} |"
+    return f"| {title} | {counts} | {len(here):,} ({sum(map(lines_of, here)):,} lines) |"
 
 
-def shown_on(page: list[str]) -> tuple[set[Name], set[str]]:
-    """The definitions that the page quotes, and the words between backticks outside of its quotes."""
+def quoted_on(page: list[str]) -> set[Name]:
+    """The definitions that the page quotes."""
     quoted: set[Name] = set()
-    prose = [*page]
-    for quote in reversed(quotes_in(page)):
-        del prose[quote.start : quote.stop]
+    for quote in quotes_in(page):
         _, crate, folder, file = quote.file.split("/", 3)
         if folder == "specs":
             quoted |= {Name(crate, file.removesuffix(".antt"), name) for name in quote.name.split(", ")}
-    return quoted, {word for text in WORDS.findall("\n".join(prose)) for word in re.findall(r"\w+", text)}
+    return quoted
 
 
 def tabled(page: list[str]) -> list[str]:
@@ -168,12 +164,12 @@ def tabled(page: list[str]) -> list[str]:
     start = stop = max(rows) + 1
     while stop < len(page) and page[stop].startswith("|"):
         stop += 1
-    shown = shown_on(page)
+    quoted = quoted_on(page)
     made: list[str] = []
     roots: list[Name] = []
     for row in rows.values():
         roots = [*(roots if row[2] else []), *(Name(*name.split(".")) for name in row[3].split(", "))]
-        made.append(row_of(row[1], roots, shown))
+        made.append(row_of(row[1], roots, quoted))
     return [*page[:start], *HEADING, *made, *page[stop:]]
 
 
