@@ -2,6 +2,10 @@
 
 The file at the path of a journal is its last segment. Those before it stand in `JOURNAL.past`, as `7.journal`, and so do states:
 `8.state` tells the floor where segment 8 begins. A note of segment 8 names it, by the length and the SHA-256 of its bytes.
+
+Each step of a checkpoint is on the disk before the next: the new segment, as `JOURNAL.next`, and the end of the old one; a link to the
+old one in the past; the new one's name, before anything more is acknowledged; the state, under a name that no other program writes to,
+then as `8.state`; the note of it; what is too old is removed, the lowest number first.
 """
 
 from __future__ import annotations
