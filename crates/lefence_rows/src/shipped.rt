@@ -1,10 +1,11 @@
 //! What the program itself answers of a row: the report of `lefence check`, and the replies and the exported text of
 //! `lefence replay`, over texts in memory.
 
-ghost use Rattle.std.specs.Prelude.{false};
+ghost use Rattle.std.specs.Prelude.{◌≡◌, false};
 
 use lf_app::{
-    Acceptor, Connection, Offer, Services, Surroundings, Task, Texts, Unbound, Unread, perform_over,
+    Acceptor, ClientReader, ClientWriter, Connection, Offer, Services, Surroundings, Task, Texts,
+    Unbound, Unread, perform_over,
 };
 use lf_devices::{DeviceFault, FromRead, ToWrite};
 use lf_files::{Exports, Pieces, Unwritten};
@@ -61,15 +62,23 @@ struct NoServices {
 }
 
 impl Acceptor for NoServices {
-    type Reader = &'static [u8];
+    type Reader = ClientReader<&'static [u8]>;
 
-    type Writer = Vec<u8>;
+    type Writer = ClientWriter<Vec<u8>>;
 
     ghost has_failed = { λ s. s.failed };
 
-    fn accept(&mut self) -> Result<Connection<&'static [u8], Vec<u8>>, DeviceFault> {
+    fn accept(
+        &mut self,
+    ) -> Result<Connection<ClientReader<&'static [u8]>, ClientWriter<Vec<u8>>>, DeviceFault> {
         self.failed = true;
         Err(DeviceFault)
+    }
+
+    fn close(&mut self, connection: Connection<ClientReader<&'static [u8]>, ClientWriter<Vec<u8>>>)
+        ensures failed { self.new.failed ≡ self.old.failed }
+    {
+        drop(connection);
     }
 }
 

@@ -6,6 +6,7 @@ use Rattle.lf_lex.specs.declared.fault.LoadFault.{LoadFault}
 use Rattle.lf_lef.specs.Contents.{Contents}
 use Rattle.lf_def.specs.Document.{Document, document_of}
 use Rattle.lf_files.specs.Shelf.{Put}
+use Rattle.lf_server.specs.Connections.{Accepted}
 use Rattle.lf_floorplan.specs.declared.loaded.Loaded.{Loaded}
 use Rattle.lf_app.specs.declared.faults.Fault.{Fault}
 use Rattle.lf_app.specs.declared.faults.Fault.TheVariants.{Refused, File, NoState, NoTeam, ReadFault, WriteFault, TooManyLines, OutOfMemory, Output, Bind, Accept, Unwritten, Unsaved, Unlisted, NoMemory, NoRoom}
@@ -249,7 +250,7 @@ files_fail gives path lefs library before after fault is (inr work) = inr record
 
 -- lines are done whatever is put into files beside them
 pub done_beside : (lines : Lines) (begin floor : FloorState) (input left before after : Option (List ℕ))
-    (old_puts new_puts other_old other_new : Option (List Put)) (old_accepted new_accepted : Option (List (Option (List ℕ))))
+    (old_puts new_puts other_old other_new : Option (List Put)) (old_accepted new_accepted : Option Accepted)
     → IsDone lines begin floor (streams input left before after old_puts new_puts old_accepted new_accepted)
     → IsDone lines begin floor (streams input left before after other_old other_new old_accepted new_accepted)
 done_beside (Stream limit) begin floor input left before after old_puts new_puts other_old other_new old_accepted new_accepted is = is
@@ -257,7 +258,7 @@ done_beside (Port port connections) begin floor input left before after old_puts
 
 -- and so is a fault of them one
 pub fault_beside : (lines : Lines) (begin : FloorState) (fault : Fault) (input left before after : Option (List ℕ))
-    (old_puts new_puts other_old other_new : Option (List Put)) (old_accepted new_accepted : Option (List (Option (List ℕ))))
+    (old_puts new_puts other_old other_new : Option (List Put)) (old_accepted new_accepted : Option Accepted)
     → IsFault lines begin fault (streams input left before after old_puts new_puts old_accepted new_accepted)
     → IsFault lines begin fault (streams input left before after other_old other_new old_accepted new_accepted)
 fault_beside (Stream limit) begin fault input left before after old_puts new_puts other_old other_new old_accepted new_accepted is = is

@@ -1,5 +1,5 @@
 -- How tasks end.
-use Rattle.std.specs.Prelude.{◌≡◌, ◌<◌, ◌⊎◌, ◌++◌, ℕ, Bool, true, false, List, [], ◌∷◌, Option, Some, None, IsTrue, Ok, codes, map, take}
+use Rattle.std.specs.Prelude.{◌≡◌, ◌<◌, ◌⊎◌, ◌*◌, ◌++◌, ℕ, Bool, true, false, List, [], ◌∷◌, Option, Some, None, IsTrue, Ok, codes, map, take}
 use Rattle.std.specs.Io.KnownBytes.{Appends}
 use Rattle.lf_floorplan.specs.declared.loaded.Loaded.{Loaded}
 use Rattle.lf_floorplan.specs.declared.place.Place.{Place}
@@ -14,7 +14,7 @@ use Rattle.lf_describe.specs.Description.{description}
 use Rattle.lf_teams.specs.States.{FloorState}
 use Rattle.lf_teams.specs.Designs.{opening}
 use Rattle.lf_teams.specs.Places.{AreCommittedPlaces}
-use Rattle.lf_server.specs.Connections.{AreServed}
+use Rattle.lf_server.specs.Connections.{Accepted, AreServed}
 use Rattle.lf_server.specs.declared.serving.Ending.{Ending}
 use Rattle.lf_command.specs.Command.{Job, demo, replay, serve, check, describe, repair}
 use Rattle.lf_app.specs.declared.opened.Opened.{Opened}
@@ -41,7 +41,7 @@ Ends why old new failed exit = (fault : Fault) × why fault × EndsWith fault ol
 -- ---- what a task leaves
 
 -- what a task was given and what it left: the input and the output, each before and after, the texts that were put into files, and
--- what the clients of the connections that were accepted send
+-- the connections that were accepted and closed
 pub record Streams : Type 0 where
   pub input : Option (List ℕ)
   pub left : Option (List ℕ)
@@ -49,11 +49,11 @@ pub record Streams : Type 0 where
   pub after : Option (List ℕ)
   pub old_puts : Option (List Put)
   pub new_puts : Option (List Put)
-  pub old_accepted : Option (List (Option (List ℕ)))
-  pub new_accepted : Option (List (Option (List ℕ)))
+  pub old_accepted : Option Accepted
+  pub new_accepted : Option Accepted
 
 abbrev pub streams : Option (List ℕ) → Option (List ℕ) → Option (List ℕ) → Option (List ℕ) → Option (List Put) → Option (List Put)
-    → Option (List (Option (List ℕ))) → Option (List (Option (List ℕ))) → Streams
+    → Option Accepted → Option Accepted → Streams
 streams input left before after old_puts new_puts old_accepted new_accepted =
     record {
       input = input;
@@ -89,9 +89,9 @@ listening = codes "listening" ++ 10 ∷ []
 
 -- this many connections were accepted and served on the floor, after 'listening' was written
 pub record IsOffered (begin floor : FloorState) (connections : ℕ) (before after : Option (List ℕ))
-    (old_accepted new_accepted : Option (List (Option (List ℕ)))) : Type 0 where
+    (old_accepted new_accepted : Option Accepted) : Type 0 where
   pub told : Appends before after listening
-  pub served : AreServed most_lines connections old_accepted new_accepted begin floor
+  pub served : AreServed most_lines (most_lines * 4200) connections old_accepted new_accepted begin floor
 
 -- the document's text with the committed places of the floor is put into the file of that path; without a path no file is written
 abbrev pub IsExported : Option (List ℕ) → List ℕ → Document → FloorState → Option (List Put) → Option (List Put) → Type 0
@@ -226,7 +226,7 @@ IsLinesFault limit begin fault input left before after = (fault ≡ NoMemory) �
 
 -- why a service ends early: the port cannot be listened on, and nothing is written; or the line of that is not written, or only a
 -- front of it; or a connection is not accepted, and those before it were served
-abbrev pub IsServiceFault : ℕ → ℕ → FloorState → Fault → Option (List ℕ) → Option (List ℕ) → Option (List (Option (List ℕ))) → Option (List (Option (List ℕ))) → Type 0
+abbrev pub IsServiceFault : ℕ → ℕ → FloorState → Fault → Option (List ℕ) → Option (List ℕ) → Option Accepted → Option Accepted → Type 0
 IsServiceFault port connections begin (Bind its why) before after old_accepted new_accepted =
     (its ≡ port) × (after ≡ before) × (new_accepted ≡ old_accepted)
 IsServiceFault port connections begin Output before after old_accepted new_accepted =

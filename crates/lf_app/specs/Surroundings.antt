@@ -1,6 +1,7 @@
 -- What a task works on: what contracts see of it, and what stays.
 use Rattle.std.specs.Prelude.{◌≡◌, ℕ, Bool, false, true, List, Option}
 use Rattle.lf_files.specs.Shelf.{Put}
+use Rattle.lf_server.specs.Connections.{Accepted}
 use Rattle.lf_app.specs.declared.faults.Fault.{Fault}
 use Rattle.lf_app.specs.declared.surroundings.Surroundings.{Surroundings}
 use Rattle.lf_app.specs.Exits.{Streams, streams}
@@ -8,7 +9,7 @@ use Rattle.lf_app.specs.Faults.{Blames}
 use Rattle.lf_app.specs.Lines.{ReadsFail}
 
 -- what was read, written, put and accepted
-abbrev pub io_of : {T E V R W F : Type 0} → (R → Option (List ℕ)) → (W → Option (List ℕ)) → (E → Option (List Put)) → (V → Option (List (Option (List ℕ))))
+abbrev pub io_of : {T E V R W F : Type 0} → (R → Option (List ℕ)) → (W → Option (List ℕ)) → (E → Option (List Put)) → (V → Option Accepted)
     → Surroundings T E V R W F → Surroundings T E V R W F → Streams
 io_of remaining contents puts accepted old new =
     streams (remaining old.reader) (remaining new.reader) (contents old.writer) (contents new.writer) (puts old.exports) (puts new.exports)

@@ -57,7 +57,7 @@ pub use lf_command::{
 };
 pub use lf_devices::{FromRead, ToWrite};
 pub use lf_files::FileExports;
-pub use lf_server::{Acceptor, Connection, Offer};
+pub use lf_server::{Acceptor, ClientReader, ClientWriter, Connection, Offer};
 pub use lines::answer_lines;
 pub use refusals::{Refusal, StateRefusal};
 pub use services::{NetServices, Services, Unbound};

@@ -1,11 +1,12 @@
 //! Where connections come from.
 
-ghost use Rattle.std.specs.Prelude.{◌≡◌, ◌||◌, false, is_err};
+ghost use Rattle.std.specs.Prelude.{◌≡◌, ◌||◌, IfOk, false, is_err};
+ghost use Rattle.lf_server.specs.Connections.{IsUnused};
 ghost use Rattle.lf_app.specs.Services.{IsLocal, Offers};
 
 use crate::lines::{MOST_LINES, limits_of};
 use lf_devices::DeviceFault;
-use lf_server::{Acceptor, Connection, Offer, accept_from};
+use lf_server::{Acceptor, ClientReader, ClientWriter, Connection, Offer, accept_from};
 use std::io;
 use std::io::ErrorKind;
 use std::net::{Ipv4Addr, Net, SocketAddr};
@@ -75,7 +76,10 @@ fn unbound_of(error: &io::Error) -> Unbound {
 /// The next connection of the listener; `Err` if there is no listener, or nothing can be accepted there.
 fn accepted<T: Net>(
     listener: &Option<T::Listener>,
-) -> Result<Connection<T::Stream, T::Stream>, DeviceFault> {
+) -> Result<Connection<ClientReader<T::Stream>, ClientWriter<T::Stream>>, DeviceFault>
+    ensures { IfOk result (λ connection. IsUnused connection.reader.reads connection.reader.failed
+        connection.writer.flushed connection.writer.failed) }
+{
     let Some(listener) = listener else {
         return Err(DeviceFault);
     };
@@ -86,13 +90,15 @@ fn accepted<T: Net>(
 }
 
 impl<'a, T: Net> Acceptor for NetServices<'a, T> {
-    type Reader = T::Stream;
+    type Reader = ClientReader<T::Stream>;
 
-    type Writer = T::Stream;
+    type Writer = ClientWriter<T::Stream>;
 
     ghost has_failed = { λ s. s.failed };
 
-    fn accept(&mut self) -> Result<Connection<T::Stream, T::Stream>, DeviceFault> {
+    fn accept(
+        &mut self,
+    ) -> Result<Connection<ClientReader<T::Stream>, ClientWriter<T::Stream>>, DeviceFault> {
         match accepted::<T>(&self.listener) {
             Ok(connection) => Ok(connection),
             Err(fault) => {
@@ -100,6 +106,12 @@ impl<'a, T: Net> Acceptor for NetServices<'a, T> {
                 Err(fault)
             }
         }
+    }
+
+    fn close(&mut self, connection: Connection<ClientReader<T::Stream>, ClientWriter<T::Stream>>)
+        ensures failed { self.new.failed ≡ self.old.failed }
+    {
+        drop(connection);
     }
 }
 

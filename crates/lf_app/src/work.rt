@@ -1,7 +1,7 @@
 //! Work on a design: its lines are answered or its connections served, and then the text with its committed places and the state of
 //! the floor are written, if they are asked for.
 
-ghost use Rattle.std.specs.Prelude.{◌≡◌, ℕ, List, Option, IfErr, IfOk, OnOk, false, map, true};
+ghost use Rattle.std.specs.Prelude.{◌≡◌, ◌*◌, ℕ, List, Option, IfErr, IfOk, OnOk, false, map, true};
 ghost use Rattle.lf_lef.specs.Contents.{Contents};
 ghost use Rattle.lf_def.specs.Document.{Document};
 ghost use Rattle.lf_floorplan.specs.declared.place.Place.{Place};
@@ -88,6 +88,7 @@ fn offer<'a, V: Services, W: Sink>(
     writer: &mut W,
 ) -> Result<(), Fault<'a>>
     requires lines { offer.now.limits.lines ≡ most_lines }
+    requires reads { offer.now.limits.reads ≡ most_lines * 4200 }
     ensures ok { OnOk result (IsOffered floor.old floor.new offer.now.connections (W.contents writer.old) (W.contents writer.new)
         (V.accepted services.old) (V.accepted services.new)) }
     ensures components { floor.new.components ≡ floor.old.components }

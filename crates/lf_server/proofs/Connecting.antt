@@ -1,39 +1,58 @@
 -- Connections, one after the other.
-use Rattle.std.proofs.Common.{◌≡◌, ◌∙◌, ℕ, ◌+◌, List, ◌++◌, ◌∷◌, [], Option, Some, None, ap, is_some, refl, arith, length}
+use Rattle.std.proofs.Common.{◌≡◌, ◌⊎◌, ◌∙◌, ℕ, ◌+◌, List, ◌++◌, ◌∷◌, [], Option, Some, None, ap, inl, inr, is_some, refl, arith, length}
 use Rattle.std.proofs.lemmas.Bool.{false≢true}
 use Rattle.std.specs.Prelude.{unwrap_or}
 use Rattle.lf_rules.specs.Legalizer.{Legalizer}
 use Rattle.lf_teams.specs.States.{FloorState}
-use Rattle.lf_server.specs.Connections.{Accepts, AreServed, Connects, ServesNext}
+use Rattle.lf_server.specs.Connections.{Accepted, Accepts, AreServed, Client, Closes, Connects, Passes, ServesNext, Standing}
 
 -- no connection was accepted
-pub accepts_none : (now : Option (List (Option (List ℕ)))) → Accepts now now []
-accepts_none None = tt
-accepts_none (Some before) = refl
+pub passes_none : (now : Option Accepted) → Passes now now [] []
+passes_none None = tt
+passes_none (Some before) = refl
 
--- one more was accepted
-pub accepts_more : (before mid after : Option (List (Option (List ℕ)))) (inputs : List (Option (List ℕ))) (input : Option (List ℕ))
-    → Accepts before mid inputs → Accepts mid after (input ∷ []) → Accepts before after (input ∷ inputs)
-accepts_more None mid after inputs input earlier last = tt
-accepts_more (Some before) None after inputs input earlier last = absurd (false≢true (ap is_some earlier))
-accepts_more (Some before) (Some mid) after inputs input earlier last =
-    last ∙ ap (λ (o : Option (List (Option (List ℕ)))). Some (input ∷ unwrap_or o [])) earlier
+-- what is accepted, or nothing
+abbrev known : Option Accepted → Accepted
+known now = unwrap_or now (record { clients = []; closed = [] })
+
+-- a connection was accepted, and then closed
+pub passes_one : (before mid after : Option Accepted) (from : Client) (end : Standing)
+    → Accepts before mid from → Closes mid after end → Passes before after (from ∷ []) (end ∷ [])
+passes_one None mid after from end accepts closes = tt
+passes_one (Some before) None after from end accepts closes = absurd (false≢true (ap is_some accepts))
+passes_one (Some before) (Some mid) after from end accepts closes =
+    closes ∙ ap (λ (o : Option Accepted). Some (record { clients = (known o).clients; closed = end ∷ (known o).closed })) accepts
+
+-- one more was accepted and closed
+pub passes_more : (before mid after : Option Accepted) (clients : List Client) (closed : List Standing) (from : Client) (end : Standing)
+    → Passes before mid clients closed → Passes mid after (from ∷ []) (end ∷ []) → Passes before after (from ∷ clients) (end ∷ closed)
+passes_more None mid after clients closed from end earlier last = tt
+passes_more (Some before) None after clients closed from end earlier last = absurd (false≢true (ap is_some earlier))
+passes_more (Some before) (Some mid) after clients closed from end earlier last =
+    last ∙ ap (λ (o : Option Accepted). Some (record { clients = from ∷ (known o).clients; closed = end ∷ (known o).closed })) earlier
+
+-- as many reads were made as are allowed, of a reader of which none was made before
+pub all_reads : {Failed : Type 0} (old new most : ℕ) → old ≡ 0 → Failed ⊎ (new ≡ old + most) → Failed ⊎ (new ≡ most)
+all_reads old new most none (inl failed) = inl failed
+all_reads old new most none (inr made) = inr (omega (arith, none, made))
 
 -- one connection more
-pub serves_more : (limit count : ℕ) (before mid after : Option (List (Option (List ℕ)))) (old half new : FloorState)
-    → AreServed limit count before mid old half → ServesNext limit mid after half new → AreServed limit (count + 1) before after old new
-serves_more limit count before mid after old half new earlier last = record {
-  inputs = last.input ∷ earlier.inputs;
+pub serves_more : (lines reads count : ℕ) (before mid after : Option Accepted) (old half new : FloorState)
+    → AreServed lines reads count before mid old half → ServesNext lines reads mid after half new → AreServed lines reads (count + 1) before after old new
+serves_more lines reads count before mid after old half new earlier last = record {
+  clients = last.from ∷ earlier.clients;
+  closed = last.end ∷ earlier.closed;
   counted = omega (arith, earlier.counted);
-  accepted = accepts_more before mid after earlier.inputs last.input earlier.accepted last.accepted;
+  passes = passes_more before mid after earlier.clients earlier.closed last.from last.end earlier.passes last.passes;
   connects = λ l. (half, earlier.connects l, last.serves l);
 }
 
 -- none so far
-pub serves_none : (limit : ℕ) (now : Option (List (Option (List ℕ)))) (floor : FloorState) → AreServed limit 0 now now floor floor
-serves_none limit now floor = record {
-  inputs = [];
+pub serves_none : (lines reads : ℕ) (now : Option Accepted) (floor : FloorState) → AreServed lines reads 0 now now floor floor
+serves_none lines reads now floor = record {
+  clients = [];
+  closed = [];
   counted = refl;
-  accepted = accepts_none now;
+  passes = passes_none now;
   connects = λ l. refl;
 }

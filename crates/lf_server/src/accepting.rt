@@ -1,10 +1,12 @@
 //! Where connections come from.
 
-ghost use Rattle.std.specs.Prelude.{◌≡◌, ◌∷◌, [], List, None, ℕ, Option, Bool, ◌||◌, IfOk, OnErr, is_err, false};
-ghost use Rattle.lf_server.specs.Connections.{Accepts};
+ghost use Rattle.std.specs.Prelude.{◌≡◌, List, None, ℕ, Option, Bool, ◌||◌, IfOk, OnErr, is_err, false, true};
+ghost use Rattle.lf_server.specs.Connections.{Accepted, Accepts, Closes, IsUnused, client, standing};
+ghost use Rattle.lf_server.specs.Devices.{writer};
 
+use crate::client::{ClientReader, ClientWriter};
 use crate::serving::ServeLimits;
-use lf_devices::DeviceFault;
+use lf_devices::{DeviceFault, Sink, Source};
 use std::io;
 use std::io::{Read, Write};
 use std::net::{Ipv4Addr, Net, OpenListener, OpenStream};
@@ -39,14 +41,13 @@ pub trait Acceptor {
     ghost use Rattle.lf_server.specs.declared.accepting.Offer.{Offer};
 
     /// What a client sends.
-    type Reader: Read + Drop;
+    type Reader: Source + Drop;
 
     /// What a client is sent.
-    type Writer: Write + Drop;
+    type Writer: Sink + Drop;
 
-    /// What was accepted so far, if that is known, the last connection first: of each the bytes that its client sends, if they are
-    /// known.
-    ghost accepted: { Self → Option (List (Option (List ℕ))) } = { λ _. None };
+    /// The clients whose connections were accepted so far, and how those stood that were closed, if that is known.
+    ghost accepted: { Self → Option Accepted } = { λ _. None };
 
     /// The services that were offered, the last one first, if they are known.
     ghost offers: { Self → Option (List Offer) } = { λ _. None };
@@ -54,28 +55,50 @@ pub trait Acceptor {
     /// Whether a call has failed.
     ghost has_failed: { Self → Bool };
 
-    /// Accepts the next connection. `Err` if none can be accepted, or it cannot be both read from and written to.
+    /// Accepts the next connection, of which nothing was read and to which nothing was written. `Err` if none can be accepted, or it
+    /// cannot be both read from and written to.
     fn accept(&mut self) -> Result<Connection<Self::Reader, Self::Writer>, DeviceFault>
-        ensures ok { IfOk result (λ connection. Accepts (accepted self.old) (accepted self.new) (Self.Reader.remaining connection.reader ∷ [])) }
+        ensures ok { IfOk result (λ connection. Accepts (accepted self.old) (accepted self.new)
+            (client (Self.Reader.remaining connection.reader) (Self.Writer.contents connection.writer))) }
+        ensures unused { IfOk result (λ connection. IsUnused (Self.Reader.reads connection.reader) (Self.Reader.has_failed connection.reader)
+            (Self.Writer.is_flushed connection.writer) (Self.Writer.has_failed connection.writer)) }
         ensures err { OnErr result (accepted self.new ≡ accepted self.old) }
         ensures offers { offers self.new ≡ offers self.old }
         ensures failed { has_failed self.new ≡ (is_err result || has_failed self.old) };
+
+    /// Closes a connection that was served to its end.
+    fn close(&mut self, connection: Connection<Self::Reader, Self::Writer>)
+        ensures closed { Closes (accepted self.old) (accepted self.new)
+            (standing (Self.Reader.remaining connection.reader) (Self.Reader.reads connection.reader) (Self.Reader.has_failed connection.reader)
+            (writer (Self.Writer.contents connection.writer) (Self.Writer.is_flushed connection.writer) (Self.Writer.has_failed connection.writer))) }
+        ensures offers { offers self.new ≡ offers self.old }
+        ensures failed { has_failed self.new ≡ has_failed self.old };
 }
 
 /// A connection over a stream.
-fn connection_over<S: Read + Write + OpenStream + Drop>(stream: S) -> io::Result<Connection<S, S>> {
-    let writer = stream.try_clone()?;
+fn connection_over<S: Read + Write + OpenStream + Drop>(
+    stream: S,
+) -> io::Result<Connection<ClientReader<S>, ClientWriter<S>>>
+    ensures { IfOk result (λ connection. IsUnused connection.reader.reads connection.reader.failed
+        connection.writer.flushed connection.writer.failed) }
+{
+    let copy = stream.try_clone()?;
     let _ = stream.set_nodelay(true);
     let _ = stream.set_write_timeout(Some(Duration::from_secs(PATIENCE)));
     Ok(Connection {
-        reader: stream,
-        writer,
+        reader: ClientReader::new(stream),
+        writer: ClientWriter::new(copy),
     })
 }
 
 /// The next connection of the listener. A client that leaves its replies unread for 60 seconds ends its connection. `Err` if none
 /// can be accepted, or it cannot be both read from and written to.
-pub fn accept_from<T: Net>(listener: &T::Listener) -> io::Result<Connection<T::Stream, T::Stream>> {
+pub fn accept_from<T: Net>(
+    listener: &T::Listener,
+) -> io::Result<Connection<ClientReader<T::Stream>, ClientWriter<T::Stream>>>
+    ensures { IfOk result (λ connection. IsUnused connection.reader.reads connection.reader.failed
+        connection.writer.flushed connection.writer.failed) }
+{
     let (stream, _) = listener.accept()?;
     connection_over(stream)
 }
@@ -98,13 +121,15 @@ impl<'a, T: Net> FromListener<'a, T> {
 }
 
 impl<'a, T: Net> Acceptor for FromListener<'a, T> {
-    type Reader = T::Stream;
+    type Reader = ClientReader<T::Stream>;
 
-    type Writer = T::Stream;
+    type Writer = ClientWriter<T::Stream>;
 
     ghost has_failed = { λ a. a.failed };
 
-    fn accept(&mut self) -> Result<Connection<T::Stream, T::Stream>, DeviceFault> {
+    fn accept(
+        &mut self,
+    ) -> Result<Connection<ClientReader<T::Stream>, ClientWriter<T::Stream>>, DeviceFault> {
         match accept_from::<T>(self.listener) {
             Ok(connection) => Ok(connection),
             Err(_) => {
@@ -112,5 +137,11 @@ impl<'a, T: Net> Acceptor for FromListener<'a, T> {
                 Err(DeviceFault)
             }
         }
+    }
+
+    fn close(&mut self, connection: Connection<ClientReader<T::Stream>, ClientWriter<T::Stream>>)
+        ensures failed { self.new.failed ≡ self.old.failed }
+    {
+        drop(connection);
     }
 }

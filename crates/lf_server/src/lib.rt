@@ -1,13 +1,15 @@
 //! Serving lines: one reply to each, in order, written and flushed before the next line is acted on.
 //!
 //! `serve` serves one connection, over any source and sink; `serve_connections` takes connections from any `Acceptor` and serves
-//! each to its end before the next, and `serve_tcp` those of a TCP listener. Each line is one step of the floor, or answered `BadRequest` with the floor unchanged. A DEF text is written in
-//! pieces, and is never in memory as a whole. The devices of `lf_devices` are named here again.
+//! each to its end before the next, and `serve_tcp` those of a TCP listener. Each line is one step of the floor, or answered
+//! `BadRequest` with the floor unchanged. A DEF text is written in pieces, and is never in memory as a whole. The devices of
+//! `lf_devices` are named here again.
 //!
 //! Contracts see of a connection its lines, the reply to each with its text, and the floor after it (`Serves`), where the bytes of
 //! the input and of the output are known; how it ended says which lines were acted on (`Ending`). However it ended, the frame and
 //! the positions of components are unchanged, and a fully legal committed design stays so (`Stays`). Of connections they see how many
-//! were accepted, what the client of each sends, and that just these were served (`AreServed`), where what is accepted is known.
+//! were accepted, what the client of each sends and is sent, how each stands in the end, and that just these were served
+//! (`AreServed`), where what is accepted is known.
 //!
 //! ```
 //! let limits = ServeLimits { lines: 1_000_000, reads: 4_200_000_000 };
@@ -16,6 +18,7 @@
 #![tactic(auto)]
 
 mod accepting;
+mod client;
 mod laws;
 mod pieces;
 mod reply;
@@ -24,6 +27,7 @@ mod serving;
 mod tcp;
 
 pub use accepting::{Acceptor, Connection, Offer, accept_from};
+pub use client::{ClientReader, ClientWriter};
 pub use laws::{serving_runs, texts_are_own, texts_of_designs};
 pub use lf_devices::{DeviceFault, FromRead, Sink, Source, ToWrite, send};
 pub use serving::{Ending, ServeLimits, Served, serve};

@@ -1,16 +1,16 @@
 //! Serving connections, one after the other.
 
-ghost use Rattle.std.specs.Prelude.{◌≡◌, ◌↔◌, ◌≤◌, ◌||◌, List, ℕ, OnErr, OnOk, Option, false, is_err, length};
+ghost use Rattle.std.specs.Prelude.{◌≡◌, ◌↔◌, ◌≤◌, ◌||◌, List, OnErr, OnOk, false, is_err, length};
 ghost use Rattle.lf_rules.specs.Legalizer.{Legalizer};
-ghost use Rattle.lf_server.specs.Connections.{AreServed, Connects, ServesNext, ServesInput, Stays};
+ghost use Rattle.lf_server.specs.Connections.{AreServed, Client, Connects, IsUnused, ServesClient, ServesNext, Standing, Stays, client, standing};
+ghost use Rattle.lf_server.specs.Devices.{writer};
 
 use crate::accepting::{Acceptor, Connection, FromListener};
 use crate::serving::{ServeLimits, serve};
-use lf_devices::{DeviceFault, FromRead, ToWrite};
+use lf_devices::{DeviceFault, Sink, Source};
 use lf_floor::Floor;
 use lf_legalize::Seeker;
 use std::alloc::Global;
-use std::io::{Read, Write};
 use std::net::Net;
 
 /// How connections were served, one after the other.
@@ -22,33 +22,38 @@ pub struct TcpServed {
     pub accept_fault: bool,
 }
 
-/// Serves a connection to its end, whatever that is.
-fn serve_connection<R: Read + Drop, W: Write + Drop, K: Seeker + Drop>(
+/// Serves a connection to its end, whatever that is, and gives it back.
+fn serve_connection<R: Source + Drop, W: Sink + Drop, K: Seeker + Drop>(
     alloc: Global,
     floor: &mut Floor<K>,
     connection: Connection<R, W>,
     limits: ServeLimits,
-)
-    ensures served { (l : Legalizer) → ServesInput l limits.lines (R.remaining connection.reader) floor.old floor.new }
+) -> Connection<R, W>
+    requires unused { IsUnused (R.reads connection.reader) (R.has_failed connection.reader) (W.is_flushed connection.writer)
+        (W.has_failed connection.writer) }
+    ensures served { (l : Legalizer) → ServesClient l limits.lines limits.reads
+        (client (R.remaining connection.reader) (W.contents connection.writer))
+        (standing (R.remaining result.reader) (R.reads result.reader) (R.has_failed result.reader)
+        (writer (W.contents result.writer) (W.is_flushed result.writer) (W.has_failed result.writer)))
+        floor.old floor.new }
     ensures stays { Stays floor.old floor.new }
 {
     let Connection {
         mut reader,
         mut writer,
     } = connection;
-    let mut source = FromRead::new(&mut reader);
-    let mut sink = ToWrite::new(&mut writer);
-    serve(alloc, floor, &mut source, &mut sink, limits);
+    serve(alloc, floor, &mut reader, &mut writer, limits);
+    Connection { reader, writer }
 }
 
-/// Accepts one connection and serves it to its end; `Err` if none is accepted, and then no line is read.
+/// Accepts one connection, serves it to its end, and closes it; `Err` if none is accepted, and then no line is read.
 fn serve_next<A: Acceptor, K: Seeker + Drop>(
     alloc: Global,
     floor: &mut Floor<K>,
     acceptor: &mut A,
     limits: ServeLimits,
 ) -> Result<(), DeviceFault>
-    ensures served { OnOk result (ServesNext limits.lines (A.accepted acceptor.old) (A.accepted acceptor.new) floor.old floor.new) }
+    ensures served { OnOk result (ServesNext limits.lines limits.reads (A.accepted acceptor.old) (A.accepted acceptor.new) floor.old floor.new) }
     ensures kept { OnErr result (floor.new ≡ floor.old) }
     ensures unaccepted { OnErr result (A.accepted acceptor.new ≡ A.accepted acceptor.old) }
     ensures offers { A.offers acceptor.new ≡ A.offers acceptor.old }
@@ -56,7 +61,8 @@ fn serve_next<A: Acceptor, K: Seeker + Drop>(
     ensures stays { Stays floor.old floor.new }
 {
     let connection = acceptor.accept()?;
-    serve_connection(alloc, floor, connection, limits);
+    let served = serve_connection(alloc, floor, connection, limits);
+    acceptor.close(served);
     Ok(())
 }
 
@@ -64,8 +70,9 @@ fn serve_next<A: Acceptor, K: Seeker + Drop>(
 /// for the next. How a connection ends plays no part; the first one that cannot be accepted, or not be both read from and
 /// written to, ends the service, and otherwise all are served.
 ///
-/// Each is served as `serve` does it, within the limits, over what its client sends. The acceptor has failed just if there is an
-/// accept fault, unless it had before. The frame and the positions of components are unchanged, and a fully legal committed design
+/// Each is served as `serve` does it, within the limits, over what its client sends, and its client is sent the replies. A connection
+/// ends at a fault of its reader or its writer only where that has failed, or the limit on reads is met. The acceptor has failed just
+/// if there is an accept fault, unless it had before. The frame and the positions of components are unchanged, and a fully legal committed design
 /// stays so.
 pub fn serve_connections<A: Acceptor, K: Seeker + Drop>(
     alloc: Global,
@@ -78,7 +85,8 @@ pub fn serve_connections<A: Acceptor, K: Seeker + Drop>(
     ensures all { (result.connections ≡ connections) ↔ (result.accept_fault ≡ false) }
     ensures offers { A.offers acceptor.new ≡ A.offers acceptor.old }
     ensures failed { A.has_failed acceptor.new ≡ (result.accept_fault || A.has_failed acceptor.old) }
-    ensures served { AreServed limits.lines result.connections (A.accepted acceptor.old) (A.accepted acceptor.new) floor.old floor.new }
+    ensures served { AreServed limits.lines limits.reads result.connections (A.accepted acceptor.old) (A.accepted acceptor.new)
+        floor.old floor.new }
     ensures stays { Stays floor.old floor.new }
 {
     for served in 0..connections {
@@ -109,8 +117,8 @@ pub fn serve_tcp<T: Net + AllocGlobal, K: Seeker + Drop>(
 ) -> TcpServed
     ensures most { result.connections ≤ connections }
     ensures all { (result.connections ≡ connections) ↔ (result.accept_fault ≡ false) }
-    ensures served { (inputs : List (Option (List ℕ))) × (length inputs ≡ result.connections)
-        × ((l : Legalizer) → Connects l limits.lines inputs floor.old floor.new) }
+    ensures served { (clients : List Client) × (closed : List Standing) × (length clients ≡ result.connections)
+        × ((l : Legalizer) → Connects l limits.lines limits.reads clients closed floor.old floor.new) }
     ensures stays { Stays floor.old floor.new }
 {
     let mut acceptor = FromListener::<T>::new(listener);

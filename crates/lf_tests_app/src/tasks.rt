@@ -2,8 +2,8 @@
 
 use crate::shelf::Shelf;
 use lf_app::{
-    Acceptor, Connection, Exit, FileTexts, NetServices, Offer, Services, Surroundings, Task,
-    Unbound, perform, perform_over,
+    Acceptor, ClientReader, ClientWriter, Connection, Exit, FileTexts, NetServices, Offer,
+    Services, Surroundings, Task, Unbound, perform, perform_over,
 };
 use lf_def::W_DEF;
 use lf_devices::{DeviceFault, FromRead, ToWrite};
@@ -101,15 +101,23 @@ impl Noted {
 }
 
 impl Acceptor for Noted {
-    type Reader = &'static [u8];
+    type Reader = ClientReader<&'static [u8]>;
 
-    type Writer = Vec<u8>;
+    type Writer = ClientWriter<Vec<u8>>;
 
     ghost has_failed = { λ n. n.failed };
 
-    fn accept(&mut self) -> Result<Connection<&'static [u8], Vec<u8>>, DeviceFault> {
+    fn accept(
+        &mut self,
+    ) -> Result<Connection<ClientReader<&'static [u8]>, ClientWriter<Vec<u8>>>, DeviceFault> {
         self.failed = true;
         Err(DeviceFault)
+    }
+
+    fn close(&mut self, connection: Connection<ClientReader<&'static [u8]>, ClientWriter<Vec<u8>>>)
+        ensures failed { self.new.failed ≡ self.old.failed }
+    {
+        drop(connection);
     }
 }
 
@@ -158,6 +166,10 @@ impl<'a, V: Acceptor> Acceptor for OfferedThere<'a, V> {
 
     fn accept(&mut self) -> Result<Connection<V::Reader, V::Writer>, DeviceFault> {
         self.services.accept()
+    }
+
+    fn close(&mut self, connection: Connection<V::Reader, V::Writer>) {
+        self.services.close(connection);
     }
 }
 

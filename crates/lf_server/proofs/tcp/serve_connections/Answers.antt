@@ -5,7 +5,7 @@ use Rattle.lf_server.proofs.tcp.serve_connections.Goals as goal
 
 pub loop-served-init : goal.loop-served-init
 loop-served-init g c = record {
-  served = serves_none c.args.limits.lines (g.A.Acceptor.accepted c.args.acceptor.now) c.args.floor.now;
+  served = serves_none c.args.limits.lines c.args.limits.reads (g.A.Acceptor.accepted c.args.acceptor.now) c.args.floor.now;
   offers = refl;
   failed = refl;
   stays = stays_none c.args.floor.now;
@@ -13,7 +13,7 @@ loop-served-init g c = record {
 
 pub loop-served-preserved : goal.loop-served-preserved
 loop-served-preserved g c = record {
-  served = serves_more c.args.limits.lines c.loop-served.served _ _ _ c.args.floor.now c.loop-served.floor c.serve_next.new.floor
+  served = serves_more c.args.limits.lines c.args.limits.reads c.loop-served.served _ _ _ c.args.floor.now c.loop-served.floor c.serve_next.new.floor
       c.loop-served.invariant.served c.in-Ok.ensures.served;
   offers = c.serve_next.ensures.offers ∙ c.loop-served.invariant.offers;
   failed = c.in-Ok.ensures.failed ∙ c.loop-served.invariant.failed;
