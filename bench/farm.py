@@ -3,9 +3,10 @@
 
 usage: bench/farm.py [CELLS] [FENCES]    (100000 and 20; from the top; LEFENCE names the program, crates/lefence/out/lefence if it is not set)
 
-`slices` is the one pass over the DEF text that makes all slices, `teams` all teams on 1, 2 and 4 processes, and `push` and `merge` the
-two ways to bring their work into one design. Seconds are those of the processors, of all processes of a part together; where others
-are at work on the machine they are more than they would be alone. `wall` is the time that passed.
+`slices` is the one pass over the DEF text that makes all slices, `teams` all teams on 1, 2 and 4 processes, and `answers`, of all that
+they did over the whole design, and `merge` the two ways to bring their work into one design. Seconds are those of the processors, of all
+processes of a part together; where others are at work on the machine they are more than they would be alone. `wall` is the time that
+passed.
 """
 
 from __future__ import annotations
@@ -58,7 +59,7 @@ def measure_all(folder: Path) -> None:
     shutil.copy(folder / "on4/new.def", folder / "merged.def")
     plan = folder / "on4/farm.json"
     plan.write_text(plan.read_text().replace('"is_merged": true', '"is_merged": false'))
-    measure("push", lambda: subprocess.run(collect, cwd=folder, check=True, capture_output=True))
+    measure("answers", lambda: subprocess.run(collect, cwd=folder, check=True, capture_output=True))
     print("the same text" if (folder / "on4/new.def").read_bytes() == (folder / "merged.def").read_bytes() else "OTHER TEXTS")
 
 

@@ -4,10 +4,13 @@ from __future__ import annotations
 
 import os
 import resource
+import signal
 import socket
 import struct
 import subprocess
+import tempfile
 import threading
+import unittest
 from collections.abc import Callable
 from dataclasses import dataclass
 from pathlib import Path
@@ -52,6 +55,25 @@ def run(words: list[str], lines: str | bytes = "", start: Start = Start()) -> tu
         timeout=PATIENCE,
     )
     return ran.returncode, (ran.stdout or b"").decode(), ran.stderr.decode()
+
+
+def small_files() -> None:
+    """Before the program begins: no file may grow beyond 100 bytes, and a write beyond fails."""
+    signal.signal(signal.SIGXFSZ, signal.SIG_IGN)
+    resource.setrlimit(resource.RLIMIT_FSIZE, (100, 100))
+
+
+class InFolder(unittest.TestCase):
+    """Tests in a folder of their own."""
+
+    def setUp(self) -> None:
+        folder = tempfile.TemporaryDirectory(prefix="lefence-tests-")
+        self.addCleanup(folder.cleanup)
+        self.folder = Path(folder.name).resolve()
+
+    def names(self) -> list[str]:
+        """What stands in the folder."""
+        return sorted(path.name for path in self.folder.iterdir())
 
 
 def preloading(source: str, folder: Path) -> dict[str, str]:

@@ -4,11 +4,9 @@ from __future__ import annotations
 
 import json
 import re
-import tempfile
 import unittest
-from pathlib import Path
 
-from program import DESIGN, LEF, Start, run
+from program import DESIGN, LEF, InFolder, Start, run
 
 Line = dict[str, object]
 # The keys of each kind, which stay.
@@ -147,16 +145,12 @@ def told_of(text: str, lef: str) -> list[Line]:
     return lines + [{"kind": "soft", "box": rect} for rect in soft] + cells
 
 
-class Describe(unittest.TestCase):
+class Describe(InFolder):
     """Each design is written into a folder of its own."""
-
-    def setUp(self) -> None:
-        self.folder = tempfile.TemporaryDirectory(prefix="lefence-describe-")
-        self.addCleanup(self.folder.cleanup)
 
     def design(self, text: str) -> list[str]:
         """The words for a design of this DEF text and the macros of the small design."""
-        path = Path(self.folder.name) / "x.def"
+        path = self.folder / "x.def"
         path.write_text(text)
         return [str(path), str(LEF)]
 

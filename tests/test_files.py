@@ -6,15 +6,13 @@ No contract knows what files hold.
 from __future__ import annotations
 
 import os
-import resource
 import signal
 import stat
 import subprocess
-import tempfile
 import unittest
 from pathlib import Path
 
-from program import DEF, DESIGN, LEF, Service, Session, Start, free_port, preloading, run
+from program import DEF, DESIGN, LEF, InFolder, Service, Session, Start, free_port, preloading, run, small_files
 
 # A session that places and commits the three cells of team A, and its replies.
 LINES = "open A\nplace A 0 a1 0 0 N\nplace A 0 a2 400 0 N\nplace A 0 a3 800 0 N\ncommit A 0\n"
@@ -34,33 +32,21 @@ def unwritten(target: Path | str) -> str:
     return f"lefence: File\nlefence: export file {target} cannot be written\n"
 
 
-def small_files() -> None:
-    """Before the program begins: no file may grow beyond 100 bytes, and a write beyond fails."""
-    signal.signal(signal.SIGXFSZ, signal.SIG_IGN)
-    resource.setrlimit(resource.RLIMIT_FSIZE, (100, 100))
-
-
-class InFolder(unittest.TestCase):
-    """Tests in a folder of their own."""
+class Exports(InFolder):
+    """Exports of the small design, in a folder of their own."""
 
     def setUp(self) -> None:
-        folder = tempfile.TemporaryDirectory(prefix="lefence-files-")
-        self.addCleanup(folder.cleanup)
-        self.folder = Path(folder.name).resolve()
+        super().setUp()
         self.target = self.folder / "new.def"
 
     def export(self, target: Path | str, start: Start = Start()) -> tuple[int, str, str]:
         return run(["replay", *DESIGN, "--export", str(target)], LINES, start)
 
-    def names(self) -> list[str]:
-        """What stands in the folder."""
-        return sorted(path.name for path in self.folder.iterdir())
-
     def mode(self, path: Path) -> int:
         return stat.S_IMODE(path.stat().st_mode)
 
 
-class Exported(InFolder):
+class Exported(Exports):
     """Exports that are written."""
 
     def test_to_a_new_file(self) -> None:
@@ -176,7 +162,7 @@ class Exported(InFolder):
         self.assertEqual(self.target.read_bytes(), DEF.read_bytes())
 
 
-class NotExported(InFolder):
+class NotExported(Exports):
     """Exports that are not written: what was there stays as it was, and nothing is left beside it."""
 
     def refused(self, target: Path | str, start: Start = Start()) -> None:

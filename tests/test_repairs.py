@@ -6,11 +6,10 @@ No contract knows what files hold, nor what the report counts.
 from __future__ import annotations
 
 import json
-import tempfile
 import unittest
 from pathlib import Path
 
-from program import DEF, LEF, run
+from program import DEF, LEF, InFolder, run
 
 # The keys of the line of a team, and of the line of all teams, in their order.
 TEAM_KEYS = ["cells", "kept", "largest", "left", "mean", "moved", "placed", "team", "total", "turned"]
@@ -36,13 +35,11 @@ def design(changes: dict[str, str]) -> str:
     return text
 
 
-class Repairs(unittest.TestCase):
+class Repairs(InFolder):
     """Repairs of the small design, in a folder of their own."""
 
     def setUp(self) -> None:
-        folder = tempfile.TemporaryDirectory(prefix="lefence-repairs-")
-        self.addCleanup(folder.cleanup)
-        self.folder = Path(folder.name).resolve()
+        super().setUp()
         self.text = self.folder / "old.def"
         self.new = self.folder / "new.def"
         self.lines = self.folder / "lines.txt"
@@ -59,10 +56,6 @@ class Repairs(unittest.TestCase):
     def check(self, text: Path) -> int:
         """The status of a check of that text."""
         return run(["check", str(text), str(LEF)])[0]
-
-    def names(self) -> list[str]:
-        """What stands in the folder."""
-        return sorted(path.name for path in self.folder.iterdir())
 
     def test_a_cell_that_overlaps_moves(self) -> None:
         status, report = self.repair(STANDING, "--export", str(self.new))

@@ -6,13 +6,11 @@ No contract knows what files hold.
 from __future__ import annotations
 
 import os
-import resource
 import signal
-import tempfile
 import unittest
 from pathlib import Path
 
-from program import DEF, DESIGN, LEF, Service, Session, Start, free_port, run
+from program import DEF, DESIGN, LEF, InFolder, Service, Session, Start, free_port, run, small_files
 
 # A session that makes changes, undoes and commits, opens a second session and gives a padding, and its replies.
 LINES = [
@@ -92,24 +90,12 @@ def joined(lines: list[str]) -> str:
     return "".join(f"{line}\n" for line in lines)
 
 
-def small_files() -> None:
-    """Before the program begins: no file may grow beyond 100 bytes, and a write beyond fails."""
-    signal.signal(signal.SIGXFSZ, signal.SIG_IGN)
-    resource.setrlimit(resource.RLIMIT_FSIZE, (100, 100))
-
-
-class InFolder(unittest.TestCase):
-    """Tests in a folder of their own."""
+class States(InFolder):
+    """States of the small design, in a folder of their own."""
 
     def setUp(self) -> None:
-        folder = tempfile.TemporaryDirectory(prefix="lefence-states-")
-        self.addCleanup(folder.cleanup)
-        self.folder = Path(folder.name).resolve()
+        super().setUp()
         self.state = self.folder / "w.state"
-
-    def names(self) -> list[str]:
-        """What stands in the folder."""
-        return sorted(path.name for path in self.folder.iterdir())
 
     def save(self, lines: str, words: list[str] | None = None, start: Start = Start()) -> tuple[int, str, str]:
         return run(["replay", *DESIGN, *(words or []), "--save", str(self.state)], lines, start)
@@ -118,7 +104,7 @@ class InFolder(unittest.TestCase):
         return run(["replay", *DESIGN, "--state", str(self.state), *(words or [])], lines)
 
 
-class Saved(InFolder):
+class Saved(States):
     """States that are written and read again."""
 
     def test_the_text_of_a_loaded_design(self) -> None:
@@ -187,7 +173,7 @@ class Saved(InFolder):
         self.assertEqual((os.readlink(self.state), self.names()), ("real.state", ["real.state", "w.state"]))
 
 
-class NotSaved(InFolder):
+class NotSaved(States):
     """States that are not written: what was there stays as it was."""
 
     def unsaved(self, target: Path | str) -> str:
@@ -230,7 +216,7 @@ class NotSaved(InFolder):
         self.assertEqual(self.names(), [])
 
 
-class Refused(InFolder):
+class Refused(States):
     """Texts that are no state of the design: nothing is answered, written or put."""
 
     def refuse(self, text: str | bytes, fault: str, line: int, shown: str) -> None:

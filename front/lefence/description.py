@@ -20,9 +20,8 @@ from .program import NAP, Program
 
 # The exit statuses of a description that was written: the design is fully legal, or it is not.
 _WRITTEN = (0, 4)
-# What the line of a cell has that breaks no rule, that of one without a place, and the last line; no name can have these bytes,
-# since its quotes have backslashes before them.
-_LEGAL, _UNPLACED, _TOTAL = b'"rule":null', b'"box":null', b'"kind":"total"'
+# What the last line has; no name can have these bytes, since its quotes have backslashes before them.
+_TOTAL = b'"kind":"total"'
 
 
 class Box(NamedTuple):
@@ -172,10 +171,6 @@ class Description:
     def cells(self) -> Iterator[Cell]:
         """The movable cells in loading order, once; when they are read, `total` is there."""
         return self._cells(lambda lines: lines)
-
-    def faulty_cells(self) -> Iterator[Cell]:
-        """As `cells`, but those alone that are unplaced or break a rule; the lines of the others are not parsed."""
-        return self._cells(lambda lines: [line for line in lines if _LEGAL not in line or _UNPLACED in line])
 
     def cells_of(self, team: str) -> Iterator[Cell]:
         """As `cells`, but those of one team alone; the lines of the others are not parsed."""

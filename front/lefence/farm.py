@@ -1,8 +1,8 @@
 """A farm's folder: which teams have work to do, the work of one of them over its slice, and all of it in one design at the end.
 
 `WORK/farm.json` is the plan. Team number I, from 1, has the folder `WORK/I`: its `slice.def`, the `journal` of a hub over it (with copies
-of its texts until the team is done), `new.def` with its committed places, a `log`, and in the end `done`, or `failed` with the
-reason. Nothing but these files goes from one machine to another.
+of its texts until the team is done) or the `lines` of a repair, `new.def` with its committed places, a `log`, and in the end `done`, or
+`failed` with the reason. Nothing but these files goes from one machine to another.
 """
 
 from __future__ import annotations
@@ -20,15 +20,16 @@ from collections.abc import Iterator
 from dataclasses import asdict, dataclass
 from pathlib import Path
 from types import FrameType
+from typing import BinaryIO
 
 from .client import connect
 from .design import Design, shown
 from .faults import DONE, FAILED, REFUSED, Fault, log
 from .frames import sum_of
 from .merge import merge
+from .program import Program
 from .protocol import GROUND, socket_name
-from .push import push_journal
-from .segments import Past
+from .push import Record, is_as_told, records_of
 from .slice import slices_of
 from .texts import texts_folder
 from .whole_file import whole_file
@@ -37,15 +38,15 @@ TOOL = "lefence-farm"
 # The status where the others' work is in the design, and some team's is not.
 LACKING = 4
 _MARK = b"# a slice of the text %b\n"
-# Seconds between two looks whether a hub serves, and lines in flight of a push.
-_NAP, _AHEAD = 0.05, 50
+# Seconds between two looks whether a hub serves.
+_NAP = 0.05
 # Seconds that a hub has for its end, and a command for what it does before its first session: the engine has bounds of its own.
 _BOUNDS = ("--grace", "1e7", "--idle", "1e7", "--keep", "0")
 
 
 @dataclass
 class Plan:
-    """What a farm is to do: the texts with the SHA-256 of the DEF text, the teams, the command, and where it is run."""
+    """What a farm is to do: the texts with the SHA-256 of the DEF text, the teams, the command (none: a repair), and where it is run."""
 
     design: str
     libraries: list[str]
@@ -95,7 +96,7 @@ def begin(work: Path, plan: Plan, design: Design) -> None:
 
 
 def run_team(work: Path, number: int) -> int:
-    """The work of one team: the command beside a hub over the slice. Its status, which is kept in `done` or `failed`."""
+    """The work of one team: the command beside a hub over the slice, or a repair of it. Its status, which is kept in `done` or `failed`."""
     plan, own = Plan.load(work), work / str(number)
     if (own / "done").exists():
         return DONE
@@ -103,9 +104,7 @@ def run_team(work: Path, number: int) -> int:
     try:
         signal.signal(signal.SIGTERM, _end_by_signal)
         refuse_another_slice(own, plan)
-        status = _run_command(plan, own, plan.teams[number - 1])
-        if status:
-            raise Fault(status if 0 < status < 128 else FAILED, f"the command ended with {status}")
+        (_run_command if plan.command else _repair)(plan, own, plan.teams[number - 1])
     except (Fault, OSError) as fault:
         (own / "failed").write_text(f"{fault}\n", errors="backslashreplace")
         raise Fault(fault.status if isinstance(fault, Fault) else FAILED, f"team {plan.teams[number - 1]}: {fault}") from None
@@ -127,20 +126,32 @@ def refuse_another_slice(own: Path, plan: Plan) -> None:
             raise Fault(REFUSED, f"{own / 'slice.def'} is a slice of another text")
 
 
-def _run_command(plan: Plan, own: Path, team: str) -> int:
-    """The status of the command, which finds the team's socket by LEFENCE_SOCKET, and its name by LEFENCE_TEAM.
+def _repair(plan: Plan, own: Path, team: str) -> None:
+    """Repairs the team on its slice; a fault where a cell is left."""
+    program = Program(plan.program, [own / "slice.def", *map(Path, plan.libraries)])
+    every = program.repair([f"--team={team}"], own / "lines", own / "new.def")[-1]
+    print(json.dumps(every), flush=True)
+    if every["left_cells"]:
+        raise Fault(LACKING, f"the repair left {every['left_cells']} cells")
+
+
+def _run_command(plan: Plan, own: Path, team: str) -> None:
+    """Runs the command, which finds the team's socket by LEFENCE_SOCKET, and its name by LEFENCE_TEAM; a fault where it fails.
 
     The engine gives a task to one machine at a time: a hub of another one that did not end the journal is gone.
     """
+    (own / "lines").unlink(missing_ok=True)
     words = ["--team", team, "--journal", str(own / "journal"), "--takeover", "--export", str(own / "new.def")]
     with _hub(plan, own / "slice.def", words, socket_name(team)) as socket:
         environment = {**os.environ, "LEFENCE_SOCKET": str(socket), "LEFENCE_TEAM": team, "LEFENCE_WORK": str(own)}
         with subprocess.Popen(plan.command, cwd=plan.folder, env=environment, stdin=subprocess.DEVNULL) as command:
             try:
-                return command.wait()
+                status = command.wait()
             except BaseException:
                 command.terminate()
                 raise
+    if status:
+        raise Fault(status if 0 < status < 128 else FAILED, f"the command ended with {status}")
 
 
 @contextlib.contextmanager
@@ -186,7 +197,8 @@ def collect(work: Path) -> int:
     if plan.is_merged:
         _merge(work, plan, done)
     else:
-        _push(work, plan, done)
+        with whole_file(Path(plan.export)) as file:
+            _answer(work, plan, done, file)
     log(TOOL, f"{plan.export}: the work of {len(done)} of {len(plan.teams)} teams")
     return LACKING if left else DONE
 
@@ -197,21 +209,33 @@ def _merge(work: Path, plan: Plan, done: list[int]) -> None:
     log(TOOL, f"{count} components are as the teams' slices have them")
 
 
-def _push(work: Path, plan: Plan, done: list[int]) -> None:
-    journal = work / "whole.journal"
-    _remove_journal(journal)
-    words = ["--journal", str(journal), "--no-sync", "--export", plan.export]
-    with _hub(plan, Path(plan.design), words, socket_name(None)) as socket:
+def _answer(work: Path, plan: Plan, done: list[int], output: BinaryIO) -> None:
+    """Has the program answer over the whole design what it answered over the slices, and writes its export.
+
+    A fault tells the first reply that differs.
+    """
+    program = Program(plan.program, [Path(plan.design), *map(Path, plan.libraries)])
+    lines = (line + b"\n" for number in done for _, line, _ in _records_in(work / str(number)))
+    with tempfile.TemporaryDirectory(prefix="whole", dir=work) as folder, tempfile.TemporaryFile() as replies:
+        exported = Path(folder) / "new.def"
+        program.answer(lines, replies, exported)
+        replies.seek(0)
         for number in done:
-            push = push_journal(work / str(number) / "journal", str(socket), _AHEAD, False)
-            log(TOOL, f"team {plan.teams[number - 1]}: {push.count} lines answered as recorded")
-    _remove_journal(journal)
+            count = 0
+            for count, line, told in _records_in(work / str(number)):
+                reply = replies.readline()
+                if not is_as_told(reply, told):
+                    answers = f"{shown(told).strip()!r}, and over the whole {shown(reply).strip()!r}"
+                    differs = f"line {count}, {shown(line)!r}, was answered {answers}"
+                    raise Fault(REFUSED, f"team {plan.teams[number - 1]}: {differs}")
+            log(TOOL, f"team {plan.teams[number - 1]}: {count} lines answered as over its slice")
+        with open(exported, "rb") as file:
+            shutil.copyfileobj(file, output)
 
 
-def _remove_journal(journal: Path) -> None:
-    journal.unlink(missing_ok=True)
-    shutil.rmtree(Past(journal).folder, ignore_errors=True)
-    _remove_texts(journal)
+def _records_in(own: Path) -> Iterator[Record]:
+    """The commands of a team that is done, and their replies."""
+    return records_of(own / "lines" if (own / "lines").exists() else own / "journal")
 
 
 def _remove_texts(journal: Path) -> None:

@@ -127,8 +127,8 @@ def parser() -> Parser:
         TOOL,
         "Has the teams of a design work on a farm: each over its slice, beside a hub of its own on whatever machine, with its\n"
         "journal in WORK, which all machines see. COMMAND finds its team's socket by LEFENCE_SOCKET, and the name by\n"
-        "LEFENCE_TEAM. At the end the work of all teams is brought into one design. Given again, only the teams that failed\n"
-        "are at work again.",
+        "LEFENCE_TEAM. Without `-- COMMAND` each team is repaired, as by `lefence repair`. At the end the work of all teams is\n"
+        "brought into one design. Given again, only the teams that failed are at work again.",
         f"{TOOL} work chip.def tech.lef cells.lef --engine slurm --option=--mem=2G -- python3 place.py",
     )
     add = made.add_argument
@@ -168,8 +168,8 @@ def main() -> int:
             return run_team(options.work, options.task)
         if options.collect:
             return collect(options.work)
-        if len(options.texts) < 2 or not command:
-            raise Fault(USAGE, "WORK DEF LEF... -- COMMAND are needed")
+        if len(options.texts) < 2:
+            raise Fault(USAGE, "WORK DEF LEF... are needed")
         if options.export:
             refuse_inputs(options.export, options.texts)
         with ExitStack() as stack:

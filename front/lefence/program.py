@@ -4,6 +4,7 @@ from __future__ import annotations
 
 import contextlib
 import fcntl
+import json
 import os
 import shutil
 import socket
@@ -11,7 +12,7 @@ import subprocess
 import tempfile
 from collections.abc import Iterable
 from pathlib import Path
-from typing import IO, TYPE_CHECKING
+from typing import IO, TYPE_CHECKING, Any
 
 from .faults import FAILED, USAGE, Fault
 from .protocol import MOST_LINES
@@ -22,6 +23,9 @@ if TYPE_CHECKING:
 # Bytes that are read of the program at a time, and seconds in which they come together: it writes line by line, and whoever wakes
 # for each of a million lines is slow.
 PIECE, NAP = 1 << 20, 0.002
+
+# What a repair ends with that is done: the design is fully legal, or is not.
+REPAIRED = (0, 4)
 
 # The program of the repository in which this package stands.
 _BUILT = Path(__file__).resolve().parents[2] / "crates/lefence/out/lefence"
@@ -36,7 +40,7 @@ def find_program(given: str | None) -> str:
 
 
 class Program:
-    """The program with the texts of a design: `replay` answers lines, `describe` tells of the design.
+    """The program with the texts of a design: `replay` answers lines, `describe` tells of the design, `repair` repairs its teams.
 
     A run is waited for (`Run`), or by asyncio, which is imported for it alone (`AsyncRun`).
     """
@@ -47,9 +51,38 @@ class Program:
         self.texts = texts
         self._words = path_words(texts)
 
-    def replay(self, export: Path | None = None) -> Run:
-        """A run that answers lines of a pipe; with `export` it writes that file at the end of its input."""
-        return Run(self._replay_words(export), is_asked=True)
+    def answer(self, lines: Iterable[bytes], replies: IO[bytes], export: Path | None = None) -> None:
+        """Has the program answer lines, pieces of a text, on a file, and export; a fault where it fails."""
+        words = self._replay_words(export)
+        with tempfile.TemporaryFile() as said:
+            with subprocess.Popen(words, stdin=subprocess.PIPE, stdout=replies, stderr=said) as process:
+                assert process.stdin
+                try:
+                    # (a program that reads no more has failed, or who looks at the replies sees that some lack)
+                    with contextlib.suppress(BrokenPipeError), process.stdin as asked:
+                        asked.writelines(lines)
+                    status = process.wait()
+                except BaseException:
+                    process.kill()
+                    raise
+            if status:
+                raise fault_of(status, said, lost(status))
+
+    def repair(self, options: Iterable[str], lines: Path, export: Path | None = None) -> list[dict[str, Any]]:
+        """Has the program repair teams, as its options ask for: its report, an object for each team and one for all.
+
+        The lines of the commands go to a file, and the committed places to a text; a fault where the program fails.
+        """
+        words = [self.path, "repair", *self._words, *options, "--lines", os.path.abspath(lines)]
+        words += ["--export", os.path.abspath(export)] if export else []
+        with tempfile.TemporaryFile() as said:
+            done = subprocess.run(words, stdin=subprocess.DEVNULL, stdout=subprocess.PIPE, stderr=said)
+            if done.returncode in REPAIRED:
+                with contextlib.suppress(ValueError):
+                    report = [json.loads(line) for line in done.stdout.splitlines()]
+                    if report and "legal" in report[-1]:
+                        return report
+            raise fault_of(done.returncode, said, lost(done.returncode))
 
     def replay_on(self, end: socket.socket) -> subprocess.Popen[bytes]:
         """A run that answers lines of a socket; the terminal's Ctrl-C is not for it, and what it says is on standard error."""
@@ -57,10 +90,13 @@ class Program:
 
     def describe(self) -> Run:
         """A run that tells of the design."""
-        return Run(self._describe_words(), is_asked=False)
+        return Run(self._describe_words())
 
     async def replay_async(self, export: str | None = None, state: Path | None = None, save: Path | None = None) -> AsyncRun:
-        """As `replay`, but what it says is on standard error; it begins in a state, and saves one at the end of its input."""
+        """A run that answers lines of a pipe, and says on standard error what it has to say.
+
+        It begins in a state, and at the end of its input it exports and saves one, where that is asked for.
+        """
         from .async_run import start_run
 
         words = self._replay_words(export)
@@ -83,19 +119,15 @@ class Program:
 
 
 class Run:
-    """A run that is waited for, over pipes; a block ends it. What it says on standard error is kept for its fault."""
+    """A run that is waited for, over a pipe; a block ends it. What it says on standard error is kept for its fault."""
 
-    def __init__(self, words: list[str], is_asked: bool) -> None:
-        """Starts the program with these words; one that is asked has an input, into which nobody waits to write."""
+    def __init__(self, words: list[str]) -> None:
+        """Starts the program with these words, without an input."""
         self._said: IO[bytes] = tempfile.TemporaryFile()
-        pipe, nothing = subprocess.PIPE, subprocess.DEVNULL
-        self._process = subprocess.Popen(words, stdin=pipe if is_asked else nothing, stdout=pipe, stderr=self._said, bufsize=0)
+        nothing, pipe = subprocess.DEVNULL, subprocess.PIPE
+        self._process = subprocess.Popen(words, stdin=nothing, stdout=pipe, stderr=self._said, bufsize=0)
         assert self._process.stdout
-        # The pipes, of which a caller may wait for what is ready.
-        self.output = _widened(self._process.stdout.fileno())
-        if self._process.stdin:
-            self.input = _widened(self._process.stdin.fileno())
-            os.set_blocking(self.input, False)
+        self._output = _widened(self._process.stdout.fileno())
         self._rest = b""
 
     def __enter__(self) -> Run:
@@ -108,20 +140,13 @@ class Run:
         """Ends the program, if it is still at it."""
         self._process.kill()
         self._process.wait()
-        for end in (self._process.stdin, self._process.stdout, self._said):
+        for end in (self._process.stdout, self._said):
             if end:
                 end.close()
 
-    def send(self, text: memoryview) -> int:
-        """How many bytes of the text could be sent at once; BrokenPipeError where nobody reads them."""
-        try:
-            return os.write(self.input, text)
-        except BlockingIOError:
-            return 0
-
     def lines(self) -> list[bytes]:
         """The lines that are whole once some bytes more have come, without their line feeds; EOFError where no more come."""
-        piece = os.read(self.output, PIECE)
+        piece = os.read(self._output, PIECE)
         if not piece:
             raise EOFError
         *whole, self._rest = (self._rest + piece).split(b"\n")
@@ -129,12 +154,6 @@ class Run:
 
     def wait(self) -> int:
         """Its exit status, once it has ended."""
-        return self._process.wait()
-
-    def finish(self) -> int:
-        """Ends the program's input, and waits until it has ended; its exit status."""
-        assert self._process.stdin
-        self._process.stdin.close()
         return self._process.wait()
 
     def fault(self, otherwise: str) -> Fault:
@@ -150,6 +169,11 @@ def path_words(paths: Iterable[Path]) -> list[str]:
         if word.encode(errors="replace").decode() != word:
             raise Fault(FAILED, f"{word}: the program reads no file whose path is not UTF-8")
     return words
+
+
+def lost(status: int) -> str:
+    """What is said of a program that ended with this status, and said nothing itself."""
+    return f"the program was lost: it ended with {status}"
 
 
 def fault_of(status: int, said: IO[bytes], otherwise: str) -> Fault:

@@ -18,27 +18,17 @@ _T = TypeVar("_T")
 class Progress:
     """Says how many of something are done: nothing in the first two seconds, then a line a second at most."""
 
-    def __init__(self, tool: str, what: str, of: int | None = None) -> None:
-        """Of a tool that goes through `of` things, or through an unknown number; `what` names them, as `cells`."""
-        self._tool, self._what, self._of = tool, what, of
+    def __init__(self, tool: str, what: str) -> None:
+        """Of a tool that goes through things, which `what` names, as `cells`."""
+        self._tool, self._what = tool, what
         self._start = time.monotonic()
         self._next = self._start + FIRST
-
-    def at(self, done: int) -> None:
-        """So many are done by now."""
-        now = time.monotonic()
-        if now >= self._next:
-            self._next = now + max(BETWEEN, (now - self._start) / 10)
-            log(self._tool, self._line(done, now - self._start))
 
     def over(self, things: Iterable[_T]) -> Iterator[_T]:
         """The things themselves, each counted as done when the next one is asked for."""
         for done, thing in enumerate(things):
-            self.at(done)
+            now = time.monotonic()
+            if now >= self._next:
+                self._next = now + max(BETWEEN, (now - self._start) / 10)
+                log(self._tool, f"{done} {self._what}, {now - self._start:.0f} s")
             yield thing
-
-    def _line(self, done: int, seconds: float) -> str:
-        if self._of is None:
-            return f"{done} {self._what}, {seconds:.0f} s"
-        left = f", about {seconds * (self._of - done) / done:.0f} s left" if 0 < done <= self._of else ""
-        return f"{done} of {self._of} {self._what}{left}"

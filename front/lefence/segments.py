@@ -227,7 +227,8 @@ def read_records(path: Path) -> Iterator[Record]:
     with opened(path) as readers:
         first = readers[0].header()
         if first.number > 1:
-            raise Fault(REFUSED, f"{path}: its first {first.changes} changes are in a state alone; --keep 0 of a hub keeps all")
+            told = f"{path}: its first {first.changes} changes are in a state alone"
+            raise Fault(REFUSED, f"{told}; for a push the hub needs --keep 0 from the first line on")
         yield from records_in(readers)
 
 

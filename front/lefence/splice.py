@@ -18,17 +18,20 @@ class Spot(NamedTuple):
     orient: str
 
 
-def with_spots(text: bytes, spots: Mapping[str, Spot]) -> bytes:
-    """The text with these movable components at these places, which are other ones than it has; all other bytes stay."""
+def with_spots(text: bytes, spots: Mapping[str, Spot | None]) -> bytes:
+    """The text with these movable components at these places, which are other ones than it has, or unplaced; all other bytes stay."""
     pieces, at = [], 0
     for entry in entries(text, statements(text), b"COMPONENTS"):
-        spot = spots.get(entry.name.decode("ascii", "replace"))
-        if spot is not None:
+        name = entry.name.decode("ascii", "replace")
+        if name in spots:
             start, stop, behind = _clause(entry)
-            clause = f"+ PLACED ( {spot.x} {spot.y} ) {spot.orient}".encode()
-            pieces += [text[at : entry.start + start], clause + behind]
+            pieces += [text[at : entry.start + start], _placed(spots[name]) + behind]
             at = entry.start + stop
     return b"".join([*pieces, text[at:]])
+
+
+def _placed(spot: Spot | None) -> bytes:
+    return f"+ PLACED ( {spot.x} {spot.y} ) {spot.orient}".encode() if spot else b"+ UNPLACED"
 
 
 def _clause(entry: Entry) -> tuple[int, int, bytes]:

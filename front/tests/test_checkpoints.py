@@ -251,6 +251,13 @@ class Checkpoints(HubCase):
     def places(self, count: int, begin: int = 0) -> list[str]:
         return [f"place f0 0 f0c{at % CELLS} {spot(0, at)}" for at in range(begin, begin + count)]
 
+    def take_program(self, lines: str) -> None:
+        """Hubs that start from here on take a program that runs these lines of a shell first, and then is the proved one."""
+        script = self.folder / "taken"
+        script.write_text(f"#!/bin/sh\n{lines}\nexec '{PROGRAM}' \"$@\"\n")
+        script.chmod(0o755)
+        self.program = str(script)
+
     def wait_states(self, count: int) -> None:
         """Waits until a state is kept with which a segment of that number or a later one begins."""
         last = time.monotonic() + PATIENCE
@@ -311,10 +318,7 @@ class Checkpoints(HubCase):
         self.assertEqual(self.talk("f0").ask("open f0", "where f0 0 f0c9"), ["ok 0 120", f"ok {spot(0, 39)}"])
 
     def test_a_state_that_cannot_be_made_is_told_and_nothing_is_lost(self) -> None:
-        script = self.folder / "other"
-        script.write_text(f"#!/bin/sh\ncase \"$*\" in *--save*) exit 3;; esac\nexec '{PROGRAM}' \"$@\"\n")
-        script.chmod(0o755)
-        self.program = str(script)
+        self.take_program('case "$*" in *--save*) exit 3;; esac')
         self.start(*self.OFTEN)
         talker = self.talk("f0")
         self.assertEqual(talker.ask("open f0", *self.places(50))[-1], "ok 50")
@@ -328,10 +332,7 @@ class Checkpoints(HubCase):
 
     def test_a_program_whose_hub_was_killed_spoils_no_state(self) -> None:
         # It takes the end of its input for the end of the lines, and saves what it has.
-        script = self.folder / "slow"
-        script.write_text(f"#!/bin/sh\ncase \"$*\" in *--save*) '{PROGRAM}' \"$@\"; sleep 1;; *) exec '{PROGRAM}' \"$@\";; esac\n")
-        script.chmod(0o755)
-        self.program = str(script)
+        self.take_program(f"""case "$*" in *--save*) '{PROGRAM}' "$@"; sleep 1; exit;; esac""")
         for turn in range(3):
             self.start(*self.OFTEN)
             self.assertEqual(self.talk("f0").ask("open f0", *self.places(50, 50 * turn))[-1], f"ok {50 * turn + 50}")
@@ -340,10 +341,8 @@ class Checkpoints(HubCase):
         self.assertEqual(self.talk("f0").ask("open f0", "where f0 0 f0c9"), ["ok 0 150", f"ok {spot(0, 149)}"])
 
     def test_a_program_whose_hub_was_killed_writes_no_export(self) -> None:
-        script = self.folder / "slow"
-        script.write_text(f"#!/bin/sh\ncase \"$*\" in *--export*) sleep 1;; esac\nexec '{PROGRAM}' \"$@\"\n")
-        script.chmod(0o755)
-        self.program, target = str(script), self.folder / "new.def"
+        self.take_program('case "$*" in *--export*) sleep 1;; esac')
+        target = self.folder / "new.def"
         target.write_text("older")
         self.start()
         self.assertEqual(self.talk("f0").ask("open f0", *self.places(50))[-1], "ok 50")

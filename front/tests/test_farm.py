@@ -89,12 +89,13 @@ class FarmCase(FrontCase):
         self.design.write_text(TEXT)
         self.work = self.folder / "work"
 
-    def farm(self, *words: str, folder: str = "") -> subprocess.CompletedProcess[str]:
-        """A farm that runs to its end, and finds the engines in a folder."""
+    def farm(self, *words: str, folder: str = "", has_command: bool = True) -> subprocess.CompletedProcess[str]:
+        """A farm that runs to its end, and finds the engines in a folder; without a command it repairs."""
         command = [*tool_words("lefence-farm"), "work", "t.def", "t.lef", "--program", PROGRAM, *words]
+        worker = ["--", sys.executable, "-B", "worker.py"] if has_command else []
         path = os.pathsep.join([folder, os.environ["PATH"]])
         done = subprocess.run(
-            [*command, "--", sys.executable, "-B", "worker.py"],
+            [*command, *worker],
             capture_output=True,
             text=True,
             timeout=5 * PATIENCE,
@@ -135,6 +136,46 @@ class Farms(FarmCase):
         done = self.farm("--merge", "--export", "merged.def")
         self.assertEqual((done.returncode, (self.folder / "merged.def").read_bytes()), (0, self.wanted()), done.stderr)
         self.refused_when_the_text_changes()
+
+    def repaired(self) -> bytes:
+        """The design with all teams repaired, by the program alone."""
+        words = [PROGRAM, "repair", str(self.design), str(self.lef), "--export", str(self.folder / "want.def")]
+        subprocess.run(words, stdout=subprocess.DEVNULL)
+        return (self.folder / "want.def").read_bytes()
+
+    def test_without_a_command_each_team_is_repaired(self) -> None:
+        for words in ((), ("--merge",)):
+            done = self.farm("--export", "new.def", *words, has_command=False)
+            self.assertEqual((done.returncode, done.stdout), (0, ""), done.stderr)
+            self.assertIn("the work of 3 of 3 teams\n", done.stderr)
+            self.assertEqual((self.folder / "new.def").read_bytes(), self.repaired())
+            self.assertNotEqual(self.repaired(), TEXT.encode())
+        self.assertEqual([*self.work.glob("whole*")], [])
+        self.assertTrue((self.work / "1/log").read_text().startswith('{"cells": 2, '))
+
+    def test_a_team_that_cannot_be_repaired_is_named_and_the_others_are_collected(self) -> None:
+        self.design.write_text(TEXT.replace("( 6000 2000 )", "( 4400 2000 )"))
+        done = self.farm("--export", "new.def", has_command=False)
+        self.assertEqual(done.returncode, 4, done.stderr)
+        self.assertRegex(done.stderr, "team B is not in it: the repair left [12] cells; ")
+        self.assertIn("lefence-farm: team A: 5 lines answered as over its slice\n", done.stderr)
+        self.assertIn("the work of 2 of 3 teams\n", done.stderr)
+        self.assertEqual((self.folder / "new.def").read_bytes(), self.repaired())
+        # A command may be given later, and then counts.
+        (self.work / "2/lines").write_text("open B\nplace B 0 b1 9999 0 N\n")
+        done = self.farm("--export", "new.def")
+        self.assertIn("team B is not in it: the command ended with 1; ", done.stderr)
+        self.assertFalse((self.work / "2/lines").exists())
+
+    def test_what_is_answered_otherwise_over_the_whole_is_told_and_not_exported(self) -> None:
+        self.assertEqual(self.farm("--export", "new.def", has_command=False).returncode, 0)
+        before = (self.folder / "new.def").read_bytes()
+        lines = self.work / "1/lines"
+        lines.write_text(lines.read_text().replace("commit A 0", "unplace A 0 b1\ncommit A 0"))
+        done = self.tool("lefence-farm", "work", "--collect")
+        self.assertEqual(done.returncode, 1, done.stderr)
+        self.assertRegex(done.stderr.decode(), "team A: line 4, 'unplace A 0 b1', was answered 'ok 3', and over the whole 'no 5 NoCell'\n")
+        self.assertEqual(((self.folder / "new.def").read_bytes(), [*self.work.glob("whole*")]), (before, []))
 
     def refused_when_the_text_changes(self) -> None:
         """A text that is written anew between the slices and the end, and before a farm is given again."""
@@ -185,7 +226,7 @@ class Farms(FarmCase):
         self.assertEqual((self.work / "new.def").read_text(), TEXT)
 
     def test_words_that_lack_something(self) -> None:
-        for words in (("work",), ("work", "t.def", "t.lef"), ("work", "t.def", "--", "true")):
+        for words in (("work",), ("work", "t.def"), ("work", "t.def", "--", "true")):
             done = self.tool("lefence-farm", *words)
             self.assertEqual((done.returncode, done.stdout), (2, b""), done.stderr)
 

@@ -1,4 +1,4 @@
-"""Repairs: cells that have room get legal places near where they stood, and legal ones stay."""
+"""Repairs: cells that have room get legal places near where they stood; those that have none are named and unplaced."""
 
 from __future__ import annotations
 
@@ -10,10 +10,8 @@ from unittest import main
 
 from support import LEF, PROGRAM, WIDTH, FrontCase
 
-from lefence.bulk import Bulk
 from lefence.description import Cell, Description
-from lefence.repair import spot_of
-from lefence.splice import with_spots
+from lefence.splice import Spot, with_spots
 
 # A macro that is higher than all rows.
 HIGH = "MACRO HIGH CLASS CORE ; ORIGIN 0 0 ; SIZE 0.4 BY 10.0 ; SYMMETRY X Y ; SITE core ; END HIGH\nEND LIBRARY"
@@ -38,6 +36,11 @@ CLAUSES = (
     "+ UNPLACED ( {x} {y} ) N + SOURCE USER",
     "",
 )
+
+
+def spot_of(cell: Cell) -> Spot | None:
+    """Where a cell stands."""
+    return None if cell.box is None or cell.orient is None else Spot(cell.box.left, cell.box.bottom, cell.orient)
 
 
 class Repairs(FrontCase):
@@ -70,9 +73,9 @@ class Repairs(FrontCase):
         text = self.design.read_text().replace("END COMPONENTS", f"{component} ;\nEND COMPONENTS")
         self.design.write_text(text.replace("END GROUPS", f"{group} ;\nEND GROUPS") if group else text)
 
-    def test_every_cell_is_legal_behind_it_and_legal_cells_stay(self) -> None:
+    def test_every_cell_is_legal_behind_it_and_legal_cells_may_be_kept(self) -> None:
         before = self.cells(self.design)
-        done = self.repair("--out", self.target)
+        done = self.repair("--out", self.target, "--keep")
         self.assertEqual((done.returncode, done.stdout), (0, b""), done.stderr)
         self.assertIn(b"every cell is legal", done.stderr)
         check = subprocess.run([PROGRAM, "check", self.target, self.lef], capture_output=True)
@@ -93,19 +96,26 @@ class Repairs(FrontCase):
         spots = {name: spot for name, cell in after.items() if (spot := spot_of(cell)) and spot != spot_of(before[name])}
         self.assertGreater(len(spots), 40)
         self.assertEqual(with_spots(self.design.read_bytes(), spots), self.target.read_bytes())
+        unplaced = with_spots(self.target.read_bytes(), dict.fromkeys(spots))
+        (self.folder / "unplaced.def").write_bytes(unplaced)
+        self.assertEqual({name for name, cell in self.cells(self.folder / "unplaced.def").items() if cell.box is None}, {*spots})
 
-    def test_a_cell_without_room_is_named_and_left_and_all_others_are_repaired(self) -> None:
+    def test_a_cell_without_room_is_named_and_unplaced_and_all_others_are_repaired(self) -> None:
         self.lef.write_text(LEF.replace("END LIBRARY", HIGH))
         self.add(f"- high HIGH + PLACED ( {2 * WIDTH + 1000} 0 ) N", "- more high + REGION f2")
         self.add("- new HIGH", "- other new + REGION f2")
         done = self.repair("--out", self.target)
         self.assertEqual(done.returncode, 4)
-        self.assertIn(f"team f2: no place for high, HIGH, which is left at {2 * WIDTH + 1000} 0 N".encode(), done.stderr)
-        self.assertIn(b"team f2: no place for new, HIGH, which is left unplaced", done.stderr)
+        self.assertIn(f"team f2: no place for high, which stood at {2 * WIDTH + 1000} 0 N\n".encode(), done.stderr)
+        self.assertIn(b"team f2: no place for new, which had none\n", done.stderr)
         # (nothing is said of other teams where all were repaired)
         self.assertIn(b"not fully legal: 2 cells left\n", done.stderr)
         check = subprocess.run([PROGRAM, "check", self.target, self.lef], capture_output=True)
-        self.assertEqual(json.loads(check.stdout), {"cells": 92, "unplaced": 1, "violations": [{"cell": "high", "rule": 3}]})
+        self.assertEqual(json.loads(check.stdout), {"cells": 92, "unplaced": 2, "violations": []})
+        self.assertIn("- high HIGH + UNPLACED ;", self.target.read_text())
+        dry = self.repair("--dry-run", "--team", "f2")
+        self.assertIn(f"f2 high {2 * WIDTH + 1000} 0 N -> no place\nf2 new unplaced -> no place\n".encode(), dry.stdout)
+        self.assertEqual(dry.returncode, 4)
 
     def test_cells_that_found_no_room_go_first_in_the_next_order(self) -> None:
         self.design.write_text(TIGHT)
@@ -144,7 +154,7 @@ class Repairs(FrontCase):
         self.assertEqual(self.design.stat().st_mode & 0o777, 0o640)
         done = self.repair("--out", self.target)
         self.assertEqual((done.returncode, self.target.read_bytes()), (0, self.design.read_bytes()))
-        self.assertIn(b"nothing moves, and the output is the text itself", done.stderr)
+        self.assertIn(b"lefence-repair: nothing moves\n", done.stderr)
 
     def test_the_named_teams_alone_are_repaired(self) -> None:
         before = self.cells(self.design)
@@ -156,8 +166,9 @@ class Repairs(FrontCase):
                 self.assertEqual((after[name].box is None, after[name].rule), (False, None))
             else:
                 self.assertEqual(spot_of(after[name]), spot_of(cell))
+        self.assertTrue(done.stderr.endswith(b"not fully legal: other teams have cells that break a rule or have no place\n"))
         done = self.repair("--out", self.target, "--team", "Z")
-        self.assertEqual((done.returncode, done.stderr), (1, b"lefence-repair: no team: Z\n"))
+        self.assertEqual((done.returncode, done.stderr), (1, b"lefence-repair: NoTeam; team Z is not in the design\n"))
 
     def test_what_is_refused_is_told_and_no_file_is_left(self) -> None:
         text = self.design.read_text()
@@ -169,21 +180,25 @@ class Repairs(FrontCase):
         for target in ("nowhere/new.def", "."):
             self.assertEqual(self.repair("--out", target).returncode, 3)
 
-    def test_a_program_that_dies_is_told_and_no_file_is_left(self) -> None:
-        dying = self.folder / "dying"
-        for end in ("kill -9 $$", "exit 0"):
-            dying.write_text(f'#!/bin/sh\n[ "$1" = describe ] && exec {PROGRAM} "$@"\nread line\necho ok 0 0\n{end}\n')
-            dying.chmod(0o755)
-            done = self.repair("--out", self.target, program=str(dying))
-            self.assertEqual((done.returncode, b"the program was lost" in done.stderr), (3, True), done.stderr)
-            self.assertEqual([path.name for path in sorted(self.folder.iterdir())], ["dying", "t.def", "t.lef"])
+    def fails(self, script: str, told: bytes, *words: str) -> None:
+        """A repair by a program that this script of a shell stands for is told so, and no file is left."""
+        odd = self.folder / "odd"
+        odd.write_text(f"#!/bin/sh\n{script}\n")
+        odd.chmod(0o755)
+        done = self.repair(*words, program=str(odd))
+        self.assertEqual((done.returncode, told in done.stderr), (3, True), done.stderr)
+        self.assertEqual([path.name for path in sorted(self.folder.iterdir())], ["odd", "t.def", "t.lef"])
 
-    def test_a_long_reply_comes_in_pieces(self) -> None:
-        slow = self.folder / "slow"
-        slow.write_text("#!/bin/sh\nread line\nprintf 'ok '\nsleep 0.2\necho behind\n")
-        slow.chmod(0o755)
-        with Bulk(str(slow), [self.design, self.lef], None) as bulk:
-            self.assertEqual(bulk.ask(b"check A 0"), b"ok behind")
+    def test_a_program_that_dies_is_told_and_no_file_is_left(self) -> None:
+        for words in (("--out", str(self.target)), ("--dry-run",)):
+            self.fails("kill -9 $$", b"the program was lost: it ended with -9\n", *words)
+            self.fails("echo ok", b"the program was lost: it ended with 0\n", *words)
+        for end, told in (
+            ("kill -9 $$", b"the program was lost: it ended with -9\n"),
+            ("exit 0", b"the program was lost: replies lack\n"),
+            (f"'{PROGRAM}' \"$@\" | sed 's/ok 7/no 7/'; exit 0", b"the program answered 'no 7"),
+        ):
+            self.fails(f"if [ $1 = replay ]; then\n{end}\nfi\nexec '{PROGRAM}' \"$@\"", told, "--dry-run")
 
 
 if __name__ == "__main__":

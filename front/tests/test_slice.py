@@ -1,8 +1,9 @@
-"""Slices and pushes: work on one team's part of a design is answered as on the whole, and is sent there later."""
+"""Slices and pushes: work on one team's part of a design, a repair too, is answered as on the whole, and is sent there later."""
 
 from __future__ import annotations
 
 import gzip
+import subprocess
 import unittest
 from collections.abc import Iterable
 from concurrent.futures import ThreadPoolExecutor
@@ -160,19 +161,19 @@ class Slices(HubCase):
 
 
 class Pushes(HubCase):
-    """A journal of a slice is sent to the whole."""
+    """A journal of a slice, or the lines of its repair, are sent to the whole."""
 
     def setUp(self) -> None:
         super().setUp()
         self.design.write_text(rich_text())
         self.start()
 
-    def work_away(self, team: int, count: int = 80) -> Path:
-        """Random work on a hub of a team's slice; its journal, to which a second call adds."""
+    def work_away(self, team: int, count: int = 80, *more: str) -> Path:
+        """Random work on a hub of a team's slice, with these words more; its journal, to which a second call adds."""
         name = f"f{team}"
         sliced = self.folder / f"{name}.def"
         sliced.write_bytes(slice_of(self.design.read_bytes(), name))
-        words = self.words(sockets=f"s{name}", journal=f"j{name}", design=sliced)
+        words = self.words(*more, sockets=f"s{name}", journal=f"j{name}", design=sliced)
         hub = Hub(self.folder, words, log=f"log{name}")
         self.addCleanup(hub.kill)
         self.assertIn("ready", hub.wait_ready())
@@ -181,6 +182,20 @@ class Pushes(HubCase):
         self.talk(name, f"s{name}").converse(text, 5000)
         self.assertEqual(hub.end(), 0)
         return self.folder / f"j{name}"
+
+    def repair_away(self, team: str) -> tuple[Path, Path]:
+        """The lines of a repair of a team's slice, and the slice that is exported then."""
+        sliced, lines, exported = (self.folder / f"{team}.{name}" for name in ("def", "lines", "new.def"))
+        sliced.write_bytes(slice_of(self.design.read_bytes(), team))
+        words = ["repair", str(sliced), str(self.lef), f"--team={team}", "--lines", str(lines), "--export", str(exported)]
+        self.assertEqual(subprocess.run([PROGRAM, *words], stdout=subprocess.DEVNULL).returncode, 0)
+        return lines, exported
+
+    def exported(self) -> Design:
+        """What the hub over the whole exports."""
+        target = self.folder / "new.def"
+        self.assertEqual(self.talk("operator").ask(f"export {target}"), ["ok"])
+        return Design(target.read_bytes())
 
     def push(self, journal: Path, socket: str, *options: str) -> tuple[int, str]:
         done = self.tool("lefence-push", journal, self.folder / "s" / f"{socket}.sock", *options)
@@ -197,9 +212,7 @@ class Pushes(HubCase):
             self.assertEqual(status, 0, said)
             again = self.push(journal, f"f{team}", "--continue")
             self.assertEqual(again[0], 0, again)
-        target = self.folder / "new.def"
-        self.assertEqual(self.talk("operator").ask(f"export {target}"), ["ok"])
-        exported = Design(target.read_bytes())
+        exported = self.exported()
         moved = [each.name for each in exported.entries(b"COMPONENTS") if each.has(b"PLACED")]
         self.assertEqual(set(moved), {cell for team in (b"f0", b"f1", b"f2") for cell in exported.cells_of(team)})
 
@@ -211,7 +224,48 @@ class Pushes(HubCase):
             session.undo()
         status, said = self.push(self.folder / "jf1", "f1", "--continue")
         self.assertEqual(status, 1)
-        self.assertIn("none of this journal", said)
+        self.assertIn("none of these lines", said)
+
+    def test_a_repair_of_slices_comes_back_to_the_whole(self) -> None:
+        wanted = {}
+        for team, socket in (("f1", "f1"), ("-", "operator")):
+            lines, exported = self.repair_away(team)
+            cells = Design(exported.read_bytes())
+            wanted.update({each.name: each.words for each in cells.entries(b"COMPONENTS") if cells.team_of(each) == team.encode()})
+            status, said = self.push(lines, socket)
+            self.assertEqual((status, f"; team {team} at revision " in said), (0, True), said)
+            self.assertEqual(self.push(lines, socket, "--continue")[0], 0)
+        self.assertGreater(len(wanted), 20)
+        self.assertEqual({words[2] for words in wanted.values()} & {b"+"}, {b"+"})
+        found = {each.name: each.words for each in self.exported().entries(b"COMPONENTS")}
+        self.assertEqual({name: found[name] for name in wanted}, wanted)
+        placed = [name for name, words in found.items() if b"PLACED" in words]
+        self.assertEqual({*placed}, {*wanted})
+
+    def test_a_repair_is_not_sent_where_somebody_else_has_changed_the_team(self) -> None:
+        lines, _ = self.repair_away("f1")
+        with lefence.connect(self.folder / "s/f1.sock") as connection, connection.session("f1") as session:
+            session.place("f1c1", 8000, 0, "N")
+            before = session.def_text()
+        status, said = self.push(lines, "f1")
+        self.assertEqual(status, 1)
+        self.assertIn("team f1 at revision 0, line 1: 'open f1' was answered 'ok 0 0', and there 'ok 0 1'; 0 lines before it", said)
+        self.assertEqual(self.texts("f1", "s"), before)
+
+    def test_lines_that_are_no_changes_are_refused(self) -> None:
+        made = self.folder / "made"
+        for text, number in (("open f1\nwhere f1 0 f1c1\n", 2), ("open f1\n\n", 2), ("open \n", 1)):
+            made.write_text(text)
+            status, said = self.push(made, "f1")
+            self.assertEqual((status, f"line {number} is no change of a team\n" in said), (1, True), said)
+
+    def test_a_journal_without_its_first_changes_is_told_what_its_hub_needs(self) -> None:
+        for _ in range(4):
+            journal = self.work_away(0, 20, "--tail-bytes", "1")
+        status, said = self.push(journal, "f0")
+        self.assertEqual((status, "are in a state alone; for a push the hub needs --keep 0 from the first line on\n" in said), (1, True), said)
+        status, said = self.push(self.work_away(1, 20, "--tail-bytes", "1", "--keep", "0"), "f1")
+        self.assertEqual(status, 0, said)
 
     def test_the_number_of_a_session_is_no_revision(self) -> None:
         lines = [b"open f1", b"open f1", b"place f1 0 f1c1 8200 0 N"]
@@ -226,7 +280,7 @@ class Pushes(HubCase):
             before = session.def_text()
         status, said = self.push(journal, "f0")
         self.assertEqual(status, 1)
-        self.assertIn("team f0 at revision 0, line 1 of the journal: 'open f0' was answered 'ok 0 0', and there 'ok 0 1'", said)
+        self.assertIn("team f0 at revision 0, line 1: 'open f0' was answered 'ok 0 0', and there 'ok 0 1'", said)
         self.assertEqual(self.texts("f0", "s"), before)
 
     def test_a_difference_in_the_middle_leaves_the_team_where_it_is_told(self) -> None:
@@ -235,7 +289,7 @@ class Pushes(HubCase):
         made = made_journal(self.folder / "made", journal, zip(lines, [b"ok 0 0\n", b"ok 1\n", b"ok 2\n", b"ok 3\n"]))
         status, said = self.push(made, "f1")
         self.assertEqual(status, 1)
-        self.assertIn("at revision 1, line 3 of the journal: 'place f1 0 f1c2 8200 0 N' was answered 'ok 2', and there 'no 7", said)
+        self.assertIn("at revision 1, line 3: 'place f1 0 f1c2 8200 0 N' was answered 'ok 2', and there 'no 7", said)
         self.assertEqual(self.talk("f1").ask("open f1"), ["ok 0 1"])
 
     def test_what_cannot_be_pushed_is_told(self) -> None:
