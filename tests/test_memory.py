@@ -348,6 +348,29 @@ class StartsRefused(WithRefusals):
                     self.assertEqual(target.read_text(), "old")
         self.assertLessEqual(len(spared), SPARED, spared)
 
+    def test_repair(self) -> None:
+        targets = [Path(self.folder.name) / name for name in ("new.def", "lines.txt")]
+        words = [str(PROGRAM), "repair", str(DEF), str(LEF), "--export", str(targets[0]), "--lines", str(targets[1])]
+        usual = self.run_with(words, "", 0, 0)[:3]
+        self.assertEqual((usual[0], usual[2]), (0, ""))
+        repaired = [target.read_text() for target in targets]
+        spared = []
+        for first, last in self.numbers(words, ""):
+            for target in targets:
+                target.write_text("old")
+            status, written, said, refused = self.run_with(words, "", first, last)
+            self.assertGreater(refused, 0)
+            with self.subTest(growth=first, last=last):
+                left = [target.read_text() for target in targets]
+                if (status, written, said) == usual:
+                    spared.append(first)
+                    self.assertEqual(left, repaired)
+                else:
+                    self.assertEqual((status, said), NOT_DONE[0])
+                    self.assertIn(written, ("", usual[1]))
+                    self.assertEqual(left, ["old", "old"])
+        self.assertLessEqual(len(spared), SPARED, spared)
+
 
 @dataclass(frozen=True)
 class WorkedRow:

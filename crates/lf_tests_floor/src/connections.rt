@@ -9,8 +9,8 @@ ghost use Rattle.lf_server.specs.Devices.{writer};
 ghost use Rattle.lf_server.specs.Endings.{Serves};
 ghost use Rattle.lf_server.specs.Laws.{commands, replies};
 
-use crate::designs::floor;
 use crate::devices::{Log, Pieces};
+use crate::starts::floor;
 use lf_floor::{Floor, journal_restores, run_stays_legal};
 use lf_legalize::{PlainSeeker, Seeker};
 use lf_server::{

@@ -1,7 +1,7 @@
 //! One script, in pieces of each size and with each call failing in turn.
 
 use crate::connections::{Plan, SOUND, counted, serve_bytes, tells_on};
-use crate::designs::floor_of_two_undos;
+use crate::starts::floor_of_two_undos;
 use lf_floor::Floor;
 use lf_legalize::PlainSeeker;
 use lf_server::{Ending, Served};

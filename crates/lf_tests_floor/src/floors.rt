@@ -2,7 +2,7 @@
 
 ghost use Rattle.std.specs.Prelude.{⊤};
 
-use crate::designs::floor_of;
+use crate::starts::floor_of;
 use lf_def::W_DEF;
 use lf_floor::{Floor, Response};
 use lf_frame::Place;

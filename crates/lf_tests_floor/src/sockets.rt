@@ -1,7 +1,7 @@
 //! Connections over TCP, to this machine.
 
 use crate::connections::SOUND;
-use crate::designs::floor;
+use crate::starts::floor;
 use lf_server::{TcpServed, serve_tcp};
 use std::alloc::Global;
 use std::io;

@@ -1,10 +1,14 @@
-//! What tests and worked rows share: texts that are another one with a line exchanged.
+//! What tests and worked rows share: texts that are another one with a line exchanged, and designs of texts.
 //!
 //! ```
-//! let text = with_line(alloc, text, 5, b"SIZE 0.1905 BY 2.0 ;")?;
+//! let text = with_line(alloc, W_DEF, 12, b"- B ( 6000 0 ) ( 10000 8000 ) + TYPE FENCE ;")?;
+//! let design = design_of(alloc, &text, Limits::standard())?;
 //! ```
 #![tactic(auto)]
 
+mod designs;
+
+pub use designs::design_of;
 use std::alloc::{AllocError, Global};
 
 /// The text with one of its lines, numbered from 1, exchanged for another.

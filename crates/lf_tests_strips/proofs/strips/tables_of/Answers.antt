@@ -3,8 +3,8 @@ use Rattle.std.specs.Prelude.{All}
 use Rattle.lf_floorplan.specs.declared.frame.Frame.{Frame}
 use Rattle.lf_cells.specs.Cells.{cells_of}
 use Rattle.lf_occupancy.specs.Floorplans.{HasSize}
-use Rattle.lf_tests_floor.proofs.Sized.{sized}
-use Rattle.lf_tests_floor.proofs.strips.tables_of.Goals as goal
+use Rattle.lf_tests_strips.proofs.Sized.{sized}
+use Rattle.lf_tests_strips.proofs.strips.tables_of.Goals as goal
 
 pub returns : goal.returns
 returns c =

@@ -1,76 +1,23 @@
-//! Designs over the built-in LEF text and their floors, and what is known of the built-in one.
+//! Designs over the built-in LEF text, and what is known of the built-in one.
 
 ghost use Rattle.std.specs.Prelude.{◌<◌, IfSome};
 ghost use Rattle.lf_floorplan.specs.Boxes.{IsSized};
 
-use lf_def::{DefDoc, W_DEF, read_def};
-use lf_floor::Floor;
-use lf_frame::{Frame, Limits, Loaded, LoadedCells, Macro, Place, is_sized, load};
-use lf_lef::{Library, W_LEF, read_lef};
-use lf_legalize::PlainSeeker;
+use lf_def::W_DEF;
+use lf_frame::{Frame, Limits, Loaded, LoadedCells, Macro, Place, is_sized};
 use lf_orient::Orient;
 use lf_placement::Placement;
 use lf_reports::{Report, Violation, check_all};
 use lf_rules::{Broken, Padding, Placed, box_of, first_broken};
-use lf_tests_texts::with_line;
+use lf_tests_texts::{design_of, with_line};
 use lf_units::Rect;
 use std::alloc::Global;
 use std::test::Fail;
-
-/// The design of a library and a document within limits.
-fn load_on(
-    alloc: Global,
-    library: &Library,
-    document: &DefDoc,
-    limits: Limits,
-) -> Result<Loaded, Fail> {
-    match load(alloc, library, document, limits) {
-        Ok(design) => Ok(design),
-        Err(_) => Err(Fail::from("a design")),
-    }
-}
-
-/// The design of a library and a DEF text within limits.
-fn read_on(alloc: Global, library: &Library, def: &[u8], limits: Limits) -> Result<Loaded, Fail> {
-    match read_def(alloc, def) {
-        Ok(document) => load_on(alloc, library, &document, limits),
-        Err(_) => Err(Fail::from("a DEF text")),
-    }
-}
-
-/// The design of the built-in LEF text and this DEF text within limits.
-fn design_of(alloc: Global, def: &[u8], limits: Limits) -> Result<Loaded, Fail> {
-    let mut library = Library::new(alloc);
-    match read_lef(&mut library, W_LEF) {
-        Ok(()) => read_on(alloc, &library, def, limits),
-        Err(_) => Err(Fail::from("a LEF text")),
-    }
-}
-
-/// The floor of the design of the built-in LEF text and this DEF text.
-pub fn floor_of(alloc: Global, def: &[u8]) -> Result<Floor<PlainSeeker>, Fail> {
-    let design = design_of(alloc, def, Limits::standard())?;
-    Ok(Floor::start(alloc, design, PlainSeeker)?)
-}
 
 /// The placement of the design of the built-in LEF text and this DEF text.
 pub fn placement_of(alloc: Global, def: &[u8]) -> Result<Placement, Fail> {
     let design = design_of(alloc, def, Limits::standard())?;
     Ok(Placement::build(alloc, design)?)
-}
-
-/// The floor of the built-in design, on which each team can undo two changes.
-pub fn floor_of_two_undos(alloc: Global) -> Result<Floor<PlainSeeker>, Fail> {
-    let Some(limits) = Limits::checked(65_535, 1_024, 4_000_000, 8, 2, 4_000_000_000) else {
-        return Err(Fail::from("limits"));
-    };
-    let design = design_of(alloc, W_DEF, limits)?;
-    Ok(Floor::start(alloc, design, PlainSeeker)?)
-}
-
-/// The floor of the built-in design.
-pub fn floor(alloc: Global) -> Result<Floor<PlainSeeker>, Fail> {
-    floor_of(alloc, W_DEF)
 }
 
 /// What is asked of a design.
