@@ -59,7 +59,7 @@ pub(crate) struct RepairAsked<'a> {
 fn how_of(legal: LegalCells) -> How {
     match legal {
         LegalCells::Stay => How::Keep,
-        LegalCells::MoveAsNeeded => How::Keep,
+        LegalCells::MoveAsNeeded => How::AsNeeded,
         LegalCells::Move => How::All,
     }
 }
