@@ -25,7 +25,7 @@ use Rattle.lf_app.specs.Checks.{IsLegalDesign, report_line}
 use Rattle.lf_app.specs.Designs.{Gives, IsDesignFault, IsDesignOf, IsLibraryOf, IsLoadedIn, IsTextDesign, IsTextFault, no_library}
 use Rattle.lf_app.specs.Faults.{IsDescriptionFault, IsDone, IsExportFault, IsLinesFileFault, IsReportFault, IsSaveFault, ending_fault, status_of, told_text}
 use Rattle.lf_app.specs.Lines.{IsServed, most_lines}
-use Rattle.lf_app.specs.Repairs.{IsJudged, IsKeptRun, IsListed, IsRepairFault, OnlyAsked, begun_lines}
+use Rattle.lf_app.specs.Repairs.{AreKnown, IsJudged, IsKeptRun, IsListed, IsRepairFault, OnlyAsked, begun_lines}
 use Rattle.lf_app.specs.States.{IsBegun, IsFloorFault, IsFloorOf, IsSaved}
 
 -- a task ends with the fault: with its status, and what is told of it is appended to the faults, unless these have failed
@@ -175,13 +175,14 @@ pub record IsPut (export lines : Option (List ℕ)) (text : List ℕ) (document 
   pub exports : IsExported export text document floor old_puts between
   pub lists : IsListed lines kept between new_puts
 
--- the floor went from the one that was begun with to this one by commands that were each accepted, which are the lines that are
--- kept, and only teams that were asked for changed; a report was written; the exported text was put where one was asked for, and then
+-- each name that was asked for is a team's; the floor went from the one that was begun with to this one by commands that were each
+-- accepted, which are the lines that are kept, and only teams that were asked for changed; a report was written; the exported text was put where one was asked for, and then
 -- the lines; and the status says whether the committed design is then fully legal
 pub record IsRepaired (teams : List (List ℕ)) (export lines : Option (List ℕ)) (text : List ℕ) (document : Document) (begin : FloorState)
     (before after : Option (List ℕ)) (old_puts new_puts : Option (List Put)) (status : ℕ) : Type 0 where
   pub floor : FloorState
   pub kept : Option (List ℕ)
+  pub known : AreKnown begin.frame teams
   pub run : (l : Legalizer) → IsKeptRun l begin (begun_lines lines) kept floor
   pub only : OnlyAsked teams begin floor
   pub put : IsPut export lines text document floor kept before after old_puts new_puts

@@ -1,5 +1,5 @@
 -- Teams of a design that are repaired.
-use Rattle.std.specs.Prelude.{◌≡◌, ◌==◌, ◌||◌, ◌⊎◌, ℕ, Bool, true, false, All, List, [], Contains, Option, Some, None, bytes_eq, is_some, length, option_map, position, unwrap_or}
+use Rattle.std.specs.Prelude.{◌≡◌, ◌≢◌, ◌==◌, ◌||◌, ◌⊎◌, ℕ, Bool, true, false, All, List, [], Contains, Option, Some, None, bytes_eq, is_some, length, option_map, position, unwrap_or}
 use Rattle.std.specs.Io.KnownBytes.{Appends}
 use Rattle.lf_floorplan.specs.declared.frame.Frame.{Frame}
 use Rattle.lf_floorplan.specs.declared.place.Place.{Place}
@@ -25,6 +25,10 @@ use Rattle.lf_app.specs.Faults.{IsDone, IsExportFault, IsLinesFileFault}
 -- the team of that name is to be repaired: it is one of these, or none is named
 abbrev pub is_asked : List (List ℕ) → List ℕ → Bool
 is_asked teams name = (length teams == 0) || is_some (position (λ team. bytes_eq team name) teams)
+
+-- each of the names is a team's
+abbrev pub AreKnown : Frame → List (List ℕ) → Type 0
+AreKnown f teams = All (λ name. team_number f name ≢ None) teams
 
 -- one of the names is no team's
 abbrev pub IsUnknown : Frame → List (List ℕ) → Fault → Type 0

@@ -1,6 +1,6 @@
 //! The repair of the teams of a design: the floor's own commands give their cells legal places.
 
-ghost use Rattle.std.specs.Prelude.{◌≡◌, ◌⊎◌, ◌+◌, ℕ, Bool, List, None, Option, IfErr, IfOk, IsTrue, OnErr, OnOk, bytes_eq, length, map, position, true};
+ghost use Rattle.std.specs.Prelude.{◌≡◌, ◌≢◌, ◌⊎◌, ◌+◌, ℕ, Bool, List, None, Option, IfErr, IfOk, IsTrue, OnErr, OnOk, bytes_eq, false, length, map, position, true};
 ghost use Rattle.std.specs.Io.KnownBytes.{Appends};
 ghost use Rattle.lf_def.specs.Document.{Document};
 ghost use Rattle.lf_files.specs.Shelf.{Put};
@@ -10,13 +10,14 @@ ghost use Rattle.lf_rules.specs.Legalizer.{Legalizer};
 ghost use Rattle.lf_teams.specs.Designs.{opening};
 ghost use Rattle.lf_teams.specs.Places.{AreCommittedPlaces};
 ghost use Rattle.lf_teams.specs.States.{FloorState};
+ghost use Rattle.lf_teams.specs.Teams.{team_number};
 ghost use Rattle.lf_write.specs.Export.{CanBeRenewed, clause_of};
 ghost use Rattle.lf_mend.specs.Mending.{ChangesOnly};
 ghost use Rattle.lf_app.specs.declared.faults.Fault.TheVariants.{NoMemory, Output};
 ghost use Rattle.lf_app.specs.Designs.{IsKept};
 ghost use Rattle.lf_app.specs.Exits.{IsExported, IsNotPut, IsNotRepaired, IsOpenRepaired, IsPut, IsRepaired, IsUnrepaired};
 ghost use Rattle.lf_app.specs.Faults.{BlamesOutputs, ExportFails, IsDone, IsExportFault, IsLinesFileFault};
-ghost use Rattle.lf_app.specs.Repairs.{IsJudged, IsKeptRun, IsListed, IsUnknown, OnlyAsked, begun_lines, is_asked, kept_text};
+ghost use Rattle.lf_app.specs.Repairs.{AreKnown, IsJudged, IsKeptRun, IsListed, IsUnknown, OnlyAsked, begun_lines, is_asked, kept_text};
 ghost use Rattle.lf_app.specs.Work.{path_of};
 
 use crate::exported::{export_to, try_export};
@@ -81,12 +82,24 @@ fn is_asked(teams: &[&str], name: &[u8]) -> bool
     position_of(teams, name).is_some()
 }
 
+/// Whether the name is that of a team.
+fn is_known(floor: &Floor<IndexSeeker>, name: &[u8]) -> bool
+    ensures known { IsTrue result → team_number floor.now.frame name.now ≢ None }
+    ensures unknown { result ≡ false → team_number floor.now.frame name.now ≡ None }
+{
+    match floor.number_of(name) {
+        Some(_) => true,
+        None => false,
+    }
+}
+
 /// Makes sure that each of the names is that of a team.
 fn all_known<'a>(floor: &Floor<IndexSeeker>, teams: &'a [&'a str]) -> Result<(), Fault<'a>>
-    ensures { IfErr result (IsUnknown floor.now.frame (map (λ team. team.now) teams.now)) }
+    ensures ok { OnOk result (AreKnown floor.now.frame (map (λ team. team.now) teams.now)) }
+    ensures err { IfErr result (IsUnknown floor.now.frame (map (λ team. team.now) teams.now)) }
 {
     for team in teams {
-        if floor.number_of(team.as_bytes()).is_none() {
+        if !is_known(floor, team.as_bytes()) {
             return Err(Fault::NoTeam(team));
         }
     }
