@@ -15,6 +15,7 @@ use Rattle.lf_teams.specs.Runs.{Run}
 use Rattle.lf_teams.specs.VerbLaws.{is_granted}
 use Rattle.lf_teams.specs.Committed.{IsCommittedLegal}
 use Rattle.lf_mend.specs.Runs.{lines_of}
+use Rattle.lf_mend.specs.Mending.{LegalStay}
 use Rattle.lf_app.specs.declared.faults.Fault.{Fault}
 use Rattle.lf_app.specs.declared.faults.Fault.TheVariants.{NoMemory, NoTeam, Output}
 use Rattle.lf_app.specs.declared.kept_lines.KeptLines.{KeptLines}
@@ -54,6 +55,10 @@ pub record OnlyAsked (teams : List (List ℕ)) (old new : FloorState) : Type 0 w
   pub frame : new.frame ≡ old.frame
   pub components : new.components ≡ old.components
   pub legal : IsCommittedLegal old → IsCommittedLegal new
+
+-- the cells of all teams that stood legally stand where they stood
+abbrev pub AllLegalStay : FloorState → FloorState → Type 0
+AllLegalStay old new = (team : List ℕ) → LegalStay team old new
 
 -- the status is that of a task that was done, and says whether the committed design is fully legal
 pub record IsJudged (floor : FloorState) (status : ℕ) : Type 0 where
