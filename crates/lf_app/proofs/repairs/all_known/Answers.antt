@@ -9,8 +9,8 @@ use Rattle.lf_app.proofs.repairs.all_known.Goals as goal
 pub loop-team-preserved : goal.loop-team-preserved
 loop-team-preserved c =
     let frame = c.args.floor.now.frame in
-    All-more (λ (t : Bor (List ℕ)). team_number frame t.now ≢ None) c.args.teams.now c.loop-team.team-index c.team-item.result c.loop-team-test.true c.loop-team.invariant
-    (subst (λ (t : Bor (List ℕ)). team_number frame t.now ≢ None) c.team-item.is (c.is_known.ensures.known c.if-not-is_known.false))
+    All-more (λ (t : Bor (List ℕ)). team_number frame t.now ≢ None) c.args.teams.now c.loop-team.team-index _ c.loop-team-test.true c.loop-team.invariant
+    (subst (λ (name : List ℕ). team_number frame name ≢ None) c.as_bytes.ensures (c.is_known.ensures.known c.if-not-is_known.false))
 
 pub returns-clause-ok : goal.returns-clause-ok
 returns-clause-ok c =
