@@ -45,7 +45,8 @@ example:
 
 const DESCRIBE: &str = "lefence describe DEF LEF...
 
-Writes the design as JSON Lines: rows, fences, obstacles, cells with boxes and broken rules.
+Writes the design as JSON Lines: rows, fences, obstacles, cells with boxes and broken rules. The exit status is 0 if
+the design is fully legal, and 4 if it is not.
 
 example:
   lefence describe chip.def tech.lef cells.lef > chip.jsonl
