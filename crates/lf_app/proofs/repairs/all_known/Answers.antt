@@ -10,7 +10,7 @@ pub loop-team-preserved : goal.loop-team-preserved
 loop-team-preserved c =
     let frame = c.args.floor.now.frame in
     All-more (λ (t : Bor (List ℕ)). team_number frame t.now ≢ None) c.args.teams.now c.loop-team.team-index _ c.loop-team-test.true c.loop-team.invariant
-    (subst (λ (name : List ℕ). team_number frame name ≢ None) c.as_bytes.ensures (c.is_known.ensures.known c.if-not-is_known.false))
+    (subst (λ (name : List ℕ). team_number frame name ≢ None) c.as_bytes.ensures.value (c.is_known.ensures.known c.if-not-is_known.false))
 
 pub returns-clause-ok : goal.returns-clause-ok
 returns-clause-ok c =
