@@ -13,6 +13,7 @@ from pathlib import Path
 from typing import Any, BinaryIO, NamedTuple
 
 from .design import mapped, units_in
+from .drawing import number
 from .faults import FAILED, Fault, log
 from .program import Program
 from .protocol import VERBS, is_accepted
@@ -124,6 +125,8 @@ class Mended:
     def _tell_counts(self, name: str, counts: dict[str, Any], left: int) -> None:
         moved = counts["moved"]
         told = f"{moved} moved, {counts['turned']} turned, {counts['placed']} newly placed, {counts['kept']} stay, {left} left"
+        if counts["pushed"]:
+            told += f"; {number(counts['pushed'], 'legal cell')} pushed"
         mean, largest = counts["total"] / max(1, moved) / self._units, counts["largest"] / self._units
         log(self._tool, f"team {name}: {told}" + (f"; moved by {mean:.3f} microns on average, {largest:.3f} at most" if moved else ""))
 
