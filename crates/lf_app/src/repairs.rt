@@ -167,14 +167,15 @@ fn repair_numbered<'a>(
     ensures kept { asked.now.legal ≡ Stay → (team : List ℕ) → team_number floor.old.frame team ≡ Some number → LegalStay team floor.old floor.new }
     ensures others { (team : List ℕ) → team_number floor.old.frame team ≢ Some number → state_of floor.new team ≡ state_of floor.old team }
 {
-    let name = Vec::from_slice(alloc, team_name(floor.placement().frame(), number))?;
-    if !is_numbered(floor, &name, number) {
+    let copy = Vec::from_slice(alloc, team_name(floor.placement().frame(), number))?;
+    let name = copy.as_slice();
+    if !is_numbered(floor, name, number) {
         return Ok(());
     }
-    if !is_asked(asked.teams, &name) {
+    if !is_asked(asked.teams, name) {
         return Ok(());
     }
-    repair_named(alloc, floor, &name, how_of(asked.legal), lines, report)
+    repair_named(alloc, floor, name, how_of(asked.legal), lines, report)
 }
 
 /// Repairs the teams that are asked for, in their order.

@@ -5,7 +5,7 @@ use Rattle.lf_app.proofs.repairs.repair_numbered.Goals as goal
 
 pub returns-clause-kept : goal.returns-clause-kept
 returns-clause-kept c = λ to_stay team named.
-    stay_alike team c.as_slice.result.now c.args.floor.now c.repair_named.new.floor c.repair_named.ensures.only.frame
+    stay_alike team c.as_slice-name.result.now c.args.floor.now c.repair_named.new.floor c.repair_named.ensures.only.frame
     (named ∙ sym (c.is_numbered.ensures c.if-not-is_numbered.false)) (c.repair_named.ensures.kept (c.how_of.ensures to_stay))
 
 pub returns-clause-others : goal.returns-clause-others

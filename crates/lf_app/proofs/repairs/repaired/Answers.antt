@@ -10,3 +10,6 @@ judge-requires c =
 
 pub returns-clause-run : goal.returns-clause-run
 returns-clause-run c = λ l. rw c.new-lines.ensures at (c.in_ok-repair_teams.ensures.run l)
+
+pub returns-clause-kept : goal.returns-clause-kept
+returns-clause-kept c = λ to_stay. c.in_ok-repair_teams.ensures.kept to_stay
