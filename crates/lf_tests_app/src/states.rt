@@ -100,6 +100,40 @@ fn what_is_restored_is_saved_as_it_was(rt: HostRuntime) -> Result<(), Fail> {
     Ok(())
 }
 
+/// The check of `w.def` over `w.lef`, as its cells stand in this state.
+fn checked(rt: &HostRuntime, state: &[u8]) -> Result<Run, AllocError> {
+    let task = Task::Check {
+        def: "w.def",
+        lefs: only_lef(rt.alloc())?,
+        state: Some(STATE),
+    };
+    Ok(done(rt, &files_with(state), &task, ""))
+}
+
+#[test]
+fn a_check_sees_the_working_places_of_a_state(rt: HostRuntime) -> Result<(), Fail> {
+    let state = saved_behind(&rt, BEFORE)?;
+    let report = "{\"cells\":5,\"unplaced\":3,\"violations\":[]}\n";
+    assert!(rt; checked(&rt, &state)?.is(4, report, ""));
+    let design = "lefence: 26 OtherDesign line 2\nlefence: state file w.state, line 2: teams 9\n";
+    assert!(rt; checked(&rt, b"lefence-state 1\nteams 9\n")?.is(1, "", design));
+    Ok(())
+}
+
+#[test]
+fn a_description_sees_the_working_places_of_a_state(rt: HostRuntime) -> Result<(), Fail> {
+    let state = saved_behind(&rt, BEFORE)?;
+    let task = Task::Describe {
+        def: "w.def",
+        lefs: only_lef(rt.alloc())?,
+        state: Some(STATE),
+    };
+    let run = done(&rt, &files_with(&state), &task, "");
+    let cell = "{\"box\":[400,0,800,2000],\"height\":2000,\"kind\":\"cell\",\"macro\":\"INV\",\"name\":\"a1\",\"orient\":\"N\",";
+    assert!(rt; run.status == 4 && run.written_text().contains(cell));
+    Ok(())
+}
+
 /// Whether a replay in this state is refused with these lines of faults, and answers nothing.
 fn is_refused(rt: &HostRuntime, state: &[u8], faults: &str) -> Result<bool, AllocError> {
     Ok(gone_on(rt, state, "open A\n")?.is(1, "", faults))

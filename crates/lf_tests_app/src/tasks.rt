@@ -441,6 +441,7 @@ fn check_of_w<'a>(alloc: Global) -> Result<Task<'a>, AllocError> {
     Ok(Task::Check {
         def: "w.def",
         lefs: only_lef(alloc)?,
+        state: None,
     })
 }
 
@@ -630,6 +631,7 @@ fn a_design_is_described(rt: HostRuntime) -> Result<(), Fail> {
     let task = Task::Describe {
         def: "w.def",
         lefs: only_lef(rt.alloc())?,
+        state: None,
     };
     assert!(rt; done(&rt, &files_of(W_DEF), &task, "open A\n").is(4, DESCRIPTION, ""));
     Ok(())
