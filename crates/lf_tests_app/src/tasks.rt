@@ -571,7 +571,7 @@ fn a_file_that_cannot_be_read_is_a_fault(rt: HostRuntime) -> Result<(), Fail> {
 }
 
 /// The sample DEF text, whose first components have these entries; the first of all stands in line 15.
-fn with_entries(alloc: Global, entries: &[&[u8]]) -> Result<Vec<u8>, AllocError> {
+pub(crate) fn with_entries(alloc: Global, entries: &[&[u8]]) -> Result<Vec<u8>, AllocError> {
     let mut text = Vec::from_slice(alloc, W_DEF)?;
     for (i, entry) in entries.iter().enumerate() {
         text = with_line(alloc, &text, 15 + i, entry)?;
