@@ -75,12 +75,15 @@ class Mistakes(unittest.TestCase):
             self.said(["replay", *DESIGN, "--exprt", str(target)], 2, USAGE)
             self.said(["repair", *DESIGN, "--save", str(target)], 2, USAGE)
             self.said(["check", *DESIGN, "--save", str(target)], 2, USAGE)
-            self.said(["describe", *DESIGN, "--state", str(target)], 2, USAGE)
+            self.said(["repair", *DESIGN, "--state", str(target)], 2, USAGE)
             self.assertEqual(os.listdir(folder), [])
 
     def test_an_option_without_its_value_or_twice(self) -> None:
         self.said(["replay", *DESIGN, "--export"], 2, USAGE)
         self.said(["replay", *DESIGN, "--export", "a", "--export", "b"], 2, USAGE)
+        for verb in ("check", "describe"):
+            self.said([verb, *DESIGN, "--state"], 2, USAGE)
+            self.said([verb, *DESIGN, "--state", "a", "--state=a"], 2, USAGE)
         for option in ("--state", "--save"):
             self.said(["replay", *DESIGN, option], 2, USAGE)
             self.said(["replay", *DESIGN, option, "a", f"{option}=a"], 2, USAGE)

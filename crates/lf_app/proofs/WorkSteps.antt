@@ -14,10 +14,10 @@ use Rattle.lf_app.specs.declared.faults.TextKind.{TextKind}
 use Rattle.lf_app.specs.declared.faults.TextKind.TheVariants.{Lef, Def, State}
 use Rattle.lf_app.specs.Designs.{Gives, IsDefRefusal, IsDesignFault, IsDesignOf, IsFileFault, IsLefRefusal, IsLibraryFault, IsLibraryOf}
 use Rattle.lf_app.specs.Designs.{IsLoadRefusal, IsLoadedIn, IsRefused, IsUnread, no_library}
-use Rattle.lf_app.specs.Exits.{IsExported, IsOpenUndescribed, IsOpened, IsUndescribed, IsUndone, Streams, streams}
+use Rattle.lf_app.specs.Exits.{IsExported, IsOpenUndescribed, IsOpened, IsUndone, IsUnshown, Streams, streams}
 use Rattle.lf_app.specs.Faults.{Blames, BlamesWriter, ExportFails, IsEarly, IsExportFault, IsSaveFault}
 use Rattle.lf_app.specs.Surroundings.{IsSound}
-use Rattle.lf_app.specs.States.{IsBegun, IsStateFault, IsStateRefused, IsStateTextFault, IsUnbegun}
+use Rattle.lf_app.specs.States.{IsBegun, IsFloorFault, IsStateFault, IsStateRefused, IsStateTextFault, IsUnbegun}
 use Rattle.lf_app.specs.Work.{IsDone, IsFault, IsUnfinished, IsUnworked}
 use Rattle.lf_app.specs.declared.surroundings.Surroundings.{Surroundings}
 use Rattle.lf_app.specs.declared.work.Lines.{Lines}
@@ -233,19 +233,19 @@ file_fails gives path library text why fault given (inl refused) = inl (inr (tex
 file_fails gives path library text why fault given (inr work) = inr (text, given, work)
 
 -- and of a file over LEF files that make this library
-pub files_fail : (gives : Gives) (path : List ℕ) (lefs : List (List ℕ)) (library : Contents) (before after : Option (List ℕ)) (fault : Fault)
-    → IsLibraryOf gives no_library lefs library
+pub files_fail : (gives : Gives) (path : List ℕ) (lefs : List (List ℕ)) (state : Option (List ℕ)) (library : Contents) (before after : Option (List ℕ))
+    (fault : Fault) → IsLibraryOf gives no_library lefs library
     → IsFileFault gives Def path (IsDefRefusal library) fault
     ⊎ ((t : List ℕ) × gives path (Some t) × ((d : Document) × (document_of t ≡ Ok d)
-    × ((loaded : Loaded) × IsLoadedIn library d loaded × IsUndescribed d loaded before after fault)))
-    → IsDesignFault gives path lefs fault ⊎ IsOpenUndescribed gives path lefs before after fault
-files_fail gives path lefs library before after fault is (inl file) = inl (inr (library, is, file))
-files_fail gives path lefs library before after fault is (inr work) = inr record {
+    × ((loaded : Loaded) × IsLoadedIn library d loaded × IsUnshown gives state d loaded before after fault)))
+    → IsDesignFault gives path lefs fault ⊎ IsOpenUndescribed gives path lefs state before after fault
+files_fail gives path lefs state library before after fault is (inl file) = inl (inr (library, is, file))
+files_fail gives path lefs state library before after fault is (inr work) = inr record {
   text = work.0;
   document = work.2.0;
   loaded = work.2.2.0;
   opened = record { library = library; lefs_are = is; given = work.1; read = work.2.1; loads = work.2.2.1 };
-  undescribed = work.2.2.2;
+  unshown = work.2.2.2;
 }
 
 -- lines are done whatever is put into files beside them
@@ -352,3 +352,26 @@ begun_components gives (Some path) opened begin is = ap (λ (f : FloorState). f.
 pub still_sound : {T E V R W F : Type 0} (e : E → Bool) (v : V → Bool) (r : R → Bool) (w : W → Bool) (around : Surroundings T E V R W F)
     → IsSound e v r w around around
 still_sound e v r w around = record { exports = refl; services = refl; reader = refl; writer = refl }
+
+-- a design that is not brought into the state that was asked for is not looked at: that is told before anything is written
+pub unseen_early : (gives : Gives) (path : List ℕ) (library : Contents) (text : List ℕ) (document : Document) (state : Option (List ℕ)) (fault : Fault)
+    → IsRefused Def path text (IsLoadRefusal library document) fault
+    ⊎ ((loaded : Loaded) × IsLoadedIn library document loaded × IsUnbegun gives state loaded fault) → IsEarly fault
+unseen_early gives path library text document state fault (inl refused) = refused_early Def path text (IsLoadRefusal library document) fault refused
+unseen_early gives path library text document state fault (inr (loaded, loads, unbegun)) = unbegun_early gives state loaded fault unbegun
+
+-- and it is why its document is not described
+pub unseen_fails : (gives : Gives) (path : List ℕ) (library : Contents) (text : List ℕ) (document : Document) (state before after : Option (List ℕ))
+    (fault : Fault) → document_of text ≡ Ok document
+    → IsRefused Def path text (IsLoadRefusal library document) fault
+    ⊎ ((loaded : Loaded) × IsLoadedIn library document loaded × IsUnbegun gives state loaded fault)
+    → IsRefused Def path text (IsDefRefusal library text) fault
+    ⊎ ((d : Document) × (document_of text ≡ Ok d) × ((loaded : Loaded) × IsLoadedIn library d loaded × IsUnshown gives state d loaded before after fault))
+unseen_fails gives path library text document state before after fault is (inl refused) = inl (text_refused library path text document fault is refused)
+unseen_fails gives path library text document state before after fault is (inr (loaded, loads, unbegun)) = inr (document, is, (loaded, loads, inl unbegun))
+
+-- why there is no floor with which work begins is told before anything is written
+pub floor_early : (gives : Gives) (def : List ℕ) (lefs : List (List ℕ)) (state : Option (List ℕ)) (fault : Fault) → IsFloorFault gives def lefs state fault
+    → IsEarly fault
+floor_early gives def lefs state fault (inl design) = design_early gives def lefs fault design
+floor_early gives def lefs state fault (inr (loaded, is, unbegun)) = unbegun_early gives state loaded fault unbegun

@@ -82,8 +82,8 @@ design_line name options = fold with_rule (new_app name) (def_rule ∷ lef_rule 
 -- the words that a subcommand takes
 abbrev pub line_of : Subcommand → App
 line_of Demo = new_app (word_of Demo)
-line_of Check = design_line (word_of Check) []
-line_of Describe = design_line (word_of Describe) []
+line_of Check = design_line (word_of Check) (text_rule (codes "state") ∷ [])
+line_of Describe = design_line (word_of Describe) (text_rule (codes "state") ∷ [])
 line_of Replay = design_line (word_of Replay)
     (number_rule (codes "lines") 4294967295 ∷ text_rule (codes "state") ∷ text_rule (codes "save") ∷ text_rule (codes "export") ∷ [])
 line_of Serve = design_line (word_of Serve)
@@ -100,12 +100,12 @@ command_line = fold (λ app chosen. with_subcommand app (line_of chosen).top) (n
 
 -- ---- jobs
 
--- what a command line asks for, with the paths as they are written: of the DEF text and of the LEF texts in order; then, of
--- replay and serve, of the saved state; then of each what its comment says
+-- what a command line asks for, with the paths as they are written: of the DEF text and of the LEF texts in order; then, of all but
+-- repair, of the saved state; then of each what its comment says
 pub data Job : Type 0 where
   demo : Job
-  check : Text → List Text → Job
-  describe : Text → List Text → Job
+  check : Text → List Text → Option Text → Job
+  describe : Text → List Text → Option Text → Job
   -- the most lines that are answered; the paths of the state and of the text that are written
   replay : Text → List Text → Option Text → ℕ → Option Text → Option Text → Job
   -- the port and the number of connections; the paths of the state and of the text that are written
@@ -162,8 +162,8 @@ legal_cells true true = None
 -- the job of a subcommand on these paths
 abbrev pub job_on : Subcommand → Text → List Text → List Row → Option Job
 job_on Demo def lefs rows = Some demo
-job_on Check def lefs rows = Some (check def lefs)
-job_on Describe def lefs rows = Some (describe def lefs)
+job_on Check def lefs rows = Some (check def lefs (first_of (codes "state") rows))
+job_on Describe def lefs rows = Some (describe def lefs (first_of (codes "state") rows))
 job_on Replay def lefs rows = option_map
     (λ lines. replay def lefs (first_of (codes "state") rows) lines (first_of (codes "save") rows) (first_of (codes "export") rows))
     (most_lines (first_of (codes "lines") rows))
@@ -207,8 +207,8 @@ job_of words = unless_fault (fault_of command_line words) (job_found (subcommand
 -- the job that a task does
 abbrev pub as_job : Task → Job
 as_job task.Demo = demo
-as_job (task.Check def lefs) = check def.now (map (λ lef. lef.now) lefs)
-as_job (task.Describe def lefs) = describe def.now (map (λ lef. lef.now) lefs)
+as_job (task.Check def lefs state) = check def.now (map (λ lef. lef.now) lefs) (option_map (λ path. path.now) state)
+as_job (task.Describe def lefs state) = describe def.now (map (λ lef. lef.now) lefs) (option_map (λ path. path.now) state)
 as_job (task.Replay def lefs state lines save export) = replay def.now (map (λ lef. lef.now) lefs) (option_map (λ path. path.now) state)
     lines (option_map (λ path. path.now) save) (option_map (λ path. path.now) export)
 as_job (task.Serve def lefs state port connections save export) = serve def.now (map (λ lef. lef.now) lefs) (option_map (λ path. path.now) state)

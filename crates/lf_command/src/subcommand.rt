@@ -115,6 +115,14 @@ fn over_design<'a>(alloc: Global, name: &'a str) -> Result<Command<'a>, AllocErr
         .arg(lef_paths(alloc))
 }
 
+/// A subcommand of that name that looks at a design, which may stand as a saved state tells.
+fn look<'a>(alloc: Global, name: &'a str) -> Result<Command<'a>, AllocError>
+    ensures line { IfOk result (λ made. app_of made ≡ design_line name.now (text_rule (codes "state") ∷ [])) }
+    ensures local { IfOk result (λ made. (out-Command made).has_globals ≡ false) }
+{
+    over_design(alloc, name)?.arg(text(alloc, "state"))
+}
+
 /// The paths that a subcommand which answers lines may have besides those of the design: of the saved state, and of the state
 /// and the text that are written.
 fn with_outputs<'a>(alloc: Global, command: Command<'a>) -> Result<Command<'a>, AllocError>
@@ -179,8 +187,8 @@ fn line_of<'a>(alloc: Global, chosen: Subcommand) -> Result<Command<'a>, AllocEr
 {
     match chosen {
         Subcommand::Demo => Ok(Command::new(alloc, "demo")),
-        Subcommand::Check => over_design(alloc, "check"),
-        Subcommand::Describe => over_design(alloc, "describe"),
+        Subcommand::Check => look(alloc, "check"),
+        Subcommand::Describe => look(alloc, "describe"),
         Subcommand::Replay => replay(alloc),
         Subcommand::Serve => serve(alloc),
         Subcommand::Repair => repair(alloc),

@@ -453,6 +453,7 @@ fn check_of_w<'a>(alloc: Global) -> Result<Task<'a>, AllocError> {
     Ok(Task::Check {
         def: "w.def",
         lefs: only_lef(alloc)?,
+        state: None,
     })
 }
 
@@ -582,7 +583,7 @@ fn a_file_that_cannot_be_read_is_a_fault(rt: HostRuntime) -> Result<(), Fail> {
 }
 
 /// The sample DEF text, whose first components have these entries; the first of all stands in line 15.
-fn with_entries(alloc: Global, entries: &[&[u8]]) -> Result<Vec<u8>, AllocError> {
+pub(crate) fn with_entries(alloc: Global, entries: &[&[u8]]) -> Result<Vec<u8>, AllocError> {
     let mut text = Vec::from_slice(alloc, W_DEF)?;
     for (i, entry) in entries.iter().enumerate() {
         text = with_line(alloc, &text, 15 + i, entry)?;
@@ -642,6 +643,7 @@ fn a_design_is_described(rt: HostRuntime) -> Result<(), Fail> {
     let task = Task::Describe {
         def: "w.def",
         lefs: only_lef(rt.alloc())?,
+        state: None,
     };
     assert!(rt; done(&rt, &files_of(W_DEF), &task, "open A\n").is(4, DESCRIPTION, ""));
     Ok(())
