@@ -12,8 +12,8 @@ from pathlib import Path
 from program import DEF, LEF, InFolder, run
 
 # The keys of the line of a team, and of the line of all teams, in their order.
-TEAM_KEYS = ["cells", "kept", "largest", "left", "mean", "moved", "placed", "team", "total", "turned"]
-ALL_KEYS = ["cells", "kept", "largest", "left_cells", "legal", "mean", "moved", "placed", "teams", "total", "turned"]
+TEAM_KEYS = ["cells", "kept", "largest", "left", "mean", "moved", "placed", "pushed", "team", "total", "turned"]
+ALL_KEYS = ["cells", "kept", "largest", "left_cells", "legal", "mean", "moved", "placed", "pushed", "teams", "total", "turned"]
 # The cells of team A, a2 one site right of a1 and over it, and those of the others at legal places.
 STANDING = {
     "- a1 INV + SOURCE DIST ;": "- a1 INV + SOURCE DIST + PLACED ( 0 0 ) N ;",
@@ -24,6 +24,17 @@ STANDING = {
 }
 # A fence of A that has room for one of its cells.
 NARROW = {"- A ( 0 0 ) ( 4000 4000 ) + TYPE FENCE ;": "- A ( 0 0 ) ( 400 2000 ) + TYPE FENCE ;"}
+
+
+def tight(sites: int, a1: int) -> dict[str, str]:
+    """A fence of A around a3 and so many sites of a row to its left, on which a1 stands at that site."""
+    left = 200 * sites
+    return {
+        **STANDING,
+        "- A ( 0 0 ) ( 4000 4000 ) + TYPE FENCE ;": f"- A ( 0 0 ) ( {left} 2000 ) ( {left} 0 ) ( {left + 600} 4000 ) + TYPE FENCE ;",
+        "- a1 INV + SOURCE DIST ;": f"- a1 INV + SOURCE DIST + PLACED ( {200 * a1} 0 ) N ;",
+        "- a3 DBL + WEIGHT 3 ;": f"- a3 DBL + WEIGHT 3 + PLACED ( {left} 0 ) N ;",
+    }
 
 
 def design(changes: dict[str, str]) -> str:
@@ -93,6 +104,23 @@ class Repairs(InFolder):
                 for name in ("a3", "b1", "g1"):
                     line = next(line for line in self.text.read_text().splitlines() if line.startswith(f"- {name} "))
                     self.assertIn(line, new)
+
+    def test_a_legal_cell_moves_where_another_would_be_left(self) -> None:
+        for stands in ("UNPLACED", "PLACED ( 600 2000 ) FS"):
+            changes = {**tight(4, 1), "- a2 INV + UNPLACED ;": f"- a2 INV + {stands} ;"}
+            for more, status, left, pushed in (("--keep", 4, ["a2"], 0), ("", 0, [], 1)):
+                with self.subTest(stands + more):
+                    done, report = self.repair(changes, "--export", str(self.new), *more.split())
+                    self.assertEqual((done, self.check(self.new)), (status, status))
+                    self.assertEqual((report[0]["left"], report[0]["pushed"], report[-1]["pushed"]), (left, pushed, pushed))
+
+    def test_a_legal_cell_stays_where_that_helps_nobody(self) -> None:
+        stands = "- a1 INV + SOURCE DIST ;"
+        changes = {**tight(3, 0), stands: stands, "- a2 INV + UNPLACED ;": "- a2 INV + PLACED ( 0 0 ) N ;"}
+        status, report = self.repair(changes, "--lines", str(self.lines))
+        self.assertEqual((status, report[0]["left"], report[0]["kept"], report[0]["pushed"]), (4, ["a1"], 2, 0))
+        last = [line for line in self.lines.read_text().splitlines() if " a2 " in line][-1]
+        self.assertEqual(last, "place A 0 a2 0 0 N")
 
     def test_all_cells_may_move(self) -> None:
         status, report = self.repair(STANDING, "--all", "--export", str(self.new))

@@ -1,26 +1,31 @@
 -- Runs of repairs, one after the other, and what they leave.
-use Rattle.std.proofs.Common.{◌≡◌, ◌⊎◌, inl, inr, ℕ, zero, suc, ◌+◌, List, [], ◌∷◌, ◌++◌, length, Bool, true, false, map, Option, Some, None, cond, is_some, refl, ap, sym, ◌∙◌, subst, append-nil}
-use Rattle.std.specs.Prelude.{◌==◌, ◌||◌, All, Err, IfOk, MatchBool, Ok, OnOk, Result, bytes_eq, position, slice_get, slice_set}
+use Rattle.std.proofs.Common.{◌≡◌, ◌≢◌, ◌⊎◌, inl, inr, ⊎_elim, ℕ, zero, suc, ◌+◌, ◌<◌, List, [], ◌∷◌, ◌++◌, length, Bool, true, false, map, Option, Some, None, cond, is_some, refl, ap, sym, ◌∙◌, subst, append-nil, arith}
+use Rattle.std.specs.Prelude.{◌≤◌, ◌==◌, ◌||◌, All, Err, IfOk, MatchBool, Ok, OnOk, Result, bytes_eq, option_and_then, position, slice_get, slice_set}
 use Rattle.std.specs.Borrow.{Bor}
 use Rattle.std.specs.List.{flat_map, position_from}
 use Rattle.std.specs.Io.KnownBytes.{Appends}
 use Rattle.std.proofs.Math.ListN.{length-map}
 use Rattle.std.proofs.lemmas.Iterator.Adapters.{position_from-zero}
+use Rattle.std.proofs.lemmas.Bool.{cases_eq}
 use Rattle.std.proofs.lemmas.List.Elements.{All-append, All-nil}
 use Rattle.std.proofs.lemmas.List.Concat.{flat_map-append}
 use Rattle.lf_floorplan.specs.declared.place.Place.{Place}
 use Rattle.lf_rules.specs.Legalizer.{Legalizer}
+use Rattle.lf_rules.specs.Team.{StandsLegal}
+use Rattle.lf_cells.specs.Cells.{working_at}
+use Rattle.lf_legalize.specs.Members.{member_of}
 use Rattle.lf_proto.specs.declared.request.Command.{Command}
 use Rattle.lf_proto.specs.declared.request.Command.TheVariants.{Bye, To}
 use Rattle.lf_proto.specs.declared.request.Order.{Order}
 use Rattle.lf_proto.specs.declared.reply.Reply.{Reply}
 use Rattle.lf_devices.proofs.Known.{Appends-more, Appends-same}
 use Rattle.lf_teams.specs.States.{FloorState, TeamState}
-use Rattle.lf_teams.specs.Teams.{team_number}
+use Rattle.lf_teams.specs.Teams.{state_at, state_of, team_number}
 use Rattle.lf_teams.specs.Outcomes.{is_short}
 use Rattle.lf_teams.specs.Steps.{Answers, RunsShort, Step, answer_at, answer_by, answer_of}
 use Rattle.lf_teams.specs.Runs.{Run}
 use Rattle.lf_teams.specs.VerbLaws.{is_granted}
+use Rattle.lf_mend.specs.Mending.{IsLegalIn, LegalStay, place_in}
 use Rattle.lf_mend.specs.Runs.{IsWrittenRun, line_of, lines_of}
 use Rattle.lf_files.specs.Shelf.{Put}
 use Rattle.lf_floorplan.specs.declared.frame.Frame.{Frame}
@@ -28,7 +33,7 @@ use Rattle.lf_app.specs.declared.faults.Fault.{Fault}
 use Rattle.lf_app.specs.declared.faults.Fault.TheVariants.{Refused, File, NoState, NoTeam, ReadFault, WriteFault, TooManyLines, OutOfMemory, Output, Bind, Accept, Unwritten, Unsaved, Unlisted, NoMemory, NoRoom}
 use Rattle.lf_app.specs.Exits.{IsNotPut, IsUnrepaired}
 use Rattle.lf_app.specs.Faults.{Blames, IsEarly, IsExportFault, IsLinesFileFault, IsOfWriter}
-use Rattle.lf_app.specs.Repairs.{IsAcceptedRun, IsKeptRun, IsRepairFault, IsUnknown, OnlyAsked, is_asked}
+use Rattle.lf_app.specs.Repairs.{AllLegalStay, IsAcceptedRun, IsKeptRun, IsRepairFault, IsUnknown, OnlyAsked, is_asked}
 
 -- ---- runs
 
@@ -79,6 +84,84 @@ then_asked teams a b c first second = record {
   components = second.components ∙ first.components;
   legal = λ legal. second.legal (first.legal legal);
 }
+
+-- ---- legal cells
+
+-- names of one number name one team
+place_alike : (floor : FloorState) (a b : List ℕ) (own : ℕ) → team_number floor.frame a ≡ team_number floor.frame b → place_in floor a own ≡ place_in floor b own
+place_alike floor a b own same = ap (λ (o : Option ℕ). option_and_then (λ (s : TeamState). working_at s.cells own) (state_at floor.teams o)) same
+
+legal_alike : (floor : FloorState) (a b : List ℕ) (own : ℕ) → team_number floor.frame a ≡ team_number floor.frame b → IsLegalIn floor a own → IsLegalIn floor b own
+legal_alike floor a b own same legal = record {
+  number = legal.number;
+  state = legal.state;
+  named = sym same ∙ legal.named;
+  there = ap (λ (o : Option ℕ). state_at floor.teams o) (sym same) ∙ legal.there;
+  within = legal.within;
+  legal = legal.legal;
+}
+
+-- so legal cells stay under the one name if they do under the other
+pub stay_alike : (a b : List ℕ) (old new : FloorState) → new.frame ≡ old.frame → team_number old.frame a ≡ team_number old.frame b → LegalStay b old new
+    → LegalStay a old new
+stay_alike a b old new frame same stay own legal =
+    place_alike new a b own (subst (λ (f : Frame). team_number f a ≡ team_number f b) (sym frame) same)
+    ∙ stay own (legal_alike old a b own same legal) ∙ sym (place_alike old a b own same)
+
+place_same : (old new : FloorState) (team : List ℕ) (own : ℕ) → state_of new team ≡ state_of old team → place_in new team own ≡ place_in old team own
+place_same old new team own same = ap (λ (o : Option TeamState). option_and_then (λ (s : TeamState). working_at s.cells own) o) same
+
+legal_same : (old new : FloorState) (team : List ℕ) (own : ℕ) → new.frame ≡ old.frame → state_of new team ≡ state_of old team → IsLegalIn old team own → IsLegalIn new team own
+legal_same old new team own frame same legal = record {
+  number = legal.number;
+  state = legal.state;
+  named = ap (λ (f : Frame). team_number f team) frame ∙ legal.named;
+  there = same ∙ legal.there;
+  within = legal.within;
+  legal = subst (λ (f : Frame). StandsLegal f legal.number legal.state.padding (map member_of legal.state.cells) own) (sym frame) legal.legal;
+}
+
+-- in the first so many teams the cells that stood legally stay, and the others are as they were
+pub record HaveStayed (old new : FloorState) (count : ℕ) : Type 0 where
+  pub done : (team : List ℕ) (n : ℕ) → team_number old.frame team ≡ Some n → n < count → LegalStay team old new
+  pub rest : (team : List ℕ) (n : ℕ) → team_number old.frame team ≡ Some n → count ≤ n → state_of new team ≡ state_of old team
+
+pub none_stayed : (floor : FloorState) → HaveStayed floor floor 0
+none_stayed floor = record { done = λ team n named less. absurd (omega (arith, less)); rest = λ team n named more. refl }
+
+-- one team more
+pub one_more_stayed : (old mid new : FloorState) (number : ℕ) → mid.frame ≡ old.frame → HaveStayed old mid number
+    → ((team : List ℕ) → team_number mid.frame team ≡ Some number → LegalStay team mid new)
+    → ((team : List ℕ) → team_number mid.frame team ≢ Some number → state_of new team ≡ state_of mid team) → HaveStayed old new (number + 1)
+one_more_stayed old mid new number frame stayed stay others = record {
+  done = λ team n named less. ⊎_elim (λ (same : n ≡ number). here team n named same) (λ (differ : n ≢ number). before team n named differ (omega (arith, less, differ))) (cases_eq n number);
+  rest = λ team n named more. apart team n named (λ (same : n ≡ number). absurd (omega (arith, more, same))) ∙ stayed.rest team n named (omega (arith, more));
+} where
+  named_in : (team : List ℕ) (n : ℕ) → team_number old.frame team ≡ Some n → team_number mid.frame team ≡ Some n
+  named_in team n named = ap (λ (f : Frame). team_number f team) frame ∙ named
+
+  some_one : (a b : ℕ) → Some a ≡ Some b → a ≡ b
+  some_one a b same = cc
+
+  apart : (team : List ℕ) (n : ℕ) → team_number old.frame team ≡ Some n → n ≢ number → state_of new team ≡ state_of mid team
+  apart team n named differ = others team (λ (is : team_number mid.frame team ≡ Some number). differ (some_one n number (sym (named_in team n named) ∙ is)))
+
+  here : (team : List ℕ) (n : ℕ) → team_number old.frame team ≡ Some n → n ≡ number → LegalStay team old new
+  here team n named same own legal =
+      let as_it_was = stayed.rest team n named (omega (arith, same)) in
+      stay team (named_in team n named ∙ ap (λ (k : ℕ). Some k) same) own (legal_same old mid team own frame as_it_was legal) ∙ place_same old mid team own as_it_was
+
+  before : (team : List ℕ) (n : ℕ) → team_number old.frame team ≡ Some n → n ≢ number → n < number → LegalStay team old new
+  before team n named differ less own legal = place_same mid new team own (apart team n named differ) ∙ stayed.done team n named less own legal
+
+-- so they stay in all teams
+pub all_stayed : (old new : FloorState) (count : ℕ) → HaveStayed old new count → AllLegalStay old new
+all_stayed old new count stayed team own legal = ⊎_elim (λ (less : legal.number < count). stayed.done team legal.number legal.named less own legal)
+    (λ (more : count ≤ legal.number). place_same old new team own (stayed.rest team legal.number legal.named more)) (below legal.number count) where
+  below : (a b : ℕ) → (a < b) ⊎ (b ≤ a)
+  below a zero = inr (omega arith)
+  below zero (suc b) = inl (omega arith)
+  below (suc a) (suc b) = ⊎_elim (λ (less : a < b). inl (omega (arith, less))) (λ (more : b ≤ a). inr (omega (arith, more))) (below a b)
 
 -- ---- names
 

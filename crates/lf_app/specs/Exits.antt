@@ -16,6 +16,8 @@ use Rattle.lf_teams.specs.Designs.{opening}
 use Rattle.lf_teams.specs.Places.{AreCommittedPlaces}
 use Rattle.lf_server.specs.Connections.{Accepted, AreServed}
 use Rattle.lf_server.specs.declared.serving.Ending.{Ending}
+use Rattle.lf_command.specs.declared.command.LegalCells.{LegalCells}
+use Rattle.lf_command.specs.declared.command.LegalCells.TheVariants.{Stay}
 use Rattle.lf_command.specs.Command.{Job, demo, replay, serve, check, describe, repair}
 use Rattle.lf_app.specs.declared.opened.Opened.{Opened}
 use Rattle.lf_app.specs.declared.faults.Fault.{Fault}
@@ -25,7 +27,7 @@ use Rattle.lf_app.specs.Checks.{IsLegalDesign, report_line}
 use Rattle.lf_app.specs.Designs.{Gives, IsDesignFault, IsLibraryOf, IsLoadedIn, IsTextDesign, IsTextFault, no_library}
 use Rattle.lf_app.specs.Faults.{IsDescriptionFault, IsDone, IsExportFault, IsLinesFileFault, IsReportFault, IsSaveFault, ending_fault, status_of, told_text}
 use Rattle.lf_app.specs.Lines.{IsServed, most_lines}
-use Rattle.lf_app.specs.Repairs.{IsJudged, IsKeptRun, IsListed, IsRepairFault, OnlyAsked, begun_lines}
+use Rattle.lf_app.specs.Repairs.{AllLegalStay, AreKnown, IsJudged, IsKeptRun, IsListed, IsRepairFault, OnlyAsked, begun_lines}
 use Rattle.lf_app.specs.States.{IsBegun, IsFloorFault, IsFloorOf, IsSaved, IsSeen, IsSeenOf, IsUnbegun}
 
 -- a task ends with the fault: with its status, and what is told of it is appended to the faults, unless these have failed
@@ -180,26 +182,29 @@ pub record IsPut (export lines : Option (List ℕ)) (text : List ℕ) (document 
   pub exports : IsExported export text document floor old_puts between
   pub lists : IsListed lines kept between new_puts
 
--- the floor went from the one that was begun with to this one by commands that were each accepted, which are the lines that are
--- kept, and only teams that were asked for changed; a report was written; the exported text was put where one was asked for, and then
--- the lines; and the status says whether the committed design is then fully legal
-pub record IsRepaired (teams : List (List ℕ)) (export lines : Option (List ℕ)) (text : List ℕ) (document : Document) (begin : FloorState)
+-- each name that was asked for is a team's; the floor went from the one that was begun with to this one by commands that were each
+-- accepted, which are the lines that are kept; only teams that were asked for changed, and no cell that stood legally if these are to
+-- stay; a report was written; the exported text was put where one was asked for, and then the lines; and the status says whether the
+-- committed design is then fully legal
+pub record IsRepaired (teams : List (List ℕ)) (legal : LegalCells) (export lines : Option (List ℕ)) (text : List ℕ) (document : Document) (begin : FloorState)
     (before after : Option (List ℕ)) (old_puts new_puts : Option (List Put)) (status : ℕ) : Type 0 where
   pub floor : FloorState
   pub kept : Option (List ℕ)
+  pub known : AreKnown begin.frame teams
   pub run : (l : Legalizer) → IsKeptRun l begin (begun_lines lines) kept floor
   pub only : OnlyAsked teams begin floor
+  pub stay : legal ≡ Stay → AllLegalStay begin floor
   pub put : IsPut export lines text document floor kept before after old_puts new_puts
   pub judged : IsJudged floor status
 
 -- the design was opened, and its teams were repaired
-pub record IsOpenRepaired (gives : Gives) (def : List ℕ) (lefs teams : List (List ℕ)) (export lines : Option (List ℕ))
+pub record IsOpenRepaired (gives : Gives) (def : List ℕ) (lefs teams : List (List ℕ)) (legal : LegalCells) (export lines : Option (List ℕ))
     (before after : Option (List ℕ)) (old_puts new_puts : Option (List Put)) (status : ℕ) : Type 0 where
   pub text : List ℕ
   pub document : Document
   pub loaded : Loaded
   pub opened : IsOpened gives def lefs text document loaded
-  pub repaired : IsRepaired teams export lines text document (opening loaded) before after old_puts new_puts status
+  pub repaired : IsRepaired teams legal export lines text document (opening loaded) before after old_puts new_puts status
 
 -- the outcome of a job that is done, with this status
 abbrev pub IsOutcome : Gives → Job → Streams → ℕ → Type 0
@@ -215,7 +220,7 @@ IsOutcome gives (check def lefs state) io status =
     (seen : Loaded) × IsSeenOf gives def lefs state seen × IsReported seen io.before io.after status
 IsOutcome gives (describe def lefs state) io status = IsOpenDescribed gives def lefs state io.before io.after status
 IsOutcome gives (repair def lefs teams legal export lines) io status =
-    IsOpenRepaired gives def lefs teams export lines io.before io.after io.old_puts io.new_puts status
+    IsOpenRepaired gives def lefs teams legal export lines io.before io.after io.old_puts io.new_puts status
 
 -- ---- faults
 

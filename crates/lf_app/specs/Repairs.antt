@@ -1,5 +1,5 @@
 -- Teams of a design that are repaired.
-use Rattle.std.specs.Prelude.{◌≡◌, ◌==◌, ◌||◌, ◌⊎◌, ℕ, Bool, true, false, All, List, [], Contains, Option, Some, None, bytes_eq, is_some, length, option_map, position, unwrap_or}
+use Rattle.std.specs.Prelude.{◌≡◌, ◌≢◌, ◌==◌, ◌||◌, ◌⊎◌, ℕ, Bool, true, false, All, List, [], Contains, Option, Some, None, bytes_eq, is_some, length, option_map, position, unwrap_or}
 use Rattle.std.specs.Io.KnownBytes.{Appends}
 use Rattle.lf_floorplan.specs.declared.frame.Frame.{Frame}
 use Rattle.lf_floorplan.specs.declared.place.Place.{Place}
@@ -15,6 +15,7 @@ use Rattle.lf_teams.specs.Runs.{Run}
 use Rattle.lf_teams.specs.VerbLaws.{is_granted}
 use Rattle.lf_teams.specs.Committed.{IsCommittedLegal}
 use Rattle.lf_mend.specs.Runs.{lines_of}
+use Rattle.lf_mend.specs.Mending.{LegalStay}
 use Rattle.lf_app.specs.declared.faults.Fault.{Fault}
 use Rattle.lf_app.specs.declared.faults.Fault.TheVariants.{NoMemory, NoTeam, Output}
 use Rattle.lf_app.specs.declared.kept_lines.KeptLines.{KeptLines}
@@ -25,6 +26,10 @@ use Rattle.lf_app.specs.Faults.{IsDone, IsExportFault, IsLinesFileFault}
 -- the team of that name is to be repaired: it is one of these, or none is named
 abbrev pub is_asked : List (List ℕ) → List ℕ → Bool
 is_asked teams name = (length teams == 0) || is_some (position (λ team. bytes_eq team name) teams)
+
+-- each of the names is a team's
+abbrev pub AreKnown : Frame → List (List ℕ) → Type 0
+AreKnown f teams = All (λ name. team_number f name ≢ None) teams
 
 -- one of the names is no team's
 abbrev pub IsUnknown : Frame → List (List ℕ) → Fault → Type 0
@@ -50,6 +55,10 @@ pub record OnlyAsked (teams : List (List ℕ)) (old new : FloorState) : Type 0 w
   pub frame : new.frame ≡ old.frame
   pub components : new.components ≡ old.components
   pub legal : IsCommittedLegal old → IsCommittedLegal new
+
+-- the cells of all teams that stood legally stand where they stood
+abbrev pub AllLegalStay : FloorState → FloorState → Type 0
+AllLegalStay old new = (team : List ℕ) → LegalStay team old new
 
 -- the status is that of a task that was done, and says whether the committed design is fully legal
 pub record IsJudged (floor : FloorState) (status : ℕ) : Type 0 where

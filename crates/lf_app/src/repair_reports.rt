@@ -17,6 +17,7 @@ struct Sums {
     kept: u64,
     moved: u64,
     placed: u64,
+    pushed: u64,
     turned: u64,
     left: u64,
     total: u64,
@@ -31,6 +32,7 @@ fn with_team(sums: &Sums, repaired: &Repaired) -> Sums {
         kept: sums.kept.saturating_add(u64::from(repaired.kept)),
         moved: sums.moved.saturating_add(u64::from(repaired.moved)),
         placed: sums.placed.saturating_add(u64::from(repaired.placed)),
+        pushed: sums.pushed.saturating_add(u64::from(repaired.pushed)),
         turned: sums.turned.saturating_add(u64::from(repaired.turned)),
         left: sums.left.saturating_add(repaired.left.len() as u64),
         total: sums.total.saturating_add(repaired.total),
@@ -81,27 +83,29 @@ fn team_value(
     let name = name_value(alloc, team)?;
     let mean = mean(repaired.total, u64::from(repaired.moved));
     let (cells, kept, largest) = (repaired.cells, repaired.kept, repaired.largest);
-    let (moved, placed, total, turned) = (
+    let (moved, placed, pushed, total, turned) = (
         repaired.moved,
         repaired.placed,
+        repaired.pushed,
         repaired.total,
         repaired.turned,
     );
-    json!(in alloc; {"cells": cells, "kept": kept, "largest": largest, "left": left, "mean": mean, "moved": moved, "placed": placed, "team": name, "total": total, "turned": turned})
+    json!(in alloc; {"cells": cells, "kept": kept, "largest": largest, "left": left, "mean": mean, "moved": moved, "placed": placed, "pushed": pushed, "team": name, "total": total, "turned": turned})
 }
 
 /// The line of all teams.
 fn all_value(alloc: Global, sums: &Sums, legal: bool) -> Result<Value, AllocError> {
     let mean = mean(sums.total, sums.moved);
     let (cells, kept, largest, left) = (sums.cells, sums.kept, sums.largest, sums.left);
-    let (moved, placed, teams, total, turned) = (
+    let (moved, placed, pushed, teams, total, turned) = (
         sums.moved,
         sums.placed,
+        sums.pushed,
         sums.teams,
         sums.total,
         sums.turned,
     );
-    json!(in alloc; {"cells": cells, "kept": kept, "largest": largest, "left_cells": left, "legal": legal, "mean": mean, "moved": moved, "placed": placed, "teams": teams, "total": total, "turned": turned})
+    json!(in alloc; {"cells": cells, "kept": kept, "largest": largest, "left_cells": left, "legal": legal, "mean": mean, "moved": moved, "placed": placed, "pushed": pushed, "teams": teams, "total": total, "turned": turned})
 }
 
 /// Appends the value as a line.
@@ -130,6 +134,7 @@ impl RepairReport {
                 kept: 0,
                 moved: 0,
                 placed: 0,
+                pushed: 0,
                 turned: 0,
                 left: 0,
                 total: 0,

@@ -1,7 +1,8 @@
 //! The repair of the teams of a design: the floor's own commands give their cells legal places.
 
-ghost use Rattle.std.specs.Prelude.{◌≡◌, ◌⊎◌, ◌+◌, ℕ, Bool, List, None, Option, IfErr, IfOk, IsTrue, OnErr, OnOk, bytes_eq, length, map, position, true};
+ghost use Rattle.std.specs.Prelude.{◌≡◌, ◌≢◌, ◌⊎◌, ◌+◌, ℕ, Bool, List, None, Option, Some, IfErr, IfOk, IsTrue, OnErr, OnOk, bytes_eq, false, length, map, position, true};
 ghost use Rattle.std.specs.Io.KnownBytes.{Appends};
+ghost use Rattle.lf_command.specs.declared.command.LegalCells.TheVariants.{Stay};
 ghost use Rattle.lf_def.specs.Document.{Document};
 ghost use Rattle.lf_files.specs.Shelf.{Put};
 ghost use Rattle.lf_floorplan.specs.declared.place.Place.{Place};
@@ -10,13 +11,15 @@ ghost use Rattle.lf_rules.specs.Legalizer.{Legalizer};
 ghost use Rattle.lf_teams.specs.Designs.{opening};
 ghost use Rattle.lf_teams.specs.Places.{AreCommittedPlaces};
 ghost use Rattle.lf_teams.specs.States.{FloorState};
+ghost use Rattle.lf_teams.specs.Teams.{state_of, team_number};
 ghost use Rattle.lf_write.specs.Export.{CanBeRenewed, clause_of};
-ghost use Rattle.lf_mend.specs.Mending.{ChangesOnly};
+ghost use Rattle.lf_mend.specs.Mending.{ChangesOnly, LegalStay};
+ghost use Rattle.lf_mend.specs.declared.start.How.TheVariants.{Keep};
 ghost use Rattle.lf_app.specs.declared.faults.Fault.TheVariants.{NoMemory, Output};
 ghost use Rattle.lf_app.specs.Designs.{IsKept};
 ghost use Rattle.lf_app.specs.Exits.{IsExported, IsNotPut, IsNotRepaired, IsOpenRepaired, IsPut, IsRepaired, IsUnrepaired};
 ghost use Rattle.lf_app.specs.Faults.{BlamesOutputs, ExportFails, IsDone, IsExportFault, IsLinesFileFault};
-ghost use Rattle.lf_app.specs.Repairs.{IsJudged, IsKeptRun, IsListed, IsUnknown, OnlyAsked, begun_lines, is_asked, kept_text};
+ghost use Rattle.lf_app.specs.Repairs.{AllLegalStay, AreKnown, IsJudged, IsKeptRun, IsListed, IsUnknown, OnlyAsked, begun_lines, is_asked, kept_text};
 ghost use Rattle.lf_app.specs.Work.{path_of};
 
 use crate::exported::{export_to, try_export};
@@ -56,10 +59,12 @@ pub(crate) struct RepairAsked<'a> {
 }
 
 /// Which of a team's cells may be moved.
-fn how_of(legal: LegalCells) -> How {
+fn how_of(legal: LegalCells) -> How
+    ensures { legal ≡ Stay → result ≡ Keep }
+{
     match legal {
         LegalCells::Stay => How::Keep,
-        LegalCells::MoveAsNeeded => How::Keep,
+        LegalCells::MoveAsNeeded => How::AsNeeded,
         LegalCells::Move => How::All,
     }
 }
@@ -81,12 +86,24 @@ fn is_asked(teams: &[&str], name: &[u8]) -> bool
     position_of(teams, name).is_some()
 }
 
+/// Whether the name is that of a team.
+fn is_known(floor: &Floor<IndexSeeker>, name: &[u8]) -> bool
+    ensures known { IsTrue result → team_number floor.now.frame name.now ≢ None }
+    ensures unknown { result ≡ false → team_number floor.now.frame name.now ≡ None }
+{
+    match floor.number_of(name) {
+        Some(_) => true,
+        None => false,
+    }
+}
+
 /// Makes sure that each of the names is that of a team.
 fn all_known<'a>(floor: &Floor<IndexSeeker>, teams: &'a [&'a str]) -> Result<(), Fault<'a>>
-    ensures { IfErr result (IsUnknown floor.now.frame (map (λ team. team.now) teams.now)) }
+    ensures ok { OnOk result (AreKnown floor.now.frame (map (λ team. team.now) teams.now)) }
+    ensures err { IfErr result (IsUnknown floor.now.frame (map (λ team. team.now) teams.now)) }
 {
     for team in teams {
-        if floor.number_of(team.as_bytes()).is_none() {
+        if !is_known(floor, team.as_bytes()) {
             return Err(Fault::NoTeam(team));
         }
     }
@@ -104,6 +121,7 @@ fn repair_named<'f>(
 ) -> Result<(), Fault<'f>>
     ensures run { (l : Legalizer) → OnOk result (IsKeptRun l floor.old (kept_text lines.old) (kept_text lines.new) floor.new) }
     ensures only { ChangesOnly name.now floor.old floor.new }
+    ensures kept { how ≡ Keep → LegalStay name.now floor.old floor.new }
     ensures err { IfErr result (λ fault. fault ≡ NoMemory) }
 {
     match repair_team(alloc, floor, name, how, lines) {
@@ -123,6 +141,16 @@ fn team_name(frame: &Frame, number: usize) -> &[u8] {
     }
 }
 
+/// Whether the name is that of the team of that number.
+fn is_numbered(floor: &Floor<IndexSeeker>, name: &[u8], number: usize) -> bool
+    ensures { IsTrue result → team_number floor.now.frame name.now ≡ Some number }
+{
+    match floor.number_of(name) {
+        Some(found) => found == number,
+        None => false,
+    }
+}
+
 /// Repairs the team of that number, if it is asked for.
 #[tactic(auto, using(crate::proofs::Repairing::nothing_asked, crate::proofs::Repairing::none_changes))]
 fn repair_numbered<'a>(
@@ -136,8 +164,13 @@ fn repair_numbered<'a>(
     ensures run { (l : Legalizer) → OnOk result (IsKeptRun l floor.old (kept_text lines.old) (kept_text lines.new) floor.new) }
     ensures only { OnOk result (OnlyAsked (map (λ team. team.now) asked.now.teams.now) floor.old floor.new) }
     ensures err { IfErr result (λ fault. fault ≡ NoMemory) }
+    ensures kept { asked.now.legal ≡ Stay → (team : List ℕ) → team_number floor.old.frame team ≡ Some number → LegalStay team floor.old floor.new }
+    ensures others { (team : List ℕ) → team_number floor.old.frame team ≢ Some number → state_of floor.new team ≡ state_of floor.old team }
 {
     let name = Vec::from_slice(alloc, team_name(floor.placement().frame(), number))?;
+    if !is_numbered(floor, &name, number) {
+        return Ok(());
+    }
     if !is_asked(asked.teams, &name) {
         return Ok(());
     }
@@ -154,6 +187,7 @@ fn repair_teams<'a>(
 ) -> Result<(), Fault<'a>>
     ensures run { (l : Legalizer) → OnOk result (IsKeptRun l floor.old (kept_text lines.old) (kept_text lines.new) floor.new) }
     ensures only { OnOk result (OnlyAsked (map (λ team. team.now) asked.now.teams.now) floor.old floor.new) }
+    ensures kept { asked.now.legal ≡ Stay → OnOk result (AllLegalStay floor.old floor.new) }
     ensures err { IfErr result (λ fault. fault ≡ NoMemory) }
 {
     let teams = floor.placement().frame().teams.len() + 1;
@@ -205,6 +239,7 @@ fn repaired<'a>(
     requires { length floor.old.teams ≡ length floor.old.frame.teams + 1 }
     ensures run { (l : Legalizer) → IfOk result (λ done. IsKeptRun l floor.old (begun_lines (path_of asked.now.lines)) (kept_text done.lines) floor.new) }
     ensures only { OnOk result (OnlyAsked (map (λ team. team.now) asked.now.teams.now) floor.old floor.new) }
+    ensures kept { asked.now.legal ≡ Stay → OnOk result (AllLegalStay floor.old floor.new) }
     ensures judged { IfOk result (λ done. IsJudged floor.new done.status) }
     ensures err { IfErr result (λ fault. fault ≡ NoMemory) }
 {
@@ -312,7 +347,7 @@ fn repair_on_floor<'a, E: Exports, W: Sink>(
     requires fits { (s : FloorState) (places : List (ℕ × Option Place)) → s.components ≡ floor.old.components → AreCommittedPlaces s places
         → CanBeRenewed original.now.text.items original.now.clauses places }
     ensures ok { (document : Document) → original.now.clauses ≡ map (clause_of original.now.text.items) document.components
-        → IfOk result (IsRepaired (map (λ team. team.now) asked.now.teams.now) (path_of asked.now.export) (path_of asked.now.lines)
+        → IfOk result (IsRepaired (map (λ team. team.now) asked.now.teams.now) asked.now.legal (path_of asked.now.export) (path_of asked.now.lines)
         original.now.text.items document floor.old (W.contents writer.old) (W.contents writer.new) (E.puts exports.old) (E.puts exports.new)) }
     ensures err { IfErr result (λ fault. IsUnrepaired (map (λ team. team.now) asked.now.teams.now) (path_of asked.now.export) (path_of asked.now.lines)
         floor.old (W.contents writer.old) (W.contents writer.new) (E.puts exports.old) (E.puts exports.new) fault
@@ -338,7 +373,7 @@ fn repair_opened<'a, E: Exports, W: Sink>(
     requires loads { (library : Contents) × (document : Document)
         × IsKept opened.original.text.items library document opened.original.clauses opened.loaded }
     ensures ok { (document : Document) → opened.original.clauses ≡ map (clause_of opened.original.text.items) document.components
-        → IfOk result (IsRepaired (map (λ team. team.now) asked.now.teams.now) (path_of asked.now.export) (path_of asked.now.lines)
+        → IfOk result (IsRepaired (map (λ team. team.now) asked.now.teams.now) asked.now.legal (path_of asked.now.export) (path_of asked.now.lines)
         opened.original.text.items document (opening opened.loaded) (W.contents writer.old) (W.contents writer.new) (E.puts exports.old) (E.puts exports.new)) }
     ensures err { IfErr result (λ fault. (((fault ≡ NoMemory) × (E.puts exports.new ≡ E.puts exports.old))
         ⊎ IsUnrepaired (map (λ team. team.now) asked.now.teams.now) (path_of asked.now.export) (path_of asked.now.lines)
@@ -365,7 +400,7 @@ pub(crate) fn repair<'a, T: Texts, E: Exports, W: Sink>(
     asked: &RepairAsked<'a>,
 ) -> Result<u8, Fault<'a>>
     ensures ok { IfOk result (IsOpenRepaired (T.gives texts.now) asked.now.def.now (map (λ lef. lef.now) asked.now.lefs.now)
-        (map (λ team. team.now) asked.now.teams.now) (path_of asked.now.export) (path_of asked.now.lines)
+        (map (λ team. team.now) asked.now.teams.now) asked.now.legal (path_of asked.now.export) (path_of asked.now.lines)
         (W.contents writer.old) (W.contents writer.new) (E.puts exports.old) (E.puts exports.new)) }
     ensures err { IfErr result (λ fault. IsNotRepaired (T.gives texts.now) asked.now.def.now (map (λ lef. lef.now) asked.now.lefs.now)
         (map (λ team. team.now) asked.now.teams.now) (path_of asked.now.export) (path_of asked.now.lines)

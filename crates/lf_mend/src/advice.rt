@@ -2,7 +2,7 @@
 
 use crate::deeds::{Deed, Step};
 use crate::ground::{Area, Owner, Taken, coordinate, land_of, take_area, take_soft};
-use crate::start::Start;
+use crate::start::Go;
 use lf_cells::CellId;
 use lf_floor::Floor;
 use lf_floorplan::{Frame, Macro, Place};
@@ -47,13 +47,25 @@ fn length_of(frame: &Frame, micros: i64) -> i64 {
     micros.saturating_mul(frame.header.units as i64) / 1_000_000
 }
 
-/// The cell as one that may move; none if it is held fast.
-fn loose_cell<'a>(placement: &'a Placement, start: &Start, id: CellId) -> Option<Loose<'a>> {
+/// How wide a cell is, in database units.
+pub(crate) fn width_of(placement: &Placement, id: CellId) -> i64 {
     let frame = placement.frame();
-    if *start.marks.get(id.own as usize)? {
+    let Some(facts) = placement.cells().cell(id) else {
+        return 0;
+    };
+    match frame.macros.as_slice().get(facts.mac) {
+        Some(mac) => length_of(frame, mac.size.x),
+        None => 0,
+    }
+}
+
+/// The cell as one that may move; none if it is held fast.
+fn loose_cell<'a>(placement: &'a Placement, go: &Go, id: CellId) -> Option<Loose<'a>> {
+    let frame = placement.frame();
+    if *go.marks.get(id.own as usize)? {
         return None;
     }
-    let home = *start.homes.get(id.own as usize)?;
+    let home = *go.homes.get(id.own as usize)?;
     let facts = placement.cells().cell(id)?;
     let mac = frame.macros.as_slice().get(facts.mac)?;
     Some(Loose {
@@ -114,14 +126,14 @@ fn lift(
     alloc: Global,
     placement: &Placement,
     number: usize,
-    start: &Start,
+    go: &Go,
 ) -> Result<Vec<Deed>, AllocError> {
     let mut deeds = Vec::new(alloc);
     for id in placement.cells().cells_of(number) {
-        if let Some(cell) = loose_cell(placement, start, *id) {
-            if cell.home.is_some() {
+        if let Some(cell) = loose_cell(placement, go, *id) {
+            if placement.cells().working(*id).is_some() {
                 deeds.push(Deed {
-                    own: id.own,
+                    own: cell.id.own,
                     step: Step::Unplace,
                 })?;
             }
@@ -135,12 +147,12 @@ fn tall(
     alloc: Global,
     placement: &Placement,
     number: usize,
-    start: &Start,
+    go: &Go,
 ) -> Result<Vec<Deed>, AllocError> {
     let frame = placement.frame();
     let mut keys = Vec::new(alloc);
     for id in placement.cells().cells_of(number) {
-        if let Some(cell) = loose_cell(placement, start, *id) {
+        if let Some(cell) = loose_cell(placement, go, *id) {
             if frame.pitch.y < cell.height {
                 keys.push(key_of(frame, &cell))?;
             }
@@ -154,12 +166,12 @@ fn rest(
     alloc: Global,
     placement: &Placement,
     number: usize,
-    start: &Start,
+    go: &Go,
 ) -> Result<Vec<Deed>, AllocError> {
     let frame = placement.frame();
     let mut keys = Vec::new(alloc);
     for id in placement.cells().cells_of(number) {
-        if let Some(cell) = loose_cell(placement, start, *id) {
+        if let Some(cell) = loose_cell(placement, go, *id) {
             if placement.cells().working(*id).is_none() {
                 keys.push(key_of(frame, &cell))?;
             }
@@ -258,13 +270,13 @@ fn wishes_of(
     alloc: Global,
     placement: &Placement,
     owner: &Owner,
-    start: &Start,
+    go: &Go,
 ) -> Result<Wishes, AllocError> {
     let frame = placement.frame();
     let mut ids = Vec::new(alloc);
     let mut wishes = Vec::new(alloc);
     for id in placement.cells().cells_of(owner.team) {
-        let Some(cell) = loose_cell(placement, start, *id) else {
+        let Some(cell) = loose_cell(placement, go, *id) else {
             continue;
         };
         let Some(home) = cell.home else {
@@ -320,10 +332,10 @@ fn planned(
     alloc: Global,
     placement: &Placement,
     owner: &Owner,
-    start: &Start,
+    go: &Go,
 ) -> Result<Vec<Deed>, AllocError> {
     let frame = placement.frame();
-    let Wishes { ids, wishes } = wishes_of(alloc, placement, owner, start)?;
+    let Wishes { ids, wishes } = wishes_of(alloc, placement, owner, go)?;
     let mut taken = taken_of(alloc, placement, owner)?;
     let land = land_of(alloc, &placement.plan(), frame, owner, &mut taken)?;
     let spots = plan_cells(alloc, &land, wishes.as_slice(), &STEPS)?;
@@ -333,7 +345,7 @@ fn planned(
         let Some(id) = ids.get(stop.wish) else {
             continue;
         };
-        let Some(cell) = loose_cell(placement, start, *id) else {
+        let Some(cell) = loose_cell(placement, go, *id) else {
             continue;
         };
         if let Some(place) = place_at(frame, &land, stop, &cell) {
@@ -353,15 +365,15 @@ pub(crate) fn deeds_of<S: Seeker + Drop>(
     alloc: Global,
     floor: &Floor<S>,
     number: usize,
-    start: &Start,
+    go: &Go,
     phase: Phase,
 ) -> Result<Vec<Deed>, AllocError> {
     let placement = floor.placement();
     let pad = (floor.padding_of(number).sites as i64).saturating_mul(placement.frame().pitch.x);
     match phase {
-        Phase::Lift => lift(alloc, placement, number, start),
-        Phase::Tall => tall(alloc, placement, number, start),
-        Phase::Plan => planned(alloc, placement, &Owner { team: number, pad }, start),
-        Phase::Rest => rest(alloc, placement, number, start),
+        Phase::Lift => lift(alloc, placement, number, go),
+        Phase::Tall => tall(alloc, placement, number, go),
+        Phase::Plan => planned(alloc, placement, &Owner { team: number, pad }, go),
+        Phase::Rest => rest(alloc, placement, number, go),
     }
 }

@@ -29,7 +29,7 @@ fn is_one_place(a: &Place, b: &Place) -> bool
 }
 
 /// Whether both are one place, or both none.
-fn are_alike(a: Option<Place>, b: Option<Place>) -> bool
+pub(crate) fn are_alike(a: Option<Place>, b: Option<Place>) -> bool
     ensures { IsTrue result ↔ a ≡ b }
 {
     match (a, b) {

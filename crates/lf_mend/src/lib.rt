@@ -16,6 +16,7 @@ mod deeds;
 mod found;
 mod ground;
 mod line;
+mod need;
 mod start;
 mod team;
 mod told;

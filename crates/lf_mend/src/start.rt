@@ -20,16 +20,26 @@ use std::alloc::{AllocError, Global};
 pub enum How {
     /// Those that break a rule or have no place.
     Keep,
-    /// These, and all others of one row's height.
+    /// These, and others of one row's height where one of these would be left without a place or go far.
+    AsNeeded,
+    /// Those that break a rule or have no place, and all others of one row's height.
     All,
 }
 
-/// Of a team's cells before its repair, in loading order: whether each stood legally, whether it is held fast, and where it stood.
+/// Of a team's cells in a go, in loading order: whether each is held fast, and where it is wanted.
 #[derive(Drop)]
-pub(crate) struct Start {
-    pub(crate) legal: Vec<bool>,
+pub(crate) struct Go {
     pub(crate) marks: Vec<bool>,
     pub(crate) homes: Vec<Option<Place>>,
+}
+
+/// A team before its repair: which of its cells may be moved, whether each stands legally, and the first go, in which each is wanted
+/// where it stands.
+#[derive(Drop)]
+pub(crate) struct Start {
+    pub(crate) how: How,
+    pub(crate) legal: Vec<bool>,
+    pub(crate) go: Go,
 }
 
 /// Whether all cells of the team of that name are placed and team-legal; false also if there is no such team. It allocates nothing.
@@ -77,7 +87,7 @@ fn legal_of<S: Seeker + Drop>(
 }
 
 /// Whether the cell is of several rows.
-fn is_tall(placement: &Placement, id: CellId) -> bool {
+pub(crate) fn is_tall(placement: &Placement, id: CellId) -> bool {
     let frame = placement.frame();
     let Some(facts) = placement.cells().cell(id) else {
         return false;
@@ -111,7 +121,7 @@ fn tall_of(
     Ok(marks)
 }
 
-/// The cells that are held fast: those that stand legally, or with `All` those of them that are of several rows.
+/// The cells that are held fast at first: those that stand legally, or with `All` those of them that are of several rows.
 fn marks_of(
     alloc: Global,
     placement: &Placement,
@@ -123,12 +133,13 @@ fn marks_of(
 {
     match how {
         How::Keep => copied(alloc, legal),
+        How::AsNeeded => copied(alloc, legal),
         How::All => tall_of(alloc, placement, number, legal),
     }
 }
 
 /// Where the team's cells stand.
-fn homes_of(
+pub(crate) fn homes_of(
     alloc: Global,
     placement: &Placement,
     number: usize,
@@ -152,15 +163,16 @@ pub(crate) fn start_of<S: Seeker + Drop>(
     how: How,
 ) -> Result<Start, AllocError>
     ensures marked { (team : List ℕ) → how ≡ Keep → team_number floor.now.frame team ≡ Some number
-        → IfOk result (λ start. AreMarked team floor.now start.marks.items) }
-    ensures homes { (s : TeamState) → slice_get floor.now.teams number ≡ Some s → IfOk result (λ start. AreHomes s.cells start.homes.items) }
+        → IfOk result (λ start. AreMarked team floor.now start.go.marks.items) }
+    ensures homes { (s : TeamState) → slice_get floor.now.teams number ≡ Some s → IfOk result (λ start. AreHomes s.cells start.go.homes.items) }
+    ensures how { IfOk result (λ start. start.how ≡ how) }
 {
     let legal = legal_of(alloc, floor, number)?;
     let marks = marks_of(alloc, floor.placement(), number, legal.as_slice(), how)?;
     let homes = homes_of(alloc, floor.placement(), number)?;
     Ok(Start {
+        how,
         legal,
-        marks,
-        homes,
+        go: Go { marks, homes },
     })
 }

@@ -1,6 +1,6 @@
 //! The repair of one team.
 
-ghost use Rattle.std.specs.Prelude.{◌≡◌, ◌≢◌, ◌↔◌, [], All, IfOk, OnErr, Some, true};
+ghost use Rattle.std.specs.Prelude.{◌≡◌, ◌≢◌, ◌↔◌, [], All, IfOk, OnErr, Some, false, true};
 ghost use Rattle.lf_rules.specs.Legalizer.{Legalizer};
 ghost use Rattle.lf_teams.specs.Steps.{AllCommittedIn};
 ghost use Rattle.lf_teams.specs.Teams.{team_number};
@@ -14,7 +14,8 @@ use crate::advice::{Phase, deeds_of};
 use crate::ask::{Fault, ask_and_write};
 use crate::deeds::{Seat, Texts, send_all, went_on};
 use crate::found::{Found, found_of};
-use crate::start::{How, Start, start_of};
+use crate::need::{Reach, aim_of, back_of};
+use crate::start::{Go, How, Start, start_of};
 use crate::told::{Repaired, tell};
 use lf_devices::Sink;
 use lf_floor::{Floor, look_keeps};
@@ -181,29 +182,29 @@ fn finish<S: Seeker + Drop, K: Sink>(
 /// The rounds of a repair.
 const PHASES: [Phase; 4] = [Phase::Lift, Phase::Tall, Phase::Plan, Phase::Rest];
 
-/// All rounds: what is asked in each is looked up on the floor as the round before left it.
+/// All rounds of a go: what is asked in each is looked up on the floor as the round before left it.
 fn go_round<S: Seeker + Drop, K: Sink>(
     alloc: Global,
     floor: &mut Floor<S>,
     seat: &Seat<'_>,
-    start: &Start,
+    go: &Go,
     texts: &mut Texts,
     lines: &mut K,
 ) -> Result<(), Fault>
     ensures run { (l : Legalizer) → IfOk result (λ _. IsWrittenRun l seat.now.team.now floor.old (K.contents lines.old) (K.contents lines.new) floor.new) }
     ensures err { (l : Legalizer) → OnErr result (IsCutRun l seat.now.team.now floor.old (K.contents lines.old) (K.contents lines.new) floor.new) }
     ensures only { ChangesOnly seat.now.team.now floor.old floor.new }
-    ensures marked { MarkedStay seat.now.team.now start.now.marks.items floor.old floor.new }
+    ensures marked { MarkedStay seat.now.team.now go.now.marks.items floor.old floor.new }
     ensures committed { CommittedStay seat.now.team.now floor.old floor.new }
 {
     for phase in &PHASES {
-        let Ok(deeds) = deeds_of(alloc, floor, seat.number, start, *phase) else {
+        let Ok(deeds) = deeds_of(alloc, floor, seat.number, go, *phase) else {
             return Err(Fault::OutOfMemory);
         };
         match send_all(
             floor,
             seat,
-            start.marks.as_slice(),
+            go.marks.as_slice(),
             deeds.as_slice(),
             texts,
             lines,
@@ -215,7 +216,91 @@ fn go_round<S: Seeker + Drop, K: Sink>(
     Ok(())
 }
 
-/// Opens a session, makes all rounds, and finishes.
+/// The further goes, each about more ground than the one before.
+const REACHES: [Reach; 4] = [
+    Reach::Near { rows: 2, sites: 16 },
+    Reach::Near { rows: 8, sites: 64 },
+    Reach::Near {
+        rows: 32,
+        sites: 256,
+    },
+    Reach::All,
+];
+
+/// A further go, in which legal cells may move too: its cells are lifted and planned anew. It is taken back if it has mended nothing.
+fn go_near<S: Seeker + Drop, K: Sink>(
+    alloc: Global,
+    floor: &mut Floor<S>,
+    seat: &Seat<'_>,
+    start: &Start,
+    reach: &Reach,
+    lines: &mut K,
+) -> Result<(), Fault>
+    ensures run { (l : Legalizer) → IfOk result (λ _. IsWrittenRun l seat.now.team.now floor.old (K.contents lines.old) (K.contents lines.new) floor.new) }
+    ensures err { (l : Legalizer) → OnErr result (IsCutRun l seat.now.team.now floor.old (K.contents lines.old) (K.contents lines.new) floor.new) }
+    ensures only { ChangesOnly seat.now.team.now floor.old floor.new }
+    ensures committed { CommittedStay seat.now.team.now floor.old floor.new }
+{
+    let aim = match aim_of(alloc, floor.placement(), seat.number, start, reach) {
+        Ok(Some(aim)) => aim,
+        Ok(None) => return Ok(()),
+        Err(_) => return Err(Fault::OutOfMemory),
+    };
+    let mut texts = Texts::new(alloc);
+    match go_round(alloc, floor, seat, &aim.go, &mut texts, lines) {
+        Ok(()) => {}
+        Err(fault) => return Err(fault),
+    }
+    let Ok(back) = back_of(alloc, floor.placement(), seat.number, start, &aim) else {
+        return Err(Fault::OutOfMemory);
+    };
+    send_all(
+        floor,
+        seat,
+        aim.go.marks.as_slice(),
+        back.as_slice(),
+        &mut texts,
+        lines,
+    )
+}
+
+/// Whether legal cells may move where that is needed.
+fn is_as_needed(how: How) -> bool
+    ensures { how ≡ Keep → result ≡ false }
+{
+    match how {
+        How::AsNeeded => true,
+        _ => false,
+    }
+}
+
+/// The further goes, where legal cells may move as needed; else nothing is asked.
+fn go_further<S: Seeker + Drop, K: Sink>(
+    alloc: Global,
+    floor: &mut Floor<S>,
+    seat: &Seat<'_>,
+    start: &Start,
+    lines: &mut K,
+) -> Result<(), Fault>
+    ensures run { (l : Legalizer) → IfOk result (λ _. IsWrittenRun l seat.now.team.now floor.old (K.contents lines.old) (K.contents lines.new) floor.new) }
+    ensures err { (l : Legalizer) → OnErr result (IsCutRun l seat.now.team.now floor.old (K.contents lines.old) (K.contents lines.new) floor.new) }
+    ensures only { ChangesOnly seat.now.team.now floor.old floor.new }
+    ensures kept { start.now.how ≡ Keep → floor.new ≡ floor.old }
+    ensures committed { CommittedStay seat.now.team.now floor.old floor.new }
+{
+    if !is_as_needed(start.how) {
+        return Ok(());
+    }
+    for reach in &REACHES {
+        match go_near(alloc, floor, seat, start, reach, lines) {
+            Ok(()) => {}
+            Err(fault) => return Err(fault),
+        }
+    }
+    Ok(())
+}
+
+/// Opens a session, makes all goes, and finishes.
 fn work<S: Seeker + Drop, K: Sink>(
     alloc: Global,
     floor: &mut Floor<S>,
@@ -228,9 +313,9 @@ fn work<S: Seeker + Drop, K: Sink>(
     ensures run { (l : Legalizer) → IfOk result (λ _. IsWrittenRun l team.now floor.old (K.contents lines.old) (K.contents lines.new) floor.new) }
     ensures err { (l : Legalizer) → OnErr result (IsCutRun l team.now floor.old (K.contents lines.old) (K.contents lines.new) floor.new) }
     ensures only { ChangesOnly team.now floor.old floor.new }
-    ensures marked { MarkedStay team.now start.now.marks.items floor.old floor.new }
-    ensures changed { IfOk result (λ found. StandHomeBut team.now start.now.homes.items floor.new found.changed.items) }
-    ensures moved { IfOk result (λ found. StandElsewhere team.now start.now.homes.items floor.new found.changed.items) }
+    ensures marked { start.now.how ≡ Keep → MarkedStay team.now start.now.go.marks.items floor.old floor.new }
+    ensures changed { IfOk result (λ found. StandHomeBut team.now start.now.go.homes.items floor.new found.changed.items) }
+    ensures moved { IfOk result (λ found. StandElsewhere team.now start.now.go.homes.items floor.new found.changed.items) }
     ensures named { IfOk result (λ found. AreLegalBut team.now floor.new found.left.items) }
     ensures illegal { IfOk result (λ found. All (λ own. IsLeftIn floor.new team.now own) found.left.items) }
     ensures committed { (l : Legalizer) → IfOk result (λ found. found.left.items ≡ [] → AllCommittedIn l floor.new team.now) }
@@ -246,7 +331,11 @@ fn work<S: Seeker + Drop, K: Sink>(
         number,
         session,
     };
-    match go_round(alloc, floor, &seat, start, &mut texts, lines) {
+    match go_round(alloc, floor, &seat, &start.go, &mut texts, lines) {
+        Ok(()) => {}
+        Err(fault) => return Err(fault),
+    }
+    match go_further(alloc, floor, &seat, start, lines) {
         Ok(()) => {}
         Err(fault) => return Err(fault),
     }
@@ -254,13 +343,14 @@ fn work<S: Seeker + Drop, K: Sink>(
         alloc,
         floor,
         &seat,
-        start.homes.as_slice(),
+        start.go.homes.as_slice(),
         &mut texts,
         lines,
     )
 }
 
-/// Repairs a team: its cells that break a rule or have no place go to legal places; with `All` other cells may be moved too.
+/// Repairs a team: its cells that break a rule or have no place go to legal places; with `All` other cells may be moved too, and with
+/// `AsNeeded` where one of these would be left without a place or go far.
 ///
 /// Each command is asked of the floor, and its line is written exactly if the floor accepts it; where a line can name the team, each
 /// line reads as its command. With `Keep` cells that stand legally stay, whatever comes of the repair; those that stand otherwise at

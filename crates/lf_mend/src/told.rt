@@ -2,7 +2,7 @@
 
 ghost use Rattle.std.specs.Prelude.{◌≡◌};
 
-use crate::found::Found;
+use crate::found::{Found, are_alike};
 use crate::start::Start;
 use lf_floor::Floor;
 use lf_floorplan::Place;
@@ -20,6 +20,8 @@ pub struct Repaired {
     pub moved: u32,
     /// How many had no place and have one now.
     pub placed: u32,
+    /// How many of those that stood legally stand otherwise now.
+    pub pushed: u32,
     /// How many had a place and face otherwise now.
     pub turned: u32,
     /// The ways of all cells together; the greatest number stands for a sum past it.
@@ -38,20 +40,16 @@ fn way(from: &Place, to: &Place) -> u64 {
 }
 
 /// Counts a cell that had a place and has one now.
-fn tell_moved(home: &Place, now: &Place, stood: bool, told: &mut Repaired)
+fn tell_moved(home: &Place, now: &Place, told: &mut Repaired)
     ensures changed { told.new.changed ≡ told.old.changed }
     ensures left { told.new.left ≡ told.old.left }
 {
     let far = way(home, now);
-    let turned = home.orient != now.orient;
     if 0 < far {
         told.moved = told.moved.saturating_add(1);
     }
-    if turned {
+    if home.orient != now.orient {
         told.turned = told.turned.saturating_add(1);
-    }
-    if far == 0 && !turned && stood {
-        told.kept = told.kept.saturating_add(1);
     }
     told.total = told.total.saturating_add(far);
     told.largest = told.largest.max(far);
@@ -64,9 +62,13 @@ fn tell_cell(home: Option<Place>, now: Option<Place>, stood: bool, told: &mut Re
 {
     if !stood {
         told.cells = told.cells.saturating_add(1);
+    } else if are_alike(home, now) {
+        told.kept = told.kept.saturating_add(1);
+    } else {
+        told.pushed = told.pushed.saturating_add(1);
     }
     match (home, now) {
-        (Some(home), Some(now)) => tell_moved(&home, &now, stood, told),
+        (Some(home), Some(now)) => tell_moved(&home, &now, told),
         (None, Some(_)) => told.placed = told.placed.saturating_add(1),
         _ => {}
     }
@@ -88,6 +90,7 @@ pub(crate) fn tell<S: Seeker + Drop>(
         kept: 0,
         moved: 0,
         placed: 0,
+        pushed: 0,
         turned: 0,
         total: 0,
         largest: 0,
@@ -98,7 +101,7 @@ pub(crate) fn tell<S: Seeker + Drop>(
     for (id, (home, stood)) in cells
         .cells_of(number)
         .iter()
-        .zip(start.homes.iter().zip(start.legal.iter()))
+        .zip(start.go.homes.iter().zip(start.legal.iter()))
     {
         tell_cell(*home, cells.working(*id), *stood, &mut told);
     }

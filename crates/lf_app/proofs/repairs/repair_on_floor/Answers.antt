@@ -20,8 +20,10 @@ returns-clause-ok g c = λ document kept.
     (λ status is put. record {
       floor = floor;
       kept = lines;
+      known = c.in_ok-all_known.ensures.ok;
       run = λ l. c.in_ok-done.ensures.run l;
       only = c.in_ok-done.ensures.only;
+      stay = λ to_stay. c.in_ok-done.ensures.kept to_stay;
       put = subst (λ (puts : Option (List Put)). IsPut (path_of asked.export) (path_of asked.lines) c.args.original.now.text.items document floor lines
           (g.W.Sink.contents c.args.writer.now) (g.W.Sink.contents c.put_all.new.writer) puts (g.E.Exports.puts c.put_all.new.exports)) c.try_files.ensures.unput put;
       judged = subst (λ (n : ℕ). IsJudged floor n) (sym is) c.in_ok-done.ensures.judged;
@@ -46,7 +48,7 @@ returns-clause-err g c =
 pub returns-in_err-all_known-clause-err : goal.returns-in_err-all_known-clause-err
 returns-in_err-all_known-clause-err g c =
     let p = err_from_is_err_and c.from_residual.result c.from_residual.ensures.1 in
-    let unknown = c.in_err-all_known.ensures in
+    let unknown = c.in_err-all_known.ensures.err in
     rw (p.1, p.2) (
       untouched _ _ _ c.args.floor.now _ _ _ _ refl (inl unknown),
       early_blames _ _ _ _ _ _ _ refl (refl, refl) (unknown_early c.args.floor.now.frame (map (λ team. team.now) c.args.asked.now.teams.now) _ unknown),

@@ -10,13 +10,13 @@ items_same v w same = ap (λ (u : Vec ℕ Global). u.items) same
 
 pub returns-in-Ok-work-clause-kept : goal.returns-in-Ok-work-clause-kept
 returns-in-Ok-work-clause-kept g c = λ keep.
-    legal_stay c.args.team.now c.in-Ok.start.marks.items c.args.floor.now c.work.new.floor
-    (c.in-Ok.ensures.marked c.args.team.now keep (sym c.number_of.ensures ∙ c.in-Some.is)) c.in-Ok-work.ensures.marked
+    legal_stay c.args.team.now c.in-Ok.start.go.marks.items c.args.floor.now c.work.new.floor
+    (c.in-Ok.ensures.marked c.args.team.now keep (sym c.number_of.ensures ∙ c.in-Some.is)) (c.in-Ok-work.ensures.marked (c.in-Ok.ensures.how ∙ keep))
 
 pub returns-clause-kept : goal.returns-clause-kept
 returns-clause-kept g c = λ keep.
-    legal_stay c.args.team.now c.in-Ok.start.marks.items c.args.floor.now c.work.new.floor
-    (c.in-Ok.ensures.marked c.args.team.now keep (sym c.number_of.ensures ∙ c.in-Some.is)) c.in-Err.ensures.marked
+    legal_stay c.args.team.now c.in-Ok.start.go.marks.items c.args.floor.now c.work.new.floor
+    (c.in-Ok.ensures.marked c.args.team.now keep (sym c.number_of.ensures ∙ c.in-Some.is)) (c.in-Err.ensures.marked (c.in-Ok.ensures.how ∙ keep))
 
 pub returns-in-Ok-work-clause-changed : goal.returns-in-Ok-work-clause-changed
 returns-in-Ok-work-clause-changed g c =
@@ -24,7 +24,7 @@ returns-in-Ok-work-clause-changed g c =
     let old = c.args.floor.now in
     let new = c.work.new.floor in
     subst (λ (xs : List ℕ). OnlyMove team old new xs) (sym (items_same c.tell.result.changed c.in-Ok-work.found.changed c.tell.ensures.changed))
-    (only_move team old new c.in-Some.number c.in-Ok.start.homes.items c.in-Ok-work.found.changed.items (sym c.number_of.ensures ∙ c.in-Some.is) c.in-Ok.ensures.homes
+    (only_move team old new c.in-Some.number c.in-Ok.start.go.homes.items c.in-Ok-work.found.changed.items (sym c.number_of.ensures ∙ c.in-Some.is) c.in-Ok.ensures.homes
     c.in-Ok-work.ensures.only.names c.in-Ok-work.ensures.changed)
 
 pub returns-in-Ok-work-clause-moved : goal.returns-in-Ok-work-clause-moved
@@ -33,7 +33,7 @@ returns-in-Ok-work-clause-moved g c =
     let old = c.args.floor.now in
     let new = c.work.new.floor in
     subst (λ (xs : List ℕ). AllMove team old new xs) (sym (items_same c.tell.result.changed c.in-Ok-work.found.changed c.tell.ensures.changed))
-    (all_move team old new c.in-Some.number c.in-Ok.start.homes.items c.in-Ok-work.found.changed.items (sym c.number_of.ensures ∙ c.in-Some.is) c.in-Ok.ensures.homes
+    (all_move team old new c.in-Some.number c.in-Ok.start.go.homes.items c.in-Ok-work.found.changed.items (sym c.number_of.ensures ∙ c.in-Some.is) c.in-Ok.ensures.homes
     c.in-Ok-work.ensures.only.names c.in-Ok-work.ensures.moved)
 
 pub returns-in-Ok-work-clause-named : goal.returns-in-Ok-work-clause-named

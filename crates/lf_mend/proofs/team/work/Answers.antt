@@ -13,25 +13,37 @@ returns-in-Err-go_round-clause-err g c = λ l.
     then_cut l c.args.team.now c.args.floor.now c.open.new.floor c.go_round.new.floor (g.K.Sink.contents c.args.lines.now) (g.K.Sink.contents c.open.new.lines)
     (g.K.Sink.contents c.go_round.new.lines) (c.in-Ok.ensures.run l) (c.in-Err-go_round.ensures.err l)
 
+pub returns-in-Err-go_further-clause-err : goal.returns-in-Err-go_further-clause-err
+returns-in-Err-go_further-clause-err g c = λ l.
+    let team = c.args.team.now in
+    then_cut l team c.args.floor.now c.go_round.new.floor c.go_further.new.floor (g.K.Sink.contents c.args.lines.now) (g.K.Sink.contents c.go_round.new.lines)
+    (g.K.Sink.contents c.go_further.new.lines)
+    (then_written l team c.args.floor.now c.open.new.floor c.go_round.new.floor (g.K.Sink.contents c.args.lines.now) (g.K.Sink.contents c.open.new.lines)
+    (g.K.Sink.contents c.go_round.new.lines) (c.in-Ok.ensures.run l) (c.in-Ok-go_round.ensures.run l)) (c.in-Err-go_further.ensures.err l)
+
 pub returns-clause-run : goal.returns-clause-run
 returns-clause-run g c = λ l.
     let team = c.args.team.now in
-    ok_then c.finish.result (IsWrittenRun l team c.go_round.new.floor (g.K.Sink.contents c.go_round.new.lines) (g.K.Sink.contents c.finish.new.lines) c.finish.new.floor)
+    ok_then c.finish.result (IsWrittenRun l team c.go_further.new.floor (g.K.Sink.contents c.go_further.new.lines) (g.K.Sink.contents c.finish.new.lines) c.finish.new.floor)
     (IsWrittenRun l team c.args.floor.now (g.K.Sink.contents c.args.lines.now) (g.K.Sink.contents c.finish.new.lines) c.finish.new.floor)
-    (λ last. then_written l team c.args.floor.now c.go_round.new.floor c.finish.new.floor (g.K.Sink.contents c.args.lines.now) (g.K.Sink.contents c.go_round.new.lines)
+    (λ last. then_written l team c.args.floor.now c.go_further.new.floor c.finish.new.floor (g.K.Sink.contents c.args.lines.now) (g.K.Sink.contents c.go_further.new.lines)
     (g.K.Sink.contents c.finish.new.lines)
+    (then_written l team c.args.floor.now c.go_round.new.floor c.go_further.new.floor (g.K.Sink.contents c.args.lines.now) (g.K.Sink.contents c.go_round.new.lines)
+    (g.K.Sink.contents c.go_further.new.lines)
     (then_written l team c.args.floor.now c.open.new.floor c.go_round.new.floor (g.K.Sink.contents c.args.lines.now) (g.K.Sink.contents c.open.new.lines)
-    (g.K.Sink.contents c.go_round.new.lines) (c.in-Ok.ensures.run l) (c.in-Ok-go_round.ensures.run l)) last) (c.finish.ensures.run l)
+    (g.K.Sink.contents c.go_round.new.lines) (c.in-Ok.ensures.run l) (c.in-Ok-go_round.ensures.run l)) (c.in-Ok-go_further.ensures.run l)) last) (c.finish.ensures.run l)
 
 pub returns-clause-err : goal.returns-clause-err
 returns-clause-err g c = λ l.
     let team = c.args.team.now in
-    err_then c.finish.result (IsCutRun l team c.go_round.new.floor (g.K.Sink.contents c.go_round.new.lines) (g.K.Sink.contents c.finish.new.lines) c.finish.new.floor)
+    err_then c.finish.result (IsCutRun l team c.go_further.new.floor (g.K.Sink.contents c.go_further.new.lines) (g.K.Sink.contents c.finish.new.lines) c.finish.new.floor)
     (IsCutRun l team c.args.floor.now (g.K.Sink.contents c.args.lines.now) (g.K.Sink.contents c.finish.new.lines) c.finish.new.floor)
-    (λ last. then_cut l team c.args.floor.now c.go_round.new.floor c.finish.new.floor (g.K.Sink.contents c.args.lines.now) (g.K.Sink.contents c.go_round.new.lines)
+    (λ last. then_cut l team c.args.floor.now c.go_further.new.floor c.finish.new.floor (g.K.Sink.contents c.args.lines.now) (g.K.Sink.contents c.go_further.new.lines)
     (g.K.Sink.contents c.finish.new.lines)
+    (then_written l team c.args.floor.now c.go_round.new.floor c.go_further.new.floor (g.K.Sink.contents c.args.lines.now) (g.K.Sink.contents c.go_round.new.lines)
+    (g.K.Sink.contents c.go_further.new.lines)
     (then_written l team c.args.floor.now c.open.new.floor c.go_round.new.floor (g.K.Sink.contents c.args.lines.now) (g.K.Sink.contents c.open.new.lines)
-    (g.K.Sink.contents c.go_round.new.lines) (c.in-Ok.ensures.run l) (c.in-Ok-go_round.ensures.run l)) last) (c.finish.ensures.err l)
+    (g.K.Sink.contents c.go_round.new.lines) (c.in-Ok.ensures.run l) (c.in-Ok-go_round.ensures.run l)) (c.in-Ok-go_further.ensures.run l)) last) (c.finish.ensures.err l)
 
 pub returns-clause-changed : goal.returns-clause-changed
 returns-clause-changed g c =
@@ -46,7 +58,8 @@ returns-clause-moved g c =
 pub returns-clause-uncommitted : goal.returns-clause-uncommitted
 returns-clause-uncommitted g c =
     let team = c.args.team.now in
-    ok_weaker c.finish.result (λ found. found.left.items ≢ [] → CommittedStay team c.go_round.new.floor c.finish.new.floor)
+    ok_weaker c.finish.result (λ found. found.left.items ≢ [] → CommittedStay team c.go_further.new.floor c.finish.new.floor)
     (λ found. found.left.items ≢ [] → CommittedStay team c.args.floor.now c.finish.new.floor)
-    (λ found stay some. stay some ∙ c.in-Ok-go_round.ensures.committed ∙ same_committed team c.args.floor.now c.open.new.floor c.in-Ok.ensures.cells)
+    (λ found stay some. stay some ∙ c.in-Ok-go_further.ensures.committed ∙ c.in-Ok-go_round.ensures.committed
+    ∙ same_committed team c.args.floor.now c.open.new.floor c.in-Ok.ensures.cells)
     c.finish.ensures.uncommitted

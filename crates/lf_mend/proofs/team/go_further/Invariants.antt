@@ -1,0 +1,12 @@
+use Rattle.lf_rules.specs.Legalizer.{Legalizer}
+use Rattle.lf_mend.specs.Deeds.{CommittedStay}
+use Rattle.lf_mend.specs.Mending.{ChangesOnly}
+use Rattle.lf_mend.specs.Runs.{IsWrittenRun}
+use Rattle.lf_mend.proofs.team.go_further.Given as goal
+
+abbrev pub invariant-loop-reach : goal.invariant-loop-reach
+invariant-loop-reach g l = record {
+  run : (lz : Legalizer) → IsWrittenRun lz l.seat.team.now l.fn.floor (g.K.Sink.contents l.fn.lines) (g.K.Sink.contents l.lines) l.floor;
+  only : ChangesOnly l.seat.team.now l.fn.floor l.floor;
+  committed : CommittedStay l.seat.team.now l.fn.floor l.floor;
+}
