@@ -63,7 +63,7 @@ pub use lf_devices::{FromRead, ToWrite};
 pub use lf_files::FileExports;
 pub use lf_server::{Acceptor, ClientReader, ClientWriter, Connection, Offer};
 pub use lines::answer_lines;
-pub use refusals::{Refusal, StateRefusal};
+pub use refusals::{FenceLine, Refusal, StateRefusal};
 pub use services::{NetServices, Services, Unbound};
 pub use surroundings::Surroundings;
 pub use tasks::{perform, perform_over};
