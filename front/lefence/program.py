@@ -35,7 +35,8 @@ def find_program(given: str | None) -> str:
     """The path of the program: the one given, else `lefence` of the search path, else that of the repository around this."""
     found = shutil.which(given or "lefence") or (str(_BUILT) if not given and os.access(_BUILT, os.X_OK) else None)
     if found is None:
-        raise Fault(USAGE, f"{given or 'lefence'}: no such program; --program PATH says where it is")
+        built = "" if given else "./lefence of the repository builds it, "
+        raise Fault(USAGE, f"{given or 'lefence'}: no such program; {built}--program PATH says where it is")
     return os.path.abspath(found)
 
 

@@ -48,8 +48,9 @@ example:
 
 const DESCRIBE: &str = "lefence describe DEF LEF... [--state FILE]
 
-Writes the design as JSON Lines: rows, fences, obstacles, cells with boxes and broken rules. With --state, each cell
-stands where the state that was saved to FILE has it at work.
+Writes the design as JSON Lines: rows, fences, obstacles, cells with boxes and broken rules. The exit status is 0 if
+the design is fully legal, and 4 if it is not. With --state, each cell stands where the state that was saved to FILE
+has it at work.
 
 example:
   lefence describe chip.def tech.lef cells.lef > chip.jsonl
