@@ -1,21 +1,16 @@
 -- Copies of designs: what the cells of one keep wherever they stand.
 use Rattle.std.proofs.Common.{◌≡◌, ◌≢◌, ◌∙◌, ℕ, zero, suc, ◌+◌, ◌<◌, ◌≤◌, List, [], ◌∷◌, ◌++◌, length, map, drop, Option, None, Some, refl, ap, sym, subst, arith}
 use Rattle.std.specs.Prelude.{All, AllPairs, IsSome, slice_get, option_map}
-use Rattle.std.specs.Option.{ForSome, option_and_then}
 use Rattle.std.specs.Borrow.{Bor}
 use Rattle.std.proofs.lemmas.List.{length-map}
 use Rattle.std.proofs.lemmas.List.Elements.{All-cons, All-head, All-map, All-nil, All-tail}
 use Rattle.std.proofs.lemmas.List.Kept.{AllPairs-cons}
-use Rattle.lf_floorplan.specs.declared.cells.CellParts.{CellParts}
 use Rattle.lf_floorplan.specs.declared.frame.Frame.{Frame}
 use Rattle.lf_floorplan.specs.declared.loaded.Cell.{Cell}
 use Rattle.lf_floorplan.specs.declared.macros.Macro.{Macro}
-use Rattle.lf_floorplan.specs.declared.place.Place.{Place}
 use Rattle.lf_floorplan.specs.Boxes.{IsSized}
 use Rattle.lf_floorplan.specs.Design.{CellsNamed, IsCell, MakeDesign}
-use Rattle.lf_cells.specs.declared.cell.CellId.{CellId}
-use Rattle.lf_cells.specs.Cells.{Cells, cell_named, cells_of, working_at}
-use Rattle.lf_app.specs.Standing.{place_named}
+use Rattle.lf_cells.specs.Cells.{Cells}
 use Rattle.lf_app.specs.Twins.{AreTwins, moved_by}
 
 -- ---- lists
@@ -113,12 +108,6 @@ moved_one (Some table) c = record { name = refl; team = refl; mac = refl; compon
 pub moved_none : (cells : List Cell) → map (moved_by None) cells ≡ cells
 moved_none [] = refl
 moved_none (c ∷ cells) = ap (λ (cs : List Cell). c ∷ cs) (moved_none cells)
-
--- the place that is looked up of a cell that is found
-pub found_place : (table : Cells) (team : ℕ) (name : List ℕ) (id : CellId) → ◌≡◌ {A = Option ℕ} (Some id.own) (cell_named name (cells_of table team)) → id.team ≡ team
-    → working_at (cells_of table id.team) id.own ≡ place_named name (cells_of table team)
-found_place table team name id is of =
-    ap (λ (t : ℕ). working_at (cells_of table t) id.own) of ∙ ap (λ (o : Option ℕ). option_and_then (working_at (cells_of table team)) o) is
 
 -- ---- frames
 

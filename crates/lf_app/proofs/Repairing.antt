@@ -158,10 +158,10 @@ one_more_stayed old mid new number frame stayed stay others = record {
 pub all_stayed : (old new : FloorState) (count : ℕ) → HaveStayed old new count → AllLegalStay old new
 all_stayed old new count stayed team own legal = ⊎_elim (λ (less : legal.number < count). stayed.done team legal.number legal.named less own legal)
     (λ (more : count ≤ legal.number). place_same old new team own (stayed.rest team legal.number legal.named more)) (below legal.number count) where
-  below : (a b : ℕ) → (a < b) ⊎ (b ≤ a)
-  below a zero = inr (omega arith)
-  below zero (suc b) = inl (omega arith)
-  below (suc a) (suc b) = ⊎_elim (λ (less : a < b). inl (omega (arith, less))) (λ (more : b ≤ a). inr (omega (arith, more))) (below a b)
+      below : (a b : ℕ) → (a < b) ⊎ (b ≤ a)
+      below a zero = inr (omega arith)
+      below zero (suc b) = inl (omega arith)
+      below (suc a) (suc b) = ⊎_elim (λ (less : a < b). inl (omega (arith, less))) (λ (more : b ≤ a). inr (omega (arith, more))) (below a b)
 
 -- ---- names
 

@@ -216,14 +216,6 @@ text_refused library path text document fault is refused =
     refused_as Def path text (IsLoadRefusal library document) (IsDefRefusal library text) fault refused
     (λ refusal met why. load_refused library text document refusal met is why)
 
--- why the design of a text is not described is why that of its document is not
-pub text_fails : (library : Contents) (path text : List ℕ) (document : Document) (why : Document → Loaded → Type 0) (fault : Fault) → document_of text ≡ Ok document
-    → IsRefused Def path text (IsLoadRefusal library document) fault ⊎ ((loaded : Loaded) × IsLoadedIn library document loaded × why document loaded)
-    → IsRefused Def path text (IsDefRefusal library text) fault
-    ⊎ ((d : Document) × (document_of text ≡ Ok d) × ((loaded : Loaded) × IsLoadedIn library d loaded × why d loaded))
-text_fails library path text document why fault is (inl refused) = inl (text_refused library path text document fault is refused)
-text_fails library path text document why fault is (inr work) = inr (document, is, work)
-
 -- the same of a file with this text
 pub file_fails : (gives : Gives) (path : List ℕ) (library : Contents) (text : List ℕ) (why : Document → Loaded → Type 0) (fault : Fault) → gives path (Some text)
     → IsRefused Def path text (IsDefRefusal library text) fault
