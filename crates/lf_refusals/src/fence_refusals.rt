@@ -122,7 +122,7 @@ fn do_rects_meet(first: &[Rect], second: &[Rect]) -> bool
 }
 
 /// Whether a point lies in rectangles of both regions.
-fn do_regions_meet(first: &Region, second: &Region) -> bool
+pub(crate) fn do_regions_meet(first: &Region, second: &Region) -> bool
     ensures { IsTrue result ↔ SharePoint first.now.rects second.now.rects }
 {
     do_rects_meet(first.rects.as_slice(), second.rects.as_slice())
