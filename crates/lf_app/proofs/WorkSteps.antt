@@ -11,8 +11,9 @@ use Rattle.lf_app.specs.declared.faults.Fault.{Fault}
 use Rattle.lf_app.specs.declared.faults.Fault.TheVariants.{Refused, File, NoState, NoTeam, ReadFault, WriteFault, TooManyLines, OutOfMemory, Output, Bind, Accept, Unwritten, Unsaved, Unlisted, NoMemory, NoRoom}
 use Rattle.lf_app.specs.declared.faults.TextKind.{TextKind}
 use Rattle.lf_app.specs.declared.faults.TextKind.TheVariants.{Lef, Def, State}
-use Rattle.lf_app.specs.Designs.{Gives, IsDefRefusal, IsDesignFault, IsDesignOf, IsFileFault, IsLefRefusal, IsLibraryFault, IsLibraryOf}
-use Rattle.lf_app.specs.Designs.{IsLoadRefusal, IsLoadedIn, IsRefused, IsUnread, no_library}
+use Rattle.lf_refusals.specs.Meetings.{Met}
+use Rattle.lf_app.specs.Designs.{Cause, Gives, IsDefRefusal, IsDesignFault, IsDesignOf, IsFileFault, IsLefRefusal, IsLibraryFault, IsLibraryOf}
+use Rattle.lf_app.specs.Designs.{IsLoadRefusal, IsLoadedIn, IsRefused, IsUnread, MeetsIn, no_library}
 use Rattle.lf_app.specs.Exits.{IsExported, IsOpenUndescribed, IsOpened, IsUndescribed, IsUndone, Streams, streams}
 use Rattle.lf_app.specs.Faults.{Blames, BlamesWriter, ExportFails, IsEarly, IsExportFault, IsSaveFault}
 use Rattle.lf_app.specs.Surroundings.{IsSound}
@@ -121,7 +122,7 @@ export_blames kept reader writer export service sound NoRoom before now is fails
     record { early = λ of. absurd of; reading = λ same. absurd (subst IsRoom same tt); writing = λ of. absurd of; exporting = λ of. absurd of; serving = λ of. absurd of; sparing = λ _. sounds is }
 
 -- a refusal of a text is early
-pub refused_early : (kind : TextKind) (path text : List ℕ) (why : LoadFault → Type 0) (fault : Fault) → IsRefused kind path text why fault → IsEarly fault
+pub refused_early : (kind : TextKind) (path text : List ℕ) (why : Cause) (fault : Fault) → IsRefused kind path text why fault → IsEarly fault
 refused_early kind path text why (Refused file its) is = tt
 refused_early kind path text why (File file cause) is = absurd is
 refused_early kind path text why (NoState its_path its) is = absurd is
@@ -159,7 +160,7 @@ unread_early gives kind path NoMemory is = tt
 unread_early gives kind path NoRoom is = absurd is
 
 -- so is each fault of a file
-pub file_early : (gives : Gives) (kind : TextKind) (path : List ℕ) (why : List ℕ → LoadFault → Type 0) (fault : Fault) → IsFileFault gives kind path why fault
+pub file_early : (gives : Gives) (kind : TextKind) (path : List ℕ) (why : List ℕ → Cause) (fault : Fault) → IsFileFault gives kind path why fault
     → IsEarly fault
 file_early gives kind path why fault (inl unread) = unread_early gives kind path fault unread
 file_early gives kind path why fault (inr refused) = refused_early kind path refused.0 (why refused.0) fault refused.2
@@ -183,9 +184,9 @@ first_fails why all kept reader writer export service sound fault keeps sounds i
     (gives fault is, early_blames kept reader writer export service sound fault keeps sounds (early fault is))
 
 -- a refusal of one kind is one of another that takes them all in
-pub refused_as : (kind : TextKind) (path text : List ℕ) (P Q : LoadFault → Type 0) (fault : Fault) → IsRefused kind path text P fault
-    → ((refusal : LoadFault) → P refusal → Q refusal) → IsRefused kind path text Q fault
-refused_as kind path text P Q (Refused file its) is gives = (is.0, (is.1.0, gives is.1.0 is.1.1, is.1.2))
+pub refused_as : (kind : TextKind) (path text : List ℕ) (P Q : Cause) (fault : Fault) → IsRefused kind path text P fault
+    → ((refusal : LoadFault) (met : Met) → P refusal met → Q refusal met) → IsRefused kind path text Q fault
+refused_as kind path text P Q (Refused file its) is gives = (is.0, (is.1.0, is.1.1, gives is.1.0 is.1.1 is.1.2, is.1.3))
 refused_as kind path text P Q (File file why) is gives = absurd is
 refused_as kind path text P Q (NoState its_path its) is gives = absurd is
 refused_as kind path text P Q (NoTeam name) is gives = absurd is
@@ -202,17 +203,17 @@ refused_as kind path text P Q (Unlisted its_path) is gives = absurd is
 refused_as kind path text P Q NoMemory is gives = absurd is
 refused_as kind path text P Q NoRoom is gives = absurd is
 
-load_refused : (library : Contents) (text : List ℕ) (document : Document) (refusal : LoadFault) → document_of text ≡ Ok document
-    → IsLoadRefusal library document refusal → IsDefRefusal library text refusal
-load_refused library text document refusal is (inl memory) = inl (inl memory)
-load_refused library text document refusal is (inr found) = inr (document, is, found)
+load_refused : (library : Contents) (text : List ℕ) (document : Document) (refusal : LoadFault) (met : Met) → document_of text ≡ Ok document
+    → IsLoadRefusal library document refusal met → IsDefRefusal library text refusal met
+load_refused library text document refusal met is (inl memory, meets) = inl (inl memory, subst (λ (found : LoadFault). MeetsIn document found met) memory meets)
+load_refused library text document refusal met is (inr found, meets) = inr (document, is, found, meets)
 
 -- a refusal of loading a document is one of its text
 pub text_refused : (library : Contents) (path text : List ℕ) (document : Document) (fault : Fault) → document_of text ≡ Ok document
     → IsRefused Def path text (IsLoadRefusal library document) fault → IsRefused Def path text (IsDefRefusal library text) fault
 text_refused library path text document fault is refused =
     refused_as Def path text (IsLoadRefusal library document) (IsDefRefusal library text) fault refused
-    (λ refusal why. load_refused library text document refusal is why)
+    (λ refusal met why. load_refused library text document refusal met is why)
 
 -- why the design of a text is not described is why that of its document is not
 pub text_fails : (library : Contents) (path text : List ℕ) (document : Document) (why : Document → Loaded → Type 0) (fault : Fault) → document_of text ≡ Ok document

@@ -59,7 +59,7 @@ pub use lf_devices::{FromRead, ToWrite};
 pub use lf_files::FileExports;
 pub use lf_server::{Acceptor, Connection, Offer};
 pub use lines::answer_lines;
-pub use refusals::{Refusal, StateRefusal};
+pub use refusals::{FenceLine, Refusal, StateRefusal};
 pub use services::{NetServices, Services, Unbound};
 pub use surroundings::Surroundings;
 pub use tasks::{perform, perform_over};
