@@ -91,19 +91,28 @@ fn count_ended(strips: &[Strip], row: usize, team: usize, x: &i64) -> usize
     strips.partition_point(|strip| is_before(strip, row, team, strip.area.x2 <= *x))
 }
 
-/// How many strips are of an earlier row or team, or of this row and team and begin before x.
-fn count_begun(strips: &[Strip], row: usize, team: usize, x: &i64) -> usize
+/// The number of the first strip from a number on that is of a later row or team, or of this row and team and does not begin
+/// before x; the number of strips if there is none.
+fn end_of_begun(strips: &[Strip], first: usize, row: usize, team: usize, x: &i64) -> usize
     requires order { AllPairs LiesBefore strips.now }
     requires wide { All (λ g. g.area.x1 <ℤ g.area.x2) strips.now }
+    requires first { first ≤ length strips.now }
     ensures within { result ≤ length strips.now }
-    ensures begun { (k : ℕ) → (d : Strip) → k < result → is_begun strips.now row team x.now k d ≡ true }
+    ensures begun { (k : ℕ) → (d : Strip) → first ≤ k → k < result → is_begun strips.now row team x.now k d ≡ true }
     ensures rest { (k : ℕ) → (d : Strip) → result ≤ k → k < length strips.now → is_begun strips.now row team x.now k d ≡ false }
 {
-    strips.partition_point(|strip| is_before(strip, row, team, strip.area.x1 < *x))
+    for n in first..strips.len() {
+        let strip = &strips[n];
+        if !is_before(strip, row, team, strip.area.x1 < *x) {
+            return n;
+        }
+    }
+    strips.len()
 }
 
 /// The numbers of the strips of a row and a team that overlap a range of x. They are found by a
-/// look-up of the row among the segments of the strips, and by bisection among the strips of the row.
+/// look-up of the row among the segments of the strips, by bisection among the strips of the row for the first, and from there on
+/// to the last.
 pub(crate) fn near_strips(
     strips: &[Strip],
     segments: &Segments,
@@ -119,9 +128,11 @@ pub(crate) fn near_strips(
 {
     let range = segments.range_of(row);
     let in_row = &strips[range.start..range.end];
+    let first = count_ended(in_row, row, team, lo);
+    let end = end_of_begun(in_row, first, row, team, hi);
     NearStrips {
-        start: range.start + count_ended(in_row, row, team, lo),
-        end: range.start + count_begun(in_row, row, team, hi),
+        start: range.start + first,
+        end: range.start + end,
     }
 }
 

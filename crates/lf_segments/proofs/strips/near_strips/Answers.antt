@@ -29,6 +29,6 @@ returns c =
     let end = c.range_of-range.result.end in
     let row = c.args.row in
     let range = subst (λ (rows : List ℕ). IsRangeOf rows row start end) (sym c.requires.rows) c.range_of-range.ensures in
-    near_in_row c.args.strips.now row c.args.team c.args.lo.now c.args.hi.now start end c.count_ended.result c.count_begun.result range
-    c.count_ended.ensures.within c.count_begun.ensures.within c.count_ended.ensures.ended c.count_ended.ensures.rest c.count_begun.ensures.begun
-    c.count_begun.ensures.rest
+    near_in_row c.args.strips.now row c.args.team c.args.lo.now c.args.hi.now start end c.count_ended-first.result c.end_of_begun-end.result range
+    c.count_ended-first.ensures.within c.end_of_begun-end.ensures.within c.count_ended-first.ensures.ended c.count_ended-first.ensures.rest c.end_of_begun-end.ensures.begun
+    c.end_of_begun-end.ensures.rest
