@@ -1,6 +1,6 @@
 //! The nearest number of a grid at which a width fits into one span of each of several lists.
 
-ghost use Rattle.std.specs.Prelude.{◌≡◌, ◌<◌, ◌≤ℤ◌, ◌<ℤ◌, ◌↔◌, All, IfOk, IsTrue, length, map, pos};
+ghost use Rattle.std.specs.Prelude.{◌≡◌, ◌∷◌, [], ◌<◌, ◌≤ℤ◌, ◌<ℤ◌, ◌↔◌, All, IfOk, IsTrue, length, map, pos};
 ghost use Rattle.std.specs.Bool.{OnFalse, OnTrue};
 ghost use Rattle.lf_spans.specs.Grids.{FindsNearest, FitsSpan, IsBounded, IsBoundedSpan, IsGrid, IsNoFarther};
 ghost use Rattle.lf_spans.specs.Spans.{IsMeetAll, IsRising};
@@ -135,6 +135,19 @@ fn nearest_of(spans: &[Span], grid: &Grid, wanted: &Wanted) -> Option<i64>
     best
 }
 
+/// The grid number nearest to the target at which the width lies in one span of the list.
+fn best_in_list(spans: &[Span], grid: &Grid, width: i64, target: i64) -> Option<i64>
+    requires rising { IsRising spans.now }
+    requires bounded { All IsBoundedSpan spans.now }
+    requires grid { IsGrid grid.now }
+    requires wide { pos 0 <ℤ width }
+    requires width { IsBounded width }
+    requires target { IsBounded target }
+    ensures { FindsNearest (λ x. FitsRows (spans.now ∷ []) grid.now width x) target result }
+{
+    nearest_of(spans, grid, &wanted_of(width, target))
+}
+
 /// The grid number nearest to the target at which the width lies in one span of each list; the
 /// lesser of two equally near ones; none iff there is none. Spans that touch stay apart.
 ///
@@ -156,6 +169,9 @@ pub fn best_in_row(
     requires target { IsBounded target }
     ensures { IfOk result (λ found. let rows = map (λ list. list.items) lists.now in FindsNearest (λ x. FitsRows rows grid.now width x) target found) }
 {
+    if lists.len() == 1 {
+        return Ok(best_in_list(lists[0].as_slice(), grid, width, target));
+    }
     let met = spans_meet_all(alloc, lists)?;
     Ok(nearest_of(met.as_slice(), grid, &wanted_of(width, target)))
 }

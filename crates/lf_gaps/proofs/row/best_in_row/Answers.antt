@@ -1,15 +1,36 @@
-use Rattle.std.proofs.Common.{List, map, sym, subst, arith}
+use Rattle.std.proofs.Common.{◌≡◌, List, [], ◌∷◌, Vec, Global, length, map, sym, ap, subst, ◌∙◌, arith}
 use Rattle.std.specs.Prelude.{All}
 use Rattle.std.proofs.lemmas.Int.{ints}
 use Rattle.lf_spans.specs.declared.span.Span.{Span}
 use Rattle.lf_spans.specs.Grids.{FindsNearest, IsBoundedSpan}
+use Rattle.lf_spans.specs.Spans.{IsRising}
+use Rattle.lf_gaps.specs.Gaps.{FitsRows}
 use Rattle.lf_gaps.specs.Steps.{FitsOne}
-use Rattle.lf_gaps.proofs.Nearest.{near_met_of, found_in_rows}
+use Rattle.lf_gaps.proofs.Nearest.{near_met_of, found_in_rows, one_list}
 use Rattle.lf_gaps.proofs.row.best_in_row.Goals as goal
+
+pub best_in_list-requires-clause-rising : goal.best_in_list-requires-clause-rising
+best_in_list-requires-clause-rising c =
+    let first : Vec Span Global = c.index-lists-0.result in
+    subst (λ (xs : List Span). IsRising xs) (ap (λ (v : Vec Span Global). v.items) (sym c.index-lists-0.is) ∙ sym c.as_slice.ensures.value)
+    (c.requires.rising 0 first (omega arith))
+
+pub best_in_list-requires-clause-bounded : goal.best_in_list-requires-clause-bounded
+best_in_list-requires-clause-bounded c =
+    let first : Vec Span Global = c.index-lists-0.result in
+    subst (λ (xs : List Span). All IsBoundedSpan xs) (ap (λ (v : Vec Span Global). v.items) (sym c.index-lists-0.is) ∙ sym c.as_slice.ensures.value)
+    (c.requires.bounded 0 first (omega arith))
+
+pub returns-then-lists-eq1 : goal.returns-then-lists-eq1
+returns-then-lists-eq1 c =
+    let first : Vec Span Global = c.index-lists-0.result in
+    let one : length c.args.lists.now ≡ 1 = omega arith in
+    subst (λ (rows : List (List Span)). FindsNearest (λ x. FitsRows rows c.args.grid.now c.args.width x) c.args.target c.best_in_list.result)
+    (ap (λ (xs : List Span). xs ∷ []) c.as_slice.ensures.value ∙ sym (one_list c.args.lists.now first one c.index-lists-0.is)) c.best_in_list.ensures
 
 pub nearest_of-requires-clause-bounded : goal.nearest_of-requires-clause-bounded
 nearest_of-requires-clause-bounded c =
-    subst (λ (xs : List Span). All IsBoundedSpan xs) (sym c.as_slice.ensures.value)
+    subst (λ (xs : List Span). All IsBoundedSpan xs) (sym c.as_slice-2.ensures.value)
     (near_met_of c.args.lists.now c.in_ok-met.met.items c.requires.some c.requires.bounded c.in_ok-met.ensures)
 
 pub returns : goal.returns
@@ -18,4 +39,4 @@ returns c =
     c.wanted_of.result.target
     c.nearest_of.result c.requires.wide (omega (arith, ints)) (omega (arith, ints)) c.in_ok-met.ensures
     (subst (λ (xs : List Span). FindsNearest (λ x. FitsOne xs c.args.grid.now c.wanted_of.result.width x) c.wanted_of.result.target c.nearest_of.result)
-    c.as_slice.ensures.value c.nearest_of.ensures)
+    c.as_slice-2.ensures.value c.nearest_of.ensures)
