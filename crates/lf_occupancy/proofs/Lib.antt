@@ -3,6 +3,7 @@ pub mod Leasts
 pub mod Around
 pub mod Runs
 pub mod Padded
+pub mod Walking
 pub mod Parts
 pub mod Finds
 pub mod Frees
