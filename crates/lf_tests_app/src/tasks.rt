@@ -1,5 +1,9 @@
 //! Tasks over files in memory.
 
+ghost use Rattle.std.specs.Prelude.{◌≡◌};
+ghost use Rattle.lf_server.specs.Connections.{Closes, standing};
+ghost use Rattle.lf_server.specs.Devices.{writer};
+
 use crate::shelf::Shelf;
 use lf_app::{
     Acceptor, ClientReader, ClientWriter, Connection, Exit, FileTexts, NetServices, Offer,
@@ -168,7 +172,13 @@ impl<'a, V: Acceptor> Acceptor for OfferedThere<'a, V> {
         self.services.accept()
     }
 
-    fn close(&mut self, connection: Connection<V::Reader, V::Writer>) {
+    fn close(&mut self, connection: Connection<V::Reader, V::Writer>)
+        ensures closed { Closes (V.accepted self.old.services.now) (V.accepted self.new.services.now)
+            (standing (V.Reader.remaining connection.reader) (V.Reader.reads connection.reader) (V.Reader.has_failed connection.reader)
+            (writer (V.Writer.contents connection.writer) (V.Writer.is_flushed connection.writer) (V.Writer.has_failed connection.writer))) }
+        ensures offers { V.offers self.new.services.now ≡ V.offers self.old.services.now }
+        ensures failed { V.has_failed self.new.services.now ≡ V.has_failed self.old.services.now }
+    {
         self.services.close(connection);
     }
 }
