@@ -205,6 +205,17 @@ class Pushes(HubCase):
         with lefence.connect(self.folder / sockets / f"{team}.sock") as connection, connection.session(team) as session:
             return session.def_text()
 
+    def refuse_after(self, pushed: Path, team: str, change: tuple[str, int, int, str]) -> None:
+        """What is pushed is refused at its first line, and nothing of it is done, where somebody has placed a cell of the team there."""
+        with lefence.connect(self.folder / f"s/{team}.sock") as connection, connection.session(team) as session:
+            session.place(*change)
+            before = session.def_text()
+        status, said = self.push(pushed, team)
+        self.assertEqual(status, 1)
+        difference = f"line 1: 'open {team}' was answered 'ok 0 0', and there 'ok 0 1'; 0 lines before it"
+        self.assertIn(f"team {team} at revision 0, {difference}", said)
+        self.assertEqual(self.texts(team, "s"), before)
+
     def test_what_was_done_on_slices_is_done_on_the_whole(self) -> None:
         journals = [self.work_away(team) for team in (0, 1, 2)]
         for team, journal in enumerate(journals):
@@ -244,13 +255,7 @@ class Pushes(HubCase):
 
     def test_a_repair_is_not_sent_where_somebody_else_has_changed_the_team(self) -> None:
         lines, _ = self.repair_away("f1")
-        with lefence.connect(self.folder / "s/f1.sock") as connection, connection.session("f1") as session:
-            session.place("f1c1", 8000, 0, "N")
-            before = session.def_text()
-        status, said = self.push(lines, "f1")
-        self.assertEqual(status, 1)
-        self.assertIn("team f1 at revision 0, line 1: 'open f1' was answered 'ok 0 0', and there 'ok 0 1'; 0 lines before it", said)
-        self.assertEqual(self.texts("f1", "s"), before)
+        self.refuse_after(lines, "f1", ("f1c1", 8000, 0, "N"))
 
     def test_lines_that_are_no_changes_are_refused(self) -> None:
         made = self.folder / "made"
@@ -274,14 +279,7 @@ class Pushes(HubCase):
             self.assertEqual(self.push(made, "f1", *options)[0], 0)
 
     def test_where_somebody_else_wrote_the_first_difference_is_told_and_nothing_more_is_sent(self) -> None:
-        journal = self.work_away(0)
-        with lefence.connect(self.folder / "s/f0.sock") as connection, connection.session("f0") as session:
-            session.place("f0c1", 0, 2000, "FS")
-            before = session.def_text()
-        status, said = self.push(journal, "f0")
-        self.assertEqual(status, 1)
-        self.assertIn("team f0 at revision 0, line 1: 'open f0' was answered 'ok 0 0', and there 'ok 0 1'", said)
-        self.assertEqual(self.texts("f0", "s"), before)
+        self.refuse_after(self.work_away(0), "f0", ("f0c1", 0, 2000, "FS"))
 
     def test_a_difference_in_the_middle_leaves_the_team_where_it_is_told(self) -> None:
         journal = self.work_away(0, 100)
