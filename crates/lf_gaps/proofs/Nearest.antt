@@ -1,9 +1,9 @@
 -- The nearest number for a list of spans from those of its parts.
-use Rattle.std.proofs.Common.{◌≡◌, ℕ, ◌+◌, ◌-◌, ◌<◌, ◌≤◌, ℤ, pos, ◌+ℤ◌, ◌-ℤ◌, ◌≤ℤ◌, ◌<ℤ◌, ◌⊎◌, inl, inr, List, [], ◌∷◌, ◌++◌, length, get_or, take, drop, Option, Some, None, Vec, Global, map, sym, ◌∙◌, subst, arith, add-one, drop-cons}
+use Rattle.std.proofs.Common.{◌≡◌, ℕ, ◌+◌, ◌-◌, ◌<◌, ◌≤◌, ℤ, pos, ◌+ℤ◌, ◌-ℤ◌, ◌≤ℤ◌, ◌<ℤ◌, ◌⊎◌, inl, inr, List, [], ◌∷◌, ◌++◌, length, get_or, take, drop, Option, Some, None, Vec, Global, map, sym, ap, ◌∙◌, subst, arith, add-one, drop-cons}
 use Rattle.std.specs.Prelude.{All, Any, IsSomeAnd}
 use Rattle.std.proofs.lemmas.Int.{ints}
 use Rattle.std.proofs.lemmas.List.{get_or_default, get_or-take, get_or-drop, length-take, length-drop, take_more, take_all}
-use Rattle.std.proofs.lemmas.List.Elements.{All-drop}
+use Rattle.std.proofs.lemmas.List.Elements.{All-cons, All-drop, All-nil}
 use Rattle.std.proofs.lemmas.List.Quantifiers.{Any-push}
 use Rattle.lf_spans.specs.declared.span.Span.{Span}
 use Rattle.lf_spans.specs.Spans.{IsFilled, LiesIn, LiesInOne, IsRising, IsMeetAll}
@@ -313,6 +313,22 @@ found_in_rows lists met g width target w t best some same_width same_target m p 
     first in
     nearest_of_same (λ x. FitsOne met g width x) (λ x. FitsRows lists g width x) target best
     (λ x. rows_of_met lists met g width x some m) (λ x. met_of_rows lists met g width x some m) second
+
+-- one list alone
+pub meet_of_one : (spans : List Span) → IsRising spans → IsMeetAll (spans ∷ []) spans
+meet_of_one spans rising = record {
+  rising = rising;
+  exact = λ s filled. (
+    λ lies. All-cons (λ xs. LiesInOne xs s) spans [] lies (All-nil (λ xs. LiesInOne xs s)),
+    λ all. all 0 [] (omega arith),
+  );
+}
+
+pub one_list : (lists : List (Vec Span Global)) (first : Vec Span Global) → length lists ≡ 1 → first ≡ get_or lists 0 first →
+    map (λ list. list.items) lists ≡ first.items ∷ []
+one_list [] first one is = absurd (omega (arith, one))
+one_list (v ∷ []) first one is = ap (λ (w : Vec Span Global). w.items ∷ []) (sym is)
+one_list (v ∷ w ∷ vs) first one is = absurd (omega (arith, one))
 
 -- what is met lies as near as the first list
 pub near_met : (lists : List (List Span)) (met : List Span) → 0 < length lists → ((d : List Span) → All IsBoundedSpan (get_or lists 0 d)) →

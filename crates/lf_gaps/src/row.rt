@@ -156,6 +156,10 @@ pub fn best_in_row(
     requires target { IsBounded target }
     ensures { IfOk result (λ found. let rows = map (λ list. list.items) lists.now in FindsNearest (λ x. FitsRows rows grid.now width x) target found) }
 {
+    let wanted = wanted_of(width, target);
+    if lists.len() == 1 {
+        return Ok(nearest_of(lists[0].as_slice(), grid, &wanted));
+    }
     let met = spans_meet_all(alloc, lists)?;
-    Ok(nearest_of(met.as_slice(), grid, &wanted_of(width, target)))
+    Ok(nearest_of(met.as_slice(), grid, &wanted))
 }

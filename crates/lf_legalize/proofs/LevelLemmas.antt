@@ -26,7 +26,7 @@ use Rattle.lf_segments.specs.Grounds.{IsGroundOf}
 use Rattle.lf_segments.specs.Strips.{strip_of}
 use Rattle.lf_legalize.specs.declared.row_search.RowSearch.{RowSearch}
 use Rattle.lf_legalize.specs.RowSearches.{padding_in}
-use Rattle.lf_legalize.specs.Levels.{AddsRow, AreFreeOn, AreLevels, IsFreeOnOne, IsFreeOnRow, IsLevel, IsLevelRow, IsOpenInRow, IsRailed}
+use Rattle.lf_legalize.specs.Levels.{AddsRow, AreFreeOn, AreLevels, HasBareLevel, IsFreeOnOne, IsFreeOnRow, IsLevel, IsLevelRow, IsOpenInRow, IsRailed}
 
 -- ---- lists of spans
 
@@ -258,3 +258,19 @@ levels_next s own bottom window count old new v is free so_far =
       where
         order : (j < count) ⊎ (j ≡ count)
         order = grind (arith, less)
+
+-- ---- a cell of one row
+
+pub one_level : (s : RowSearch) (own : ℕ) (bottom : Row) (window : Span) (xs : List Span) → s.height ≡ 1 →
+    IsOpenInRow s.occupancy.now own s.id window (padding_in s) xs → AreLevels s own bottom window s.height (xs ∷ [])
+one_level s own bottom window xs one free = record { number = sym one; each = λ j less. each j (omega (arith, less, one)) }
+  where
+    each : (j : ℕ) → j ≡ 0 → IsLevel s own bottom window j (get_or (xs ∷ []) j [])
+    each zero is = level_bottom s own bottom window 0 xs refl free
+    each (suc j) is = absurd (omega (arith, is))
+
+pub bare_bottom : (s : RowSearch) (own : ℕ) (bottom : Row) (window : Span) (xs : List Span) → s.height ≡ 1 → length xs ≡ 0 →
+    IsOpenInRow s.occupancy.now own s.id window (padding_in s) xs → HasBareLevel s own bottom window
+bare_bottom s own bottom window (x ∷ xs) one none free = absurd (omega (arith, none))
+bare_bottom s own bottom window [] one none free =
+    record { level = 0; within = omega (arith, one); bare = level_bottom s own bottom window 0 [] refl free }

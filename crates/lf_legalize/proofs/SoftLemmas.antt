@@ -171,3 +171,20 @@ open_row o row id window padding start end free left near is without = record {
 
     within : (k : ℕ) → k < end → k < length o.index.strips
     within k below = let most = near.within in omega (arith, below, most)
+
+-- where no strip has soft spans, what is free on the row is free off them
+pub open_bare : (o : Occupied) (row : ℕ) (id : CellId) (window : Span) (padding : ℤ) (free : List Span) → ((k : ℕ) → get_or o.index.soft k [] ≡ []) →
+    IsFreeInRow o row id window padding free → IsOpenInRow o row id window padding free
+open_bare o row id window padding free none is = record {
+  rising = is.rising;
+  exact = λ s filled. (
+    λ lies.
+        let found = (is.exact s filled).0 lies in
+        record {
+          within = found.0;
+          in_strip = found.1;
+          off_soft = λ k g there close. subst (λ (soft : List Span). IsApart soft s) (sym (none k)) (All-nil (λ t. AreApart s t));
+        },
+    λ one. (is.exact s filled).1 (one.within, one.in_strip),
+  );
+}

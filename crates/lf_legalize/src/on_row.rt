@@ -13,6 +13,7 @@ ghost use Rattle.lf_legalize.specs.RowSearches.{IsChoiceAmong, IsOnRowIn, lifted
 
 use crate::levels::{BottomRow, free_by_level};
 use crate::row_search::RowSearch;
+use crate::soft::open_in_row;
 use lf_floorplan::{Frame, Place, Row, mac_at};
 use lf_gaps::best_in_row;
 use lf_orient::Orient;
@@ -20,6 +21,7 @@ use lf_rules::{is_on_rail, is_oriented};
 use lf_spans::Grid;
 use lf_units::{Point, Span};
 use std::alloc::{AllocError, Global};
+use std::slice;
 
 /// The row of that number.
 fn row_at(frame: &Frame, number: usize) -> &Row
@@ -156,6 +158,29 @@ fn best_at(
     Ok(Some(place_on(bottom.row, &x, orient)))
 }
 
+/// The best place in this orientation of a cell of one row on this row, without a list of lists.
+fn best_of_one(
+    alloc: Global,
+    search: &RowSearch<'_>,
+    bottom: &BottomRow<'_>,
+    orient: Orient,
+) -> Result<Option<Place>, AllocError>
+    requires held { IsOccupancyOf search.now.frame.now search.now.cells.now search.now.occupancy.now }
+    requires stands { slice_get search.now.frame.now.rows bottom.now.number ≡ Some bottom.now.row.now }
+    requires first { IsFirstOrient search.now bottom.now.row.now orient }
+    requires low { negsuc 4611686018427387903 ≤ℤ bottom.now.window.now.lo }
+    requires one { search.now.height ≡ 1 }
+    ensures { IfOk result (λ found.
+        IsChoiceAmong (IsOnRowIn search.now.frame.now search.now.size bottom.now.row.now bottom.now.window.now) (lifted_in search.now) search.now.target.now
+        (option_map spot_of found)) }
+{
+    let free = open_in_row(alloc, search, bottom.number, bottom.window)?;
+    if free.is_empty() {
+        return Ok(None);
+    }
+    best_at(alloc, search, bottom, orient, slice::from_ref(&free))
+}
+
 /// The best place of the cell on this row as its bottom row, of the places at which its box lies over
 /// the window; none if the cell may go to none of them. `Err` if an allocation fails.
 pub(crate) fn best_on_row(
@@ -179,6 +204,9 @@ pub(crate) fn best_on_row(
         number,
         window,
     };
+    if search.height == 1 {
+        return best_of_one(alloc, search, &bottom, orient);
+    }
     let Some(lists) = free_by_level(alloc, search, &bottom)? else {
         return Ok(None);
     };

@@ -69,6 +69,9 @@ pub(crate) fn open_in_row(
         .occupancy
         .free_in_row(alloc, number, search.id, window, padding)?;
     let index = search.occupancy.index();
+    if index.has_no_soft() {
+        return Ok(free);
+    }
     let near = index.near(number, search.id.team as usize, &window.lo, &window.hi);
     without_soft(alloc, index, &near, free)
 }

@@ -8,3 +8,4 @@ pub mod Slices
 pub mod Spelling
 pub mod Splicing
 pub mod Turns
+pub mod Words

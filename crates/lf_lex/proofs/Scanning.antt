@@ -1,11 +1,11 @@
 -- Steps over the bytes of a text.
 use Rattle.std.proofs.Common.{◌≡◌, ℕ, zero, suc, ◌+◌, ◌≤◌, ◌<◌, Bool, true, false, cond, ltb, List, [], ◌∷◌, length, take, drop, Option, Some, None, ◌||◌, refl, sym, ap, inl, inr, get_or, add-one, add-zero, zero-add, ◌-◌, ◌∙◌, arith}
-use Rattle.std.specs.List.{position, list_all}
+use Rattle.std.specs.List.{list_all}
 use Rattle.std.specs.Prelude.{unwrap_or, not, ◌&&◌, ◌==◌}
 use Rattle.std.specs.Option.{option_map, option_map_or}
 use Rattle.std.proofs.lemmas.Bool.Decides.{nat_tests}
 use Rattle.std.proofs.lemmas.Bool.{lt-ltb, le-ltb, cases_lt}
-use Rattle.std.proofs.lemmas.List.Sums.{sum_by-cons, prefix_len-le-length}
+use Rattle.std.proofs.lemmas.List.Sums.{sum_by-cons}
 use Rattle.std.proofs.Math.Seq.{drop-cons, take-length}
 use Rattle.std.proofs.Math.ListN.{drop_of_length-le}
 use Rattle.std.proofs.lemmas.List.{drop-drop, length-drop}
@@ -14,15 +14,12 @@ use Rattle.lf_lex.specs.declared.tokens.TokenKind.TheVariants.{Word, Quoted}
 use Rattle.lf_lex.specs.declared.tokens.LexFault.TheVariants.{BadToken, UnexpectedEnd}
 use Rattle.lf_lex.specs.Tokens.{Lexed, is_white, is_line_feed, line_feeds, with_token, token_at, stopped, is_word_byte, BeginsToken, comment_len, word_len, quoted_len, tokens_from}
 
-unwrap_position : (n len : ℕ) → n ≤ len → unwrap_or (cond (ltb n len) (Some n) None) len ≡ n
+pub unwrap_position : (n len : ℕ) → n ≤ len → unwrap_or (cond (ltb n len) (Some n) None) len ≡ n
 unwrap_position n len le =
     elim (cases_lt n len) [
       | inl lt ↦ rw (lt-ltb n len lt) refl
       | inr ge ↦ rw (le-ltb n len ge) (omega arith)
     ]
-
-pub word_len_is : (bytes : List ℕ) → unwrap_or (position is_white bytes) (length bytes) ≡ word_len bytes
-word_len_is bytes = unwrap_position (word_len bytes) (length bytes) (prefix_len-le-length _ bytes)
 
 abbrev pub blank_len : Bool → List ℕ → ℕ
 blank_len in_comment bytes = cond in_comment (comment_len bytes) 0
@@ -213,14 +210,13 @@ word_placed text at line more t lt begins no_quote m le t_eq w =
     = rw m (word_read at line (get_or text at 0) (drop (at + 1) text) begins' (not_equal _ _ no_quote) w') in
     placed Word text at line more (get_or text at 0) t lt refl (no_line_feed _ begins'.0) le t_eq read
 
-pub word_stops : (text : List ℕ) (at line more : ℕ) (t : List ℕ) → at < length text → BeginsToken (drop at text) → (get_or text at 0 ≡ 34 → ⊥) → more ≡ word_len (drop (at + 1) text)
-    → t ≡ take (at + 1 + more - at) (drop at text) → list_all is_word_byte t ≡ false
+pub word_stops : (text : List ℕ) (at line : ℕ) → at < length text → BeginsToken (drop at text) → (get_or text at 0 ≡ 34 → ⊥)
+    → list_all is_word_byte (get_or text at 0 ∷ take (word_len (drop (at + 1) text)) (drop (at + 1) text)) ≡ false
     → tokens_from 0 at line (drop at text) ≡ stopped (BadToken line) (line + line_feeds (drop at text))
-word_stops text at line more t lt begins no_quote m t_eq w =
+word_stops text at line lt begins no_quote w =
     let begins' : BeginsToken (get_or text at 0 ∷ drop (at + 1) text) = rw (first_and_rest text at lt) at begins in
-    let w' : list_all is_word_byte (get_or text at 0 ∷ take (word_len (drop (at + 1) text)) (drop (at + 1) text)) ≡ false = rw (t_eq, m, word_is text at lt) at w in
     let feeds : line_feeds (get_or text at 0 ∷ drop (at + 1) text) ≡ line_feeds (drop (at + 1) text) = line_feeds_cons _ (drop (at + 1) text) ∙ rw (no_line_feed _ begins'.0) (zero-add _) in
-    rw (first_and_rest text at lt, feeds) (word_stops_at at line (get_or text at 0) (drop (at + 1) text) begins' (not_equal _ _ no_quote) w')
+    rw (first_and_rest text at lt, feeds) (word_stops_at at line (get_or text at 0) (drop (at + 1) text) begins' (not_equal _ _ no_quote) w)
 
 pub quoted_past : (escaped later : Bool) (i : ℕ) (text : List ℕ) → i < length text → (not escaped && get_or text i 0 == 34) ≡ false → later ≡ (not escaped && get_or text i 0 == 92)
     → option_map (λ n. i + n) (quoted_len escaped (drop i text)) ≡ quoted_len false text

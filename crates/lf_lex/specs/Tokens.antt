@@ -1,5 +1,5 @@
 -- The tokens of a text, up to its end or the first fault.
-use Rattle.std.specs.Prelude.{◌≡◌, ℕ, zero, suc, ◌+◌, ◌-◌, ◌==◌, nat_le, ◌<◌, ◌≤◌, length, drop, Bool, true, false, not, ◌&&◌, ◌||◌, List, [], ◌∷◌, take, ◌++◌, Option, Some, None, Result, Ok, Err, count_by, if◌then◌else◌}
+use Rattle.std.specs.Prelude.{◌≡◌, ℕ, zero, suc, ◌+◌, ◌-◌, ◌==◌, nat_le, nat_lt, ◌<◌, ◌≤◌, length, drop, Bool, true, false, not, ◌&&◌, ◌||◌, List, [], ◌∷◌, take, ◌++◌, Option, Some, None, Result, Ok, Err, count_by, if◌then◌else◌}
 use Rattle.std.specs.Option.{option_map, option_map_or}
 use Rattle.std.specs.List.{list_all, position_or_len}
 use denote.Ref.{Bor}
@@ -28,6 +28,10 @@ is_line_feed b = b == 10
 
 abbrev pub is_word_byte : ℕ → Bool
 is_word_byte b = nat_le 33 b && nat_le b 126
+
+-- no word has the byte
+abbrev pub is_other : ℕ → Bool
+is_other b = nat_lt b 33 || nat_lt 126 b
 
 abbrev pub line_feeds : List ℕ → ℕ
 line_feeds bytes = count_by is_line_feed bytes

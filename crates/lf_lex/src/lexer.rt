@@ -64,11 +64,13 @@ impl<'a> Lexer<'a> {
         if at == self.text.len() {
             return Ok(None);
         }
-        let token = if self.text[at] == b'"' {
-            quoted_token(self.text, at, line)?
-        } else {
-            word_token(self.text, at, line)?
-        };
+        if self.text[at] != b'"' {
+            let token = word_token(self.text, at, line)?;
+            self.at = token.stop;
+            self.line = line;
+            return Ok(Some(token));
+        }
+        let token = quoted_token(self.text, at, line)?;
         self.at = token.stop;
         self.line = line + line_feeds(token.text);
         Ok(Some(token))

@@ -1,8 +1,8 @@
 //! Steps over the bytes of a text: white space, comments, words and quoted texts.
 
-ghost use Rattle.std.specs.Prelude.{◌≡◌, ◌≢◌, ◌+◌, ◌-◌, ◌<◌, ◌≤◌, length, take, drop, position, false, IfOk, IfSome, slice_index};
-ghost use Rattle.std.specs.List.{list_all};
-ghost use Rattle.lf_lex.specs.Tokens.{is_white, is_line_feed, is_word_byte, line_feeds, word_len, quoted_len, tokens_from, BeginsToken, ReadsToken, IsSpelled, lexeme};
+ghost use Rattle.std.specs.Prelude.{◌≡◌, ◌≢◌, ◌+◌, ◌-◌, ◌<◌, ◌≤◌, length, take, drop, position, true, false, IfOk, IfSome, MatchOption, slice_index};
+ghost use Rattle.std.specs.List.{list_all, position_or_len};
+ghost use Rattle.lf_lex.specs.Tokens.{is_white, is_line_feed, is_other, is_word_byte, line_feeds, word_len, quoted_len, tokens_from, BeginsToken, ReadsToken, IsSpelled, lexeme};
 
 use crate::tokens::{LexFault, Token, TokenKind, TokenOf};
 
@@ -19,24 +19,38 @@ pub(crate) fn line_feeds(text: &[u8]) -> usize
     text.iter().filter(|byte| **byte == b'\n').count()
 }
 
-pub fn is_word(text: &[u8]) -> bool
-    ensures { result ≡ list_all is_word_byte text.now }
+/// Whether no word has the byte.
+fn is_other(byte: u8) -> bool
+    ensures { result ≡ is_other byte }
 {
-    text.iter().all(|byte| 33 <= *byte && *byte <= 126)
+    byte < 33 || 126 < byte
 }
 
-fn first_white(text: &[u8]) -> Option<usize>
-    ensures { result ≡ position is_white text.now }
+fn first_other(text: &[u8]) -> Option<usize>
+    ensures { result ≡ position is_other text.now }
 {
-    text.iter().position(|byte| is_white(*byte))
+    text.iter().position(|byte| is_other(*byte))
 }
 
-/// The number of bytes before the next white space.
-pub(crate) fn word_len(text: &[u8]) -> usize
-    ensures len { result ≡ word_len text.now }
+/// The number of bytes before the first that no word has.
+fn other_len(text: &[u8]) -> usize
+    ensures len { result ≡ position_or_len is_other text.now }
     ensures within { result ≤ length text.now }
 {
-    first_white(text).unwrap_or(text.len())
+    first_other(text).unwrap_or(text.len())
+}
+
+/// The number of bytes before the next white space, if a word may have each of them. Each is looked at once.
+fn word_len(text: &[u8]) -> Option<usize>
+    ensures len { MatchOption result (list_all is_word_byte (take (word_len text.now) text.now) ≡ false) (λ n. n ≡ word_len text.now) }
+    ensures bytes { IfSome result (λ n. list_all is_word_byte (take n text.now) ≡ true) }
+    ensures within { IfSome result (λ n. n ≤ length text.now) }
+{
+    let len = other_len(text);
+    if len < text.len() && !is_white(text[len]) {
+        return None;
+    }
+    Some(len)
 }
 
 /// The number of bytes up to the closing quote, with it.
@@ -131,7 +145,7 @@ pub(crate) fn quoted_token<'a>(
     }
 }
 
-/// The word at an offset that has neither white space, a comment nor a quote.
+/// The word at an offset that has neither white space, a comment nor a quote. No line feed is in it.
 pub(crate) fn word_token<'a>(text: &'a [u8], at: usize, line: usize) -> Result<Token<'a>, LexFault>
     requires within { at < length text.now }
     requires line { line ≤ at + 1 }
@@ -139,14 +153,17 @@ pub(crate) fn word_token<'a>(text: &'a [u8], at: usize, line: usize) -> Result<T
     requires no_quote { slice_index text.now at ≢ 34 }
     ensures token { ReadsToken text.now at line result }
     ensures spelled { IfOk result (λ t. IsSpelled (lexeme t)) }
+    ensures feeds { IfOk result (λ t. line_feeds t.text.now ≡ 0) }
 {
-    let stop = at + 1 + word_len(rest(text, at + 1));
-    let word = part(text, at, stop);
-    if !is_word(word) {
+    if is_other(text[at]) {
         return Err(LexFault::BadToken { line });
     }
+    let Some(more) = word_len(rest(text, at + 1)) else {
+        return Err(LexFault::BadToken { line });
+    };
+    let stop = at + 1 + more;
     Ok(TokenOf {
-        text: word,
+        text: part(text, at, stop),
         kind: TokenKind::Word,
         start: at,
         stop,

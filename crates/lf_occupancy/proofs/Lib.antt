@@ -3,10 +3,12 @@ pub mod Leasts
 pub mod Around
 pub mod Runs
 pub mod Padded
+pub mod Walking
 pub mod Parts
 pub mod Finds
 pub mod Frees
 pub mod Changes
+pub mod Settling
 pub mod Laning
 pub mod Reaching
 pub mod Showing

@@ -7,7 +7,6 @@ use Rattle.std.proofs.lemmas.Int.{ints}
 use Rattle.std.proofs.lemmas.List.{append-nil, get_or-map, get_or_default, length-map, map-append, take_more}
 use Rattle.std.proofs.lemmas.List.Elements.{All-contains, All-map, Contains-get_or, filter-append}
 use Rattle.lf_units.specs.declared.area.Rect.{Rect}
-use Rattle.lf_rules.specs.Padding.{HasRoomAround}
 use Rattle.lf_spans.specs.declared.span.Span.{Span}
 use Rattle.lf_spans.specs.Spans.{AreApart, IsApart}
 use Rattle.lf_occupancy.specs.declared.lane.Entry.{Entry}
@@ -84,10 +83,10 @@ each_padded by es s each =
     let At : Entry → Type 0 = λ x. AreApart s (x_range x.area) in
     subst At (sym found.1.1) (each found.0 found.1.0))
 
--- entries near a range are of the lane's
-pub near_around : (es near : List Entry) (lo hi : ℤ) → IsNearRun es lo hi near → All (λ e. HasRoomAround e.area) es → All (λ e. HasRoomAround e.area) near
-near_around es near lo hi run all k d within =
-    All-contains (λ e. HasRoomAround e.area) es (get_or near k d) all (near_in es near lo hi (get_or near k d) run (Contains-get_or near k d within))
+-- what holds of the lane's entries holds of those near a range
+pub near_each : (P : Entry → Type 0) (es near : List Entry) (lo hi : ℤ) → IsNearRun es lo hi near → All P es → All P near
+near_each P es near lo hi run all k d within =
+    All-contains P es (get_or near k d) all (near_in es near lo hi (get_or near k d) run (Contains-get_or near k d within))
 
 -- a number between two that is no farther from this one than the length
 pub record NearIn (lo hi by x : ℤ) : Type 0 where
@@ -128,7 +127,7 @@ further by es i e own within is =
     ∙ filter-append (λ (x : Entry). not (eqb x.own own)) (all_padded by (take i es)) (padded by e ∷ [])
 
 -- one more entry of the others
-other_further : (by : ℤ) (es : List Entry) (i : ℕ) (e : Entry) (own : ℕ) → i < length es → e ≡ get_or es i e → (e.own ≡ own → ⊥) →
+pub other_further : (by : ℤ) (es : List Entry) (i : ℕ) (e : Entry) (own : ℕ) → i < length es → e ≡ get_or es i e → (e.own ≡ own → ⊥) →
     others_in (all_padded by (take (i + 1) es)) own ≡ others_in (all_padded by (take i es)) own ++ padded by e ∷ []
 other_further by es i e own within is apart =
     further by es i e own within is
@@ -138,7 +137,7 @@ other_further by es i e own within is apart =
     apart_test a b away = grind (arith, nat_tests, away)
 
 -- and where the next entry is the cell's, none more
-other_no_further : (by : ℤ) (es : List Entry) (i : ℕ) (e : Entry) (own : ℕ) → i < length es → e ≡ get_or es i e → e.own ≡ own →
+pub other_no_further : (by : ℤ) (es : List Entry) (i : ℕ) (e : Entry) (own : ℕ) → i < length es → e ≡ get_or es i e → e.own ≡ own →
     others_in (all_padded by (take (i + 1) es)) own ≡ others_in (all_padded by (take i es)) own
 other_no_further by es i e own within is same =
     further by es i e own within is
@@ -171,15 +170,3 @@ pub spans_further : (by : ℤ) (es : List Entry) (i : ℕ) (e : Entry) (s : Span
     old ≡ spans_in (all_padded by (take i es)) → s ≡ wider_range by (x_range e.area) → new ≡ old ++ s ∷ [] → new ≡ spans_in (all_padded by (take (i + 1) es))
 spans_further by es i e s old new within at before is pushed =
     spans_more by (all_padded by (take i es)) e s old new before is pushed ∙ ap spans_in (sym (padded_further by es i e within at))
-
--- one more of the spans of the others
-pub other_spans_further : (by : ℤ) (es : List Entry) (i : ℕ) (e : Entry) (own : ℕ) (s : Span) (old new : List Span) → i < length es → e ≡ get_or es i e →
-    (e.own ≡ own → ⊥) → old ≡ spans_in (others_in (all_padded by (take i es)) own) → s ≡ wider_range by (x_range e.area) → new ≡ old ++ s ∷ [] →
-    new ≡ spans_in (others_in (all_padded by (take (i + 1) es)) own)
-other_spans_further by es i e own s old new within at apart before is pushed =
-    spans_more by (others_in (all_padded by (take i es)) own) e s old new before is pushed ∙ ap spans_in (sym (other_further by es i e own within at apart))
-
--- and where the next entry is the cell's, none more
-pub other_spans_no_further : (by : ℤ) (es : List Entry) (i : ℕ) (e : Entry) (own : ℕ) (old : List Span) → i < length es → e ≡ get_or es i e →
-    e.own ≡ own → old ≡ spans_in (others_in (all_padded by (take i es)) own) → old ≡ spans_in (others_in (all_padded by (take (i + 1) es)) own)
-other_spans_no_further by es i e own old within at same before = before ∙ ap spans_in (sym (other_no_further by es i e own within at same))

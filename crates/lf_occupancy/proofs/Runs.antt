@@ -198,16 +198,6 @@ others_in_order xs near lo hi own run order i j d less within =
             let up = r (length front + i) (length front + j) d (omega (arith, less)) (omega (arith, long, within)) in
             omega (arith, ints, first, second, up)
 
-pub others_narrow : (xs near : List Entry) (lo hi widest : ℤ) (own : ℕ) → IsNearRun xs lo hi near → All (λ e. (e.area.x2 -ℤ e.area.x1) ≤ℤ widest) xs →
-    All (λ s. (s.hi -ℤ s.lo) ≤ℤ widest) (map (λ (e : Entry). x_range e.area) (others_in near own))
-others_narrow xs near lo hi widest own run wide =
-    let p = λ (x : Entry). not (eqb x.own own) in
-    All-map (λ s. (s.hi -ℤ s.lo) ≤ℤ widest) (λ (e : Entry). x_range e.area) (others_in near own)
-    (All-filter p (λ e. (e.area.x2 -ℤ e.area.x1) ≤ℤ widest) near
-    (λ k d within.
-    All-contains (λ e. (e.area.x2 -ℤ e.area.x1) ≤ℤ widest) xs (get_or near k d) wide
-    (near_in xs near lo hi (get_or near k d) run (Contains-get_or near k d within))))
-
 -- the spans of entries that stand in order do too, and none is wider than the widest
 pub spans_in_order : (xs : List Entry) → AreInOrder xs → AllPairs (λ s t. s.lo ≤ℤ t.lo) (map (λ (e : Entry). x_range e.area) xs)
 spans_in_order xs order i j d less within =

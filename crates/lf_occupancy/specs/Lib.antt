@@ -1,5 +1,6 @@
 pub mod Occupied
 pub mod Lanes
 pub mod Strips
+pub mod Settling
 pub mod Floorplans
 pub mod Building

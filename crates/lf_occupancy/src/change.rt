@@ -1,16 +1,18 @@
 //! How the marks in strips are changed. The strips are felt around here.
 
-ghost use Rattle.std.specs.Prelude.{All, AllPairs, IfSome, List, Option, ◌≡◌, ◌≢◌, None, OnOk, Some, length};
+ghost use Rattle.std.specs.Prelude.{All, AllPairs, IfSome, List, Option, ◌≡◌, ◌≢◌, ◌≤◌, None, OnErr, OnOk, Some, length};
 ghost use Rattle.lf_units.specs.declared.area.Rect.{Rect};
 ghost use Rattle.lf_occupancy.specs.Lanes.{AreRising, IsPlaceX};
-ghost use Rattle.lf_occupancy.specs.Strips.{AreKept, AreLanes, CanTakeInRow, CanTakeInRows, HaveRoom, HaveRoomForAll, IsAt, IsNowhere, IsReached};
+ghost use Rattle.lf_occupancy.specs.Settling.{AreSettled, IsOneOf};
+ghost use Rattle.lf_occupancy.specs.Strips.{AreChanged, AreKept, AreLanes, CanTake, CanTakeInRow, CanTakeInRows, HaveRoom, HaveRoomForAll};
+ghost use Rattle.lf_occupancy.specs.Strips.{IsAt, IsNowhere, IsReached, PutsIn};
 ghost use Rattle.lf_occupancy.specs.Strips.{IsReachedIn, IsSite, MeetsStrip, PruneInRow, PruneInRows, PutInRow, PutInRows, StandOnce, StandOnceInRow};
 ghost use Rattle.lf_occupancy.specs.Strips.{StandOnceInRows, boxes_set, felt_strips, rooms_in};
 
 use crate::felt::{felt_area, near_felt};
 use crate::lane::{Lane, make_room, prune, put_in};
 use lf_cells::CellId;
-use lf_segments::{Ground, RowEntry};
+use lf_segments::{Ground, NearStrips, RowEntry};
 use lf_units::Rect;
 use std::alloc::AllocError;
 
@@ -102,6 +104,27 @@ fn prune_rows(
     }
 }
 
+/// Marks the parts of the cell's box in each strip of a run.
+fn put_in_run(
+    lanes: &mut Vec<Lane>,
+    index: &Ground,
+    site: &i64,
+    near: &NearStrips,
+    own: u32,
+    rect: &Rect,
+)
+    requires site { IsSite site.now }
+    requires many { length lanes.old.items ≡ length (felt_strips site.now index.now.strips) }
+    requires within { near.now.end ≤ length (felt_strips site.now index.now.strips) }
+    requires edge { IsPlaceX rect.now.x1 }
+    requires room { CanTake (felt_strips site.now index.now.strips) rect.now (IsOneOf near.now) lanes.old.items }
+    ensures { AreChanged (IsOneOf near.now) (PutsIn (felt_strips site.now index.now.strips) own rect.now) lanes.old.items lanes.new.items }
+{
+    for n in near.start..near.end {
+        put_in(&mut lanes[n], &felt_area(index, site, n), own, rect);
+    }
+}
+
 /// Marks the parts of the cell's box in the strips of a row and the cell's team that it reaches.
 fn put_in_row(
     lanes: &mut Vec<Lane>,
@@ -118,9 +141,7 @@ fn put_in_row(
     ensures { PutInRow (felt_strips site.now index.now.strips) row id.now rect.now lanes.old.items lanes.new.items }
 {
     let near = near_felt(index, site, row, id.team as usize, rect);
-    for n in near.start..near.end {
-        put_in(&mut lanes[n], &felt_area(index, site, n), id.own, rect);
-    }
+    put_in_run(lanes, index, site, &near, id.own, rect);
 }
 
 /// The same for all these rows.
@@ -213,7 +234,59 @@ pub(crate) fn reserve_moves(
     Ok(())
 }
 
-/// Gives a cell without a box this one, after room was made for it.
+/// Marks the parts of the cell's box in the strips of a row and the cell's team that it reaches, after room
+/// was made for them. On `Err` each strip holds what it held.
+fn settle_in_row(
+    lanes: &mut Vec<Lane>,
+    index: &Ground,
+    site: &i64,
+    row: usize,
+    id: &CellId,
+    rect: &Rect,
+) -> Result<(), AllocError>
+    requires site { IsSite site.now }
+    requires many { length lanes.old.items ≡ length (felt_strips site.now index.now.strips) }
+    requires edge { IsPlaceX rect.now.x1 }
+    requires rising { All (λ l. AreRising l.marks.items) lanes.old.items }
+    ensures ok { OnOk result (AreSettled (felt_strips site.now index.now.strips) id.now.own rect.now
+        (IsReachedIn (felt_strips site.now index.now.strips) row id.now.team rect.now) lanes.old.items lanes.new.items) }
+    ensures err { OnErr result (AreKept lanes.old.items lanes.new.items) }
+{
+    let near = near_felt(index, site, row, id.team as usize, rect);
+    for n in near.start..near.end {
+        make_room(&mut lanes[n], 1)?;
+    }
+    put_in_run(lanes, index, site, &near, id.own, rect);
+    Ok(())
+}
+
+/// The same for all these rows. Of one row, as most cells are in, the strips are looked up once.
+fn settle_in_rows(
+    lanes: &mut Vec<Lane>,
+    index: &Ground,
+    site: &i64,
+    rows: &[RowEntry],
+    id: &CellId,
+    rect: &Rect,
+) -> Result<(), AllocError>
+    requires site { IsSite site.now }
+    requires many { length lanes.old.items ≡ length (felt_strips site.now index.now.strips) }
+    requires once { AllPairs (λ a b. a.row ≢ b.row) rows.now }
+    requires edge { IsPlaceX rect.now.x1 }
+    requires rising { All (λ l. AreRising l.marks.items) lanes.old.items }
+    ensures ok { OnOk result (AreSettled (felt_strips site.now index.now.strips) id.now.own rect.now
+        (IsReached (felt_strips site.now index.now.strips) rows.now id.now.team rect.now) lanes.old.items lanes.new.items) }
+    ensures err { OnErr result (AreKept lanes.old.items lanes.new.items) }
+{
+    if rows.len() == 1 {
+        return settle_in_row(lanes, index, site, rows[0].row, id, rect);
+    }
+    make_room_in_rows(lanes, index, site, rows, id, rect, 1)?;
+    put_in_rows(lanes, index, site, rows, id, rect);
+    Ok(())
+}
+
+/// Gives a cell without a box this one, after room was made for it. On `Err` each strip holds what it held.
 pub(crate) fn settle(
     lanes: &mut Vec<Lane>,
     index: &Ground,
@@ -225,10 +298,10 @@ pub(crate) fn settle(
     requires many { length lanes.old.items ≡ length (felt_strips site.now index.now.strips) }
     requires edge { IsPlaceX rect.now.x1 }
     requires rising { All (λ l. AreRising l.marks.items) lanes.old.items }
-    ensures { (boxes : List (List (Option Rect))) → IsNowhere boxes id.now → AreLanes (felt_strips site.now index.now.strips) boxes lanes.old.items
+    ensures ok { (boxes : List (List (Option Rect))) → IsNowhere boxes id.now → AreLanes (felt_strips site.now index.now.strips) boxes lanes.old.items
         → OnOk result (AreLanes (felt_strips site.now index.now.strips) (boxes_set boxes id.now (Some rect.now)) lanes.new.items) }
+    ensures err { OnErr result (AreKept lanes.old.items lanes.new.items) }
 {
-    reserve_box(lanes, index, site, id, &Some(*rect), 1)?;
-    take_in(lanes, index, site, id, rect);
-    Ok(())
+    index.strips_are_placed();
+    settle_in_rows(lanes, index, site, index.rows_near(rect), id, rect)
 }

@@ -1,6 +1,6 @@
 //! What is met in strips, and what is free in them.
 
-ghost use Rattle.std.specs.Prelude.{IfOk, None, negsuc, ◌≤ℤ◌, length};
+ghost use Rattle.std.specs.Prelude.{◌≡◌, ◌++◌, IfOk, None, negsuc, ◌≤ℤ◌, length};
 ghost use Rattle.lf_rules.specs.Padding.{IsShort};
 ghost use Rattle.lf_occupancy.specs.Lanes.{IsLeast};
 ghost use Rattle.lf_occupancy.specs.Strips.{AreFreeTo, AreLanes, AreLeft, IsSite, MeetsInOne, MeetsInRow, felt_strips, shown_lanes};
@@ -69,6 +69,18 @@ pub(crate) fn least_met(
     least
 }
 
+/// The spans of the first list and then those of the second, which becomes the result where the first has none.
+fn joined(first: Vec<Span>, second: Vec<Span>) -> Result<Vec<Span>, AllocError>
+    ensures { IfOk result (λ all. all.items ≡ first.items ++ second.items) }
+{
+    if first.is_empty() {
+        return Ok(second);
+    }
+    let mut all = first;
+    all.extend_from_slice(&second)?;
+    Ok(all)
+}
+
 /// Within a window, the spans of a row's strips that are left free by the cells of the cell's team
 /// other than this one, with the padding around each.
 pub(crate) fn free_in_strips(
@@ -97,7 +109,7 @@ pub(crate) fn free_in_strips(
         let span = x_range_of(&list[n].area);
         let area = felt_area(index, site, n);
         let part = free_in_lane(alloc, boxes, id, &lanes[n], &area, &span, window, padding)?;
-        free.extend_from_slice(&part)?;
+        free = joined(free, part)?;
     }
     Ok(free)
 }

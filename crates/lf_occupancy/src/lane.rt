@@ -1,7 +1,7 @@
 //! The entries of one strip.
 
 ghost use Rattle.std.specs.Prelude.{[], All, List, Option, ◌≡◌, ◌↔◌, ◌<◌, ◌≤◌, ◌≤ℤ◌, ◌<ℤ◌, ◌+ℤ◌, ◌-ℤ◌, ◌*ℤ◌, ℕ, IfOk, IsTrue, MatchOption, OnOk, insert, length, negsuc, pos, slice_index_or};
-ghost use Rattle.lf_spans.specs.Spans.{IsFreeIn};
+ghost use Rattle.lf_spans.specs.Spans.{IsFree, IsFreeIn, IsInOrder};
 ghost use Rattle.lf_rules.specs.Padding.{HasRoomAround, IsShort};
 ghost use Rattle.lf_units.specs.declared.area.Rect.{Rect};
 ghost use Rattle.lf_occupancy.specs.declared.lane.Mark.{Mark};
@@ -11,6 +11,7 @@ ghost use Rattle.lf_occupancy.specs.Lanes.{StandsNotFrom, Tells, all_padded, ent
 ghost use Rattle.lf_occupancy.specs.Lanes.{wider_range, x_range};
 
 use crate::boxes::Boxes;
+use crate::walk::{common_range, part_before, part_behind, push_filled};
 use lf_cells::CellId;
 use lf_spans::{Span, free_in};
 use lf_units::Rect;
@@ -281,29 +282,39 @@ fn padded_of(
     Ok(list)
 }
 
-/// Those of all cells but this one.
-fn others_of(
+/// The spans of a range that the entries of other cells than this one leave free, with the padding around each; they are marked in
+/// a strip of that area, from left to right.
+fn free_beside(
     alloc: Global,
     boxes: &Boxes<'_>,
     id: &CellId,
     area: &Rect,
     marks: &[Mark],
     padding: &i64,
+    range: &Span,
 ) -> Result<Vec<Span>, AllocError>
     requires short { IsShort padding.now }
     requires told { AreTold (slice_index_or boxes.now id.now.team []) area.now marks.now }
     requires around { All (λ e. HasRoomAround e.area) (entries_in (slice_index_or boxes.now id.now.team []) area.now marks.now) }
-    ensures { IfOk result (λ others. others.items
-        ≡ spans_in (others_in (all_padded padding.now (entries_in (slice_index_or boxes.now id.now.team []) area.now marks.now)) id.now.own)) }
+    requires whole { All (λ e. IsWhole e.area) (entries_in (slice_index_or boxes.now id.now.team []) area.now marks.now) }
+    requires order { IsInOrder
+        (spans_in (others_in (all_padded padding.now (entries_in (slice_index_or boxes.now id.now.team []) area.now marks.now)) id.now.own)) }
+    ensures { IfOk result (λ free. IsFree range.now
+        (spans_in (others_in (all_padded padding.now (entries_in (slice_index_or boxes.now id.now.team []) area.now marks.now)) id.now.own)) free.items) }
 {
-    let mut others = Vec::new(alloc);
+    let mut free = Vec::with_capacity(alloc, marks.len().saturating_add(1))?;
+    let mut rest = *range;
     for mark in marks {
-        if mark.own != id.own {
-            let range = range_at(boxes, id.team as usize, area, mark);
-            others.push(padded_range(&range, padding))?;
+        if mark.own == id.own {
+            continue;
         }
+        let reach = range_at(boxes, id.team as usize, area, mark);
+        let span = padded_range(&reach, padding);
+        push_filled(&part_before(&rest, &span), &mut free)?;
+        rest = part_behind(&rest, &span);
     }
-    Ok(others)
+    push_filled(&rest, &mut free)?;
+    Ok(free)
 }
 
 /// A width that no entry of the lane exceeds that is made wider by the padding.
@@ -338,17 +349,11 @@ pub(crate) fn free_in_lane(
         (spans_in (others_in (all_padded padding.now (entries_in (slice_index_or boxes.now id.now.team []) area.now lane.now.marks.items)) id.now.own))
         window.now free.items) }
 {
-    let lo = window.lo.max(strip.lo) - *padding;
-    let hi = window.hi.min(strip.hi) + *padding;
+    let range = common_range(window, strip);
+    let lo = range.lo - *padding;
+    let hi = range.hi + *padding;
     let near = near_marks(lane, &lo, &hi);
-    let others = others_of(alloc, boxes, id, area, near, padding)?;
-    free_in(
-        alloc,
-        strip,
-        others.as_slice(),
-        widest_padded(lane, padding),
-        window,
-    )
+    free_beside(alloc, boxes, id, area, near, padding, &range)
 }
 
 /// The spans of a strip that its team's cells leave free, with the padding around each; the strip has

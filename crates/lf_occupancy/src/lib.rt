@@ -27,6 +27,7 @@ mod find;
 mod lane;
 mod laws;
 mod occupancy;
+mod walk;
 
 pub use filled::Filled;
 pub use laws::{strips_cover, strips_feel};

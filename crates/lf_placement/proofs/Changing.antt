@@ -1,5 +1,5 @@
 -- A change of a team: its cells are taken out, moved in the table, and put back.
-use Rattle.std.proofs.Common.{◌≡◌, ◌≢◌, ◌⊎◌, inl, inr, ℕ, zero, suc, List, [], ◌∷◌, map, length, drop, Option, None, refl, ap, sym, subst, ◌∙◌, arith}
+use Rattle.std.proofs.Common.{◌≡◌, ◌≢◌, ◌⊎◌, inl, inr, ◌<◌, ℕ, zero, suc, List, [], ◌∷◌, map, length, get_or, drop, Option, None, refl, ap, sym, subst, ◌∙◌, arith}
 use Rattle.std.specs.Prelude.{All, slice_get, option_and_then}
 use Rattle.std.specs.Option.{option_map}
 use Rattle.std.proofs.lemmas.List.{length-map}
@@ -17,7 +17,7 @@ use Rattle.lf_occupancy.specs.Floorplans.{box_of}
 use Rattle.lf_undo.specs.declared.moves.Move.{Move}
 use Rattle.lf_undo.specs.Entries.{Places}
 use Rattle.lf_placement.specs.Placings.{SameButPlaces, boxes_at, made, places_of}
-use Rattle.lf_placement.specs.Steps.{IsOut, MayStand, NameNot, StandButFor, TakesOut, made_back, owns}
+use Rattle.lf_placement.specs.Steps.{AreOut, IsOut, MayStand, NameNot, StandButFor, TakesOut, made_back, owns}
 use Rattle.lf_placement.proofs.Moves.{same_back, same_made}
 use Rattle.lf_placement.proofs.Boxes.{fits_still}
 
@@ -157,7 +157,14 @@ module _ (f : Frame) (team : ℕ) (named : List ℕ) (count : ℕ) (old new : Li
   pub stand_but : StandButFor team (map (box_of f) new) named b
   stand_but = λ k never. rest k (subst (λ (n : ℕ). NameNot named n k) (sym whole) never) (out.each k)
 
--- ---- all stand
+-- what was taken out stands nowhere
+pub all_out : (team : ℕ) (named : List ℕ) (count : ℕ) (a b : Occupied) → count ≡ length named → TakesOut team named count a b → AreOut team named b
+all_out team named count a b whole out = λ k less. gone k less (out.each (get_or named k 0))
+  where
+    gone : (k : ℕ) → k < length named → IsOut named count (boxes_of a team) (boxes_of b team) (get_or named k 0) →
+        cell_box (boxes_of b team) (get_or named k 0) ≡ None
+    gone k less (inl (was, none)) = none
+    gone k less (inr (never, as_before)) = absurd (never k (omega (arith, less, whole)) refl)
 
 -- ---- of the moves from one on
 

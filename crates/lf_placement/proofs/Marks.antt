@@ -15,7 +15,7 @@ use Rattle.lf_occupancy.specs.Strips.{CanEnter, CanLeave, Holds, IsAt, IsNowhere
 use Rattle.lf_occupancy.proofs.Building.{boxes_there, lanes_of_same}
 use Rattle.lf_occupancy.proofs.Knowing.{known_still, stands_nowhere}
 use Rattle.lf_placement.specs.Placings.{OtherCellsStay}
-use Rattle.lf_placement.specs.Steps.{CanStand, HoldsSome, IsOut, IsPartly, KeepsRooms, MayHave, MayStand, StandButFor, TakesOut, box_set, working_boxes}
+use Rattle.lf_placement.specs.Steps.{AreOut, CanStand, HoldsSome, IsOut, IsPartly, KeepsRooms, MayEnter, MayHave, MayStand, StandButFor, TakesOut, box_set, working_boxes}
 use Rattle.lf_placement.proofs.Boxes.{AreStanding, all_stand, box_put, has_cell, has_room, keeps, keeps_put, may_without, none_put, nowhere_now, out_next}
 use Rattle.lf_placement.proofs.Boxes.{set_none, standing_next, team_is}
 
@@ -116,6 +116,32 @@ module _ (f : Frame) (cells : Cells) (team own : ℕ) (id : CellId) (is : Some i
           (may_without id.team id.own (working_boxes f cells id.team) o out (box_put id None o out refl) (keeps_put id None o out refl refl refl refl) own_may)
           (nowhere_now id o out refl) (sym at)
 
+  -- it has this box, and stands nowhere as yet
+  pub is_nowhere : (rect : Rect) (o : Occupied) → Some rect ≡ cell_box (working_boxes f cells id.team) id.own →
+      IsPartly team (working_boxes f cells team) o → cell_box (boxes_of o team) own ≡ None → IsNowhere o.boxes id
+  is_nowhere rect o at part out = record {
+    known = (is_at rect o at part).known;
+    at = subst (λ (i : CellId). cell_box (boxes_of o i.team) i.own ≡ None) (sym same) out;
+  }
+
+  pub may_enter : (rect : Rect) (m : Marked) → Some rect ≡ cell_box (working_boxes f cells id.team) id.own →
+      HoldsSome (MayEnter team (working_boxes f cells team) own) m → CanEnter m id rect
+  may_enter rect m at can = record {
+    boxes = can.boxes;
+    holds = can.holds;
+    nowhere = nowhere;
+    room = has_room id (working_boxes f cells id.team) o rect own_may nowhere.at (sym at);
+  }
+    where
+      o : Occupied
+      o = filled_by m can.boxes
+
+      nowhere : IsNowhere o.boxes id
+      nowhere = is_nowhere rect o at record { many = can.is.may.many; part = can.is.may.part } can.is.out
+
+      own_may : MayStand id.team (working_boxes f cells id.team) o
+      own_may = subst (λ (i : CellId). MayStand i.team (working_boxes f cells i.team) o) (sym same) can.is.may
+
   -- what holds of the cell's box holds of the box at that position
   pub at_place : (m : Marked) (boxes : AllBoxes) (x : Option Rect) → Holds m (box_set boxes id.team id.own x) → Holds m (box_set boxes team own x)
   at_place m boxes x holds = subst (λ (i : CellId). Holds m (box_set boxes i.team i.own x)) same holds
@@ -198,12 +224,19 @@ one_out team named n own old mid new is kept was holds =
           (keeps_put id None a b refl kept.index kept.site kept.rooms) was.is;
     }
 
+standing_so_far : (f : Frame) (cells : Cells) (team : ℕ) (named : List ℕ) (o : Occupied) → CanStand f cells team named o → AreStanding f cells team named 0 o
+standing_so_far f cells team named o can = record {
+  may = can.may;
+  rest = λ own never. can.rest own (λ k less. never k (omega arith) less);
+  others = can.others;
+}
+
 pub none_stand : (f : Frame) (cells : Cells) (team : ℕ) (named : List ℕ) (m : Marked) → HoldsSome (CanStand f cells team named) m →
     HoldsSome (AreStanding f cells team named 0) m
 none_stand f cells team named m can = record {
   boxes = can.boxes;
   holds = can.holds;
-  is = record { may = can.is.may; rest = λ own never. can.is.rest own (λ k less. never k (omega arith) less); others = can.is.others };
+  is = standing_so_far f cells team named (filled_by m can.boxes) can.is;
 }
 
 pub one_stands : (f : Frame) (cells : Cells) (team : ℕ) (named : List ℕ) (n own : ℕ) (mid new : Marked) → own ≡ get_or named n 0 → KeepsRooms mid new →
@@ -234,12 +267,21 @@ all_hold f cells team named n m past was = lanes_of_same (felt_strips m.site m.i
         (λ (is : other ≡ team). rw is (all_stand f cells team named n (filled_by m was.boxes) past was.is ∙ sym (boxes_there f cells team)))
         (λ (differ : other ≢ team). was.is.others other differ ∙ sym (boxes_there f cells other)) (cases_eq other team)
 
+-- the one cell that is named is put in
+pub one_enters : (f : Frame) (cells : Cells) (team : ℕ) (named : List ℕ) (own : ℕ) (old new : Marked) → length named ≡ 1 → own ≡ get_or named 0 0 →
+    KeepsRooms old new → (can : HoldsSome (CanStand f cells team named) old) →
+    Holds new (box_set can.boxes team own (cell_box (working_boxes f cells team) own)) → Holds new (boxes_in f cells)
+one_enters f cells team named own old new one is kept can holds =
+    let begun : HoldsSome (AreStanding f cells team named 0) old =
+    record { boxes = can.boxes; holds = can.holds; is = standing_so_far f cells team named (filled_by old can.boxes) can.is } in
+    all_hold f cells team named 1 new (omega (arith, one)) (one_stands f cells team named 0 own old new is kept begun holds)
+
 -- the cells that are lifted can stand where they are moved
 pub can_stand : (f : Frame) (old new : Cells) (team : ℕ) (named named_then : List ℕ) (count : ℕ) (before after : Marked) → OtherCellsStay team old new →
     (out : HoldsSome (TakesOut team named count (filled_by before (boxes_in f old))) after) →
     MayStand team (working_boxes f new team) (filled_by after out.boxes) → StandButFor team (working_boxes f new team) named_then (filled_by after out.boxes) →
-    HoldsSome (CanStand f new team named_then) after
-can_stand f old new team named named_then count before after stay out may rest = record {
+    AreOut team named_then (filled_by after out.boxes) → HoldsSome (CanStand f new team named_then) after
+can_stand f old new team named named_then count before after stay out may rest gone = record {
   boxes = out.boxes;
   holds = out.holds;
   is = record {
@@ -247,5 +289,6 @@ can_stand f old new team named named_then count before after stay out may rest =
     rest = rest;
     others = λ other differ.
         out.is.rest.boxes other differ ∙ boxes_there f old other ∙ ap (λ (cs : List Cell). map (box_of f) cs) (sym (stay.cells other differ));
+    out = gone;
   };
 }

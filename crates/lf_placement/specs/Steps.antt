@@ -84,6 +84,11 @@ pub record MayStand (team : ℕ) (boxes : List (Option Rect)) (o : Occupied) : T
   pub part : ArePartOf (boxes_of o team) boxes
   pub fits : FitIn o team boxes
 
+-- so they are, and the cell of that position stands nowhere
+pub record MayEnter (team : ℕ) (boxes : List (Option Rect)) (own : ℕ) (o : Occupied) : Type 0 where
+  pub may : MayStand team boxes o
+  pub out : cell_box (boxes_of o team) own ≡ None
+
 -- there is a cell of that id, which is out or has this box, and there is room for the box where it is out
 pub record MayHave (id : CellId) (rect : Rect) (o : Occupied) : Type 0 where
   pub at : IsAt o.boxes id rect
@@ -93,11 +98,16 @@ pub record MayHave (id : CellId) (rect : Rect) (o : Occupied) : Type 0 where
 abbrev pub StandButFor : ℕ → List (Option Rect) → List ℕ → Occupied → Type 0
 StandButFor team boxes named o = (own : ℕ) → NameNot named (length named) own → cell_box (boxes_of o team) own ≡ cell_box boxes own
 
--- the cells of a team are to be put where they stand, and all others stand
+-- none of the named cells stands anywhere
+abbrev pub AreOut : ℕ → List ℕ → Occupied → Type 0
+AreOut team named o = (k : ℕ) → k < length named → cell_box (boxes_of o team) (slice_index named k) ≡ None
+
+-- the cells of a team are to be put where they stand, those named are out, and all others stand
 pub record CanStand (f : Frame) (cells : Cells) (team : ℕ) (named : List ℕ) (o : Occupied) : Type 0 where
   pub may : MayStand team (working_boxes f cells team) o
   pub rest : StandButFor team (working_boxes f cells team) named o
   pub others : OthersStand f cells team o
+  pub out : AreOut team named o
 
 -- the cell that a move names, and its box at the move's place; no box where there is no such cell
 abbrev pub asked_for : Frame → ℕ → List Cell → Move → CellId × Option Rect

@@ -1,6 +1,6 @@
 //! Room for moves, before they are made.
 
-ghost use Rattle.std.specs.Prelude.{◌≡◌, All, IfOk, OnOk, map};
+ghost use Rattle.std.specs.Prelude.{◌≡◌, ◌∷◌, [], All, IfOk, OnOk, map};
 ghost use Rattle.lf_cells.specs.Cells.{cells_of};
 ghost use Rattle.lf_legalize.specs.Members.{IsSizedCell};
 ghost use Rattle.lf_occupancy.specs.Occupied.{FitIn, NoLess};
@@ -16,6 +16,7 @@ use lf_occupancy::Occupancy;
 use lf_undo::Move;
 use lf_units::Rect;
 use std::alloc::{AllocError, Global};
+use std::slice;
 
 /// The cell that the move names, and its box at the move's place; no box where there is no such cell.
 fn asked_for(frame: &Frame, cells: &CellTable, team: usize, next: &Move) -> (CellId, Option<Rect>)
@@ -46,6 +47,30 @@ fn all_asked_for(
     Ok(list)
 }
 
+/// Makes the room that this one move of a team's cell needs.
+///
+/// `Err` if an allocation fails: then some room may have been made, and nothing else is changed.
+fn make_room_for(
+    frame: &Frame,
+    cells: &CellTable,
+    occupancy: &mut Occupancy,
+    team: usize,
+    next: &Move,
+) -> Result<(), AllocError>
+    requires sized { All (IsSizedCell frame.now) (cells_of cells.now team) }
+    requires holds { Holds occupancy.old (boxes_in frame.now cells.now) }
+    ensures ok { OnOk result (FitIn (filled_by occupancy.new (boxes_in frame.now cells.now)) team (map (box_of frame.now) (made (next.now ∷ []) (cells_of cells.now team)))) }
+    ensures holds { Holds occupancy.new (boxes_in frame.now cells.now) }
+    ensures index { occupancy.new.index ≡ occupancy.old.index }
+    ensures site { occupancy.new.site ≡ occupancy.old.site }
+    ensures rooms { NoLess (rooms_in occupancy.old.lanes) (rooms_in occupancy.new.lanes) }
+{
+    let asked = asked_for(frame, cells, team, next);
+    occupancy.reserve_for(slice::from_ref(&asked))?;
+    occupancy.boxes_fit();
+    Ok(())
+}
+
 /// Makes the room that these moves of the team's cells need, where they are made in their order.
 ///
 /// `Err` if an allocation fails: then some room may have been made, and nothing else is changed.
@@ -65,6 +90,9 @@ pub(crate) fn make_room(
     ensures site { occupancy.new.site ≡ occupancy.old.site }
     ensures rooms { NoLess (rooms_in occupancy.old.lanes) (rooms_in occupancy.new.lanes) }
 {
+    if moves.len() == 1 {
+        return make_room_for(frame, cells, occupancy, team, &moves[0]);
+    }
     let asked = all_asked_for(alloc, frame, cells, team, moves)?;
     occupancy.reserve_for(asked.as_slice())?;
     occupancy.boxes_fit();

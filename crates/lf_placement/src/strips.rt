@@ -1,6 +1,6 @@
 //! Cells of a team are taken out of the strips, and put where they are to stand.
 
-ghost use Rattle.std.specs.Prelude.{◌≡◌, All, IfSome, List, None, Option, Some, length};
+ghost use Rattle.std.specs.Prelude.{◌≡◌, All, IfSome, List, None, Option, Some, [], length, slice_index_or};
 ghost use Rattle.lf_units.specs.declared.area.Rect.{Rect};
 ghost use Rattle.lf_cells.specs.Cells.{cell_at, cells_of};
 ghost use Rattle.lf_legalize.specs.Members.{IsSizedCell};
@@ -8,7 +8,7 @@ ghost use Rattle.lf_occupancy.specs.Floorplans.{boxes_in};
 ghost use Rattle.lf_occupancy.specs.Lanes.{IsPlaceX};
 ghost use Rattle.lf_occupancy.specs.Occupied.{cell_box};
 ghost use Rattle.lf_occupancy.specs.Strips.{Holds, IsAt, filled_by};
-ghost use Rattle.lf_placement.specs.Steps.{CanStand, HoldsSome, IsPartly, KeepsRooms, MayHave, MayStand, TakesOut, box_moved, box_set, owns, working_boxes};
+ghost use Rattle.lf_placement.specs.Steps.{CanStand, HoldsSome, IsPartly, KeepsRooms, MayEnter, MayHave, MayStand, TakesOut, box_moved, box_set, owns, working_boxes};
 
 use lf_cells::{CellId, CellTable};
 use lf_floorplan::{Frame, Place};
@@ -109,7 +109,27 @@ fn put_at_work(frame: &Frame, occupancy: &mut Occupancy, cells: &CellTable, team
     put_in(occupancy, id, &rect);
 }
 
-/// Puts the cells of the moves to their working places. It allocates nothing.
+/// Puts the team's cell of that position, which stands nowhere, to its working place, where there is
+/// such a cell.
+fn enter(frame: &Frame, occupancy: &mut Occupancy, cells: &CellTable, team: usize, own: u32)
+    requires sized { All (IsSizedCell frame.now) (cells_of cells.now team) }
+    requires may { HoldsSome (MayEnter team (working_boxes frame.now cells.now team) own) occupancy.old }
+    ensures holds { (boxes : List (List (Option Rect))) → cell_box (slice_index_or boxes team []) own ≡ None
+        → IsPartly team (working_boxes frame.now cells.now team) (filled_by occupancy.old boxes)
+        → Holds occupancy.old boxes → Holds occupancy.new (box_set boxes team own (cell_box (working_boxes frame.now cells.now team) own)) }
+    ensures rooms { KeepsRooms occupancy.old occupancy.new }
+{
+    let Some(id) = cells.cell_of(team, own as usize) else {
+        return;
+    };
+    let Some(rect) = box_at_work(frame, cells, id) else {
+        return;
+    };
+    occupancy.insert(id, &rect);
+}
+
+/// Puts the cells of the moves, which are out of the strips, to their working places. Moves may name a
+/// cell twice, so of several each is taken out once more before it is put in. It allocates nothing.
 pub(crate) fn stand(
     frame: &Frame,
     occupancy: &mut Occupancy,
@@ -122,6 +142,10 @@ pub(crate) fn stand(
     ensures holds { Holds occupancy.new (boxes_in frame.now cells.now) }
     ensures rooms { KeepsRooms occupancy.old occupancy.new }
 {
+    if moves.len() == 1 {
+        enter(frame, occupancy, cells, team, moves[0].own);
+        return;
+    }
     for next in moves {
         put_at_work(frame, occupancy, cells, team, next.own);
     }

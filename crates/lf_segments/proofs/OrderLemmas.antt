@@ -1,11 +1,12 @@
--- The strips of one row and team that overlap a range of x, found by bisection.
-use Rattle.std.proofs.Common.{◌≡◌, ◌⊎◌, inl, inr, ℕ, ◌<◌, ◌≤◌, ℤ, ◌≤ℤ◌, ◌<ℤ◌, Bool, true, false, cond, List, length, get_or, eqb, ltb, refl}
+-- The strips of one row and team that overlap a range of x, and how they are found among all.
+use Rattle.std.proofs.Common.{◌≡◌, ◌⊎◌, inl, inr, ℕ, ◌+◌, ◌<◌, ◌≤◌, ℤ, ◌≤ℤ◌, ◌<ℤ◌, Bool, true, false, cond, List, length, get_or, eqb, ltb, refl}
 use Rattle.std.proofs.Common.{sym, ap, subst, ◌∙◌, arith, int_le, int_lt}
 use Rattle.std.specs.Prelude.{All, AllPairs}
 use Rattle.std.specs.List.Sorted.{IsPartitionedBy}
 use Rattle.std.proofs.lemmas.Bool.{false≢true}
 use Rattle.std.proofs.lemmas.Bool.Decides.{nat_tests, eqb_tells}
 use Rattle.std.proofs.lemmas.Int.{ints}
+use Rattle.std.proofs.lemmas.List.{get_or_default}
 use Rattle.lf_segments.specs.declared.strip.Strip.{Strip}
 use Rattle.lf_segments.specs.Strips.{AreNear, LiesBefore, IsNear, is_earlier}
 
@@ -118,7 +119,36 @@ begun_parted row team x xs pairs wide = parted row team (λ g. int_lt g.area.x1 
     let l = lt_of (get_or xs j d).area.x1 x h in
     of_lt (get_or xs i d).area.x1 x (omega (arith, ints, w, l, apart)))
 
--- a strip is near where the first bisection leaves it out and the second does not
+-- where one strip is not begun, none behind it is
+pub not_begun_after : (row team : ℕ) (x : ℤ) (xs : List Strip) → AllPairs LiesBefore xs → All (λ g. g.area.x1 <ℤ g.area.x2) xs → (n : ℕ) (e : Strip) →
+    n < length xs → is_earlier row team (int_lt (get_or xs n e).area.x1 x) (get_or xs n e) ≡ false → (k : ℕ) (d : Strip) → n ≤ k → k < length xs →
+    is_earlier row team (int_lt (get_or xs k d).area.x1 x) (get_or xs k d) ≡ false
+not_begun_after row team x xs pairs wide n e inside here k d from within = of (is_earlier row team (int_lt (get_or xs k d).area.x1 x) (get_or xs k d)) refl
+  where
+    there : is_earlier row team (int_lt (get_or xs n d).area.x1 x) (get_or xs n d) ≡ false
+    there = subst (λ (g : Strip). is_earlier row team (int_lt g.area.x1 x) g ≡ false) (get_or_default xs n e d inside) here
+
+    of : (b : Bool) → is_earlier row team (int_lt (get_or xs k d).area.x1 x) (get_or xs k d) ≡ b →
+        is_earlier row team (int_lt (get_or xs k d).area.x1 x) (get_or xs k d) ≡ false
+    of false is = is
+    of true is = absurd (false≢true (sym there ∙ begun_parted row team x xs pairs wide n k d from within is))
+
+-- one more strip that is begun
+pub begun_more : (row team : ℕ) (x : ℤ) (xs : List Strip) (first n : ℕ) (e : Strip) → n < length xs →
+    ((k : ℕ) (d : Strip) → first ≤ k → k < n → is_earlier row team (int_lt (get_or xs k d).area.x1 x) (get_or xs k d) ≡ true) →
+    is_earlier row team (int_lt (get_or xs n e).area.x1 x) (get_or xs n e) ≡ true → (k : ℕ) (d : Strip) → first ≤ k → k < n + 1 →
+    is_earlier row team (int_lt (get_or xs k d).area.x1 x) (get_or xs k d) ≡ true
+begun_more row team x xs first n e inside before here k d from less = elim two [
+  | inl below ↦ before k d from below
+  | inr same ↦
+      subst (λ (m : ℕ). is_earlier row team (int_lt (get_or xs m d).area.x1 x) (get_or xs m d) ≡ true) (sym same)
+      (subst (λ (g : Strip). is_earlier row team (int_lt g.area.x1 x) g ≡ true) (get_or_default xs n e d inside) here)
+]
+  where
+    two : (k < n) ⊎ (k ≡ n)
+    two = grind arith
+
+-- a strip is near where it is not ended and is begun
 near_of : (row team : ℕ) (lo hi : ℤ) (g : Strip) → is_earlier row team (int_le g.area.x2 lo) g ≡ false → is_earlier row team (int_lt g.area.x1 hi) g ≡ true →
     IsNear row team lo hi g
 near_of row team lo hi g first second = from (earlier_of row team (int_lt g.area.x1 hi) g second)
@@ -150,13 +180,13 @@ begun row team lo hi g near t =
 pub are_near : (xs : List Strip) (row team : ℕ) (lo hi : ℤ) (start end : ℕ) → end ≤ length xs →
     ((k : ℕ) (d : Strip) → k < start → is_earlier row team (int_le (get_or xs k d).area.x2 lo) (get_or xs k d) ≡ true) →
     ((k : ℕ) (d : Strip) → start ≤ k → k < length xs → is_earlier row team (int_le (get_or xs k d).area.x2 lo) (get_or xs k d) ≡ false) →
-    ((k : ℕ) (d : Strip) → k < end → is_earlier row team (int_lt (get_or xs k d).area.x1 hi) (get_or xs k d) ≡ true) →
+    ((k : ℕ) (d : Strip) → start ≤ k → k < end → is_earlier row team (int_lt (get_or xs k d).area.x1 hi) (get_or xs k d) ≡ true) →
     ((k : ℕ) (d : Strip) → end ≤ k → k < length xs → is_earlier row team (int_lt (get_or xs k d).area.x1 hi) (get_or xs k d) ≡ false) →
     AreNear xs row team lo hi start end
 are_near xs row team lo hi start end bound ended left before behind = record {
   within = bound;
   exact = λ n d within. (
-    λ both. near_of row team lo hi (get_or xs n d) (left n d both.0 within) (before n d both.1),
+    λ both. near_of row team lo hi (get_or xs n d) (left n d both.0 within) (before n d both.0 both.1),
     λ near. (from n d near, to n d within near),
   );
 }

@@ -86,13 +86,24 @@ rest_in_all left xs row team start end n range rest k d least inside = elim two 
     two : (k < end) ⊎ (end ≤ k)
     two = grind arith
 
--- two bisections among the strips of a row find the near ones
+-- what is earlier of a run among the strips of a row is so among all strips
+run_in_all : (left : Strip → Bool) (xs : List Strip) (row team start end n m : ℕ) → m ≤ end - start →
+    ((k : ℕ) (d : Strip) → n ≤ k → k < m → is_earlier row team (left (get_or (part xs start end) k d)) (get_or (part xs start end) k d) ≡ true) →
+    (k : ℕ) (d : Strip) → start + n ≤ k → k < start + m → is_earlier row team (left (get_or xs k d)) (get_or xs k d) ≡ true
+run_in_all left xs row team start end n m some earlier k d least less =
+    let inner : k - start < m = omega (arith, least, less) in
+    let here : start + (k - start) ≡ k = omega (arith, least) in
+    let is : get_or (part xs start end) (k - start) d ≡ get_or xs k d =
+    part_get xs start end (k - start) d (omega (arith, inner, some)) ∙ ap (λ m. get_or xs m d) here in
+    subst (λ (g : Strip). is_earlier row team (left g) g ≡ true) is (earlier (k - start) d (omega (arith, least)) inner)
+
+-- what is not ended among the strips of a row, and begun from there on, is near
 pub near_in_row : (xs : List Strip) (row team : ℕ) (lo hi : ℤ) (start end n m : ℕ) → IsRangeOf (rows_in xs) row start end →
     n ≤ length (part xs start end) → m ≤ length (part xs start end) →
     ((k : ℕ) (d : Strip) → k < n → is_earlier row team (int_le (get_or (part xs start end) k d).area.x2 lo) (get_or (part xs start end) k d) ≡ true) →
     ((k : ℕ) (d : Strip) → n ≤ k → k < length (part xs start end) →
     is_earlier row team (int_le (get_or (part xs start end) k d).area.x2 lo) (get_or (part xs start end) k d) ≡ false) →
-    ((k : ℕ) (d : Strip) → k < m → is_earlier row team (int_lt (get_or (part xs start end) k d).area.x1 hi) (get_or (part xs start end) k d) ≡ true) →
+    ((k : ℕ) (d : Strip) → n ≤ k → k < m → is_earlier row team (int_lt (get_or (part xs start end) k d).area.x1 hi) (get_or (part xs start end) k d) ≡ true) →
     ((k : ℕ) (d : Strip) → m ≤ k → k < length (part xs start end) →
     is_earlier row team (int_lt (get_or (part xs start end) k d).area.x1 hi) (get_or (part xs start end) k d) ≡ false) →
     AreNear xs row team lo hi (start + n) (start + m)
@@ -103,5 +114,5 @@ near_in_row xs row team lo hi start end n m range first second ended left begun 
     are_near xs row team lo hi (start + n) (start + m) (omega (arith, long, second, order, within))
     (earlier_in_all (λ g. int_le g.area.x2 lo) xs row team start end n range (omega (arith, long, first)) ended)
     (rest_in_all (λ g. int_le g.area.x2 lo) xs row team start end n range left)
-    (earlier_in_all (λ g. int_lt g.area.x1 hi) xs row team start end m range (omega (arith, long, second)) begun)
+    (run_in_all (λ g. int_lt g.area.x1 hi) xs row team start end n m (omega (arith, long, second)) begun)
     (rest_in_all (λ g. int_lt g.area.x1 hi) xs row team start end m range behind)

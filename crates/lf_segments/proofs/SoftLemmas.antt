@@ -51,6 +51,23 @@ piece_between spans starts k start end within first last =
     ap (λ (n : ℕ). take (n - start) (drop start spans)) last
     ∙ ap (λ (n : ℕ). take (get_or starts (k + 1) (length spans) - n) (drop n spans)) first ∙ sym (piece_at spans starts k start within)
 
+-- where there are no spans, each list is empty
+pub no_pieces : (spans : List Span) (starts : List ℕ) (k : ℕ) → length spans ≡ 0 → get_or (pieces spans starts) k [] ≡ []
+no_pieces (s ∷ spans) starts k none = absurd (omega (arith, none))
+no_pieces [] starts k none = bare starts k
+  where
+    none_of : (n a : ℕ) → ◌≡◌ {A = List Span} (take n (drop a [])) []
+    none_of zero zero = refl
+    none_of zero (suc a) = refl
+    none_of (suc n) zero = refl
+    none_of (suc n) (suc a) = refl
+
+    bare : (firsts : List ℕ) (i : ℕ) → get_or (pieces [] firsts) i [] ≡ []
+    bare [] zero = refl
+    bare [] (suc i) = refl
+    bare (a ∷ firsts) zero = none_of (get_or firsts 0 0 - a) a
+    bare (a ∷ firsts) (suc i) = bare firsts i
+
 -- one more list at the end
 pub pieces_more : (spans more : List Span) (starts : List ℕ) → All (λ n. n ≤ length spans) starts →
     pieces (spans ++ more) (starts ++ length spans ∷ []) ≡ pieces spans starts ++ more ∷ []

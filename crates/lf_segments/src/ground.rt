@@ -1,6 +1,6 @@
 //! What of a frame is looked up by where it lies, built once for a frame.
 
-ghost use Rattle.std.specs.Prelude.{◌≡◌, IfOk, slice_index_or, []};
+ghost use Rattle.std.specs.Prelude.{◌≡◌, ℕ, IfOk, IsTrue, slice_index_or, []};
 ghost use Rattle.lf_segments.specs.Grounds.{IsGroundOf};
 ghost use Rattle.lf_segments.specs.Strips.{AreNear, AreRowsNear, AreStrips};
 
@@ -113,6 +113,13 @@ impl Ground {
         ensures { result.now ≡ slice_index_or self.now.soft segment [] }
     {
         self.soft.of_segment(segment)
+    }
+
+    /// Whether soft blockages cover nothing of any segment, so that none need be looked up.
+    pub fn has_no_soft(&self) -> bool
+        ensures { IsTrue result → (k : ℕ) → slice_index_or self.now.soft k [] ≡ [] }
+    {
+        self.soft.is_bare()
     }
 
     /// The numbers of the strips of a row and a team that overlap the range of x from `lo` on and below `hi`; they are

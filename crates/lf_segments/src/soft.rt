@@ -1,6 +1,6 @@
 //! What soft blockages cover of segments.
 
-ghost use Rattle.std.specs.Prelude.{◌≡◌, ◌∷◌, ◌++◌, ◌<ℤ◌, All, IfOk, IsPermutation, OnOk, slice_index_or, []};
+ghost use Rattle.std.specs.Prelude.{◌≡◌, ◌∷◌, ◌++◌, ◌<ℤ◌, ℕ, All, IfOk, IsPermutation, IsTrue, OnOk, slice_index_or, []};
 ghost use Rattle.lf_units.specs.Area.{SharesPoint};
 ghost use Rattle.lf_segments.specs.Soft.{AreMetSpans, AreSoftIn, AreSoftOver, AreStarts, pieces, soft_boxes};
 
@@ -114,6 +114,13 @@ impl SoftSpans {
             push_piece(&mut spans, &mut starts, more.as_slice())?;
         }
         Ok(SoftSpans { spans, starts })
+    }
+
+    /// Whether there is no span of any segment, told from the spans alone.
+    pub(crate) fn is_bare(&self) -> bool
+        ensures { IsTrue result → (k : ℕ) → slice_index_or self.now k [] ≡ [] }
+    {
+        self.spans.is_empty()
     }
 
     /// The spans of the segment of that number; none if there is no such segment.

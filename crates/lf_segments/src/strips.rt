@@ -1,6 +1,6 @@
 //! The strips of segments, and how they are found.
 
-ghost use Rattle.std.specs.Prelude.{◌≡◌, ◌<◌, ◌≤◌, ◌<ℤ◌, ◌≤ℤ◌, ◌+ℤ◌, ℕ, ℤ, All, AllPairs, IfOk, length, map, negsuc, pos, true, false};
+ghost use Rattle.std.specs.Prelude.{◌≡◌, ◌<◌, ◌≤◌, ◌<ℤ◌, ◌≤ℤ◌, ◌+ℤ◌, ℕ, ℤ, All, AllPairs, IfOk, int_lt, length, map, negsuc, pos, true, false};
 ghost use Rattle.lf_segments.specs.declared.strip.Strip.{Strip};
 ghost use Rattle.lf_segments.specs.RowStarts.{rows_of};
 ghost use Rattle.lf_segments.specs.Strips.{AreNear, AreRowsNear, LiesBefore, is_begun, is_earlier, is_ended, row_y, rows_in, strip_of};
@@ -91,19 +91,34 @@ fn count_ended(strips: &[Strip], row: usize, team: usize, x: &i64) -> usize
     strips.partition_point(|strip| is_before(strip, row, team, strip.area.x2 <= *x))
 }
 
-/// How many strips are of an earlier row or team, or of this row and team and begin before x.
-fn count_begun(strips: &[Strip], row: usize, team: usize, x: &i64) -> usize
+/// Whether the strip is of an earlier row or team, or of this row and team and begins before x.
+fn begins_before(strip: &Strip, row: usize, team: usize, x: &i64) -> bool
+    ensures { result ≡ is_earlier row team (int_lt strip.now.area.x1 x.now) strip.now }
+{
+    is_before(strip, row, team, strip.area.x1 < *x)
+}
+
+/// The number of the first strip from a number on that is of a later row or team, or of this row and team and does not begin
+/// before x; the number of strips if there is none.
+fn end_of_begun(strips: &[Strip], first: usize, row: usize, team: usize, x: &i64) -> usize
     requires order { AllPairs LiesBefore strips.now }
     requires wide { All (λ g. g.area.x1 <ℤ g.area.x2) strips.now }
+    requires first { first ≤ length strips.now }
     ensures within { result ≤ length strips.now }
-    ensures begun { (k : ℕ) → (d : Strip) → k < result → is_begun strips.now row team x.now k d ≡ true }
+    ensures begun { (k : ℕ) → (d : Strip) → first ≤ k → k < result → is_begun strips.now row team x.now k d ≡ true }
     ensures rest { (k : ℕ) → (d : Strip) → result ≤ k → k < length strips.now → is_begun strips.now row team x.now k d ≡ false }
 {
-    strips.partition_point(|strip| is_before(strip, row, team, strip.area.x1 < *x))
+    for n in first..strips.len() {
+        if !begins_before(&strips[n], row, team, x) {
+            return n;
+        }
+    }
+    strips.len()
 }
 
 /// The numbers of the strips of a row and a team that overlap a range of x. They are found by a
-/// look-up of the row among the segments of the strips, and by bisection among the strips of the row.
+/// look-up of the row among the segments of the strips, by bisection among the strips of the row for the first, and from there on
+/// to the last.
 pub(crate) fn near_strips(
     strips: &[Strip],
     segments: &Segments,
@@ -119,9 +134,11 @@ pub(crate) fn near_strips(
 {
     let range = segments.range_of(row);
     let in_row = &strips[range.start..range.end];
+    let first = count_ended(in_row, row, team, lo);
+    let end = end_of_begun(in_row, first, row, team, hi);
     NearStrips {
-        start: range.start + count_ended(in_row, row, team, lo),
-        end: range.start + count_begun(in_row, row, team, hi),
+        start: range.start + first,
+        end: range.start + end,
     }
 }
 

@@ -3,6 +3,7 @@ pub mod Before
 pub mod Behind
 pub mod Edits
 pub mod Entries
+pub mod Fronts
 pub mod Idle
 pub mod Keeping
 pub mod Kept

@@ -1,3 +1,4 @@
+pub mod Comparing
 pub mod Export
 pub mod Keeping
 pub mod Laws

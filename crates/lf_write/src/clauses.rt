@@ -5,7 +5,7 @@ ghost use Rattle.lf_write.specs.Keeping.{IsInText, IsKept, IsNext, IsWithin, Sta
 ghost use Rattle.lf_write.specs.Export.{clause_at, clause_of, clause_with, no_clause, plain_clause};
 ghost use Rattle.lf_write.specs.Export as spec;
 
-use crate::clause::put_location;
+use crate::comparing::is_clause_of;
 use lf_def::{Component, DefDoc, Location, Placement, components_rise};
 use lf_orient::Orient;
 use std::alloc::{AllocError, Global};
@@ -152,48 +152,36 @@ fn clause_before(semicolon: usize) -> Clause
     }
 }
 
-/// Whether the clause is plain in the text. What is written for its place goes to the buffer.
-fn is_plain(text: &[u8], placement: &Placement, written: &mut Vec<u8>) -> Result<bool, AllocError>
+/// Whether the clause is plain in the text.
+fn is_plain(text: &[u8], placement: &Placement) -> bool
     requires order { placement.now.start ≤ placement.now.stop }
     requires within { placement.now.stop ≤ length text.now }
-    ensures { IfOk result (λ plain. plain ≡ spec.is_plain text.now placement.now) }
+    ensures { result ≡ spec.is_plain text.now placement.now }
 {
-    written.clear();
-    match put_location(written, &placement.place) {
-        Ok(()) => Ok(&text[placement.start..placement.stop] == written.as_slice()),
-        Err(_) => Err(AllocError),
-    }
+    is_clause_of(&text[placement.start..placement.stop], &placement.place)
 }
 
 /// The clause of a component with this placement in the text.
-fn clause_with_placement(
-    text: &[u8],
-    placement: &Placement,
-    written: &mut Vec<u8>,
-) -> Result<Clause, AllocError>
+fn clause_with_placement(text: &[u8], placement: &Placement) -> Clause
     requires order { placement.now.start ≤ placement.now.stop }
     requires within { placement.now.stop ≤ length text.now }
-    ensures { IfOk result (λ clause. clause ≡ clause_with (spec.is_plain text.now placement.now) placement.now) }
+    ensures { result ≡ clause_with (spec.is_plain text.now placement.now) placement.now }
 {
-    if is_plain(text, placement, written)? {
-        Ok(plain_between(placement.start, placement.stop))
+    if is_plain(text, placement) {
+        plain_between(placement.start, placement.stop)
     } else {
-        Ok(clause_between(placement.start, placement.stop, &placement.place))
+        clause_between(placement.start, placement.stop, &placement.place)
     }
 }
 
 /// The clause of a component of the text.
-fn clause_in_text(
-    text: &[u8],
-    component: &Component,
-    written: &mut Vec<u8>,
-) -> Result<Clause, AllocError>
+fn clause_in_text(text: &[u8], component: &Component) -> Clause
     requires { IsInText (length text.now) component.now }
-    ensures { IfOk result (λ clause. clause ≡ clause_of text.now component.now) }
+    ensures { result ≡ clause_of text.now component.now }
 {
     match component.placement() {
-        Some(placement) => clause_with_placement(text, &placement, written),
-        None => Ok(clause_before(component.semicolon())),
+        Some(placement) => clause_with_placement(text, &placement),
+        None => clause_before(component.semicolon()),
     }
 }
 
@@ -299,12 +287,11 @@ fn all_kept(alloc: Global, text: &[u8], components: &[Component]) -> Result<Clau
     requires { All (IsInText (length text.now)) components.now }
     ensures { IfOk result (λ clauses. clauses ≡ map (clause_of text.now) components.now) }
 {
-    let mut written = Vec::new(alloc);
     let mut entries = Vec::with_capacity(alloc, components.len())?;
     let mut others = Vec::new(alloc);
     let mut far = Vec::new(alloc);
     for component in components {
-        let clause = clause_in_text(text, component, &mut written)?;
+        let clause = clause_in_text(text, component);
         keep(clause, &mut entries, &mut others, &mut far)?;
     }
     Ok(Clauses {

@@ -18,6 +18,7 @@
 
 mod clause;
 mod clauses;
+mod comparing;
 mod laws;
 mod text;
 

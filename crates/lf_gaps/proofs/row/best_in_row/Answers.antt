@@ -1,21 +1,46 @@
-use Rattle.std.proofs.Common.{List, map, sym, subst, arith}
+use Rattle.std.proofs.Common.{◌≡◌, List, [], ◌∷◌, Vec, Global, length, map, sym, ap, subst, ◌∙◌, arith}
 use Rattle.std.specs.Prelude.{All}
 use Rattle.std.proofs.lemmas.Int.{ints}
 use Rattle.lf_spans.specs.declared.span.Span.{Span}
 use Rattle.lf_spans.specs.Grids.{FindsNearest, IsBoundedSpan}
+use Rattle.lf_spans.specs.Spans.{IsMeetAll, IsRising}
 use Rattle.lf_gaps.specs.Steps.{FitsOne}
-use Rattle.lf_gaps.proofs.Nearest.{near_met_of, found_in_rows}
+use Rattle.lf_gaps.proofs.Nearest.{near_met_of, found_in_rows, meet_of_one, one_list}
 use Rattle.lf_gaps.proofs.row.best_in_row.Goals as goal
+
+pub nearest_of-requires-clause-rising : goal.nearest_of-requires-clause-rising
+nearest_of-requires-clause-rising c =
+    let first : Vec Span Global = c.index-lists-0.result in
+    subst (λ (xs : List Span). IsRising xs) (ap (λ (v : Vec Span Global). v.items) (sym c.index-lists-0.is) ∙ sym c.as_slice.ensures.value)
+    (c.requires.rising 0 first (omega arith))
 
 pub nearest_of-requires-clause-bounded : goal.nearest_of-requires-clause-bounded
 nearest_of-requires-clause-bounded c =
-    subst (λ (xs : List Span). All IsBoundedSpan xs) (sym c.as_slice.ensures.value)
+    let first : Vec Span Global = c.index-lists-0.result in
+    subst (λ (xs : List Span). All IsBoundedSpan xs) (ap (λ (v : Vec Span Global). v.items) (sym c.index-lists-0.is) ∙ sym c.as_slice.ensures.value)
+    (c.requires.bounded 0 first (omega arith))
+
+pub returns-then-lists-eq1 : goal.returns-then-lists-eq1
+returns-then-lists-eq1 c =
+    let first : Vec Span Global = c.index-lists-0.result in
+    let spans = c.as_slice.result.now in
+    let rising : IsRising spans = subst (λ (xs : List Span). IsRising xs)
+    (ap (λ (v : Vec Span Global). v.items) (sym c.index-lists-0.is) ∙ sym c.as_slice.ensures.value) (c.requires.rising 0 first (omega arith)) in
+    let one : length c.args.lists.now ≡ 1 = omega arith in
+    let met = subst (λ (rows : List (List Span)). IsMeetAll rows spans)
+    (ap (λ (xs : List Span). xs ∷ []) c.as_slice.ensures.value ∙ sym (one_list c.args.lists.now first one c.index-lists-0.is)) (meet_of_one spans rising) in
+    found_in_rows (map (λ list. list.items) c.args.lists.now) spans c.args.grid.now c.args.width c.args.target c.wanted_of-wanted.result.width
+    c.wanted_of-wanted.result.target c.nearest_of.result c.requires.wide (omega (arith, ints)) (omega (arith, ints)) met c.nearest_of.ensures
+
+pub nearest_of-requires-2-clause-bounded : goal.nearest_of-requires-2-clause-bounded
+nearest_of-requires-2-clause-bounded c =
+    subst (λ (xs : List Span). All IsBoundedSpan xs) (sym c.as_slice-2.ensures.value)
     (near_met_of c.args.lists.now c.in_ok-met.met.items c.requires.some c.requires.bounded c.in_ok-met.ensures)
 
 pub returns : goal.returns
 returns c =
-    found_in_rows (map (λ list. list.items) c.args.lists.now) c.in_ok-met.met.items c.args.grid.now c.args.width c.args.target c.wanted_of.result.width
-    c.wanted_of.result.target
-    c.nearest_of.result c.requires.wide (omega (arith, ints)) (omega (arith, ints)) c.in_ok-met.ensures
-    (subst (λ (xs : List Span). FindsNearest (λ x. FitsOne xs c.args.grid.now c.wanted_of.result.width x) c.wanted_of.result.target c.nearest_of.result)
-    c.as_slice.ensures.value c.nearest_of.ensures)
+    found_in_rows (map (λ list. list.items) c.args.lists.now) c.in_ok-met.met.items c.args.grid.now c.args.width c.args.target
+    c.wanted_of-wanted.result.width c.wanted_of-wanted.result.target
+    c.nearest_of-2.result c.requires.wide (omega (arith, ints)) (omega (arith, ints)) c.in_ok-met.ensures
+    (subst (λ (xs : List Span). FindsNearest (λ x. FitsOne xs c.args.grid.now c.wanted_of-wanted.result.width x) c.wanted_of-wanted.result.target c.nearest_of-2.result)
+    c.as_slice-2.ensures.value c.nearest_of-2.ensures)

@@ -24,6 +24,13 @@ returns-in_default-2 c r is =
     c.row_at-row.ensures is
     (λ p on may. none_bare s c.args.number bottom c.args.window.now p c.row_at-row.ensures c.requires.held bare on may)
 
+pub returns-then-search-eq1 : goal.returns-then-search-eq1
+returns-then-search-eq1 c r is =
+    let s = c.args.search.now in
+    of_row s.frame.now c.args.number c.row_at-row.result.now r (λ b. IfOk c.best_of_one.result (λ found.
+    IsChoiceAmong (IsOnRowIn s.frame.now s.size b c.args.window.now) (lifted_in s) s.target.now (option_map spot_of found)))
+    c.row_at-row.ensures is c.best_of_one.ensures
+
 pub returns : goal.returns
 returns c r is =
     let s = c.args.search.now in

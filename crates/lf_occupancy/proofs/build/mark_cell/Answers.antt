@@ -17,4 +17,4 @@ returns c = λ boxes nowhere are.
     let xs = felt_strips c.args.frame.now.pitch.x c.args.index.now.strips in
     let id = c.args.id.now in
     subst (λ (b : Option Rect). OnOk c.settle.result (AreLanes xs (boxes_set boxes id b) c.settle.new.lanes.items))
-    (sym c.in-Some.is ∙ c.box_at_work.ensures.is) (c.settle.ensures boxes nowhere are)
+    (sym c.in-Some.is ∙ c.box_at_work.ensures.is) (c.settle.ensures.ok boxes nowhere are)

@@ -1,59 +1,19 @@
-use Rattle.std.proofs.Common.{◌≡◌, ◌<◌, arith, get_or, length, sym, subst, ◌∙◌}
-use Rattle.lf_units.specs.declared.area.Rect.{Rect}
 use Rattle.lf_occupancy.specs.Strips.{PutsIn, felt_strips}
-use Rattle.lf_occupancy.specs.Lanes.{IsPutIn, TakesPart}
-use Rattle.lf_occupancy.proofs.Finds.{no_strip}
-use Rattle.lf_occupancy.proofs.Changes.{none_changed, changed_further, between_is_reached}
+use Rattle.lf_occupancy.proofs.Settling.{changed_in_row, run_is_reached}
 use Rattle.lf_occupancy.proofs.change.put_in_row.Goals as goal
 
-pub loop-n-init : goal.loop-n-init
-loop-n-init c = none_changed _ _ _ (λ n b. let f = b.from in let h = b.below in omega (arith, f, h))
+pub put_in_run-requires-clause-within : goal.put_in_run-requires-clause-within
+put_in_run-requires-clause-within c = c.near_felt-near.ensures.within
 
-pub put_in-requires : goal.put_in-requires
-put_in-requires c =
-    let xs = felt_strips c.args.site.now c.args.index.now.strips in
-    let row = c.args.row in
-    let team = c.args.id.now.team in
-    let rect = c.args.rect.now in
-    let n = c.loop-n.n in
-    let start = c.near_felt-near.result.start in
-    let end = c.near_felt-near.result.end in
-    let lane = c.index_mut.result.now in
-    let near = c.near_felt-near.ensures in
-    let bound = near.within in
-    let test = c.loop-n-test.true in
-    let many = c.requires.many in
-    let within : n < length xs = omega (arith, bound, test) in
-    let takes = c.requires.room n no_strip lane (within, λ d. (near.exact n d within).0 (c.loop-n.auto.n, test)) in
-    let same : get_or c.loop-n.lanes.items n lane ≡ get_or c.args.lanes.now.items n lane =
-    c.loop-n.invariant.others n lane (omega (arith, within, many)) (λ b. let h = b.below in omega (arith, h)) in
-    let one = subst (TakesPart (get_or xs n no_strip).area rect) (sym same ∙ sym c.index_mut.ensures.value) takes in
-    let part = subst (λ (a : Rect). TakesPart a rect lane) (sym (c.felt_area.ensures.is no_strip)) one in
-    record { order = part.order; within = c.felt_area.ensures.near; edge = c.requires.edge; room = part.room }
-
-pub loop-n-preserved : goal.loop-n-preserved
-loop-n-preserved c =
-    let xs = felt_strips c.args.site.now c.args.index.now.strips in
-    let n = c.loop-n.n in
-    let bound = c.near_felt-near.ensures.within in
-    let test = c.loop-n-test.true in
-    let many = c.requires.many in
-    let same = c.loop-n.invariant.many in
-    let inner : n < length xs = omega (arith, bound, test) in
-    let put : PutsIn xs c.args.id.now.own c.args.rect.now n c.index_mut.result.now c.put_in.new.lane =
-    λ d. subst (λ (a : Rect). IsPutIn c.args.id.now.own c.args.rect.now a c.index_mut.result.now c.put_in.new.lane) (c.felt_area.ensures.is d) c.put_in.ensures in
-    changed_further (PutsIn xs c.args.id.now.own c.args.rect.now) c.near_felt-near.result.start n c.near_felt-near.result.end c.args.lanes.now.items
-    c.loop-n.lanes.items c.index_mut.result.now c.put_in.new.lane c.loop-n.auto.n test (omega (arith, inner, many, same)) c.index_mut.ensures.value
-    put c.loop-n.invariant
+pub put_in_run-requires-clause-room : goal.put_in_run-requires-clause-room
+put_in_run-requires-clause-room c = λ n d e one.
+    c.requires.room n d e
+    (run_is_reached (felt_strips c.args.site.now c.args.index.now.strips) c.args.row c.args.id.now.team c.args.rect.now c.near_felt-near.result
+    c.near_felt-near.ensures n one)
 
 pub returns : goal.returns
 returns c =
     let xs = felt_strips c.args.site.now c.args.index.now.strips in
-    let row = c.args.row in
-    let team = c.args.id.now.team in
     let rect = c.args.rect.now in
-    let start = c.near_felt-near.result.start in
-    let end = c.near_felt-near.result.end in
-    let near = c.near_felt-near.ensures in
-    between_is_reached xs row team start c.loop-n.n end rect (PutsIn xs c.args.id.now.own rect) c.args.lanes.now.items c.loop-n.lanes.items near
-    c.loop-n-test.false c.loop-n.invariant
+    changed_in_row xs c.args.row c.args.id.now.team rect c.near_felt-near.result (PutsIn xs c.args.id.now.own rect) c.args.lanes.now.items
+    c.put_in_run.new.lanes.items c.near_felt-near.ensures c.put_in_run.ensures

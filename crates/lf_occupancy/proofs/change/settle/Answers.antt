@@ -1,19 +1,19 @@
-use Rattle.std.proofs.Common.{◌∙◌}
+use Rattle.std.proofs.lemmas.Result.{on_ok_weaker}
 use Rattle.lf_occupancy.specs.Strips.{felt_strips}
-use Rattle.lf_occupancy.proofs.Reaching.{lanes_kept, rising_kept}
+use Rattle.lf_occupancy.proofs.Around.{around, strips_felt}
+use Rattle.lf_occupancy.proofs.Reaching.{lanes_in, lanes_kept, once_in_run}
 use Rattle.lf_occupancy.proofs.change.settle.Goals as goal
 
-pub take_in-requires-clause-many : goal.take_in-requires-clause-many
-take_in-requires-clause-many c = c.in_ok-reserve_box.ensures.kept.many ∙ c.requires.many
+pub settle_in_rows-requires-clause-once : goal.settle_in_rows-requires-clause-once
+settle_in_rows-requires-clause-once c =
+    once_in_run c.args.index.now c.args.rect.now c.rows_near.result.now c.strips_are_placed.ensures.once c.rows_near.ensures
 
-pub take_in-requires-clause-rising : goal.take_in-requires-clause-rising
-take_in-requires-clause-rising c = rising_kept c.args.lanes.now.items c.reserve_box.new.lanes.items c.in_ok-reserve_box.ensures.kept c.requires.rising
-
-pub take_in-requires-clause-room : goal.take_in-requires-clause-room
-take_in-requires-clause-room c = c.in_ok-reserve_box.ensures.ok
-
-pub returns : goal.returns
-returns c = λ boxes nowhere old.
-    c.take_in.ensures.lanes boxes nowhere
-    (lanes_kept (felt_strips c.args.site.now c.args.index.now.strips) boxes c.args.lanes.now.items c.reserve_box.new.lanes.items
-    c.in_ok-reserve_box.ensures.kept old)
+pub returns-clause-ok : goal.returns-clause-ok
+returns-clause-ok c = λ boxes nowhere old.
+    on_ok_weaker c.settle_in_rows.result
+    (λ s.
+    lanes_in (around c.args.site.now c.args.index.now) boxes c.args.id.now.team c.args.id.now.own c.args.rect.now c.rows_near.result.now s.roomy
+    c.settle_in_rows.new.lanes.items (strips_felt c.args.site.now c.args.index.now c.requires.site c.strips_are_placed.ensures) c.rows_near.ensures
+    nowhere.known.team nowhere.known.own nowhere.at
+    (lanes_kept (felt_strips c.args.site.now c.args.index.now.strips) boxes c.args.lanes.now.items s.roomy s.kept old) s.put)
+    c.settle_in_rows.ensures.ok

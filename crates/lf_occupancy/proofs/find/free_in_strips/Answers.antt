@@ -1,4 +1,4 @@
-use Rattle.std.proofs.Common.{◌≡◌, ◌<◌, ◌+◌, ◌++◌, List, [], arith, length, get_or, ap, subst, sym, ◌∙◌}
+use Rattle.std.proofs.Common.{◌≡◌, ◌<◌, ◌+◌, List, [], arith, length, get_or, ap, subst, sym, ◌∙◌}
 use Rattle.std.proofs.lemmas.List.{get_or_default}
 use Rattle.lf_spans.specs.declared.span.Span.{Span}
 use Rattle.lf_spans.specs.Spans.{IsFreeIn}
@@ -75,7 +75,7 @@ loop-n-preserved c =
     (felt_team site xs n team within (λ d. ((near.exact n d within).0 (c.loop-n.auto.n, test)).of_team))
     (c.felt_area-area.ensures.is no_strip) c.index-lanes-n.is lane in
     subst (λ (zs : List Span). AreFreeBetween xs lanes own padding start (n + 1) end window zs)
-    (sym (c.in_ok-extend_from_slice.ensures.items ∙ ap (λ (zs : List Span). free ++ zs) c.deref.ensures.value))
+    (sym c.in_ok-free.ensures)
     (free_further xs lanes row team own padding start n end window lane g free part c.strips_are_placed.ensures.in_order near c.loop-n.auto.n test
     (omega (arith, within, many, long)) (λ k d inner. (c.strips_are_placed.ensures.placed k d inner).wide) shows
     (λ d. get_or_default xs n no_strip d within) c.loop-n.invariant new)

@@ -8,9 +8,9 @@ use Rattle.lf_placement.proofs.Marks.{can_stand, rooms_through}
 use Rattle.lf_undo.specs.declared.moves.Move.{Move}
 use Rattle.lf_cells.specs.declared.cell.Cell.{Cell}
 use Rattle.lf_placement.specs.Placings.{made}
-use Rattle.lf_placement.specs.Steps.{MayStand, StandButFor, owns, working_boxes}
+use Rattle.lf_placement.specs.Steps.{AreOut, MayStand, StandButFor, owns, working_boxes}
 use Rattle.lf_placement.proofs.Moves.{length_same, same_made}
-use Rattle.lf_placement.proofs.Changing.{may_stand, others_made, owns_count, owns_from, sized_made, stand_but}
+use Rattle.lf_placement.proofs.Changing.{all_out, may_stand, others_made, owns_count, owns_from, sized_made, stand_but}
 use Rattle.lf_placement.proofs.moving.make_moves.Goals as goal
 
 pub stand-requires-clause-sized : goal.stand-requires-clause-sized
@@ -37,12 +37,16 @@ stand-requires-clause-may c =
     (others_made moves old new made_of) c.lift.ensures.out.is
     (ap {B = ℕ} (λ (cs : List Cell). length cs) c.make_in_table.ensures.own ∙ length_same old (made given old) (same_made given old))
     (subst (λ (cs : List Cell). FitIn before team (map (box_of f) cs)) (sym c.make_in_table.ensures.own) c.requires.fits) in
+    let named : owns moves ≡ owns c.moves_from-2.result.now =
+    ap owns is ∙ owns_from c.args.moves.now c.make_in_table.new.moves c.args.from c.make_in_table.ensures.owns ∙ ap owns then_is in
     let rest : StandButFor team (working_boxes f c.make_in_table.new.cells team) (owns c.moves_from-2.result.now) after =
-    subst (λ (named : List ℕ). StandButFor team (map (box_of f) new) named after)
-    (ap owns is ∙ owns_from c.args.moves.now c.make_in_table.new.moves c.args.from c.make_in_table.ensures.owns ∙ ap owns then_is)
+    subst (λ (ns : List ℕ). StandButFor team (map (box_of f) new) ns after) named
     (stand_but f team (owns moves) _ old new before after (owns_count moves) (boxes_there f c.args.cells.now team)
     (others_made moves old new made_of) c.lift.ensures.out.is) in
-    can_stand f c.args.cells.now c.make_in_table.new.cells team (owns moves) (owns c.moves_from-2.result.now) _ c.args.occupancy.now c.lift.new.occupancy c.make_in_table.ensures.others c.lift.ensures.out may rest
+    let gone : AreOut team (owns c.moves_from-2.result.now) after =
+    subst (λ (ns : List ℕ). AreOut team ns after) named (all_out team (owns moves) _ before after (owns_count moves) c.lift.ensures.out.is) in
+    can_stand f c.args.cells.now c.make_in_table.new.cells team (owns moves) (owns c.moves_from-2.result.now) _ c.args.occupancy.now c.lift.new.occupancy
+    c.make_in_table.ensures.others c.lift.ensures.out may rest gone
 
 pub returns-clause-rooms : goal.returns-clause-rooms
 returns-clause-rooms c = rooms_through c.args.occupancy.now c.lift.new.occupancy c.stand.new.occupancy c.lift.ensures.rooms c.stand.ensures.rooms

@@ -1,14 +1,29 @@
-use Rattle.std.proofs.Common.{List, Option, length, subst, ◌∙◌}
-use Rattle.std.specs.Prelude.{All, IfSome}
+use Rattle.std.proofs.Common.{◌≡◌, List, [], ◌∷◌, Option, length, get_or, map, subst, ap, ◌∙◌, arith}
+use Rattle.std.specs.Prelude.{All, IfSome, OnOk}
 use Rattle.lf_cells.specs.declared.cell.CellId.{CellId}
 use Rattle.lf_cells.specs.Cells.{cells_of}
 use Rattle.lf_units.specs.declared.area.Rect.{Rect}
-use Rattle.lf_occupancy.specs.Floorplans.{boxes_in}
-use Rattle.lf_occupancy.specs.Occupied.{HasRoomFor}
+use Rattle.lf_occupancy.specs.Floorplans.{box_of, boxes_in}
+use Rattle.lf_occupancy.specs.Occupied.{FitIn, HasRoomFor}
 use Rattle.lf_occupancy.specs.Strips.{filled_by}
 use Rattle.lf_occupancy.proofs.Building.{boxes_there}
+use Rattle.lf_undo.specs.declared.moves.Move.{Move}
+use Rattle.lf_placement.specs.Placings.{made}
 use Rattle.lf_placement.proofs.Counts.{room_made}
 use Rattle.lf_placement.proofs.rooms.make_room.Goals as goal
+
+one_move : (moves : List Move) (next : Move) → length moves ≡ 1 → next ≡ get_or moves 0 next → next ∷ [] ≡ moves
+one_move [] next one is = absurd (omega (arith, one))
+one_move (m ∷ []) next one is = ap (λ (x : Move). x ∷ []) is
+one_move (m ∷ n ∷ ms) next one is = absurd (omega (arith, one))
+
+pub returns-then-moves-eq1-clause-ok : goal.returns-then-moves-eq1-clause-ok
+returns-then-moves-eq1-clause-ok c =
+    let team = c.args.team in
+    subst (λ (moves : List Move). OnOk c.make_room_for.result
+    (FitIn (filled_by c.make_room_for.new.occupancy (boxes_in c.args.frame.now c.args.cells.now)) team
+    (map (box_of c.args.frame.now) (made moves (cells_of c.args.cells.now team)))))
+    (one_move c.args.moves.now c.index-moves-0.result (omega arith) c.index-moves-0.is) c.make_room_for.ensures.ok
 
 pub returns-clause-ok : goal.returns-clause-ok
 returns-clause-ok c =

@@ -1,10 +1,36 @@
-use Rattle.std.proofs.Common.{◌≤◌, length, arith}
+use Rattle.std.proofs.Common.{◌≡◌, ◌≤◌, ◌∙◌, ℕ, [], None, ap, length, get_or, subst, sym, arith}
 use Rattle.std.proofs.lemmas.List.{length-map}
 use Rattle.lf_undo.specs.declared.moves.Move.{Move}
+use Rattle.lf_occupancy.specs.Occupied.{cell_box}
 use Rattle.lf_placement.specs.Steps.{owns}
 use Rattle.lf_placement.proofs.Boxes.{own_there}
-use Rattle.lf_placement.proofs.Marks.{all_hold, may_of, none_stand, one_stands, rooms_same, rooms_through}
+use Rattle.lf_placement.proofs.Marks.{all_hold, may_of, none_stand, one_enters, one_stands, rooms_same, rooms_through}
 use Rattle.lf_placement.proofs.strips.stand.Goals as goal
+
+pub enter-requires-clause-may : goal.enter-requires-clause-may
+enter-requires-clause-may c =
+    let can = c.requires.may in
+    let first = c.index-moves-0.result in
+    let many = length-map c.args.moves.now (λ (m : Move). m.own) in
+    let is = sym (ap (λ (m : Move). m.own) c.index-moves-0.is) ∙ own_there c.args.moves.now 0 first (omega arith) c.index-moves-0.is in
+    record {
+      boxes = can.boxes;
+      holds = can.holds;
+      is = record {
+        may = can.is.may;
+        out = subst (λ (own : ℕ). cell_box (get_or can.boxes c.args.team []) own ≡ None) (sym is) (can.is.out 0 (omega (arith, many)));
+      };
+    }
+
+pub returns-then-moves-eq1-clause-holds : goal.returns-then-moves-eq1-clause-holds
+returns-then-moves-eq1-clause-holds c =
+    let can = c.requires.may in
+    let first = c.index-moves-0.result in
+    let many = length-map c.args.moves.now (λ (m : Move). m.own) in
+    let is = sym (ap (λ (m : Move). m.own) c.index-moves-0.is) ∙ own_there c.args.moves.now 0 first (omega arith) c.index-moves-0.is in
+    let out = subst (λ (own : ℕ). cell_box (get_or can.boxes c.args.team []) own ≡ None) (sym is) (can.is.out 0 (omega (arith, many))) in
+    one_enters c.args.frame.now c.args.cells.now c.args.team (owns c.args.moves.now) (get_or c.args.moves.now 0 first).own c.args.occupancy.now c.enter.new.occupancy (omega (arith, many)) is
+    c.enter.ensures.rooms can (c.enter.ensures.holds can.boxes out record { many = can.is.may.many; part = can.is.may.part } can.holds)
 
 pub loop-next-init : goal.loop-next-init
 loop-next-init c = record {

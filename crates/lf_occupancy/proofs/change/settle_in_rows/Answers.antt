@@ -1,0 +1,36 @@
+use Rattle.std.proofs.Common.{arith, ◌∙◌}
+use Rattle.std.proofs.lemmas.List.{get_or_default}
+use Rattle.std.proofs.lemmas.Result.{on_ok_weaker}
+use Rattle.lf_occupancy.specs.Strips.{IsReached, felt_strips}
+use Rattle.lf_occupancy.proofs.Settling.{settled_in_one, takes_room}
+use Rattle.lf_occupancy.proofs.Reaching.{rising_kept}
+use Rattle.lf_occupancy.proofs.change.settle_in_rows.Goals as goal
+
+pub returns-then-rows-eq1-clause-ok : goal.returns-then-rows-eq1-clause-ok
+returns-then-rows-eq1-clause-ok c =
+    let one = c.if-rows-eq1.true in
+    let rows = c.args.rows.now in
+    on_ok_weaker c.settle_in_row.result
+    (settled_in_one (felt_strips c.args.site.now c.args.index.now.strips) rows _ c.args.id.now.team c.args.id.now.own c.args.rect.now c.args.lanes.now.items
+    c.settle_in_row.new.lanes.items one (get_or_default rows 0 _ _ (omega (arith, one))))
+    c.settle_in_row.ensures.ok
+
+pub put_in_rows-requires-clause-many : goal.put_in_rows-requires-clause-many
+put_in_rows-requires-clause-many c = c.in_ok-make_room_in_rows.ensures.kept.many ∙ c.requires.many
+
+pub put_in_rows-requires-clause-room : goal.put_in_rows-requires-clause-room
+put_in_rows-requires-clause-room c =
+    let xs = felt_strips c.args.site.now c.args.index.now.strips in
+    let many = c.requires.many in
+    let same = c.in_ok-make_room_in_rows.ensures.kept.many in
+    takes_room xs c.args.rect.now (IsReached xs c.args.rows.now c.args.id.now.team c.args.rect.now) c.make_room_in_rows.new.lanes.items
+    (λ n reached. let within = reached.0 in omega (arith, within, many, same))
+    (rising_kept c.args.lanes.now.items c.make_room_in_rows.new.lanes.items c.in_ok-make_room_in_rows.ensures.kept c.requires.rising)
+    c.in_ok-make_room_in_rows.ensures.ok
+
+pub returns-clause-ok : goal.returns-clause-ok
+returns-clause-ok c = record {
+  roomy = c.make_room_in_rows.new.lanes.items;
+  kept = c.in_ok-make_room_in_rows.ensures.kept;
+  put = c.put_in_rows.ensures;
+}

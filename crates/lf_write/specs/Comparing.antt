@@ -1,0 +1,15 @@
+-- The clause that is written for a location, compared with bytes part by part.
+use Rattle.std.specs.Prelude.{◌≡◌, ◌++◌, ℕ, List, Option, Some, None, false, bytes_eq, codes}
+use Rattle.std.specs.Fmt.{signed_decimal}
+use denote.Ref.{Bor}
+use Rattle.lf_def.specs.declared.components.Location.{Location}
+
+-- What is left of the bytes behind what a text begins with: the rest of the text is to be compared with it. None if the bytes
+-- begin otherwise.
+abbrev pub Leaves : List ℕ → (List ℕ → List ℕ) → Option (Bor (List ℕ)) → Type 0
+Leaves bytes text (Some left) = (rest : List ℕ) → bytes_eq bytes (text rest) ≡ bytes_eq left.now rest
+Leaves bytes text None = (rest : List ℕ) → bytes_eq bytes (text rest) ≡ false
+
+-- + PLACED ( x y ), a space, and the rest
+abbrev pub before_orient : Location → List ℕ → List ℕ
+before_orient at rest = codes "+ PLACED ( " ++ (signed_decimal at.x ++ (codes " " ++ (signed_decimal at.y ++ (codes " ) " ++ rest))))
