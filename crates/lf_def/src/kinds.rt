@@ -1,7 +1,8 @@
 //! The fences, and the components that teams may move.
 
 ghost use Rattle.std.specs.Prelude.{◌≡◌};
-ghost use Rattle.lf_def.specs.Kinds.{is_fence as is_fence_region, is_cover as is_cover_component, is_fixed as is_fixed_component, is_movable as is_movable_component};
+ghost use Rattle.lf_def.specs.Kinds.{is_fence as is_fence_region, is_cover as is_cover_component, is_fixed as is_fixed_component};
+ghost use Rattle.lf_def.specs.Kinds.{is_movable as is_movable_component};
 
 use crate::components::{Component, PlacementKind};
 use crate::regions::{Region, RegionKind};

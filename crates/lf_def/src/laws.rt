@@ -18,10 +18,13 @@ ghost use Rattle.lf_def.specs.declared.regions.Region.{Region};
 ghost use Rattle.lf_def.specs.declared.groups.Group.{Group};
 ghost use Rattle.lf_def.specs.declared.components.Component.{Component};
 ghost use Rattle.lf_def.specs.declared.blockages.Blockage.{Blockage};
-ghost use Rattle.lf_def.specs.Printed.{WritesNumbers, ReadsBack, row_words, IsPrintedRow, region_words, IsPrintedRegion, group_words, IsPrintedGroup, component_words, IsPrintedComponent, ComponentReadsBack, blockage_words, IsPrintedBlockage, ComponentsReadBack, section_words};
+ghost use Rattle.lf_def.specs.Printed.{WritesNumbers, ReadsBack, row_words, IsPrintedRow, region_words, IsPrintedRegion};
+ghost use Rattle.lf_def.specs.Printed.{group_words, IsPrintedGroup, component_words, IsPrintedComponent, ComponentReadsBack};
+ghost use Rattle.lf_def.specs.Printed.{blockage_words, IsPrintedBlockage, ComponentsReadBack, section_words};
 ghost use Rattle.lf_def.specs.PrintedComponents.{PrintedComponent, IsPrintedEntry, component_of};
 ghost use Rattle.lf_def.specs.PrintedComponents.{entry_tokens, components_tokens, EntryReadsBack, EntriesReadBack};
-ghost use Rattle.lf_def.specs.PrintedTexts.{Part, one_row, regions_section, groups_section, blockages_section, BeginsWith, PartsReadBack, ReadsBackInTexts, ComponentsReadBackInTexts};
+ghost use Rattle.lf_def.specs.PrintedTexts.{Part, one_row, regions_section, groups_section, blockages_section, BeginsWith};
+ghost use Rattle.lf_def.specs.PrintedTexts.{PartsReadBack, ReadsBackInTexts, ComponentsReadBackInTexts};
 ghost use Rattle.lf_def.specs.Laws.{ComponentReadsAlike, SaysTheSame, EndsBefore, ComponentsStand, ComponentsRise};
 
 /// Each statement, entry and token after which more follow takes a token, so every block reaches its end or a fault.
@@ -69,7 +72,8 @@ pub fn printed_entries_read_back()
     ensures component_with_others { (print : ℤ → List ℕ) → WritesNumbers print
         → (p : PrintedComponent) → IsPrintedEntry p
         → EntryReadsBack (entry_tokens print p) p.component }
-    ensures blockage { (print : ℤ → List ℕ) → WritesNumbers print → (b : Blockage) → IsPrintedBlockage b → ReadsBack blockage (blockage_words print b) (Some b) }
+    ensures blockage { (print : ℤ → List ℕ) → WritesNumbers print → (b : Blockage) → IsPrintedBlockage b
+        → ReadsBack blockage (blockage_words print b) (Some b) }
 {}
 
 /// The placement clause of a component extends from the first byte of its `+` to the last byte of its last token: the
@@ -87,14 +91,22 @@ pub fn components_rise()
 /// A printed REGIONS, GROUPS, COMPONENTS or BLOCKAGES section reads back as its list, after the entries of earlier
 /// sections, whatever its count; components but for their offsets.
 pub fn printed_sections_read_back()
-    ensures regions { (print : ℤ → List ℕ) → WritesNumbers print → (count : List ℕ) → count ≢ codes ";" → (new known : List Region) → All IsPrintedRegion new → ReadsBack (regions known) (section_words (codes "REGIONS") count (region_words print) new) (known ++ new) }
-    ensures groups { (count : List ℕ) → count ≢ codes ";" → (new known : List Group) → All IsPrintedGroup new → ReadsBack (groups known) (section_words (codes "GROUPS") count group_words new) (known ++ new) }
-    ensures components { (print : ℤ → List ℕ) → WritesNumbers print → (count : List ℕ) → count ≢ codes ";" → (new known : List Component) → All IsPrintedComponent new → ComponentsReadBack (components known) (section_words (codes "COMPONENTS") count (component_words print) new) (known ++ new) }
+    ensures regions { (print : ℤ → List ℕ) → WritesNumbers print → (count : List ℕ) → count ≢ codes ";"
+        → (new known : List Region) → All IsPrintedRegion new
+        → ReadsBack (regions known) (section_words (codes "REGIONS") count (region_words print) new) (known ++ new) }
+    ensures groups { (count : List ℕ) → count ≢ codes ";" → (new known : List Group) → All IsPrintedGroup new
+        → ReadsBack (groups known) (section_words (codes "GROUPS") count group_words new) (known ++ new) }
+    ensures components { (print : ℤ → List ℕ) → WritesNumbers print → (count : List ℕ) → count ≢ codes ";"
+        → (new known : List Component) → All IsPrintedComponent new
+        → ComponentsReadBack (components known) (section_words (codes "COMPONENTS") count (component_words print) new)
+        (known ++ new) }
     ensures components_with_others { (print : ℤ → List ℕ) → WritesNumbers print
         → (count : List ℕ) → count ≢ codes ";" → (new : List PrintedComponent) (known : List Component)
         → All IsPrintedEntry new → EntriesReadBack (components known)
         (components_tokens print count new) (known ++ map component_of new) }
-    ensures blockages { (print : ℤ → List ℕ) → WritesNumbers print → (count : List ℕ) → count ≢ codes ";" → (new known : List Blockage) → All IsPrintedBlockage new → ReadsBack (blockages known) (section_words (codes "BLOCKAGES") count (blockage_words print) new) (known ++ new) }
+    ensures blockages { (print : ℤ → List ℕ) → WritesNumbers print → (count : List ℕ) → count ≢ codes ";"
+        → (new known : List Blockage) → All IsPrintedBlockage new
+        → ReadsBack (blockages known) (section_words (codes "BLOCKAGES") count (blockage_words print) new) (known ++ new) }
 {}
 
 /// A printed text reads back: statements and sections in any order, DESIGN and any skipped ones among them, say what
@@ -106,11 +118,17 @@ pub fn printed_texts_read_back()
 /// Printed rows, or a printed REGIONS, GROUPS, COMPONENTS or BLOCKAGES section, are all that a text says, alone and
 /// after any skipped statements; components but for their offsets. What follows END DESIGN is ignored.
 pub fn printed_lists_read_back_in_texts()
-    ensures rows { (print : ℤ → List ℕ) → WritesNumbers print → (new : List Row) → All IsPrintedRow new → ReadsBackInTexts print (map one_row new) (λ d. record d { rows = new }) }
-    ensures regions { (print : ℤ → List ℕ) → WritesNumbers print → (count : List ℕ) → count ≢ codes ";" → (new : List Region) → All IsPrintedRegion new → ReadsBackInTexts print (regions_section count new ∷ []) (λ d. record d { regions = new }) }
-    ensures groups { (print : ℤ → List ℕ) → WritesNumbers print → (count : List ℕ) → count ≢ codes ";" → (new : List Group) → All IsPrintedGroup new → ReadsBackInTexts print (groups_section count new ∷ []) (λ d. record d { groups = new }) }
-    ensures components { (print : ℤ → List ℕ) → WritesNumbers print → (count : List ℕ) → count ≢ codes ";" → (new : List Component) → All IsPrintedComponent new → ComponentsReadBackInTexts print count new }
-    ensures blockages { (print : ℤ → List ℕ) → WritesNumbers print → (count : List ℕ) → count ≢ codes ";" → (new : List Blockage) → All IsPrintedBlockage new → ReadsBackInTexts print (blockages_section count new ∷ []) (λ d. record d { blockages = new }) }
+    ensures rows { (print : ℤ → List ℕ) → WritesNumbers print → (new : List Row) → All IsPrintedRow new
+        → ReadsBackInTexts print (map one_row new) (λ d. record d { rows = new }) }
+    ensures regions { (print : ℤ → List ℕ) → WritesNumbers print → (count : List ℕ) → count ≢ codes ";" → (new : List Region)
+        → All IsPrintedRegion new → ReadsBackInTexts print (regions_section count new ∷ []) (λ d. record d { regions = new }) }
+    ensures groups { (print : ℤ → List ℕ) → WritesNumbers print → (count : List ℕ) → count ≢ codes ";" → (new : List Group)
+        → All IsPrintedGroup new → ReadsBackInTexts print (groups_section count new ∷ []) (λ d. record d { groups = new }) }
+    ensures components { (print : ℤ → List ℕ) → WritesNumbers print → (count : List ℕ) → count ≢ codes ";"
+        → (new : List Component) → All IsPrintedComponent new → ComponentsReadBackInTexts print count new }
+    ensures blockages { (print : ℤ → List ℕ) → WritesNumbers print → (count : List ℕ) → count ≢ codes ";" → (new : List Blockage)
+        → All IsPrintedBlockage new → ReadsBackInTexts print (blockages_section count new ∷ [])
+        (λ d. record d { blockages = new }) }
 {}
 
 /// A text may be printed with one space between its words and a line feed after them, and with any bytes after that:

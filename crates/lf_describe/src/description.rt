@@ -90,9 +90,11 @@ fn describe_cells<W: Sink>(
 ) -> Result<bool, Undescribed>
     requires listed { All (λ c. IsListed frame.now (named c)) cells.now }
     requires few { length cells.now ≤ 4000000 }
-    ensures text { (l : Legalizer) → OnOk result (Appends (W.contents writer.old) (W.contents writer.new) (lines_text l frame.now (map (λ n. n.now) names.now) (map named cells.now))) }
+    ensures text { (l : Legalizer) → OnOk result (Appends (W.contents writer.old) (W.contents writer.new)
+        (lines_text l frame.now (map (λ n. n.now) names.now) (map named cells.now))) }
     ensures clean { (l : Legalizer) → IfOk result (λ clean. IsTrue clean ↔ IsClean (report_of l frame.now 0 (map named cells.now))) }
-    ensures cut { (l : Legalizer) → OnErr result (AppendsFront (W.contents writer.old) (W.contents writer.new) (lines_text l frame.now (map (λ n. n.now) names.now) (map named cells.now))) }
+    ensures cut { (l : Legalizer) → OnErr result (AppendsFront (W.contents writer.old) (W.contents writer.new)
+        (lines_text l frame.now (map (λ n. n.now) names.now) (map named cells.now))) }
     ensures unwritten { IfErr result (λ fault. fault ≡ Undescribed.OutOfMemory → writer.new ≡ writer.old) }
     ensures failed { W.has_failed writer.new ≡ (is_output result || W.has_failed writer.old) }
     ensures held { W.holds writer.new ≡ W.holds writer.old }
@@ -127,7 +129,8 @@ pub fn describe<W: Sink>(
 ) -> Result<bool, Undescribed>
     ensures text { (l : Legalizer) → OnOk result (Appends (W.contents writer.old) (W.contents writer.new) (description l loaded.now (contents document.now))) }
     ensures legal { IfOk result (λ legal. IsTrue legal ↔ IsFullyLegal loaded.now.frame (standing_at loaded.now.cells (places_of loaded.now.cells))) }
-    ensures cut { (l : Legalizer) → OnErr result ((n : ℕ) × Appends (W.contents writer.old) (W.contents writer.new) (take n (description l loaded.now (contents document.now)))) }
+    ensures cut { (l : Legalizer) → OnErr result ((n : ℕ)
+        × Appends (W.contents writer.old) (W.contents writer.new) (take n (description l loaded.now (contents document.now)))) }
     ensures unwritten { IfErr result (λ fault. fault ≡ Undescribed.OutOfMemory → writer.new ≡ writer.old) }
     ensures failed { W.has_failed writer.new ≡ (is_output result || W.has_failed writer.old) }
     ensures held { W.holds writer.new ≡ W.holds writer.old }

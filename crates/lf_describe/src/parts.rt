@@ -178,8 +178,11 @@ fn put_number<W: Sink>(
     waiting: &mut Vec<u8>,
 ) -> Result<(), LineFault>
     requires { number < length (part_lines told.now part) }
-    ensures ok { (d : Data) → slice_get (part_lines told.now part) number ≡ Some d → OnOk result (Leaves (W.contents writer.old) (W.contents writer.new) (waiting.old.items ++ line_text d) waiting.new.items) }
-    ensures err { (d : Data) → slice_get (part_lines told.now part) number ≡ Some d → OnErr result (AppendsFront (W.contents writer.old) (W.contents writer.new) (waiting.old.items ++ line_text d)) }
+    ensures ok { (d : Data) → slice_get (part_lines told.now part) number ≡ Some d
+        → OnOk result (Leaves (W.contents writer.old) (W.contents writer.new)
+        (waiting.old.items ++ line_text d) waiting.new.items) }
+    ensures err { (d : Data) → slice_get (part_lines told.now part) number ≡ Some d
+        → OnErr result (AppendsFront (W.contents writer.old) (W.contents writer.new) (waiting.old.items ++ line_text d)) }
     ensures failed { W.has_failed writer.new ≡ (is_line_output result || W.has_failed writer.old) }
     ensures held { W.holds writer.new ≡ W.holds writer.old }
 {

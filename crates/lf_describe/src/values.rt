@@ -6,7 +6,9 @@ ghost use Rattle.serde_json.specs.View.{view};
 ghost use Rattle.lf_floorplan.specs.Boxes.{macro_of, size_of};
 ghost use Rattle.lf_floorplan.specs.Rows.{IsHeeded};
 ghost use Rattle.lf_reports.specs.Reports.{IsListed, named};
-ghost use Rattle.lf_describe.specs.Description.{box_data, cell_data, design_data, facing_data, fence_data, obstacle_data, orient_data, other_of, rect_data, row_data, rule_data, soft_data, team_name as name_of_team, text_data, text_or_null as named_or_null, total_data};
+ghost use Rattle.lf_describe.specs.Description.{box_data, cell_data, design_data, facing_data, fence_data, obstacle_data};
+ghost use Rattle.lf_describe.specs.Description.{orient_data, other_of, rect_data, row_data, rule_data, soft_data};
+ghost use Rattle.lf_describe.specs.Description.{team_name as name_of_team, text_data, text_or_null as named_or_null, total_data};
 
 use crate::cells::Counts;
 use lf_floorplan::{Frame, Place, Row, Team, mac_at, size_in_units};

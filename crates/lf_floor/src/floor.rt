@@ -276,7 +276,9 @@ impl<S: Seeker + Drop> Floor<S> {
         ensures commits { IfOk result (λ replies. CommitsMakeLegal self.old requests.now replies.items self.new) }
         ensures tidied { IfOk result (λ replies. EachTidiedCommits self.old requests.now replies.items) }
         ensures left_out { (l : Legalizer) → IfOk result (λ replies. MayBeLeftOut l self.old requests.now replies.items self.new) }
-        ensures backed_up { (l : Legalizer) → IfOk result (λ replies. IsBackup l self.old (lasting requests.now replies.items) (lasting_replies requests.now replies.items) self.new) }
+        ensures backed_up { (l : Legalizer)
+            → IfOk result (λ replies. IsBackup l self.old (lasting requests.now replies.items)
+            (lasting_replies requests.now replies.items) self.new) }
         ensures components { self.new.components ≡ self.old.components }
         ensures err { OnErr result (self.new ≡ self.old) }
     {

@@ -91,7 +91,8 @@ pub(crate) fn legal_marks<S>(
     around: &Surroundings<'_, S>,
     tables: &Tables,
 ) -> Result<Vec<bool>, AllocError>
-    ensures { IfOk result (λ marks. AreMarked (frame_of tables.now) around.now.number around.now.padding.sites (cells_in around.now.number tables.now) marks.items) }
+    ensures { IfOk result (λ marks. AreMarked (frame_of tables.now) around.now.number around.now.padding.sites
+        (cells_in around.now.number tables.now) marks.items) }
 {
     let ids = tables.placement.cells().cells_of(around.number);
     let mut marks = vec![in around.alloc; false; ids.len()]?;
@@ -160,7 +161,8 @@ pub(crate) fn first_broken_cell<S>(
     around: &Surroundings<'_, S>,
     tables: &Tables,
 ) -> Result<Option<BrokenCell>, AllocError>
-    ensures { (l : Legalizer) → IfOk result (λ first. first ≡ slice_get (broken_cells (setting_in l around.now tables.now) (cells_in around.now.number tables.now)) 0) }
+    ensures { (l : Legalizer) → IfOk result (λ first. first ≡ slice_get
+        (broken_cells (setting_in l around.now tables.now) (cells_in around.now.number tables.now)) 0) }
 {
     let marks = legal_marks(around, tables)?;
     Ok(first_broken(&tables.placement, around.number, &marks, around.padding))

@@ -49,7 +49,8 @@ fn put_cells(
     requires marked { AreMarked placement.now.frame number padding.sites (cells_of placement.now.cells number) marks.now }
     requires printed { All (λ c. IsName c.name) (cells_of placement.now.cells number) }
     ensures { (l : Legalizer) → OnOk result (text.new.items ++ violations_text true []
-        ≡ text.old.items ++ violations_text false (violations_in l placement.now.frame padding.sites (map (listed_of number) (cells_of placement.now.cells number)))) }
+        ≡ text.old.items ++ violations_text false (violations_in l placement.now.frame padding.sites
+        (map (listed_of number) (cells_of placement.now.cells number)))) }
 {
     let names = TeamNames {
         cells: placement.cells(),

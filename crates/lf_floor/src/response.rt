@@ -79,7 +79,8 @@ impl<S: Seeker + Drop> Floor<S> {
         ensures team { IfSome result (λ team. team.now ≡ team_of (command_of request.now)) }
         ensures takes { IfSome result (λ team. TakesNone (command_of request.now) → ⊥) }
         ensures untested { (reply : Reply) → IfSome result (λ team. IsTested (command_of request.now) reply → ⊥) }
-        ensures none { (l : Legalizer) (text : List ℕ) → IfNone result (AsksForText (command_of request.now) → Answers l self.now (command_of request.now) (Def text) self.now → ⊥) }
+        ensures none { (l : Legalizer) (text : List ℕ)
+            → IfNone result (AsksForText (command_of request.now) → Answers l self.now (command_of request.now) (Def text) self.now → ⊥) }
     {
         let Command::To { team, order } = request else {
             return None;

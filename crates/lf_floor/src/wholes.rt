@@ -1,6 +1,6 @@
 //! Changes of a whole team: what `revert`, `undo`, `commit` and `pad` do.
 
-ghost use Rattle.std.specs.Prelude.{◌≡◌, IfOk, OnErr, OnOk, IsTrue, ◌↔◌, map};
+ghost use Rattle.std.specs.Prelude.{◌≡◌, IfOk, OnErr, OnOk, map};
 ghost use Rattle.lf_rules.specs.Legalizer.{Legalizer};
 ghost use Rattle.lf_cells.specs.Cells.{cells_of, committed_at, working_at};
 ghost use Rattle.lf_placement.specs.Placings.{made};
@@ -14,29 +14,11 @@ use crate::legal::first_broken_cell;
 use crate::surroundings::Surroundings;
 use crate::tables::Tables;
 use lf_cells::{CellId, CellTable};
-use lf_floorplan::Place;
+use lf_floorplan::are_alike;
 use lf_proto::{Refusal, Reply};
 use lf_rules::Padding;
 use lf_undo::{Move, Moves};
 use std::alloc::{AllocError, Global};
-
-/// Whether both are one place.
-fn is_one_place(a: &Place, b: &Place) -> bool
-    ensures { IsTrue result ↔ a.now ≡ b.now }
-{
-    a.x == b.x && a.y == b.y && a.orient == b.orient
-}
-
-/// Whether both are one place, or both none.
-fn are_alike(a: Option<Place>, b: Option<Place>) -> bool
-    ensures { IsTrue result ↔ a ≡ b }
-{
-    match (a, b) {
-        (Some(a), Some(b)) => is_one_place(&a, &b),
-        (None, None) => true,
-        _ => false,
-    }
-}
 
 /// Puts the move of the cell to its committed place behind the others, where it is elsewhere.
 fn note_back(cells: &CellTable, moves: &mut Moves, id: CellId) -> Result<(), AllocError>

@@ -43,6 +43,6 @@ pub use macros::Macro;
 pub use near::Near;
 pub use packed::PackedPlace;
 pub use parts::{Header, Row, Team};
-pub use place::Place;
+pub use place::{Place, are_alike};
 pub use sites::Site;
 pub use sizes::{macro_box, size_in_units};

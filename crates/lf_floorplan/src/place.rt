@@ -1,6 +1,6 @@
 //! The place of a cell.
 
-ghost use Rattle.std.specs.Prelude.{◌≡◌, ◌<ℤ◌, negsuc};
+ghost use Rattle.std.specs.Prelude.{◌≡◌, ◌↔◌, ◌<ℤ◌, IsTrue, negsuc};
 
 use lf_orient::Orient;
 
@@ -27,5 +27,23 @@ impl Place {
         ensures orient_is { result.orient ≡ orient }
     {
         Place { x, y, orient }
+    }
+}
+
+/// Whether both are one place.
+fn is_one_place(a: &Place, b: &Place) -> bool
+    ensures { IsTrue result ↔ a.now ≡ b.now }
+{
+    a.x == b.x && a.y == b.y && a.orient == b.orient
+}
+
+/// Whether both are one place, or both none.
+pub fn are_alike(a: Option<Place>, b: Option<Place>) -> bool
+    ensures { IsTrue result ↔ a ≡ b }
+{
+    match (a, b) {
+        (Some(a), Some(b)) => is_one_place(&a, &b),
+        (None, None) => true,
+        _ => false,
     }
 }

@@ -1,11 +1,13 @@
 //! What a frame copies from the library and the document.
 
-ghost use Rattle.std.specs.Prelude.{◌≡◌, ℕ, ◌++◌, ◌∷◌, [], true, false, Some, None, IfOk, IfSome, OnOk, OnErr, All, map, filter, filter_map, flat_map, unwrap_or, option_map};
+ghost use Rattle.std.specs.Prelude.{◌≡◌, ℕ, ◌++◌, ◌∷◌, [], true, false, Some, None, IfOk, IfSome, OnOk, OnErr, All, map, filter};
+ghost use Rattle.std.specs.Prelude.{filter_map, flat_map, unwrap_or, option_map};
 ghost use Rattle.lf_def.specs.Ranges.{IsCoordinate, IsRow, IsComponent, IsLocation};
 ghost use Rattle.lf_floorplan.specs.Sizes.{turned, box_at, size_in_dbu};
 ghost use Rattle.lf_claims.specs.Teams.{fences};
 ghost use Rattle.lf_refusals.specs.Loading.{is_heeded as is_heeded_row, frame_row as frame_row_of};
-ghost use Rattle.lf_frame.specs.Loads.{IsSizedIn, FixedIsSized, frame_team as frame_team_of, location as location_of, as_location, fixed_box as fixed_box_of, blocked, softly_blocked};
+ghost use Rattle.lf_frame.specs.Loads.{IsSizedIn, FixedIsSized, frame_team as frame_team_of, location as location_of};
+ghost use Rattle.lf_frame.specs.Loads.{as_location, fixed_box as fixed_box_of, blocked, softly_blocked};
 
 use lf_def::{
     Blockage, Component, Header as DefHeader, Location, Region, Row as DefRow, is_fence, is_fixed,

@@ -39,7 +39,8 @@ fn obstacles_of(
     units: u32,
 ) -> Result<Sequence<Rect>, AllocError>
     requires sized { All (FixedIsSized library.now units) document.now.components }
-    ensures { IfOk result (λ obstacles. obstacles ≡ filter_map (fixed_box library.now units) document.now.components ++ flat_map blocked document.now.blockages) }
+    ensures { IfOk result (λ obstacles. obstacles ≡ filter_map
+        (fixed_box library.now units) document.now.components ++ flat_map blocked document.now.blockages) }
 {
     let mut obstacles = fixed_boxes(alloc, library, document.components.as_slice(), units)?;
     push_blockages(document.blockages.as_slice(), &mut obstacles)?;

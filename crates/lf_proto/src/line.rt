@@ -5,7 +5,8 @@ ghost use Rattle.std.specs.List.{list_all};
 ghost use Rattle.lf_proto.specs.Commands.{command_of};
 ghost use Rattle.lf_proto.specs.Lines.{fields, is_line_byte};
 ghost use Rattle.lf_proto.specs.Requests.{command_in, command_on, orient_named, place_of, place_written, target_of};
-ghost use Rattle.lf_proto.specs.Requests.{action_by, alone_of, bye_of, cell_at_of, cell_of, cell_to_of, cells_of, open_of, operands_by, outside_of, sites_of, within_of};
+ghost use Rattle.lf_proto.specs.Requests.{action_by, alone_of, bye_of, cell_at_of, cell_of, cell_to_of, cells_of, open_of};
+ghost use Rattle.lf_proto.specs.Requests.{operands_by, outside_of, sites_of, within_of};
 ghost use Rattle.lf_proto.specs.Verbs.{action_of, operands_of};
 ghost use Rattle.lf_proto.specs.Printed.{PassesBlanksAround, PassesBlanksBetween, ReadsBack};
 

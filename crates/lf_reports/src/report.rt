@@ -1,13 +1,16 @@
 //! Reports: how many cells there are, how many of them are unplaced, and which break a rule where they stand.
 
-ghost use Rattle.std.specs.Prelude.{◌≡◌, ◌↔◌, ◌<◌, ◌≤◌, ◌++◌, [], All, IfOk, OnOk, None, Some, ℕ, List, IsPermutation, is_none, slice_get, count_by, length, map, option_and_then};
+ghost use Rattle.std.specs.Prelude.{◌≡◌, ◌↔◌, ◌<◌, ◌≤◌, ◌++◌, [], All, IfOk, OnOk, None, Some, ℕ, List, IsPermutation, is_none};
+ghost use Rattle.std.specs.Prelude.{slice_get, count_by, length, map, option_and_then};
 ghost use Rattle.std.specs.List.{cons_option};
 ghost use Rattle.lf_floorplan.specs.Boxes.{IsSized, macro_of};
 ghost use Rattle.lf_rules.specs.Legality.{trial_of};
 ghost use Rattle.lf_rules.specs.Legalizer.{IsVerdict, Legalizer};
 ghost use Rattle.lf_rules.specs.FullyLegal.{IsFullyLegal, standing_at};
 ghost use Rattle.lf_rules.specs.Reports.{IsClean, IsTold};
-ghost use Rattle.lf_reports.specs.Reports.{IsFaultless, IsListed, broken_among, listed_at, member_of, name_among, named, report_of, trial_among, AreSomeVerdicts, HaveVerdicts, IsPut, AreVerdicts, PutsVerdict, verdict_at, violation_at, violation_of, violations_in};
+ghost use Rattle.lf_reports.specs.Reports.{IsFaultless, IsListed, broken_among, listed_at, member_of, name_among, named};
+ghost use Rattle.lf_reports.specs.Reports.{report_of, trial_among, AreSomeVerdicts, HaveVerdicts, IsPut, AreVerdicts};
+ghost use Rattle.lf_reports.specs.Reports.{PutsVerdict, verdict_at, violation_at, violation_of, violations_in};
 ghost use Rattle.lf_rules.specs.Team.{Member, boxes_beside, boxes_from, with_box};
 
 use lf_floorplan::{Frame, Loaded, LoadedCells, Macro, Near, Place, cell_is_sized};
@@ -170,7 +173,8 @@ fn put_verdict(
     requires tree { IsPermutation (boxes_from plan.now 0 (map member_of (map named cells.now))) boxes.now }
     requires count { length verdicts.old.items ≡ length cells.now }
     ensures count { length verdicts.new.items ≡ length cells.now }
-    ensures put { (l : Legalizer) → AreSomeVerdicts l plan.now padding.sites (map named cells.now) verdicts.old.items → PutsVerdict l plan.now padding.sites (map named cells.now) own verdicts.old.items verdicts.new.items }
+    ensures put { (l : Legalizer) → AreSomeVerdicts l plan.now padding.sites (map named cells.now) verdicts.old.items
+        → PutsVerdict l plan.now padding.sites (map named cells.now) own verdicts.old.items verdicts.new.items }
 {
     let verdict = broken_in(plan, boxes, cells, own, cell, padding);
     put(verdicts, own, verdict);
@@ -259,7 +263,9 @@ fn push_violation(
 ) -> Result<(), AllocError>
     requires within { own < length cells.now }
     requires count { length verdicts.now ≡ length cells.now }
-    ensures { (l : Legalizer) (f : Frame) (padding : ℕ) → AreVerdicts l f padding (map named cells.now) verdicts.now → OnOk result (violations.new.items ≡ violations.old.items ++ cons_option (violation_at l f padding (map named cells.now) own) []) }
+    ensures { (l : Legalizer) (f : Frame) (padding : ℕ) → AreVerdicts l f padding (map named cells.now) verdicts.now
+        → OnOk result (violations.new.items ≡ violations.old.items ++ cons_option
+        (violation_at l f padding (map named cells.now) own) []) }
 {
     let cell = &cells[own];
     match verdicts[own] {
@@ -278,7 +284,8 @@ fn violations_in(
     verdicts: &[Option<Broken>],
 ) -> Result<Vec<Violation>, AllocError>
     requires { length verdicts.now ≡ length cells.now }
-    ensures { (l : Legalizer) (f : Frame) (padding : ℕ) → AreVerdicts l f padding (map named cells.now) verdicts.now → IfOk result (λ violations. violations.items ≡ violations_in l f padding (map named cells.now)) }
+    ensures { (l : Legalizer) (f : Frame) (padding : ℕ) → AreVerdicts l f padding (map named cells.now) verdicts.now
+        → IfOk result (λ violations. violations.items ≡ violations_in l f padding (map named cells.now)) }
 {
     let mut violations = Vec::new(alloc);
     for own in 0..cells.len() {
@@ -305,8 +312,10 @@ pub fn report_by_verdicts(
     verdicts: &[Option<Broken>],
 ) -> Result<Report, AllocError>
     requires { length verdicts.now ≡ length cells.now }
-    ensures report { (l : Legalizer) (f : Frame) (padding : ℕ) → AreVerdicts l f padding (map named cells.now) verdicts.now → IfOk result (λ report. report ≡ report_of l f padding (map named cells.now)) }
-    ensures told { (l : Legalizer) (f : Frame) (padding : ℕ) → AreVerdicts l f padding (map named cells.now) verdicts.now → All (λ c. IsListed f (named c)) cells.now →
+    ensures report { (l : Legalizer) (f : Frame) (padding : ℕ) → AreVerdicts l f padding (map named cells.now) verdicts.now
+        → IfOk result (λ report. report ≡ report_of l f padding (map named cells.now)) }
+    ensures told { (l : Legalizer) (f : Frame) (padding : ℕ) → AreVerdicts l f padding (map named cells.now) verdicts.now
+        → All (λ c. IsListed f (named c)) cells.now →
         IfOk result (λ report. All IsTold report.violations) }
 {
     let violations = violations_in(alloc, cells, verdicts)?;

@@ -1,6 +1,6 @@
 //! Cells of a team that are moved to given places.
 
-ghost use Rattle.std.specs.Prelude.{◌≡◌, ◌<◌, ◌↔◌, IfOk, IsTrue, List, OnOk, length, map};
+ghost use Rattle.std.specs.Prelude.{◌≡◌, ◌<◌, IfOk, List, OnOk, length, map};
 ghost use Rattle.lf_cells.specs.declared.cell.Cell.{Cell};
 ghost use Rattle.lf_cells.specs.Cells.{cells_of, moved};
 ghost use Rattle.lf_undo.specs.declared.moves.Move.{Move};
@@ -11,28 +11,10 @@ ghost use Rattle.lf_restore.specs.Saved.{fixed_of};
 ghost use Rattle.lf_restore.specs.Stands.{LeadsTo, OthersStay};
 
 use lf_cells::CellTable;
-use lf_floorplan::{PackedPlace, Place};
+use lf_floorplan::{PackedPlace, Place, are_alike};
 use lf_placement::Placement;
 use lf_undo::{Move, Moves};
 use std::alloc::{AllocError, Global};
-
-/// Whether both are one place.
-fn is_one_place(a: &Place, b: &Place) -> bool
-    ensures { IsTrue result ↔ a.now ≡ b.now }
-{
-    a.x == b.x && a.y == b.y && a.orient == b.orient
-}
-
-/// Whether both are one place, or both none.
-fn are_alike(a: Option<Place>, b: Option<Place>) -> bool
-    ensures { IsTrue result ↔ a ≡ b }
-{
-    match (a, b) {
-        (Some(a), Some(b)) => is_one_place(&a, &b),
-        (None, None) => true,
-        _ => false,
-    }
-}
 
 /// Puts the move of the team's cell of that position to the place behind the others, where it is elsewhere.
 fn note_move(

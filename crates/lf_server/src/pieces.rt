@@ -35,9 +35,11 @@ impl<'a, W: Sink> Pieces<'a, W> {
 
     /// Writes what waits and flushes it; `Err` if a call of the sink fails or has failed.
     pub(crate) fn finish(&mut self) -> Result<(), DeviceFault>
-        ensures ok { (before : W) (text : List ℕ) → IsUnderWay self.old.failed (W.contents before) (W.contents self.old.sink.now) text self.old.waiting.now.items
+        ensures ok { (before : W) (text : List ℕ)
+            → IsUnderWay self.old.failed (W.contents before) (W.contents self.old.sink.now) text self.old.waiting.now.items
             → OnOk result (Appends (W.contents before) (W.contents self.new.sink.now) text) }
-        ensures front { (before : W) (text : List ℕ) → IsUnderWay self.old.failed (W.contents before) (W.contents self.old.sink.now) text self.old.waiting.now.items
+        ensures front { (before : W) (text : List ℕ)
+            → IsUnderWay self.old.failed (W.contents before) (W.contents self.old.sink.now) text self.old.waiting.now.items
             → OnErr result ((n : ℕ) × Appends (W.contents before) (W.contents self.new.sink.now) (take n text)) }
         ensures flushed { OnOk result (W.is_flushed self.new.sink.now ≡ true) }
         ensures healthy { OnOk result (self.old.failed ≡ false) }

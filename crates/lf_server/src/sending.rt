@@ -138,7 +138,9 @@ pub(crate) fn send_response<K: Seeker + Drop, W: Sink>(
     ensures ok { OnOk result (Appends (W.contents sink.old) (W.contents sink.new) (text_of floor.now team.now (reply_in floor.now team.now response.now))) }
     ensures flushed { OnOk result (W.is_flushed sink.new ≡ true) }
     ensures healthy { OnOk result (W.has_failed sink.new ≡ W.has_failed sink.old) }
-    ensures front { OnErr result ((n : ℕ) × Appends (W.contents sink.old) (W.contents sink.new) (take n (text_of floor.now team.now (reply_in floor.now team.now response.now)))) }
+    ensures front { OnErr result ((n : ℕ)
+        × Appends (W.contents sink.old) (W.contents sink.new)
+        (take n (text_of floor.now team.now (reply_in floor.now team.now response.now)))) }
     ensures failed { OnErr result (W.has_failed sink.new ≡ true) }
     ensures held { W.holds sink.new ≡ W.holds sink.old }
     ensures room { 4096 ≤ vec_capacity text.new }

@@ -1,6 +1,7 @@
 //! The loop that serves lines.
 
-ghost use Rattle.std.specs.Prelude.{◌≡◌, ◌≢◌, ◌<◌, ◌≤◌, ◌+◌, ◌++◌, ◌∷◌, ◌⊎◌, [], IfSome, MatchOption, Some, None, List, ℕ, length, drop, option_map, true, false, vec_capacity};
+ghost use Rattle.std.specs.Prelude.{◌≡◌, ◌≢◌, ◌<◌, ◌≤◌, ◌+◌, ◌++◌, ◌∷◌, ◌⊎◌, [], IfSome, MatchOption, Some, None, List, ℕ};
+ghost use Rattle.std.specs.Prelude.{length, drop, option_map, true, false, vec_capacity};
 ghost use Rattle.lf_rules.specs.Legalizer.{Legalizer};
 ghost use Rattle.lf_server.specs.Connections.{Stays};
 ghost use Rattle.lf_server.specs.Devices.{writer};
@@ -75,10 +76,14 @@ fn exchange<K: Seeker + Drop, W: Sink>(
     requires room { 4096 ≤ vec_capacity text.old }
     ensures room { 4096 ≤ vec_capacity text.new }
     ensures never { IfSome result (λ ending. (ending ≢ Ending.ReadFault) × (ending ≢ Ending.OutOfMemory)) }
-    ensures health { MatchOption result (W.has_failed sink.new ≡ W.has_failed sink.old) (λ ending. SinkAt ending (W.has_failed sink.old) (W.has_failed sink.new)) }
+    ensures health { MatchOption result (W.has_failed sink.new ≡ W.has_failed sink.old)
+        (λ ending. SinkAt ending (W.has_failed sink.old) (W.has_failed sink.new)) }
     ensures held { W.holds sink.new ≡ W.holds sink.old }
     ensures stays { Stays floor.old floor.new }
-    ensures serves { (l : Legalizer) → IsExchanged l result (writer (W.contents sink.old) (W.is_flushed sink.old) (W.has_failed sink.old)) (writer (W.contents sink.new) (W.is_flushed sink.new) (W.has_failed sink.new)) floor.old floor.new (option_map (λ bytes. bytes.now) line.entry) }
+    ensures serves { (l : Legalizer) → IsExchanged l result
+        (writer (W.contents sink.old) (W.is_flushed sink.old) (W.has_failed sink.old))
+        (writer (W.contents sink.new) (W.is_flushed sink.new) (W.has_failed sink.new))
+        floor.old floor.new (option_map (λ bytes. bytes.now) line.entry) }
 {
     let request = request_in(line);
     let response = answer(floor, &request);
@@ -106,10 +111,18 @@ fn take_line<K: Seeker + Drop, W: Sink>(
     ensures some { 0 < length piece.now → 0 < result.0 }
     ensures left { left.new ≤ left.old }
     ensures never { IfSome result.1 (λ ending. (ending ≢ Ending.ReadFault) × (ending ≢ Ending.OutOfMemory)) }
-    ensures health { MatchOption result.1 (W.has_failed sink.new ≡ W.has_failed sink.old) (λ ending. SinkAt ending (W.has_failed sink.old) (W.has_failed sink.new)) }
+    ensures health { MatchOption result.1 (W.has_failed sink.new ≡ W.has_failed sink.old)
+        (λ ending. SinkAt ending (W.has_failed sink.old) (W.has_failed sink.new)) }
     ensures held { W.holds sink.new ≡ W.holds sink.old }
     ensures stays { Stays floor.old floor.new }
-    ensures serves { (l : Legalizer) → MatchOption result.1 (Goes l (writer (W.contents sink.old) (W.is_flushed sink.old) (W.has_failed sink.old)) (writer (W.contents sink.new) (W.is_flushed sink.new) (W.has_failed sink.new)) left.old left.new floor.old floor.new framer.old.pending framer.new.pending piece.now (drop result.0 piece.now)) (λ ending. (rest : List ℕ) → Stops l ending (writer (W.contents sink.old) (W.is_flushed sink.old) (W.has_failed sink.old)) (writer (W.contents sink.new) (W.is_flushed sink.new) (W.has_failed sink.new)) left.old left.new floor.old floor.new (lines_from framer.old.pending (pieces (piece.now ++ rest)))) }
+    ensures serves { (l : Legalizer) → MatchOption result.1 (Goes l
+        (writer (W.contents sink.old) (W.is_flushed sink.old) (W.has_failed sink.old))
+        (writer (W.contents sink.new) (W.is_flushed sink.new) (W.has_failed sink.new))
+        left.old left.new floor.old floor.new framer.old.pending framer.new.pending piece.now (drop result.0 piece.now))
+        (λ ending. (rest : List ℕ) → Stops l ending
+        (writer (W.contents sink.old) (W.is_flushed sink.old) (W.has_failed sink.old))
+        (writer (W.contents sink.new) (W.is_flushed sink.new) (W.has_failed sink.new))
+        left.old left.new floor.old floor.new (lines_from framer.old.pending (pieces (piece.now ++ rest)))) }
 {
     let fed = framer.feed(piece);
     let Some(line) = line_given(framer, fed.got) else {
@@ -135,10 +148,18 @@ fn pump<K: Seeker + Drop, W: Sink>(
     ensures room { 4096 ≤ vec_capacity text.new }
     ensures left { left.new ≤ left.old }
     ensures never { IfSome result (λ ending. (ending ≢ Ending.ReadFault) × (ending ≢ Ending.OutOfMemory)) }
-    ensures health { MatchOption result (W.has_failed sink.new ≡ W.has_failed sink.old) (λ ending. SinkAt ending (W.has_failed sink.old) (W.has_failed sink.new)) }
+    ensures health { MatchOption result (W.has_failed sink.new ≡ W.has_failed sink.old)
+        (λ ending. SinkAt ending (W.has_failed sink.old) (W.has_failed sink.new)) }
     ensures held { W.holds sink.new ≡ W.holds sink.old }
     ensures stays { Stays floor.old floor.new }
-    ensures serves { (l : Legalizer) → MatchOption result (Goes l (writer (W.contents sink.old) (W.is_flushed sink.old) (W.has_failed sink.old)) (writer (W.contents sink.new) (W.is_flushed sink.new) (W.has_failed sink.new)) left.old left.new floor.old floor.new framer.old.pending framer.new.pending piece.now []) (λ ending. (rest : List ℕ) → Stops l ending (writer (W.contents sink.old) (W.is_flushed sink.old) (W.has_failed sink.old)) (writer (W.contents sink.new) (W.is_flushed sink.new) (W.has_failed sink.new)) left.old left.new floor.old floor.new (lines_from framer.old.pending (pieces (piece.now ++ rest)))) }
+    ensures serves { (l : Legalizer) → MatchOption result (Goes l
+        (writer (W.contents sink.old) (W.is_flushed sink.old) (W.has_failed sink.old))
+        (writer (W.contents sink.new) (W.is_flushed sink.new) (W.has_failed sink.new))
+        left.old left.new floor.old floor.new framer.old.pending framer.new.pending piece.now [])
+        (λ ending. (rest : List ℕ) → Stops l ending
+        (writer (W.contents sink.old) (W.is_flushed sink.old) (W.has_failed sink.old))
+        (writer (W.contents sink.new) (W.is_flushed sink.new) (W.has_failed sink.new))
+        left.old left.new floor.old floor.new (lines_from framer.old.pending (pieces (piece.now ++ rest)))) }
 {
     let mut at = 0;
     while at < piece.len() {
@@ -166,7 +187,10 @@ fn finish<K: Seeker + Drop, W: Sink>(
     ensures health { SinkAt result (W.has_failed sink.old) (W.has_failed sink.new) }
     ensures held { W.holds sink.new ≡ W.holds sink.old }
     ensures stays { Stays floor.old floor.new }
-    ensures serves { (l : Legalizer) → Stops l result (writer (W.contents sink.old) (W.is_flushed sink.old) (W.has_failed sink.old)) (writer (W.contents sink.new) (W.is_flushed sink.new) (W.has_failed sink.new)) left.old left.new floor.old floor.new (lines_from framer.old.pending ([] ∷ [])) }
+    ensures serves { (l : Legalizer) → Stops l result
+        (writer (W.contents sink.old) (W.is_flushed sink.old) (W.has_failed sink.old))
+        (writer (W.contents sink.new) (W.is_flushed sink.new) (W.has_failed sink.new))
+        left.old left.new floor.old floor.new (lines_from framer.old.pending ([] ∷ [])) }
 {
     let got = framer.finish();
     let Some(line) = line_given(framer, got) else {
@@ -204,7 +228,10 @@ fn serve_lines<K: Seeker + Drop, S: Source, W: Sink>(
     ensures source_held { S.holds source.new ≡ S.holds source.old }
     ensures sink_held { W.holds sink.new ≡ W.holds sink.old }
     ensures stays { Stays floor.old floor.new }
-    ensures serves { (l : Legalizer) → Finishes l result (S.remaining source.old) (S.remaining source.new) (writer (W.contents sink.old) (W.is_flushed sink.old) (W.has_failed sink.old)) (writer (W.contents sink.new) (W.is_flushed sink.new) (W.has_failed sink.new)) left.old left.new floor.old floor.new }
+    ensures serves { (l : Legalizer) → Finishes l result (S.remaining source.old) (S.remaining source.new)
+        (writer (W.contents sink.old) (W.is_flushed sink.old) (W.has_failed sink.old))
+        (writer (W.contents sink.new) (W.is_flushed sink.new) (W.has_failed sink.new))
+        left.old left.new floor.old floor.new }
 {
     let mut buffer = [0u8; LINE];
     let mut reads_left = reads;
@@ -266,7 +293,10 @@ pub fn serve<K: Seeker + Drop, S: Source, W: Sink>(
     ensures source_held { S.holds source.new ≡ S.holds source.old }
     ensures sink_held { W.holds sink.new ≡ W.holds sink.old }
     ensures stays { Stays floor.old floor.new }
-    ensures serves { (l : Legalizer) → Serves l limits.lines floor.old (S.remaining source.old) (S.remaining source.new) (writer (W.contents sink.old) (W.is_flushed sink.old) (W.has_failed sink.old)) (writer (W.contents sink.new) (W.is_flushed sink.new) (W.has_failed sink.new)) result floor.new }
+    ensures serves { (l : Legalizer) → Serves l limits.lines floor.old (S.remaining source.old) (S.remaining source.new)
+        (writer (W.contents sink.old) (W.is_flushed sink.old) (W.has_failed sink.old))
+        (writer (W.contents sink.new) (W.is_flushed sink.new) (W.has_failed sink.new))
+        result floor.new }
     ensures lines { result.lines ≤ limits.lines }
     ensures reads { S.reads source.new ≤ S.reads source.old + limits.reads }
     ensures read_fault { result.ending ≡ Ending.ReadFault → (S.has_failed source.new ≡ true) ⊎ (S.reads source.new ≡ S.reads source.old + limits.reads) }

@@ -7,7 +7,8 @@ ghost use Rattle.lf_texts.specs.Output.{Puts};
 ghost use Rattle.lf_texts.specs.TeamText.{line_of};
 ghost use Rattle.lf_state.specs.Designs.{team_of};
 ghost use Rattle.lf_state.specs.Saved.{IsInRange, IsSpottedCell, IsSpottedEntry};
-ghost use Rattle.lf_state.specs.Saved.{cell_line, entry_lines, head_line, lines_of, move_line, moves_within, opening_lines, slot_line, state_text, saved_at, team_lines};
+ghost use Rattle.lf_state.specs.Saved.{cell_line, entry_lines, head_line, lines_of, move_line, moves_within, opening_lines};
+ghost use Rattle.lf_state.specs.Saved.{slot_line, state_text, saved_at, team_lines};
 ghost use Rattle.lf_state.specs.Writing.{entry_if, line_at, move_within, word_text};
 ghost use Rattle.lf_state.specs.Words.{place_text};
 

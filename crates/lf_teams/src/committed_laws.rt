@@ -1,8 +1,10 @@
 //! Laws on the committed design.
 
-ghost use Rattle.lf_teams.specs.Committed.{CommitMakesCommitted, CommittedByTeams, LegalMakesTeams, LoadedIsCommitted, LoadedPlacesAreCommitted, OrderKeepsCommitted};
+ghost use Rattle.lf_teams.specs.Committed.{CommitMakesCommitted, CommittedByTeams, LegalMakesTeams, LoadedIsCommitted};
+ghost use Rattle.lf_teams.specs.Committed.{LoadedPlacesAreCommitted, OrderKeepsCommitted};
 ghost use Rattle.lf_teams.specs.Places.{PlacesBeginAsLoaded, PlacesFollowDesign};
-ghost use Rattle.lf_teams.specs.CommittedRuns.{CommitLasts, LegalCommits, LoadedRunStaysLegal, RunCommitsMakeLegal, RunKeepsTeams, RunStaysLegal, RunTidiedCommits, StepKeepsCommitted};
+ghost use Rattle.lf_teams.specs.CommittedRuns.{CommitLasts, LegalCommits, LoadedRunStaysLegal, RunCommitsMakeLegal};
+ghost use Rattle.lf_teams.specs.CommittedRuns.{RunKeepsTeams, RunStaysLegal, RunTidiedCommits, StepKeepsCommitted};
 
 use lf_rules::legal_in_range;
 

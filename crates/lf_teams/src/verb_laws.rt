@@ -1,6 +1,9 @@
 //! Laws on the outcomes of the verbs of the command table.
 
-ghost use Rattle.lf_teams.specs.VerbLaws.{NeverOutOfMemory, RefusalKeeps, StuckTidyKeeps, ChangeCounts, LookKeeps, UndoBringsBack, RevertAfterCommitKeeps, OnlyCommitCommits, OnlyPadPads, PadKeeps, BestIsFound, TidyMakesLegal, CommitFindsLegal, PlaceMakesLegal, LegalizeMakesLegal, SwapMakesLegal, VerbKeepsTeam};
+ghost use Rattle.lf_teams.specs.VerbLaws.{NeverOutOfMemory, RefusalKeeps, StuckTidyKeeps, ChangeCounts, LookKeeps};
+ghost use Rattle.lf_teams.specs.VerbLaws.{UndoBringsBack, RevertAfterCommitKeeps, OnlyCommitCommits, OnlyPadPads, PadKeeps};
+ghost use Rattle.lf_teams.specs.VerbLaws.{BestIsFound, TidyMakesLegal, CommitFindsLegal, PlaceMakesLegal, LegalizeMakesLegal};
+ghost use Rattle.lf_teams.specs.VerbLaws.{SwapMakesLegal, VerbKeepsTeam};
 ghost use Rattle.lf_teams.specs.VerbRows.{VerbRows};
 
 use lf_rules::legal_in_range;
