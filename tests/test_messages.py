@@ -75,12 +75,15 @@ class Mistakes(unittest.TestCase):
             self.said(["replay", *DESIGN, "--exprt", str(target)], 2, USAGE)
             self.said(["repair", *DESIGN, "--save", str(target)], 2, USAGE)
             self.said(["check", *DESIGN, "--save", str(target)], 2, USAGE)
-            self.said(["describe", *DESIGN, "--state", str(target)], 2, USAGE)
+            self.said(["repair", *DESIGN, "--state", str(target)], 2, USAGE)
             self.assertEqual(os.listdir(folder), [])
 
     def test_an_option_without_its_value_or_twice(self) -> None:
         self.said(["replay", *DESIGN, "--export"], 2, USAGE)
         self.said(["replay", *DESIGN, "--export", "a", "--export", "b"], 2, USAGE)
+        for verb in ("check", "describe"):
+            self.said([verb, *DESIGN, "--state"], 2, USAGE)
+            self.said([verb, *DESIGN, "--state", "a", "--state=a"], 2, USAGE)
         for option in ("--state", "--save"):
             self.said(["replay", *DESIGN, option], 2, USAGE)
             self.said(["replay", *DESIGN, option, "a", f"{option}=a"], 2, USAGE)
@@ -153,6 +156,29 @@ class Mistakes(unittest.TestCase):
             first, second = (at for at, line in enumerate(lines, 1) if line.startswith("- a1 INV"))
             where = f"DEF file {twice}, line {second} (the first is in line {first}): {lines[second - 1]}"
             self.said(["check", str(twice), W_LEF], 1, "lefence: 17 SecondName a1", where)
+
+    def test_a_fence_that_meets_another_is_shown_with_that_one(self) -> None:
+        with tempfile.TemporaryDirectory() as folder:
+            meeting = Path(folder) / "meeting.def"
+            others = "- Z ( 0 6000 ) ( 400 8000 ) + TYPE FENCE ;\n- G ( 0 0 ) ( 10000 8000 ) + TYPE GUIDE ;\n"
+            text = DEF.read_text().replace("REGIONS 2 ;\n", f"REGIONS 4 ;\n{others}").replace("- B ( 6000 0 )", "- B ( 3900 0 )")
+            meeting.write_text(text)
+            lines = text.splitlines()
+            first, second = (lines.index(line) + 1 for line in lines if line.startswith(("- A (", "- B (")))
+            where = f"DEF file {meeting}, line {second} (meets fence A of line {first}): {lines[second - 1]}"
+            self.said(["check", str(meeting), W_LEF], 1, "lefence: 21 FencesOverlap B", where)
+
+    def test_a_component_of_two_fences_is_shown_with_both(self) -> None:
+        with tempfile.TemporaryDirectory() as folder:
+            twice = Path(folder) / "twice.def"
+            groups = "GROUPS 4 ;\n- all * ;\n"
+            text = DEF.read_text().replace("GROUPS 2 ;\n", groups).replace("- gb b1 + ", "- gc a2 + REGION A ;\n- gb b1 *2 + ")
+            twice.write_text(text)
+            lines = text.splitlines()
+            first, second = (lines.index(line) + 1 for line in lines if line.startswith(("- A (", "- B (")))
+            at = next(at for at, line in enumerate(lines, 1) if line.startswith("- a2 INV"))
+            where = f"DEF file {twice}, line {at} (claimed by fence A of line {first} and fence B of line {second}): {lines[at - 1]}"
+            self.said(["check", str(twice), W_LEF], 1, "lefence: 22 TwoFences a2", where)
 
     def test_a_def_text_that_is_cut_off(self) -> None:
         with tempfile.TemporaryDirectory() as folder:

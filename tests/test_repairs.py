@@ -12,7 +12,7 @@ from pathlib import Path
 from program import DEF, LEF, InFolder, run
 
 # The keys of the line of a team, and of the line of all teams, in their order.
-TEAM_KEYS = ["cells", "kept", "largest", "left", "mean", "moved", "placed", "pushed", "team", "total", "turned"]
+TEAM_KEYS = ["cells", "gaps", "kept", "largest", "left", "mean", "moved", "placed", "pushed", "team", "total", "turned"]
 ALL_KEYS = ["cells", "kept", "largest", "left_cells", "legal", "mean", "moved", "placed", "pushed", "teams", "total", "turned"]
 # The cells of team A, a2 one site right of a1 and over it, and those of the others at legal places.
 STANDING = {
@@ -113,6 +113,7 @@ class Repairs(InFolder):
                     done, report = self.repair(changes, "--export", str(self.new), *more.split())
                     self.assertEqual((done, self.check(self.new)), (status, status))
                     self.assertEqual((report[0]["left"], report[0]["pushed"], report[-1]["pushed"]), (left, pushed, pushed))
+                    self.assertEqual(report[0]["gaps"], [200] if left else [])
 
     def test_a_legal_cell_stays_where_that_helps_nobody(self) -> None:
         stands = "- a1 INV + SOURCE DIST ;"

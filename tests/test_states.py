@@ -6,6 +6,7 @@ No contract knows what files hold.
 from __future__ import annotations
 
 import os
+import re
 import signal
 import unittest
 from pathlib import Path
@@ -285,6 +286,96 @@ class Refused(States):
         status, written, said = run(["replay", str(broken), str(LEF), "--state", str(self.state)], "open A\n")
         self.assertEqual((status, written), (1, ""))
         self.assertIn("DEF file", said)
+
+
+# Where all cells of the small design stand legally, and the first two in each other's way.
+PLACES = {"a1": (0, 0), "a2": (400, 0), "a3": (800, 0), "b1": (6000, 0), "g1": (4400, 0)}
+CROSSED = {**PLACES, "a2": (200, 0)}
+
+
+def state_at(places: dict[str, tuple[int, int]]) -> str:
+    """A state with the cells at work at these places, and all of them committed at another."""
+    return re.sub("(?m)^([abg][0-9]) - -$", lambda found: f"{found[1]} {places[found[1]][0]},{places[found[1]][1]},N 2000,2000,FS", LOADED)
+
+
+def text_at(places: dict[str, tuple[int, int]]) -> str:
+    """The DEF text with the cells placed so."""
+
+    def placed(found: re.Match[str]) -> str:
+        x, y = places[found[2]]
+        return f"{found[1]} + PLACED ( {x} {y} ) N ;"
+
+    return re.sub(r"(?m)^(- ([abg][0-9]) (?:INV|DBL)).* ;$", placed, DEF.read_text())
+
+
+class LookedAt(States):
+    """States that `check` and `describe` look at."""
+
+    def look(self, verb: str) -> tuple[int, str, str]:
+        return run([verb, *DESIGN, "--state", str(self.state)])
+
+    def test_a_state_in_which_the_design_is_legal(self) -> None:
+        self.state.write_text(state_at(PLACES))
+        self.assertEqual(self.look("check"), (0, '{"cells":5,"unplaced":0,"violations":[]}\n', ""))
+        status, written, said = self.look("describe")
+        self.assertEqual((status, said), (0, ""))
+        cell = (
+            '{"box":[400,0,800,2000],"height":2000,"kind":"cell","macro":"INV","name":"a2","orient":"N","other":null,"rule":null,'
+            '"team":"A","width":400}'
+        )
+        self.assertIn(cell, written.split("\n"))
+
+    def test_the_violations_are_those_of_the_state(self) -> None:
+        self.state.write_text(state_at(CROSSED))
+        met = '{"cell":"a1","other":"a2","rule":8},{"cell":"a2","other":"a1","rule":8}'
+        self.assertEqual(self.look("check"), (4, f'{{"cells":5,"unplaced":0,"violations":[{met}]}}\n', ""))
+
+    def test_working_places_of_a_session(self) -> None:
+        self.assertEqual(self.save(CHANGED_BY)[0], 0)
+        self.assertEqual(self.look("check"), (4, '{"cells":5,"unplaced":4,"violations":[]}\n', ""))
+        self.assertIn('{"box":[6200,0,6600,2000],"height":2000,"kind":"cell","macro":"INV","name":"b1"', self.look("describe")[1])
+
+    def test_a_state_is_seen_as_a_text_with_its_places(self) -> None:
+        text = self.folder / "placed.def"
+        for places in (PLACES, CROSSED):
+            self.state.write_text(state_at(places))
+            text.write_text(text_at(places))
+            for verb in ("check", "describe"):
+                with self.subTest((verb, places)):
+                    self.assertEqual(self.look(verb), run([verb, str(text), str(LEF)]))
+
+    def test_places_of_the_text_play_no_part(self) -> None:
+        text = self.folder / "placed.def"
+        text.write_text(text_at(CROSSED))
+        for state in (LOADED, state_at(PLACES)):
+            self.state.write_text(state)
+            for verb in ("check", "describe"):
+                with self.subTest((verb, state)):
+                    self.assertEqual(run([verb, str(text), str(LEF), "--state", str(self.state)]), self.look(verb))
+
+    def test_the_state_of_the_loaded_design_shows_the_text(self) -> None:
+        self.state.write_text(LOADED)
+        for verb in ("check", "describe"):
+            self.assertEqual(self.look(verb), run([verb, *DESIGN]))
+        self.assertEqual((self.state.read_text(), self.names()), (LOADED, ["w.state"]))
+
+    def test_what_is_no_state_of_the_design_is_refused(self) -> None:
+        cases = [
+            ("teams 3", "teams 2", "26 OtherDesign", 2, "teams 2"),
+            ("lefence-state 1", "lefence-state 2", "25 OtherVersion", 1, "lefence-state 2"),
+            ("team B 0 0 8 1 0", "team B 0 17 8 1 0", "27 OutOfRange", 15, "team B 0 17 8 1 0"),
+        ]
+        for old, new, fault, line, shown in cases:
+            self.state.write_text(LOADED.replace(old, new))
+            told = f"lefence: {fault} line {line}\nlefence: state file {self.state}, line {line}: {shown}\n"
+            for verb in ("check", "describe"):
+                with self.subTest((verb, new)):
+                    self.assertEqual(self.look(verb), (1, "", told))
+
+    def test_a_file_that_cannot_be_read(self) -> None:
+        told = f"lefence: File\nlefence: state file {self.state} cannot be read: there is no such file\n"
+        for verb in ("check", "describe"):
+            self.assertEqual(self.look(verb), (3, "", told))
 
 
 if __name__ == "__main__":

@@ -116,9 +116,11 @@ class Mended:
         for team in told:
             name = team["team"]
             self._tell_counts(name, team, len(team["left"]))
-            for cell in team["left"]:
+            for cell, gap in zip(team["left"], team["gaps"], strict=True):
                 old = olds[name, cell]
-                log(self._tool, f"team {name}: no place for {cell}, which {f'stood at {_text(old)}' if old else 'had none'}")
+                stood = f"stood at {_text(old)}" if old else "had none"
+                near = f"the widest gap of the rows near it is {gap / self._units:.3f} microns" if gap else "no site near it is free"
+                log(self._tool, f"team {name}: no place for {cell}, which {stood}; {near}")
         if len(told) > 1:
             self._tell_counts("all", self.every, self.every["left_cells"])
 

@@ -106,8 +106,9 @@ class Repairs(FrontCase):
         self.add("- new HIGH", "- other new + REGION f2")
         done = self.repair("--out", self.target)
         self.assertEqual(done.returncode, 4)
-        self.assertIn(f"team f2: no place for high, which stood at {2 * WIDTH + 1000} 0 N\n".encode(), done.stderr)
-        self.assertIn(b"team f2: no place for new, which had none\n", done.stderr)
+        gap = rb"; the widest gap of the rows near it is \d+\.\d{3} microns\n"
+        self.assertRegex(done.stderr, rb"team f2: no place for high, which stood at %d 0 N" % (2 * WIDTH + 1000) + gap)
+        self.assertRegex(done.stderr, rb"team f2: no place for new, which had none" + gap)
         # (nothing is said of other teams where all were repaired)
         self.assertIn(b"not fully legal: 2 cells left\n", done.stderr)
         check = subprocess.run([PROGRAM, "check", self.target, self.lef], capture_output=True)

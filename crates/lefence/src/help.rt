@@ -5,8 +5,10 @@ use lf_app::{Help, Subcommand};
 /// What the program can be asked.
 pub(crate) const USAGE: &str =
     "  lefence [demo]                answers the lines of standard input over the built-in design
-  lefence check DEF LEF...      writes a report of the design
-  lefence describe DEF LEF...   writes the design as JSON Lines: rows, fences, obstacles, cells with boxes and
+  lefence check DEF LEF... [--state FILE]
+                                writes a report of the design
+  lefence describe DEF LEF... [--state FILE]
+                                writes the design as JSON Lines: rows, fences, obstacles, cells with boxes and
                                 broken rules
   lefence replay DEF LEF... [--state FILE] [--save FILE] [--export FILE] [--lines N]
                                 answers the lines of standard input over the design, N at most; then its text,
@@ -34,19 +36,21 @@ example:
   printf 'open A\\nplace A 0 a1 0 0 N\\nwhere A 0 a1\\n' | lefence demo
 ";
 
-const CHECK: &str = "lefence check DEF LEF...
+const CHECK: &str = "lefence check DEF LEF... [--state FILE]
 
 Writes a report of the design as one line of JSON: how many cells there are, how many are unplaced, which break
-which rule, which overlap which. The exit status is 0 if the design is fully legal, and 4 if it is not.
+which rule, which overlap which. With --state, each cell stands where the state that was saved to FILE has it at
+work. The exit status is 0 if the design is fully legal, and 4 if it is not.
 
 example:
   lefence check chip.def tech.lef cells.lef
 ";
 
-const DESCRIBE: &str = "lefence describe DEF LEF...
+const DESCRIBE: &str = "lefence describe DEF LEF... [--state FILE]
 
-Writes the design as JSON Lines: rows, fences, obstacles, cells with boxes and broken rules. The exit status is 0 if
-the design is fully legal, and 4 if it is not.
+Writes the design as JSON Lines: rows, fences, obstacles, cells with boxes and broken rules. With --state, each cell
+stands where the state that was saved to FILE has it at work. The exit status is 0 if the design is fully legal, and 4
+if it is not.
 
 example:
   lefence describe chip.def tech.lef cells.lef > chip.jsonl

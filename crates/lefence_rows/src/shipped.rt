@@ -129,6 +129,7 @@ pub fn report(texts: &RowTexts<'_>) -> Result<Vec<u8>, AllocError> {
     let task = Task::Check {
         def: "row.def",
         lefs: lef_alone(texts.alloc)?,
+        state: None,
     };
     Ok(performed(texts, &task, b"")?.written)
 }

@@ -1,5 +1,5 @@
 -- Designs of files, step by step: which fault a refusal becomes, and LEF files one after the other.
-use Rattle.std.proofs.Common.{◌≡◌, ◌⊎◌, inl, inr, ℕ, ◌+◌, ◌<◌, List, ◌∷◌, length, map, drop, slice_index_or, ap, subst, sym, ◌∙◌}
+use Rattle.std.proofs.Common.{◌≡◌, ◌⊎◌, inl, inr, ℕ, ◌+◌, ◌<◌, List, ◌∷◌, length, map, drop, slice_index_or, ap, subst, ◌∙◌}
 use Rattle.std.specs.Borrow.{Bor}
 use Rattle.std.proofs.Math.Numerals.{suc-eq-add-one}
 use Rattle.std.proofs.Math.Seq.{drop-cons}
@@ -13,7 +13,9 @@ use Rattle.lf_refusals.specs.Findings.{IsFault}
 use Rattle.lf_app.specs.declared.faults.Fault.{Fault}
 use Rattle.lf_app.specs.declared.faults.TextKind.{TextKind}
 use Rattle.lf_app.specs.declared.faults.TextKind.TheVariants.{Lef}
-use Rattle.lf_app.specs.Designs.{Adds, AreStandard, Gives, IsFaultIn, IsFileFault, IsLefRefusal, IsLibraryFault, IsLibraryOf, IsRefused}
+use Rattle.lf_refusals.specs.Meetings.{Met, no_fence}
+use Rattle.lf_app.specs.Refusals.{IsTold}
+use Rattle.lf_app.specs.Designs.{Adds, AreStandard, Cause, Gives, IsFaultIn, IsFileFault, IsLefRefusal, IsLibraryFault, IsLibraryOf, IsRefused}
 use Rattle.lf_app.proofs.WorkSteps.{refused_as}
 
 -- what loading answers within the standard limits
@@ -23,17 +25,17 @@ pub loading : (library : Contents) (document : Document) (limits : Limits) (refu
 loading library document limits refusal standard (inl memory) = inl memory
 loading library document limits refusal standard (inr fault) = inr (limits, standard, fault)
 
--- what is told is the fault that was found, or that there was no memory to tell it
-told_of : (P : LoadFault → Type 0) (found told : LoadFault) → (told ≡ found) ⊎ (told ≡ load_fault_of Memory) → P found → P (load_fault_of Memory) → P told
-told_of P found told (inl same) holds memory = subst P (sym same) holds
-told_of P found told (inr same) holds memory = subst P (sym same) memory
+-- what is told is the fault that was found with the fences that it meets, or that there was no memory to tell it
+told_of : (P : Cause) (found told : LoadFault) (met fences : Met) → IsTold found met told fences → P found met → P (load_fault_of Memory) no_fence
+    → P told fences
+told_of P found told met fences (inl same) holds memory = rw (same.0, same.1) holds
+told_of P found told met fences (inr same) holds memory = rw (same.0, same.1) memory
 
 -- either is one of the refusals that take both in
-pub told_as : (kind : TextKind) (path text : List ℕ) (P : LoadFault → Type 0) (found : LoadFault) (fault : Fault)
-    → IsRefused kind path text (λ told. (told ≡ found) ⊎ (told ≡ load_fault_of Memory)) fault → P found → P (load_fault_of Memory)
-    → IsRefused kind path text P fault
-told_as kind path text P found fault is holds memory =
-    refused_as kind path text (λ told. (told ≡ found) ⊎ (told ≡ load_fault_of Memory)) P fault is (λ told one. told_of P found told one holds memory)
+pub told_as : (kind : TextKind) (path text : List ℕ) (P : Cause) (found : LoadFault) (met : Met) (fault : Fault)
+    → IsRefused kind path text (IsTold found met) fault → P found met → P (load_fault_of Memory) no_fence → IsRefused kind path text P fault
+told_as kind path text P found met fault is holds memory =
+    refused_as kind path text (IsTold found met) P fault is (λ told fences one. told_of P found told met fences one holds memory)
 
 abbrev Path : Type 0
 Path = Bor (List ℕ)

@@ -1,22 +1,20 @@
 -- Whether the committed places of each team are legal, by what is found of its listed cells.
-use Rattle.std.proofs.Common.{◌≡◌, ◌⊎◌, inl, inr, ℕ, zero, suc, ◌+◌, ◌<◌, List, [], ◌∷◌, ◌++◌, length, map, Option, Some, None, refl, ap, sym, ◌∙◌, subst, arith}
-use Rattle.std.specs.Prelude.{◌↔◌, All, Bool, IfOk, IsTrue, Result, count_by, is_none, is_some, slice_get, option_map}
+use Rattle.std.proofs.Common.{◌≡◌, ◌⊎◌, inl, inr, ℕ, zero, suc, ◌+◌, ◌<◌, List, [], ◌∷◌, length, map, Option, Some, refl, ap, sym, ◌∙◌, subst, arith}
+use Rattle.std.specs.Prelude.{◌↔◌, All, Bool, IfOk, IsTrue, Result, count_by, is_none, is_some, slice_get}
 use Rattle.std.specs.declared.alloc.AllocError.{AllocError}
 use Rattle.std.specs.Borrow.{Bor}
 use Rattle.std.proofs.lemmas.Result.{IfOk-weaker}
 use Rattle.std.proofs.lemmas.List.Elements.{All-cons, All-nil, All-head, All-tail}
 use Rattle.lf_floorplan.specs.declared.frame.Frame.{Frame}
-use Rattle.lf_floorplan.specs.declared.place.Place.{Place}
 use Rattle.lf_floorplan.specs.Bounds.{IsName}
 use Rattle.lf_rules.specs.declared.report.Listed.{Listed}
 use Rattle.lf_rules.specs.declared.report.Violation.{Violation}
 use Rattle.lf_rules.specs.declared.rule.Broken.{Broken}
 use Rattle.lf_rules.specs.FullyLegal.{IsFullyLegal, Standing, standing_from, with_team}
 use Rattle.lf_rules.specs.Legalizer.{Legalizer}
-use Rattle.lf_rules.specs.Reports.{IsClean}
 use Rattle.lf_rules.specs.Team.{Member, StandsLegal}
 use Rattle.lf_rules.proofs.DesignLemmas.{teams_legal}
-use Rattle.lf_reports.specs.Reports.{AreVerdicts, IsListed, named, report_of, standing_of, violations_in}
+use Rattle.lf_reports.specs.Reports.{AreVerdicts, IsListed, named, standing_of, violations_in}
 use Rattle.lf_reports.proofs.CleanLemmas.{all_named, clean_is_legal}
 use Rattle.lf_reports.proofs.LegalVerdicts.{illegal_are}
 use Rattle.lf_cells.specs.declared.cell.Cell.{Cell}

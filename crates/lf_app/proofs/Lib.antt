@@ -1,6 +1,8 @@
 mod Answering
+mod Copying
 mod DesignSteps
 mod Judging
+mod Looking
 mod Opening
 mod Performing
 mod Repairing

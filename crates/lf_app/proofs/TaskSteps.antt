@@ -55,8 +55,8 @@ pub succeeds : (gives : Gives) (job : Job) (io : Streams) (status : ℕ) → IsO
 succeeds gives demo io status is = inl is.3
 succeeds gives (replay def lefs state lines save export) io status is = inl is.1
 succeeds gives (serve def lefs state port connections save export) io status is = inl is.1
-succeeds gives (check def lefs) io status is = is.2.done
-succeeds gives (describe def lefs) io status is = is.described.done
+succeeds gives (check def lefs state) io status is = is.2.done
+succeeds gives (describe def lefs state) io status is = is.shown.2.done
 succeeds gives (repair def lefs teams legal export lines) io status is = is.repaired.judged.done
 
 -- 4 is the status of a check, a description or a repair alone
@@ -64,6 +64,6 @@ pub checked : (gives : Gives) (task : Task) (io : Streams) (status : ℕ) → Is
 checked gives Demo io status is four = let zero : status ≡ 0 = is.3 in absurd (omega (arith, zero, four))
 checked gives (Replay def lefs state lines save export) io status is four = let zero : status ≡ 0 = is.1 in absurd (omega (arith, zero, four))
 checked gives (Serve def lefs state port connections save export) io status is four = let zero : status ≡ 0 = is.1 in absurd (omega (arith, zero, four))
-checked gives (Check def lefs) io status is four = tt
-checked gives (Describe def lefs) io status is four = tt
+checked gives (Check def lefs state) io status is four = tt
+checked gives (Describe def lefs state) io status is four = tt
 checked gives (Repair def lefs teams legal export lines) io status is four = tt

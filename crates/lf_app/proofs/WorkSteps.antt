@@ -12,12 +12,13 @@ use Rattle.lf_app.specs.declared.faults.Fault.{Fault}
 use Rattle.lf_app.specs.declared.faults.Fault.TheVariants.{Refused, File, NoState, NoTeam, ReadFault, WriteFault, TooManyLines, OutOfMemory, Output, Bind, Accept, Unwritten, Unsaved, Unlisted, NoMemory, NoRoom}
 use Rattle.lf_app.specs.declared.faults.TextKind.{TextKind}
 use Rattle.lf_app.specs.declared.faults.TextKind.TheVariants.{Lef, Def, State}
-use Rattle.lf_app.specs.Designs.{Gives, IsDefRefusal, IsDesignFault, IsDesignOf, IsFileFault, IsLefRefusal, IsLibraryFault, IsLibraryOf}
-use Rattle.lf_app.specs.Designs.{IsLoadRefusal, IsLoadedIn, IsRefused, IsUnread, no_library}
-use Rattle.lf_app.specs.Exits.{IsExported, IsOpenUndescribed, IsOpened, IsUndescribed, IsUndone, Streams, streams}
+use Rattle.lf_refusals.specs.Meetings.{Met}
+use Rattle.lf_app.specs.Designs.{Cause, Gives, IsDefRefusal, IsDesignFault, IsDesignOf, IsFileFault, IsLefRefusal, IsLibraryFault, IsLibraryOf}
+use Rattle.lf_app.specs.Designs.{IsLoadRefusal, IsLoadedIn, IsRefused, IsUnread, MeetsIn, no_library}
+use Rattle.lf_app.specs.Exits.{IsExported, IsOpenUndescribed, IsOpened, IsUndone, IsUnshown, Streams, streams}
 use Rattle.lf_app.specs.Faults.{Blames, BlamesWriter, ExportFails, IsEarly, IsExportFault, IsSaveFault}
 use Rattle.lf_app.specs.Surroundings.{IsSound}
-use Rattle.lf_app.specs.States.{IsBegun, IsStateFault, IsStateRefused, IsStateTextFault, IsUnbegun}
+use Rattle.lf_app.specs.States.{IsBegun, IsFloorFault, IsStateFault, IsStateRefused, IsStateTextFault, IsUnbegun}
 use Rattle.lf_app.specs.Work.{IsDone, IsFault, IsUnfinished, IsUnworked}
 use Rattle.lf_app.specs.declared.surroundings.Surroundings.{Surroundings}
 use Rattle.lf_app.specs.declared.work.Lines.{Lines}
@@ -122,7 +123,7 @@ export_blames kept reader writer export service sound NoRoom before now is fails
     record { early = λ of. absurd of; reading = λ same. absurd (subst IsRoom same tt); writing = λ of. absurd of; exporting = λ of. absurd of; serving = λ of. absurd of; sparing = λ _. sounds is }
 
 -- a refusal of a text is early
-pub refused_early : (kind : TextKind) (path text : List ℕ) (why : LoadFault → Type 0) (fault : Fault) → IsRefused kind path text why fault → IsEarly fault
+pub refused_early : (kind : TextKind) (path text : List ℕ) (why : Cause) (fault : Fault) → IsRefused kind path text why fault → IsEarly fault
 refused_early kind path text why (Refused file its) is = tt
 refused_early kind path text why (File file cause) is = absurd is
 refused_early kind path text why (NoState its_path its) is = absurd is
@@ -160,7 +161,7 @@ unread_early gives kind path NoMemory is = tt
 unread_early gives kind path NoRoom is = absurd is
 
 -- so is each fault of a file
-pub file_early : (gives : Gives) (kind : TextKind) (path : List ℕ) (why : List ℕ → LoadFault → Type 0) (fault : Fault) → IsFileFault gives kind path why fault
+pub file_early : (gives : Gives) (kind : TextKind) (path : List ℕ) (why : List ℕ → Cause) (fault : Fault) → IsFileFault gives kind path why fault
     → IsEarly fault
 file_early gives kind path why fault (inl unread) = unread_early gives kind path fault unread
 file_early gives kind path why fault (inr refused) = refused_early kind path refused.0 (why refused.0) fault refused.2
@@ -184,9 +185,9 @@ first_fails why all kept reader writer export service sound fault keeps sounds i
     (gives fault is, early_blames kept reader writer export service sound fault keeps sounds (early fault is))
 
 -- a refusal of one kind is one of another that takes them all in
-pub refused_as : (kind : TextKind) (path text : List ℕ) (P Q : LoadFault → Type 0) (fault : Fault) → IsRefused kind path text P fault
-    → ((refusal : LoadFault) → P refusal → Q refusal) → IsRefused kind path text Q fault
-refused_as kind path text P Q (Refused file its) is gives = (is.0, (is.1.0, gives is.1.0 is.1.1, is.1.2))
+pub refused_as : (kind : TextKind) (path text : List ℕ) (P Q : Cause) (fault : Fault) → IsRefused kind path text P fault
+    → ((refusal : LoadFault) (met : Met) → P refusal met → Q refusal met) → IsRefused kind path text Q fault
+refused_as kind path text P Q (Refused file its) is gives = (is.0, (is.1.0, is.1.1, gives is.1.0 is.1.1 is.1.2, is.1.3))
 refused_as kind path text P Q (File file why) is gives = absurd is
 refused_as kind path text P Q (NoState its_path its) is gives = absurd is
 refused_as kind path text P Q (NoTeam name) is gives = absurd is
@@ -203,27 +204,19 @@ refused_as kind path text P Q (Unlisted its_path) is gives = absurd is
 refused_as kind path text P Q NoMemory is gives = absurd is
 refused_as kind path text P Q NoRoom is gives = absurd is
 
-load_refused : (library : Contents) (text : List ℕ) (document : Document) (refusal : LoadFault) → document_of text ≡ Ok document
-    → IsLoadRefusal library document refusal → IsDefRefusal library text refusal
-load_refused library text document refusal is (inl memory) = inl (inl memory)
-load_refused library text document refusal is (inr found) = inr (document, is, found)
+load_refused : (library : Contents) (text : List ℕ) (document : Document) (refusal : LoadFault) (met : Met) → document_of text ≡ Ok document
+    → IsLoadRefusal library document refusal met → IsDefRefusal library text refusal met
+load_refused library text document refusal met is (inl memory, meets) = inl (inl memory, subst (λ (found : LoadFault). MeetsIn document found met) memory meets)
+load_refused library text document refusal met is (inr found, meets) = inr (document, is, found, meets)
 
 -- a refusal of loading a document is one of its text
 pub text_refused : (library : Contents) (path text : List ℕ) (document : Document) (fault : Fault) → document_of text ≡ Ok document
     → IsRefused Def path text (IsLoadRefusal library document) fault → IsRefused Def path text (IsDefRefusal library text) fault
 text_refused library path text document fault is refused =
     refused_as Def path text (IsLoadRefusal library document) (IsDefRefusal library text) fault refused
-    (λ refusal why. load_refused library text document refusal is why)
+    (λ refusal met why. load_refused library text document refusal met is why)
 
--- why the design of a text is not described is why that of its document is not
-pub text_fails : (library : Contents) (path text : List ℕ) (document : Document) (why : Document → Loaded → Type 0) (fault : Fault) → document_of text ≡ Ok document
-    → IsRefused Def path text (IsLoadRefusal library document) fault ⊎ ((loaded : Loaded) × IsLoadedIn library document loaded × why document loaded)
-    → IsRefused Def path text (IsDefRefusal library text) fault
-    ⊎ ((d : Document) × (document_of text ≡ Ok d) × ((loaded : Loaded) × IsLoadedIn library d loaded × why d loaded))
-text_fails library path text document why fault is (inl refused) = inl (text_refused library path text document fault is refused)
-text_fails library path text document why fault is (inr work) = inr (document, is, work)
-
--- the same of a file with this text
+-- why the design of a text is not described is why that of a file with this text is not
 pub file_fails : (gives : Gives) (path : List ℕ) (library : Contents) (text : List ℕ) (why : Document → Loaded → Type 0) (fault : Fault) → gives path (Some text)
     → IsRefused Def path text (IsDefRefusal library text) fault
     ⊎ ((d : Document) × (document_of text ≡ Ok d) × ((loaded : Loaded) × IsLoadedIn library d loaded × why d loaded))
@@ -233,19 +226,19 @@ file_fails gives path library text why fault given (inl refused) = inl (inr (tex
 file_fails gives path library text why fault given (inr work) = inr (text, given, work)
 
 -- and of a file over LEF files that make this library
-pub files_fail : (gives : Gives) (path : List ℕ) (lefs : List (List ℕ)) (library : Contents) (before after : Option (List ℕ)) (fault : Fault)
-    → IsLibraryOf gives no_library lefs library
+pub files_fail : (gives : Gives) (path : List ℕ) (lefs : List (List ℕ)) (state : Option (List ℕ)) (library : Contents) (before after : Option (List ℕ))
+    (fault : Fault) → IsLibraryOf gives no_library lefs library
     → IsFileFault gives Def path (IsDefRefusal library) fault
     ⊎ ((t : List ℕ) × gives path (Some t) × ((d : Document) × (document_of t ≡ Ok d)
-    × ((loaded : Loaded) × IsLoadedIn library d loaded × IsUndescribed d loaded before after fault)))
-    → IsDesignFault gives path lefs fault ⊎ IsOpenUndescribed gives path lefs before after fault
-files_fail gives path lefs library before after fault is (inl file) = inl (inr (library, is, file))
-files_fail gives path lefs library before after fault is (inr work) = inr record {
+    × ((loaded : Loaded) × IsLoadedIn library d loaded × IsUnshown gives state d loaded before after fault)))
+    → IsDesignFault gives path lefs fault ⊎ IsOpenUndescribed gives path lefs state before after fault
+files_fail gives path lefs state library before after fault is (inl file) = inl (inr (library, is, file))
+files_fail gives path lefs state library before after fault is (inr work) = inr record {
   text = work.0;
   document = work.2.0;
   loaded = work.2.2.0;
   opened = record { library = library; lefs_are = is; given = work.1; read = work.2.1; loads = work.2.2.1 };
-  undescribed = work.2.2.2;
+  unshown = work.2.2.2;
 }
 
 -- lines are done whatever is put into files beside them
@@ -352,3 +345,26 @@ begun_components gives (Some path) opened begin is = ap (λ (f : FloorState). f.
 pub still_sound : {T E V R W F : Type 0} (e : E → Bool) (v : V → Bool) (r : R → Bool) (w : W → Bool) (around : Surroundings T E V R W F)
     → IsSound e v r w around around
 still_sound e v r w around = record { exports = refl; services = refl; reader = refl; writer = refl }
+
+-- a design that is not brought into the state that was asked for is not looked at: that is told before anything is written
+pub unseen_early : (gives : Gives) (path : List ℕ) (library : Contents) (text : List ℕ) (document : Document) (state : Option (List ℕ)) (fault : Fault)
+    → IsRefused Def path text (IsLoadRefusal library document) fault
+    ⊎ ((loaded : Loaded) × IsLoadedIn library document loaded × IsUnbegun gives state loaded fault) → IsEarly fault
+unseen_early gives path library text document state fault (inl refused) = refused_early Def path text (IsLoadRefusal library document) fault refused
+unseen_early gives path library text document state fault (inr (loaded, loads, unbegun)) = unbegun_early gives state loaded fault unbegun
+
+-- and it is why its document is not described
+pub unseen_fails : (gives : Gives) (path : List ℕ) (library : Contents) (text : List ℕ) (document : Document) (state before after : Option (List ℕ))
+    (fault : Fault) → document_of text ≡ Ok document
+    → IsRefused Def path text (IsLoadRefusal library document) fault
+    ⊎ ((loaded : Loaded) × IsLoadedIn library document loaded × IsUnbegun gives state loaded fault)
+    → IsRefused Def path text (IsDefRefusal library text) fault
+    ⊎ ((d : Document) × (document_of text ≡ Ok d) × ((loaded : Loaded) × IsLoadedIn library d loaded × IsUnshown gives state d loaded before after fault))
+unseen_fails gives path library text document state before after fault is (inl refused) = inl (text_refused library path text document fault is refused)
+unseen_fails gives path library text document state before after fault is (inr (loaded, loads, unbegun)) = inr (document, is, (loaded, loads, inl unbegun))
+
+-- why there is no floor with which work begins is told before anything is written
+pub floor_early : (gives : Gives) (def : List ℕ) (lefs : List (List ℕ)) (state : Option (List ℕ)) (fault : Fault) → IsFloorFault gives def lefs state fault
+    → IsEarly fault
+floor_early gives def lefs state fault (inl design) = design_early gives def lefs fault design
+floor_early gives def lefs state fault (inr (loaded, is, unbegun)) = unbegun_early gives state loaded fault unbegun

@@ -9,6 +9,7 @@ use Rattle.lf_def.specs.Document as def
 use Rattle.lf_floorplan.specs.declared.limits.Limits.{Limits}
 use Rattle.lf_floorplan.specs.declared.loaded.Loaded.{Loaded}
 use Rattle.lf_refusals.specs.Findings.{IsFault}
+use Rattle.lf_refusals.specs.Meetings.{Meets, Met, no_fence}
 use Rattle.lf_frame.specs.Loads.{IsLoadedFrom}
 use Rattle.lf_write.specs.Export.{ClauseFacts, clause_of}
 use Rattle.lf_app.specs.declared.designs.TheConstants.{BUILT_IN}
@@ -57,9 +58,18 @@ abbrev pub IsFaultIn : Contents → def.Document → LoadFault → Type 0
 IsFaultIn library document refusal =
     (limits : Limits) × AreStandard limits × IsFault (record { library = library; document = document; limits = limits }) refusal
 
--- why loading them is refused: a fault that it finds, or an allocation that fails
-abbrev pub IsLoadRefusal : Contents → def.Document → LoadFault → Type 0
-IsLoadRefusal library document refusal = (refusal ≡ load_fault_of Memory) ⊎ IsFaultIn library document refusal
+-- why a text is refused: the fault, and the fences that it meets
+abbrev pub Cause : Type 1
+Cause = LoadFault → Met → Type 0
+
+-- a fault of loading the document meets these fences
+abbrev pub MeetsIn : def.Document → Cause
+MeetsIn document = Meets document.regions document.groups
+
+-- why loading them is refused: a fault that it finds, with the fences that it meets, or an allocation that fails
+abbrev pub IsLoadRefusal : Contents → def.Document → Cause
+IsLoadRefusal library document refusal met =
+    ((refusal ≡ load_fault_of Memory) ⊎ IsFaultIn library document refusal) × MeetsIn document refusal met
 
 -- the design of a DEF text over the library
 abbrev pub IsDesignIn : Contents → List ℕ → Loaded → Type 0
@@ -86,17 +96,23 @@ abbrev pub IsTextDesign : List ℕ → List ℕ → Loaded → Type 0
 IsTextDesign text lef_text loaded = (library : Contents) × (lef.library_after no_library lef_text ≡ Ok library) × IsDesignIn library text loaded
 
 -- why a LEF text is refused over the library: its first fault with its line, or an allocation that fails
-abbrev pub IsLefRefusal : Contents → List ℕ → LoadFault → Type 0
-IsLefRefusal library text refusal = lef.Refuses refusal (lef.library_after library text)
+abbrev pub IsLefRefusal : Contents → List ℕ → Cause
+IsLefRefusal library text refusal met = lef.Refuses refusal (lef.library_after library text) × (met ≡ no_fence)
 
--- why there is no design of a DEF text over the library: its first fault with its line, a fault of loading, or memory ran out
-abbrev pub IsDefRefusal : Contents → List ℕ → LoadFault → Type 0
-IsDefRefusal library text refusal =
-    def.Refuses refusal (def.document_of text) ⊎ ((document : def.Document) × (def.document_of text ≡ Ok document) × IsFaultIn library document refusal)
+-- why a DEF text is not read: its first fault with its line, or an allocation that fails
+abbrev pub IsReadRefusal : List ℕ → Cause
+IsReadRefusal text refusal met = def.Refuses refusal (def.document_of text) × (met ≡ no_fence)
+
+-- why there is no design of a DEF text over the library: it is not read, or the document is not loaded
+abbrev pub IsDefRefusal : Contents → List ℕ → Cause
+IsDefRefusal library text refusal met =
+    IsReadRefusal text refusal met
+    ⊎ ((document : def.Document) × (def.document_of text ≡ Ok document) × IsFaultIn library document refusal × MeetsIn document refusal met)
 
 -- the fault tells a refusal of this kind of the text, read as this from the file of the path
-abbrev pub IsRefused : TextKind → List ℕ → List ℕ → (LoadFault → Type 0) → Fault → Type 0
-IsRefused kind path text why (Refused file its) = IsFile kind path file × ((refusal : LoadFault) × why refusal × Tells kind text refusal its)
+abbrev pub IsRefused : TextKind → List ℕ → List ℕ → Cause → Fault → Type 0
+IsRefused kind path text why (Refused file its) =
+    IsFile kind path file × ((refusal : LoadFault) × (met : Met) × why refusal met × Tells kind text refusal met its)
 IsRefused kind path text why _ = ⊥
 
 -- why the text of a file was not read: an allocation fails, or the file cannot be read
@@ -106,7 +122,7 @@ IsUnread gives kind path (File file why) = IsFile kind path file × gives path N
 IsUnread gives kind path _ = ⊥
 
 -- why a file cannot be used: its text was not read, or is refused for this reason
-abbrev pub IsFileFault : Gives → TextKind → List ℕ → (List ℕ → LoadFault → Type 0) → Fault → Type 0
+abbrev pub IsFileFault : Gives → TextKind → List ℕ → (List ℕ → Cause) → Fault → Type 0
 IsFileFault gives kind path why fault =
     IsUnread gives kind path fault ⊎ ((text : List ℕ) × gives path (Some text) × IsRefused kind path text (why text) fault)
 

@@ -24,11 +24,11 @@ use Rattle.lf_app.specs.declared.faults.Fault.{Fault}
 use Rattle.lf_app.specs.declared.faults.Fault.TheVariants.{Accept, Bind, NoMemory, Output}
 use Rattle.lf_app.specs.declared.faults.Exit.{Exit}
 use Rattle.lf_app.specs.Checks.{IsLegalDesign, report_line}
-use Rattle.lf_app.specs.Designs.{Gives, IsDesignFault, IsDesignOf, IsLibraryOf, IsLoadedIn, IsTextDesign, IsTextFault, no_library}
+use Rattle.lf_app.specs.Designs.{Gives, IsDesignFault, IsLibraryOf, IsLoadedIn, IsTextDesign, IsTextFault, no_library}
 use Rattle.lf_app.specs.Faults.{IsDescriptionFault, IsDone, IsExportFault, IsLinesFileFault, IsReportFault, IsSaveFault, ending_fault, status_of, told_text}
 use Rattle.lf_app.specs.Lines.{IsServed, most_lines}
 use Rattle.lf_app.specs.Repairs.{AllLegalStay, AreKnown, IsJudged, IsKeptRun, IsListed, IsRepairFault, OnlyAsked, begun_lines}
-use Rattle.lf_app.specs.States.{IsBegun, IsFloorFault, IsFloorOf, IsSaved}
+use Rattle.lf_app.specs.States.{IsBegun, IsFloorFault, IsFloorOf, IsSaved, IsSeen, IsSeenOf, IsUnbegun}
 
 -- a task ends with the fault: with its status, and what is told of it is appended to the faults, unless these have failed
 pub record EndsWith (fault : Fault) (old new : Option (List ℕ)) (failed : Bool) (exit : Exit) : Type 0 where
@@ -72,7 +72,7 @@ streams input left before after old_puts new_puts old_accepted new_accepted =
 abbrev pub alone : Option (List ℕ) → Option (List ℕ) → Option (List ℕ) → Option (List ℕ) → Streams
 alone input left before after = streams input left before after None None None None
 
--- a report of the design and a line feed are appended to the output, and the status says whether the design is fully legal
+-- a report of the design that is looked at and a line feed are appended to the output, and the status says whether it is fully legal
 pub record IsReported (loaded : Loaded) (old new : Option (List ℕ)) (status : ℕ) : Type 0 where
   pub done : IsDone status
   pub text : (l : Legalizer) → Appends old new (report_line l loaded)
@@ -160,13 +160,18 @@ pub record IsDescribed (document : Document) (loaded : Loaded) (old new : Option
   pub legal : status ≡ 0 → IsLegalDesign loaded
   pub illegal : status ≡ 4 → ¬ IsLegalDesign loaded
 
--- the design was opened, and its description written
-pub record IsOpenDescribed (gives : Gives) (def : List ℕ) (lefs : List (List ℕ)) (before after : Option (List ℕ)) (status : ℕ) : Type 0 where
+-- the loaded design of the document is described as it is looked at
+abbrev pub IsShown : Gives → Option (List ℕ) → Document → Loaded → Option (List ℕ) → Option (List ℕ) → ℕ → Type 0
+IsShown gives state document loaded before after status =
+    (seen : Loaded) × IsSeen gives state loaded seen × IsDescribed document seen before after status
+
+-- the design was opened, and its description written, at the places of its DEF text or of the state that was asked for
+pub record IsOpenDescribed (gives : Gives) (def : List ℕ) (lefs : List (List ℕ)) (state before after : Option (List ℕ)) (status : ℕ) : Type 0 where
   pub text : List ℕ
   pub document : Document
   pub loaded : Loaded
   pub opened : IsOpened gives def lefs text document loaded
-  pub described : IsDescribed document loaded before after status
+  pub shown : IsShown gives state document loaded before after status
 
 -- a report was written; the exported text was put where one was asked for, and then the lines
 pub record IsPut (export lines : Option (List ℕ)) (text : List ℕ) (document : Document) (floor : FloorState) (kept before after : Option (List ℕ))
@@ -211,8 +216,9 @@ IsOutcome gives (replay def lefs state lines save export) io status =
 IsOutcome gives (serve def lefs state port connections save export) io status =
     IsWorked gives def lefs state save export
     (λ begin floor io. IsOffered begin floor connections io.before io.after io.old_accepted io.new_accepted) io × (status ≡ 0)
-IsOutcome gives (check def lefs) io status = (loaded : Loaded) × IsDesignOf gives def lefs loaded × IsReported loaded io.before io.after status
-IsOutcome gives (describe def lefs) io status = IsOpenDescribed gives def lefs io.before io.after status
+IsOutcome gives (check def lefs state) io status =
+    (seen : Loaded) × IsSeenOf gives def lefs state seen × IsReported seen io.before io.after status
+IsOutcome gives (describe def lefs state) io status = IsOpenDescribed gives def lefs state io.before io.after status
 IsOutcome gives (repair def lefs teams legal export lines) io status =
     IsOpenRepaired gives def lefs teams legal export lines io.before io.after io.old_puts io.new_puts status
 
@@ -250,13 +256,19 @@ pub record IsUndescribed (document : Document) (loaded : Loaded) (before after :
   pub why : IsDescriptionFault fault
   pub front : (l : Legalizer) → ((n : ℕ) × Appends before after (take n (description l loaded document)))
 
--- the design was opened, and its description is not written, or only a front of it
-pub record IsOpenUndescribed (gives : Gives) (def : List ℕ) (lefs : List (List ℕ)) (before after : Option (List ℕ)) (fault : Fault) : Type 0 where
+-- why the loaded design of the document is not described as it is looked at: it is not brought into the state that was asked for; or
+-- it is, and the description is not written, or only a front of it
+abbrev pub IsUnshown : Gives → Option (List ℕ) → Document → Loaded → Option (List ℕ) → Option (List ℕ) → Fault → Type 0
+IsUnshown gives state document loaded before after fault =
+    IsUnbegun gives state loaded fault ⊎ ((seen : Loaded) × IsSeen gives state loaded seen × IsUndescribed document seen before after fault)
+
+-- the design was opened, and is not described so
+pub record IsOpenUndescribed (gives : Gives) (def : List ℕ) (lefs : List (List ℕ)) (state before after : Option (List ℕ)) (fault : Fault) : Type 0 where
   pub text : List ℕ
   pub document : Document
   pub loaded : Loaded
   pub opened : IsOpened gives def lefs text document loaded
-  pub undescribed : IsUndescribed document loaded before after fault
+  pub unshown : IsUnshown gives state document loaded before after fault
 
 -- a report is not written, or only a front of it, or what is asked for is not put: then no text is, unless the lines alone are not put
 pub record IsNotPut (export lines before after : Option (List ℕ)) (old_puts new_puts : Option (List Put)) (fault : Fault) : Type 0 where
@@ -319,8 +331,9 @@ IsJobFault gives (serve def lefs state port connections save export) fault io =
     IsUndone gives def lefs state save export
     (λ begin fault io. IsServiceFault port connections begin fault io.before io.after io.old_accepted io.new_accepted)
     (λ begin floor io. IsOffered begin floor connections io.before io.after io.old_accepted io.new_accepted) fault io
-IsJobFault gives (check def lefs) fault io =
-    IsJobStop (IsDesignFault gives def lefs) (IsDesignOf gives def lefs) (λ loaded fault io. IsUnreported loaded io.before io.after fault) fault io
-IsJobFault gives (describe def lefs) fault io = IsDesignFault gives def lefs fault ⊎ IsOpenUndescribed gives def lefs io.before io.after fault
+IsJobFault gives (check def lefs state) fault io =
+    IsJobStop (IsFloorFault gives def lefs state) (IsSeenOf gives def lefs state) (λ seen fault io. IsUnreported seen io.before io.after fault) fault io
+IsJobFault gives (describe def lefs state) fault io =
+    IsDesignFault gives def lefs fault ⊎ IsOpenUndescribed gives def lefs state io.before io.after fault
 IsJobFault gives (repair def lefs teams legal export lines) fault io =
     IsNotRepaired gives def lefs teams export lines io.before io.after io.old_puts io.new_puts fault

@@ -1,5 +1,6 @@
 -- The message and the exit status of a task that was not done.
-use Rattle.std.specs.Prelude.{◌≡◌, ◌⊎◌, ◌&&◌, ◌/◌, ◌%◌, ℕ, Bool, true, false, List, [], ◌∷◌, ◌++◌, Option, Some, None, flat_map, option_map, codes, decimal, if◌then◌else◌}
+use Rattle.std.specs.Prelude.{◌≡◌, ◌⊎◌, ◌&&◌, ◌/◌, ◌%◌, ℕ, Bool, true, false, List, [], ◌∷◌, ◌++◌, Option, Some, None, flat_map, option_map}
+use Rattle.std.specs.Prelude.{codes, decimal, if◌then◌else◌}
 use Rattle.std.specs.Prelude.{nat_le}
 use Rattle.std.specs.Char.{digit_char}
 use Rattle.lf_lex.specs.declared.fault.FaultNumber.{FaultNumber}
@@ -9,12 +10,14 @@ use Rattle.lf_state.specs.declared.fault.FaultNumber.TheVariants as state
 use Rattle.lf_server.specs.declared.serving.Ending.{Ending}
 use Rattle.lf_server.specs.declared.serving.Ending.TheVariants as ending
 use Rattle.lf_app.specs.declared.faults.Fault.{Fault}
-use Rattle.lf_app.specs.declared.faults.Fault.TheVariants.{Refused, File, NoState, NoTeam, ReadFault, WriteFault, TooManyLines, OutOfMemory, Output, Bind, Accept, Unwritten, Unsaved, Unlisted, NoMemory, NoRoom}
+use Rattle.lf_app.specs.declared.faults.Fault.TheVariants.{Refused, File, NoState, NoTeam, ReadFault, WriteFault, TooManyLines, OutOfMemory}
+use Rattle.lf_app.specs.declared.faults.Fault.TheVariants.{Output, Bind, Accept, Unwritten, Unsaved, Unlisted, NoMemory, NoRoom}
 use Rattle.lf_app.specs.declared.faults.TextFile.{TextFile}
 use Rattle.lf_app.specs.declared.faults.TextKind.{TextKind}
 use Rattle.lf_app.specs.declared.faults.TextKind.TheVariants.{Lef, Def, State}
 use Rattle.lf_app.specs.declared.hints.Hint.{Hint}
 use Rattle.lf_app.specs.declared.hints.Hint.TheVariants.{Compressed, OtherKind}
+use Rattle.lf_app.specs.declared.refusals.FenceLine.{FenceLine}
 use Rattle.lf_app.specs.declared.refusals.Refusal.{Refusal}
 use Rattle.lf_app.specs.declared.refusals.StateRefusal.{StateRefusal}
 use Rattle.lf_app.specs.declared.services.Unbound.{Unbound}
@@ -129,17 +132,47 @@ abbrev pub earlier_words : Option ℕ → List ℕ
 earlier_words None = []
 earlier_words (Some number) = first_words number
 
--- the number of a line, and that of an earlier entry
-abbrev pub number_words : ℕ → Option ℕ → List ℕ
-number_words number earlier = codes ", line " ++ decimal number ++ earlier_words earlier ++ codes ": "
+-- the line in which a fence stands
+abbrev pub standing_words : Option ℕ → List ℕ
+standing_words None = []
+standing_words (Some number) = codes " of line " ++ decimal number
 
--- the number of the line that a text is refused for, and its first bytes
-abbrev pub line_shown : Option ℕ → Option ℕ → List ℕ → List ℕ
-line_shown None earlier bytes = []
-line_shown (Some number) earlier bytes = number_words number earlier ++ shown bytes
+-- a fence and its line
+abbrev pub fence_words : FenceLine → List ℕ
+fence_words fence = codes "fence " ++ shown fence.name.items ++ standing_words fence.line
+
+-- the one fence that is met
+abbrev pub one_met_words : FenceLine → List ℕ
+one_met_words fence = codes " (meets " ++ fence_words fence ++ codes ")"
+
+-- the two fences that claim a component
+abbrev pub two_met_words : FenceLine → FenceLine → List ℕ
+two_met_words first second = codes " (claimed by " ++ fence_words first ++ codes " and " ++ fence_words second ++ codes ")"
+
+abbrev pub met_words : Option FenceLine → Option FenceLine → List ℕ
+met_words None second = []
+met_words (Some first) None = one_met_words first
+met_words (Some first) (Some second) = two_met_words first second
+
+-- the number of a line
+abbrev pub number_words : ℕ → List ℕ
+number_words number = codes ", line " ++ decimal number
+
+-- the bytes of a line, behind its number
+abbrev pub bytes_words : List ℕ → List ℕ
+bytes_words bytes = codes ": " ++ shown bytes
+
+-- the number of the line that a text is refused for, what is said of it, and its first bytes
+abbrev pub line_shown : Option ℕ → List ℕ → List ℕ → List ℕ
+line_shown None beside bytes = []
+line_shown (Some number) beside bytes = number_words number ++ beside ++ bytes_words bytes
+
+-- what is said of that line: that of an earlier entry, and the fences that are met
+abbrev pub beside_words : Refusal → List ℕ
+beside_words refusal = earlier_words refusal.earlier ++ met_words refusal.first_met refusal.second_met
 
 abbrev pub shown_line : Refusal → List ℕ
-shown_line refusal = line_shown refusal.at refusal.earlier refusal.shown.items
+shown_line refusal = line_shown refusal.at (beside_words refusal) refusal.shown.items
 
 -- the path of the exported text
 abbrev pub export_words : List ℕ → List ℕ
@@ -159,7 +192,7 @@ team_words name = codes "team " ++ shown name
 
 -- where a state text is refused
 abbrev pub state_line : List ℕ → StateRefusal → List ℕ
-state_line path refusal = codes "lefence: " ++ state_words path ++ number_words refusal.line None ++ shown refusal.shown.items ++ 10 ∷ []
+state_line path refusal = codes "lefence: " ++ state_words path ++ number_words refusal.line ++ bytes_words refusal.shown.items ++ 10 ∷ []
 
 -- a port of this machine
 abbrev pub port_words : ℕ → List ℕ

@@ -8,7 +8,9 @@ pub mod Refusals
 pub mod Repairs
 pub mod Reporting
 pub mod Services
+pub mod Standing
 pub mod States
 pub mod Surroundings
 pub mod Texts
+pub mod Twins
 pub mod Work

@@ -12,6 +12,7 @@ use Rattle.lf_app.specs.declared.faults.Fault.TheVariants.{NoMemory, NoState}
 use Rattle.lf_app.specs.declared.faults.TextKind.TheVariants.{State}
 use Rattle.lf_app.specs.Designs.{Gives, IsDesignFault, IsDesignOf, IsUnread}
 use Rattle.lf_app.specs.Refusals.{TellsState}
+use Rattle.lf_app.specs.Standing.{StandsOn}
 
 -- ---- the state that work begins with
 
@@ -58,6 +59,21 @@ IsFloorFault gives def lefs state fault =
 -- the floor with which work begins
 abbrev pub IsFloorOf : Gives → List ℕ → List (List ℕ) → Option (List ℕ) → FloorState → Type 0
 IsFloorOf gives def lefs state begin = (loaded : Loaded) × IsDesignOf gives def lefs loaded × IsBegun gives state (opening loaded) begin
+
+-- ---- the design that is looked at
+
+-- the design as it stands on the floor that the state of the file of that path tells of it
+abbrev pub IsStood : Gives → List ℕ → Loaded → Loaded → Type 0
+IsStood gives path design seen = (floor : FloorState) × IsFileState gives path (opening design) floor × StandsOn floor design seen
+
+-- the design that is looked at is so, or without a path is the one that was loaded
+abbrev pub IsSeen : Gives → Option (List ℕ) → Loaded → Loaded → Type 0
+IsSeen gives None design seen = seen ≡ design
+IsSeen gives (Some path) design seen = IsStood gives path design seen
+
+-- the design of a DEF file over LEF files as it is looked at
+abbrev pub IsSeenOf : Gives → List ℕ → List (List ℕ) → Option (List ℕ) → Loaded → Type 0
+IsSeenOf gives def lefs state seen = (design : Loaded) × IsDesignOf gives def lefs design × IsSeen gives state design seen
 
 -- ---- the state at the end
 

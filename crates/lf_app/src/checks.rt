@@ -2,15 +2,18 @@
 
 ghost use Rattle.std.specs.Prelude.{◌≡◌, ◌⊎◌, map, IfErr, IfOk};
 ghost use Rattle.lf_floorplan.specs.declared.loaded.Loaded.{Loaded};
-ghost use Rattle.lf_app.specs.Designs.{IsDesignFault, IsDesignOf};
 ghost use Rattle.lf_app.specs.Exits.{IsReported, IsUnreported};
 ghost use Rattle.lf_app.specs.Faults.{BlamesWriter};
+ghost use Rattle.lf_app.specs.States.{IsFloorFault, IsSeenOf};
+ghost use Rattle.lf_app.specs.Work.{path_of};
 
 use crate::designs::design_of_files;
 use crate::faults::Fault;
 use crate::reports::report_design;
+use crate::seen::seen;
 use crate::tasks::{DONE, ILLEGAL};
 use crate::texts::Texts;
+use crate::work::Inputs;
 use lf_devices::Sink;
 use lf_frame::Loaded;
 use std::alloc::Global;
@@ -33,22 +36,39 @@ fn check_design<'a, W: Sink>(
     }
 }
 
+/// The design of these files as it is looked at.
+fn seen_of_files<'a, T: Texts>(
+    alloc: Global,
+    texts: &T,
+    inputs: Inputs<'a>,
+) -> Result<Loaded, Fault<'a>>
+    ensures ok { IfOk result (IsSeenOf (T.gives texts.now) inputs.entry.def.now (map (λ lef. lef.now) inputs.entry.lefs.now)
+        (path_of inputs.entry.state)) }
+    ensures err { IfErr result (IsFloorFault (T.gives texts.now) inputs.entry.def.now (map (λ lef. lef.now) inputs.entry.lefs.now)
+        (path_of inputs.entry.state)) }
+{
+    let loaded = design_of_files(alloc, texts, inputs.def, inputs.lefs)?;
+    seen(alloc, texts, loaded, inputs.state)
+}
+
 /// Writes the report of the design of these files.
 pub(crate) fn check<'a, T: Texts, W: Sink>(
     alloc: Global,
     texts: &T,
-    def: &'a str,
-    lefs: &[&'a str],
+    inputs: Inputs<'a>,
     writer: &mut W,
 ) -> Result<u8, Fault<'a>>
-    ensures ok { IfOk result (λ status. (loaded : Loaded) × IsDesignOf (T.gives texts.now) def.now (map (λ lef. lef.now) lefs.now) loaded
-        × IsReported loaded (W.contents writer.old) (W.contents writer.new) status) }
-    ensures err { IfErr result (λ fault. (IsDesignFault (T.gives texts.now) def.now (map (λ lef. lef.now) lefs.now) fault
-        ⊎ ((loaded : Loaded) × IsDesignOf (T.gives texts.now) def.now (map (λ lef. lef.now) lefs.now) loaded
-        × IsUnreported loaded (W.contents writer.old) (W.contents writer.new) fault))
+    ensures ok { IfOk result (λ status. (seen : Loaded)
+        × IsSeenOf (T.gives texts.now) inputs.entry.def.now (map (λ lef. lef.now) inputs.entry.lefs.now) (path_of inputs.entry.state) seen
+        × IsReported seen (W.contents writer.old) (W.contents writer.new) status) }
+    ensures err { IfErr result (λ fault.
+        (IsFloorFault (T.gives texts.now) inputs.entry.def.now (map (λ lef. lef.now) inputs.entry.lefs.now) (path_of inputs.entry.state) fault
+        ⊎ ((seen : Loaded)
+        × IsSeenOf (T.gives texts.now) inputs.entry.def.now (map (λ lef. lef.now) inputs.entry.lefs.now) (path_of inputs.entry.state) seen
+        × IsUnreported seen (W.contents writer.old) (W.contents writer.new) fault))
         × BlamesWriter fault (writer.new ≡ writer.old) (W.has_failed writer.old) (W.has_failed writer.new)) }
     ensures held { W.holds writer.new ≡ W.holds writer.old }
 {
-    let loaded = design_of_files(alloc, texts, def, lefs)?;
-    check_design(alloc, &loaded, writer)
+    let seen = seen_of_files(alloc, texts, inputs)?;
+    check_design(alloc, &seen, writer)
 }

@@ -6,13 +6,17 @@ ghost use Rattle.lf_def.specs.Document.{Document, document_of};
 ghost use Rattle.lf_floorplan.specs.declared.loaded.Loaded.{Loaded};
 ghost use Rattle.lf_app.specs.declared.faults.TextKind.TheVariants.{Def};
 ghost use Rattle.lf_app.specs.Designs.{IsDefRefusal, IsDesignFault, IsFileFault, IsLoadRefusal, IsLoadedIn, IsRefused};
-ghost use Rattle.lf_app.specs.Exits.{IsDescribed, IsOpenDescribed, IsOpenUndescribed, IsUndescribed};
+ghost use Rattle.lf_app.specs.Exits.{IsDescribed, IsOpenDescribed, IsOpenUndescribed, IsShown, IsUndescribed, IsUnshown};
 ghost use Rattle.lf_app.specs.Faults.{BlamesWriter};
+ghost use Rattle.lf_app.specs.States.{IsSeen, IsUnbegun};
+ghost use Rattle.lf_app.specs.Work.{path_of};
 
 use crate::designs::{def_file, library_of, load_document, read_document, read_text};
 use crate::faults::Fault;
+use crate::seen::seen;
 use crate::tasks::{DONE, ILLEGAL};
 use crate::texts::Texts;
+use crate::work::Inputs;
 use lf_def::DefDoc;
 use lf_describe::{Undescribed, describe};
 use lf_devices::Sink;
@@ -41,84 +45,85 @@ fn describe_loaded<'a, W: Sink>(
     }
 }
 
-/// Describes the design of the document, that of the text of the path, over the library.
-fn describe_document<'a, W: Sink>(
+/// The design of the document, that of the DEF text, over the library, as it is looked at.
+fn seen_of_document<'a, T: Texts>(
     alloc: Global,
+    texts: &T,
     library: &Library,
-    def: &'a str,
+    inputs: Inputs<'a>,
     text: &[u8],
     document: &DefDoc<'_>,
-    writer: &mut W,
-) -> Result<u8, Fault<'a>>
-    ensures ok { IfOk result (λ status. (loaded : Loaded) × IsLoadedIn library.now (contents document.now) loaded
-        × IsDescribed (contents document.now) loaded (W.contents writer.old) (W.contents writer.new) status) }
-    ensures err { IfErr result (λ fault. (IsRefused Def def.now text.now (IsLoadRefusal library.now (contents document.now)) fault
+) -> Result<Loaded, Fault<'a>>
+    ensures ok { IfOk result (λ seen. (loaded : Loaded) × IsLoadedIn library.now (contents document.now) loaded
+        × IsSeen (T.gives texts.now) (path_of inputs.entry.state) loaded seen) }
+    ensures err { IfErr result (λ fault. IsRefused Def inputs.entry.def.now text.now (IsLoadRefusal library.now (contents document.now)) fault
         ⊎ ((loaded : Loaded) × IsLoadedIn library.now (contents document.now) loaded
-        × IsUndescribed (contents document.now) loaded (W.contents writer.old) (W.contents writer.new) fault))
-        × BlamesWriter fault (writer.new ≡ writer.old) (W.has_failed writer.old) (W.has_failed writer.new)) }
-    ensures held { W.holds writer.new ≡ W.holds writer.old }
+        × IsUnbegun (T.gives texts.now) (path_of inputs.entry.state) loaded fault)) }
 {
-    let loaded = load_document(alloc, library, def, text, document)?;
-    describe_loaded(alloc, &loaded, document, writer)
+    let loaded = load_document(alloc, library, inputs.def, text, document)?;
+    seen(alloc, texts, loaded, inputs.state)
 }
 
-/// Describes the design of the DEF text, that of the path, over the library.
-fn describe_text<'a, W: Sink>(
+/// Describes the design of the DEF text over the library.
+fn describe_text<'a, T: Texts, W: Sink>(
     alloc: Global,
+    texts: &T,
     library: &Library,
-    def: &'a str,
+    inputs: Inputs<'a>,
     text: &[u8],
     writer: &mut W,
 ) -> Result<u8, Fault<'a>>
     ensures ok { IfOk result (λ status. (document : Document) × (document_of text.now ≡ Ok document) × ((loaded : Loaded)
-        × IsLoadedIn library.now document loaded × IsDescribed document loaded (W.contents writer.old) (W.contents writer.new) status)) }
-    ensures err { IfErr result (λ fault. (IsRefused Def def.now text.now (IsDefRefusal library.now text.now) fault
+        × IsLoadedIn library.now document loaded
+        × IsShown (T.gives texts.now) (path_of inputs.entry.state) document loaded (W.contents writer.old) (W.contents writer.new) status)) }
+    ensures err { IfErr result (λ fault. (IsRefused Def inputs.entry.def.now text.now (IsDefRefusal library.now text.now) fault
         ⊎ ((document : Document) × (document_of text.now ≡ Ok document) × ((loaded : Loaded) × IsLoadedIn library.now document loaded
-        × IsUndescribed document loaded (W.contents writer.old) (W.contents writer.new) fault)))
+        × IsUnshown (T.gives texts.now) (path_of inputs.entry.state) document loaded (W.contents writer.old) (W.contents writer.new) fault)))
         × BlamesWriter fault (writer.new ≡ writer.old) (W.has_failed writer.old) (W.has_failed writer.new)) }
     ensures held { W.holds writer.new ≡ W.holds writer.old }
 {
-    let document = read_document(alloc, def, text)?;
-    describe_document(alloc, library, def, text, &document, writer)
+    let document = read_document(alloc, inputs.def, text)?;
+    let seen = seen_of_document(alloc, texts, library, inputs, text, &document)?;
+    describe_loaded(alloc, &seen, &document, writer)
 }
 
 /// Describes the design of a DEF file over the library.
 fn describe_file<'a, T: Texts, W: Sink>(
     alloc: Global,
     texts: &T,
-    def: &'a str,
     library: &Library,
+    inputs: Inputs<'a>,
     writer: &mut W,
 ) -> Result<u8, Fault<'a>>
-    ensures ok { IfOk result (λ status. (text : List ℕ) × T.gives texts.now def.now (Some text) × ((document : Document)
+    ensures ok { IfOk result (λ status. (text : List ℕ) × T.gives texts.now inputs.entry.def.now (Some text) × ((document : Document)
         × (document_of text ≡ Ok document) × ((loaded : Loaded) × IsLoadedIn library.now document loaded
-        × IsDescribed document loaded (W.contents writer.old) (W.contents writer.new) status))) }
-    ensures err { IfErr result (λ fault. (IsFileFault (T.gives texts.now) Def def.now (IsDefRefusal library.now) fault
-        ⊎ ((text : List ℕ) × T.gives texts.now def.now (Some text) × ((document : Document) × (document_of text ≡ Ok document)
+        × IsShown (T.gives texts.now) (path_of inputs.entry.state) document loaded (W.contents writer.old) (W.contents writer.new) status))) }
+    ensures err { IfErr result (λ fault. (IsFileFault (T.gives texts.now) Def inputs.entry.def.now (IsDefRefusal library.now) fault
+        ⊎ ((text : List ℕ) × T.gives texts.now inputs.entry.def.now (Some text) × ((document : Document) × (document_of text ≡ Ok document)
         × ((loaded : Loaded) × IsLoadedIn library.now document loaded
-        × IsUndescribed document loaded (W.contents writer.old) (W.contents writer.new) fault))))
+        × IsUnshown (T.gives texts.now) (path_of inputs.entry.state) document loaded (W.contents writer.old) (W.contents writer.new) fault))))
         × BlamesWriter fault (writer.new ≡ writer.old) (W.has_failed writer.old) (W.has_failed writer.new)) }
     ensures held { W.holds writer.new ≡ W.holds writer.old }
 {
-    let text = read_text(texts, def_file(def))?;
-    describe_text(alloc, library, def, &text, writer)
+    let text = read_text(texts, def_file(inputs.def))?;
+    describe_text(alloc, texts, library, inputs, &text, writer)
 }
 
 /// Describes the design of a DEF file over LEF files, given by their paths.
 pub(crate) fn describe_files<'a, T: Texts, W: Sink>(
     alloc: Global,
     texts: &T,
-    def: &'a str,
-    lefs: &[&'a str],
+    inputs: Inputs<'a>,
     writer: &mut W,
 ) -> Result<u8, Fault<'a>>
-    ensures ok { IfOk result (IsOpenDescribed (T.gives texts.now) def.now (map (λ lef. lef.now) lefs.now)
-        (W.contents writer.old) (W.contents writer.new)) }
-    ensures err { IfErr result (λ fault. (IsDesignFault (T.gives texts.now) def.now (map (λ lef. lef.now) lefs.now) fault
-        ⊎ IsOpenUndescribed (T.gives texts.now) def.now (map (λ lef. lef.now) lefs.now) (W.contents writer.old) (W.contents writer.new) fault)
+    ensures ok { IfOk result (IsOpenDescribed (T.gives texts.now) inputs.entry.def.now (map (λ lef. lef.now) inputs.entry.lefs.now)
+        (path_of inputs.entry.state) (W.contents writer.old) (W.contents writer.new)) }
+    ensures err { IfErr result (λ fault. (IsDesignFault (T.gives texts.now) inputs.entry.def.now (map (λ lef. lef.now) inputs.entry.lefs.now) fault
+        ⊎ IsOpenUndescribed (T.gives texts.now) inputs.entry.def.now (map (λ lef. lef.now) inputs.entry.lefs.now)
+        (path_of inputs.entry.state) (W.contents writer.old) (W.contents writer.new) fault)
         × BlamesWriter fault (writer.new ≡ writer.old) (W.has_failed writer.old) (W.has_failed writer.new)) }
     ensures held { W.holds writer.new ≡ W.holds writer.old }
 {
-    let library = library_of(alloc, texts, lefs)?;
-    describe_file(alloc, texts, def, &library, writer)
+    let library = library_of(alloc, texts, inputs.lefs)?;
+    describe_file(alloc, texts, &library, inputs, writer)
 }

@@ -3,15 +3,15 @@
 //! No function owns more than one of a library, a text, a document and a design: what it drops at each of its ends is proved end
 //! by end.
 
-ghost use Rattle.std.specs.Prelude.{◌≡◌, ◌⊎◌, Ok, Some, map, IfErr, IfOk, OnOk};
+ghost use Rattle.std.specs.Prelude.{◌≡◌, Ok, Some, map, IfErr, IfOk, OnOk};
 ghost use Rattle.lf_app.specs.declared.faults.TextKind.TheVariants.{Lef, Def};
-ghost use Rattle.lf_lex.specs.declared.fault.ReadError.TheVariants.{Memory};
-ghost use Rattle.lf_lex.specs.Faults.{load_fault_of};
 ghost use Rattle.lf_lef.specs.Library.{library_after};
 ghost use Rattle.lf_def.specs.Contents.{contents};
-ghost use Rattle.lf_def.specs.Document.{Refuses, document_of};
+ghost use Rattle.lf_def.specs.Document.{document_of};
+ghost use Rattle.lf_refusals.specs.Meetings.{Meets, Met, no_fence};
+ghost use Rattle.lf_app.specs.Refusals.{IsTold};
 ghost use Rattle.lf_app.specs.Designs.{Adds, IsDefRefusal, IsDesignFault, IsDesignIn, IsDesignOf, IsFileDesign, IsFileFault};
-ghost use Rattle.lf_app.specs.Designs.{IsLefRefusal, IsLibraryFault, IsLibraryOf, IsLoadRefusal, IsLoadedIn, IsRefused};
+ghost use Rattle.lf_app.specs.Designs.{IsLefRefusal, IsLibraryFault, IsLibraryOf, IsLoadRefusal, IsLoadedIn, IsReadRefusal, IsRefused};
 ghost use Rattle.lf_app.specs.Designs.{IsTextDesign, IsTextFault, IsUnread, no_library};
 
 use crate::faults::{Fault, TextFile, TextKind, unread_fault};
@@ -21,6 +21,7 @@ use lf_def::{DefDoc, read_def};
 use lf_frame::{Limits, Loaded, load};
 use lf_lef::{Library, read_lef};
 use lf_lex::LoadFault;
+use lf_refusals::met_fences;
 use std::alloc::Global;
 
 /// What the built-in texts are called in place of a path.
@@ -66,11 +67,29 @@ pub(crate) fn refused<'a>(
     text: &[u8],
     fault: &LoadFault<'_>,
 ) -> Fault<'a>
-    ensures { IsRefused file.entry.kind file.entry.path.now text.now (λ told. (told ≡ fault.now) ⊎ (told ≡ load_fault_of Memory)) result }
+    ensures { IsRefused file.entry.kind file.entry.path.now text.now (IsTold fault.now no_fence) result }
 {
     Fault::Refused {
         file,
         refusal: Refusal::new(alloc, file.kind, text, fault),
+    }
+}
+
+/// The fault of the DEF text of the path, whose document is not loaded.
+fn unloaded<'a>(
+    alloc: Global,
+    path: &'a str,
+    text: &[u8],
+    document: &DefDoc,
+    fault: &LoadFault<'_>,
+) -> Fault<'a>
+    ensures { (met : Met) × Meets document.now.regions document.now.groups fault.now met × IsRefused Def path.now text.now (IsTold fault.now met) result }
+{
+    let file = def_file(path);
+    let met = met_fences(document, fault);
+    Fault::Refused {
+        file,
+        refusal: Refusal::meeting(alloc, file.kind, text, fault, &met),
     }
 }
 
@@ -142,7 +161,7 @@ pub(crate) fn read_document<'t, 'a>(
 ) -> Result<DefDoc<'t>, Fault<'a>>
     ensures text { IfOk result (λ document. document.text.now ≡ text.now) }
     ensures ok { IfOk result (λ document. document_of text.now ≡ Ok (contents document)) }
-    ensures err { IfErr result (IsRefused Def path.now text.now (λ refusal. Refuses refusal (document_of text.now))) }
+    ensures err { IfErr result (IsRefused Def path.now text.now (IsReadRefusal text.now)) }
 {
     match read_def(alloc, text) {
         Ok(document) => Ok(document),
@@ -163,7 +182,7 @@ pub(crate) fn load_document<'a>(
 {
     match load(alloc, library, document, Limits::standard()) {
         Ok(loaded) => Ok(loaded),
-        Err(fault) => Err(refused(alloc, def_file(path), text, &fault)),
+        Err(fault) => Err(unloaded(alloc, path, text, document, &fault)),
     }
 }
 

@@ -17,7 +17,7 @@ pub enum Hint {
 }
 
 /// The line of the word in the text, where it stands once more than it is passed over; none if it does not stand there.
-fn nth_line(text: &[u8], word: &[u8], passed: usize) -> Option<usize>
+pub(crate) fn nth_line(text: &[u8], word: &[u8], passed: usize) -> Option<usize>
     ensures { result ≡ nth_line word.now passed (tokens_of text.now).tokens }
 {
     let mut lexer = Lexer::new(text);

@@ -8,10 +8,11 @@
 //! the DEF text, within the standard limits; a demo has the built-in texts. Demo and replay have served the lines, at most as many
 //! as asked for, to their end or a `bye`; serve has written `listening` and served that many connections, at 127.0.0.1 and that
 //! port, within 1,000,000 lines each and 4,200 reads for each line; check has written the report of all cells at their places in
-//! the DEF text, and describe the description; repair has asked the floor commands, each of them accepted, and written a report. 4,
-//! which only these three return, says that the design is not fully legal: of repair the committed one at the end. With `--export`
-//! exactly the exported text, with the committed places of the floor at the end, was put at the path, with `--save` then the state,
-//! and with `--lines` of repair then the lines of its commands; nothing else ever is.
+//! the DEF text, and describe the description, or both with `--state` at the working places that the state tells; repair has asked
+//! the floor commands, each of them accepted, and written a report. 4, which only these three return, says that the design is not
+//! fully legal: of repair the committed one at the end. With `--export` exactly the exported text, with the committed places of the
+//! floor at the end, was put at the path, with `--save` then the state, and with `--lines` of repair then the lines of its commands;
+//! nothing else ever is.
 //!
 //! Status 1 or 3: there is one fault (`Fault`), whose status it is. It is the first of: the files and texts, LEF before DEF; what
 //! loading finds; the export's path and the port, before a line is read; how the lines ended; the report, the description, the
@@ -27,6 +28,7 @@
 #![tactic(auto)]
 
 mod checks;
+mod copies;
 mod descriptions;
 mod designs;
 mod exported;
@@ -43,11 +45,13 @@ mod repair_reports;
 mod repairs;
 mod reports;
 mod saved;
+mod seen;
 mod services;
 mod states;
 mod surroundings;
 mod tasks;
 mod texts;
+mod twins;
 mod work;
 
 pub use faults::{Exit, Fault, TextFile, TextKind, status_of, write_fault};
@@ -59,7 +63,7 @@ pub use lf_devices::{FromRead, ToWrite};
 pub use lf_files::FileExports;
 pub use lf_server::{Acceptor, ClientReader, ClientWriter, Connection, Offer};
 pub use lines::answer_lines;
-pub use refusals::{Refusal, StateRefusal};
+pub use refusals::{FenceLine, Refusal, StateRefusal};
 pub use services::{NetServices, Services, Unbound};
 pub use surroundings::Surroundings;
 pub use tasks::{perform, perform_over};

@@ -3,13 +3,14 @@
 ghost use Rattle.std.specs.Prelude.{◌≡◌, ◌<◌, OnErr, OnOk, true};
 ghost use Rattle.std.specs.Io.KnownBytes.{Appends};
 ghost use Rattle.std.specs.Char.{digit_char};
-ghost use Rattle.lf_app.specs.Faults.{complaint_line, complaint_words, earlier_words, export_words, file_words, first_words, hint_words, is_memory, lines_words, number_words};
-ghost use Rattle.lf_app.specs.Faults.{port_words, reason_words, refusal_words, second_line, shown, shown_byte, shown_line, state_line, state_words};
-ghost use Rattle.lf_app.specs.Faults.{subject_words, team_words, unbound_words, unreadable_words};
+ghost use Rattle.lf_app.specs.Faults.{bytes_words, complaint_line, complaint_words, earlier_words, export_words, fence_words, file_words, first_words};
+ghost use Rattle.lf_app.specs.Faults.{hint_words, is_memory, lines_words, met_words, number_words, one_met_words, port_words, reason_words, refusal_words};
+ghost use Rattle.lf_app.specs.Faults.{second_line, shown, shown_byte, shown_line, standing_words, state_line, state_words, subject_words, team_words};
+ghost use Rattle.lf_app.specs.Faults.{two_met_words, unbound_words, unreadable_words};
 
 use crate::faults::{Fault, TextFile, TextKind};
 use crate::hints::Hint;
-use crate::refusals::{Refusal, StateRefusal};
+use crate::refusals::{FenceLine, Refusal, StateRefusal};
 use crate::services::Unbound;
 use crate::texts::Unreadable;
 use itoa::Buffer;
@@ -93,20 +94,95 @@ fn put_earlier<W: Sink>(sink: &mut W, earlier: Option<usize>) -> Result<(), Devi
     }
 }
 
-/// Writes the number of a line, and that of an earlier entry.
-fn put_number<W: Sink>(
+/// Writes the line in which a fence stands, if there is one.
+fn put_standing<W: Sink>(sink: &mut W, line: Option<usize>) -> Result<(), DeviceFault>
+    ensures ok { OnOk result (Appends (W.contents sink.old) (W.contents sink.new) (standing_words line)) }
+    ensures failed { OnErr result (W.has_failed sink.new ≡ true) }
+    ensures held { W.holds sink.new ≡ W.holds sink.old }
+{
+    let Some(number) = line else {
+        return Ok(());
+    };
+    send(sink, b" of line ")?;
+    send(sink, Buffer::new().format(number).as_bytes())
+}
+
+/// Writes a fence and its line.
+fn put_fence<W: Sink>(sink: &mut W, fence: &FenceLine) -> Result<(), DeviceFault>
+    ensures ok { OnOk result (Appends (W.contents sink.old) (W.contents sink.new) (fence_words fence.now)) }
+    ensures failed { OnErr result (W.has_failed sink.new ≡ true) }
+    ensures held { W.holds sink.new ≡ W.holds sink.old }
+{
+    send(sink, b"fence ")?;
+    put_shown(sink, fence.name.as_slice())?;
+    put_standing(sink, fence.line)
+}
+
+/// Writes the one fence that is met.
+fn put_one_met<W: Sink>(sink: &mut W, fence: &FenceLine) -> Result<(), DeviceFault>
+    ensures ok { OnOk result (Appends (W.contents sink.old) (W.contents sink.new) (one_met_words fence.now)) }
+    ensures failed { OnErr result (W.has_failed sink.new ≡ true) }
+    ensures held { W.holds sink.new ≡ W.holds sink.old }
+{
+    send(sink, b" (meets ")?;
+    put_fence(sink, fence)?;
+    send(sink, b")")
+}
+
+/// Writes the two fences that claim a component.
+fn put_two_met<W: Sink>(
     sink: &mut W,
-    number: usize,
-    earlier: Option<usize>,
+    first: &FenceLine,
+    second: &FenceLine,
 ) -> Result<(), DeviceFault>
-    ensures ok { OnOk result (Appends (W.contents sink.old) (W.contents sink.new) (number_words number earlier)) }
+    ensures ok { OnOk result (Appends (W.contents sink.old) (W.contents sink.new) (two_met_words first.now second.now)) }
+    ensures failed { OnErr result (W.has_failed sink.new ≡ true) }
+    ensures held { W.holds sink.new ≡ W.holds sink.old }
+{
+    send(sink, b" (claimed by ")?;
+    put_fence(sink, first)?;
+    send(sink, b" and ")?;
+    put_fence(sink, second)?;
+    send(sink, b")")
+}
+
+/// Writes the fences that are met, if there are any.
+fn put_met<W: Sink>(
+    sink: &mut W,
+    first: &Option<FenceLine>,
+    second: &Option<FenceLine>,
+) -> Result<(), DeviceFault>
+    ensures ok { OnOk result (Appends (W.contents sink.old) (W.contents sink.new) (met_words first.now second.now)) }
+    ensures failed { OnErr result (W.has_failed sink.new ≡ true) }
+    ensures held { W.holds sink.new ≡ W.holds sink.old }
+{
+    let Some(first) = first else {
+        return Ok(());
+    };
+    match second {
+        Some(second) => put_two_met(sink, first, second),
+        None => put_one_met(sink, first),
+    }
+}
+
+/// Writes the number of a line.
+fn put_number<W: Sink>(sink: &mut W, number: usize) -> Result<(), DeviceFault>
+    ensures ok { OnOk result (Appends (W.contents sink.old) (W.contents sink.new) (number_words number)) }
     ensures failed { OnErr result (W.has_failed sink.new ≡ true) }
     ensures held { W.holds sink.new ≡ W.holds sink.old }
 {
     send(sink, b", line ")?;
-    send(sink, Buffer::new().format(number).as_bytes())?;
-    put_earlier(sink, earlier)?;
-    send(sink, b": ")
+    send(sink, Buffer::new().format(number).as_bytes())
+}
+
+/// Writes the bytes of a line, behind its number.
+fn put_line<W: Sink>(sink: &mut W, bytes: &[u8]) -> Result<(), DeviceFault>
+    ensures ok { OnOk result (Appends (W.contents sink.old) (W.contents sink.new) (bytes_words bytes.now)) }
+    ensures failed { OnErr result (W.has_failed sink.new ≡ true) }
+    ensures held { W.holds sink.new ≡ W.holds sink.old }
+{
+    send(sink, b": ")?;
+    put_shown(sink, bytes)
 }
 
 /// Writes the number of the line that a text is refused for, and its first bytes.
@@ -118,8 +194,10 @@ fn put_shown_line<W: Sink>(sink: &mut W, refusal: &Refusal) -> Result<(), Device
     let Some(number) = refusal.at else {
         return Ok(());
     };
-    put_number(sink, number, refusal.earlier)?;
-    put_shown(sink, refusal.shown.as_slice())
+    put_number(sink, number)?;
+    put_earlier(sink, refusal.earlier)?;
+    put_met(sink, &refusal.first_met, &refusal.second_met)?;
+    put_line(sink, refusal.shown.as_slice())
 }
 
 /// What a refused text that was read as this rather seems to be.
@@ -214,8 +292,8 @@ fn put_no_state<W: Sink>(
 {
     send(sink, b"lefence: ")?;
     put_state_path(sink, path)?;
-    put_number(sink, refusal.line, None)?;
-    put_shown(sink, refusal.shown.as_slice())?;
+    put_number(sink, refusal.line)?;
+    put_line(sink, refusal.shown.as_slice())?;
     send(sink, b"\n")
 }
 

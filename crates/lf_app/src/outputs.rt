@@ -53,7 +53,8 @@ pub(crate) fn put_outputs<'a, E: Exports>(
     requires fits { (places : List (ℕ × Option Place)) → AreCommittedPlaces floor.now places
         → CanBeRenewed original.now.text.items original.now.clauses places }
     ensures ok { (document : Document) → original.now.clauses ≡ map (clause_of original.now.text.items) document.components
-        → OnOk result ((between : Option (List Put)) × IsExported (path_of outputs.entry.export) original.now.text.items document floor.now (E.puts exports.old) between
+        → OnOk result ((between : Option (List Put))
+        × IsExported (path_of outputs.entry.export) original.now.text.items document floor.now (E.puts exports.old) between
         × IsSaved (path_of outputs.entry.save) floor.now between (E.puts exports.new)) }
     ensures err { (document : Document) → original.now.clauses ≡ map (clause_of original.now.text.items) document.components
         → IfErr result (λ fault. (IsExportFault (path_of outputs.entry.export) fault × (E.puts exports.new ≡ E.puts exports.old))

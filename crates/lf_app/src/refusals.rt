@@ -1,20 +1,30 @@
 //! What is printed of a refused text: it is taken from the text, which may then go.
 
-ghost use Rattle.std.specs.Prelude.{◌≡◌, ◌⊎◌, ◌<◌, IfOk, IfSome, length, option_map, position, take};
+ghost use Rattle.std.specs.Prelude.{◌≡◌, ◌<◌, IfOk, IfSome, length, option_map, position, take};
+ghost use Rattle.std.specs.Option.{option_copied};
 ghost use Rattle.lf_lex.specs.Tokens.{is_line_feed};
 ghost use Rattle.lf_lex.specs.declared.fault.LoadFault.{LoadFault};
 ghost use Rattle.lf_lex.specs.declared.fault.ReadError.TheVariants.{Memory};
 ghost use Rattle.lf_lex.specs.Faults.{load_fault_of};
-ghost use Rattle.lf_app.specs.Refusals.{Tells, TellsState, behind_line, behind_lines, first_line, line_at, line_front};
+ghost use Rattle.lf_refusals.specs.Meetings.{Met, met_in, no_fence};
+ghost use Rattle.lf_app.specs.Refusals.{IsTold, Tells, TellsState, behind_line, behind_lines, first_line, line_at, line_front, standing_in, standing_of};
 
 use crate::faults::TextKind;
-use crate::hints::{Hint, earlier_line, hint_of, line_told};
+use crate::hints::{Hint, earlier_line, hint_of, line_told, nth_line};
 use lf_lex::{FaultNumber, LoadFault};
+use lf_refusals::MetFences;
 use lf_state::{FaultNumber as StateNumber, StateFault};
 use std::alloc::{AllocError, Global};
 
 /// How many bytes of a line are shown.
 const SHOWN: usize = 80;
+
+/// A fence, with the line in which its name stands first.
+#[derive(Drop)]
+pub struct FenceLine {
+    pub name: Vec<u8>,
+    pub line: Option<usize>,
+}
 
 /// What is printed of a refused text.
 #[derive(Drop)]
@@ -30,6 +40,10 @@ pub struct Refusal {
     pub shown: Vec<u8>,
     /// The line of an earlier entry of the same name.
     pub earlier: Option<usize>,
+    /// The fence that the refused one meets, or the first that claims the refused component.
+    pub first_met: Option<FenceLine>,
+    /// The other fence that claims it.
+    pub second_met: Option<FenceLine>,
     /// What the text rather seems to be.
     pub hint: Option<Hint>,
 }
@@ -111,18 +125,38 @@ fn copied(alloc: Global, name: Option<&[u8]>) -> Result<Option<Vec<u8>>, AllocEr
     }
 }
 
+/// The fence of that name in the text, if there is one.
+fn fence_line(
+    alloc: Global,
+    text: &[u8],
+    name: Option<&[u8]>,
+) -> Result<Option<FenceLine>, AllocError>
+    ensures { IfOk result (λ fence. option_map standing_of fence ≡ option_map (standing_in text.now) (option_copied name.entry)) }
+{
+    let Some(name) = name else {
+        return Ok(None);
+    };
+    Ok(Some(FenceLine {
+        name: Vec::from_slice(alloc, name)?,
+        line: nth_line(text, name, 0),
+    }))
+}
+
 /// What is printed of the text that is refused so.
 fn told_of(
     alloc: Global,
     kind: TextKind,
     text: &[u8],
     fault: &LoadFault<'_>,
+    met: &MetFences<'_>,
 ) -> Result<Refusal, AllocError>
-    ensures { IfOk result (Tells kind text.now fault.now) }
+    ensures { IfOk result (Tells kind text.now fault.now (met_in met.now)) }
 {
     let name = copied(alloc, fault.name)?;
     let at = line_told(text, fault);
     let shown = Vec::from_slice(alloc, line_front(text, at))?;
+    let first_met = fence_line(alloc, text, met.first)?;
+    let second_met = fence_line(alloc, text, met.second)?;
     Ok(Refusal {
         number: fault.number,
         line: fault.line,
@@ -130,13 +164,15 @@ fn told_of(
         at,
         shown,
         earlier: earlier_line(text, fault),
+        first_met,
+        second_met,
         hint: hint_of(kind, text),
     })
 }
 
 /// What is printed of a failed allocation.
 fn told_of_memory(alloc: Global, kind: TextKind, text: &[u8]) -> Refusal
-    ensures { Tells kind text.now (load_fault_of Memory) result }
+    ensures { Tells kind text.now (load_fault_of Memory) no_fence result }
 {
     Refusal {
         number: FaultNumber::OutOfMemory,
@@ -145,6 +181,8 @@ fn told_of_memory(alloc: Global, kind: TextKind, text: &[u8]) -> Refusal
         at: None,
         shown: Vec::new(alloc),
         earlier: None,
+        first_met: None,
+        second_met: None,
         hint: hint_of(kind, text),
     }
 }
@@ -176,9 +214,26 @@ impl StateRefusal {
 impl Refusal {
     /// What is printed of the text, read as this, that is refused so: that an allocation failed, if there is no memory for more.
     pub fn new(alloc: Global, kind: TextKind, text: &[u8], fault: &LoadFault<'_>) -> Refusal
-        ensures { (told : LoadFault) × ((told ≡ fault.now) ⊎ (told ≡ load_fault_of Memory)) × Tells kind text.now told result }
+        ensures { (told : LoadFault) × (met : Met) × IsTold fault.now no_fence told met × Tells kind text.now told met result }
     {
-        match told_of(alloc, kind, text, fault) {
+        let none = MetFences {
+            first: None,
+            second: None,
+        };
+        Refusal::meeting(alloc, kind, text, fault, &none)
+    }
+
+    /// The same with the fences that the fault meets.
+    pub(crate) fn meeting(
+        alloc: Global,
+        kind: TextKind,
+        text: &[u8],
+        fault: &LoadFault<'_>,
+        met: &MetFences<'_>,
+    ) -> Refusal
+        ensures { (told : LoadFault) × (fences : Met) × IsTold fault.now (met_in met.now) told fences × Tells kind text.now told fences result }
+    {
+        match told_of(alloc, kind, text, fault, met) {
             Ok(refusal) => refusal,
             Err(_) => told_of_memory(alloc, kind, text),
         }

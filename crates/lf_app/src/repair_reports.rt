@@ -4,7 +4,7 @@ ghost use Rattle.std.specs.Prelude.{◌≡◌};
 
 use lf_floor::Floor;
 use lf_legalize::IndexSeeker;
-use lf_mend::Repaired;
+use lf_mend::{Repaired, gaps_near};
 use serde_json::{Value, json};
 use std::alloc::{AllocError, Global};
 use std::str;
@@ -72,6 +72,22 @@ fn names_of(
     Ok(Value::Array(names))
 }
 
+/// How wide the widest free run of sites near to each of the team's cells of these positions is.
+fn gaps_of(
+    alloc: Global,
+    floor: &Floor<IndexSeeker>,
+    team: &[u8],
+    left: &[u32],
+) -> Result<Value, AllocError> {
+    let found = gaps_near(alloc, floor, team, left)?;
+    let mut gaps = Vec::with_capacity(alloc, found.len())?;
+    for gap in &found {
+        let gap = *gap;
+        gaps.push(json!(in alloc; gap)?)?;
+    }
+    Ok(Value::Array(gaps))
+}
+
 /// The line of a team.
 fn team_value(
     alloc: Global,
@@ -80,6 +96,7 @@ fn team_value(
     repaired: &Repaired,
 ) -> Result<Value, AllocError> {
     let left = names_of(alloc, floor, team, &repaired.left)?;
+    let gaps = gaps_of(alloc, floor, team, &repaired.left)?;
     let name = name_value(alloc, team)?;
     let mean = mean(repaired.total, u64::from(repaired.moved));
     let (cells, kept, largest) = (repaired.cells, repaired.kept, repaired.largest);
@@ -90,7 +107,10 @@ fn team_value(
         repaired.total,
         repaired.turned,
     );
-    json!(in alloc; {"cells": cells, "kept": kept, "largest": largest, "left": left, "mean": mean, "moved": moved, "placed": placed, "pushed": pushed, "team": name, "total": total, "turned": turned})
+    json!(in alloc; {
+        "cells": cells, "gaps": gaps, "kept": kept, "largest": largest, "left": left, "mean": mean, "moved": moved,
+        "placed": placed, "pushed": pushed, "team": name, "total": total, "turned": turned
+    })
 }
 
 /// The line of all teams.
@@ -105,7 +125,10 @@ fn all_value(alloc: Global, sums: &Sums, legal: bool) -> Result<Value, AllocErro
         sums.total,
         sums.turned,
     );
-    json!(in alloc; {"cells": cells, "kept": kept, "largest": largest, "left_cells": left, "legal": legal, "mean": mean, "moved": moved, "placed": placed, "pushed": pushed, "teams": teams, "total": total, "turned": turned})
+    json!(in alloc; {
+        "cells": cells, "kept": kept, "largest": largest, "left_cells": left, "legal": legal, "mean": mean, "moved": moved,
+        "placed": placed, "pushed": pushed, "teams": teams, "total": total, "turned": turned
+    })
 }
 
 /// Appends the value as a line.

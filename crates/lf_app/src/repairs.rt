@@ -1,6 +1,7 @@
 //! The repair of the teams of a design: the floor's own commands give their cells legal places.
 
-ghost use Rattle.std.specs.Prelude.{◌≡◌, ◌≢◌, ◌⊎◌, ◌+◌, ℕ, Bool, List, None, Option, Some, IfErr, IfOk, IsTrue, OnErr, OnOk, bytes_eq, false, length, map, position, true};
+ghost use Rattle.std.specs.Prelude.{◌≡◌, ◌≢◌, ◌⊎◌, ◌+◌, ℕ, Bool, List, None, Option, Some, IfErr, IfOk, IsTrue, OnErr, OnOk};
+ghost use Rattle.std.specs.Prelude.{bytes_eq, false, length, map, position, true};
 ghost use Rattle.std.specs.Io.KnownBytes.{Appends};
 ghost use Rattle.lf_command.specs.declared.command.LegalCells.TheVariants.{Stay};
 ghost use Rattle.lf_def.specs.Document.{Document};
@@ -294,7 +295,8 @@ fn put_files<'a, E: Exports>(
     requires fits { (places : List (ℕ × Option Place)) → AreCommittedPlaces floor.now places
         → CanBeRenewed original.now.text.items original.now.clauses places }
     ensures ok { (document : Document) → original.now.clauses ≡ map (clause_of original.now.text.items) document.components
-        → OnOk result ((between : Option (List Put)) × IsExported (path_of asked.now.export) original.now.text.items document floor.now (E.puts exports.old) between
+        → OnOk result ((between : Option (List Put))
+        × IsExported (path_of asked.now.export) original.now.text.items document floor.now (E.puts exports.old) between
         × IsListed (path_of asked.now.lines) (kept_text lines.now) between (E.puts exports.new)) }
     ensures err { IfErr result (λ fault. (IsExportFault (path_of asked.now.export) fault × (E.puts exports.new ≡ E.puts exports.old))
         ⊎ IsLinesFileFault (path_of asked.now.lines) fault) }
@@ -324,7 +326,8 @@ fn put_all<'a, E: Exports, W: Sink>(
         (W.contents writer.old) (W.contents writer.new) (E.puts exports.old) (E.puts exports.new)) }
     ensures err { IfErr result (λ fault. IsNotPut (path_of asked.now.export) (path_of asked.now.lines)
         (W.contents writer.old) (W.contents writer.new) (E.puts exports.old) (E.puts exports.new) fault
-        × BlamesOutputs fault (writer.new ≡ writer.old) (W.has_failed writer.old) (W.has_failed writer.new) (E.has_failed exports.old) (E.has_failed exports.new)) }
+        × BlamesOutputs fault (writer.new ≡ writer.old) (W.has_failed writer.old) (W.has_failed writer.new)
+        (E.has_failed exports.old) (E.has_failed exports.new)) }
     ensures unput { path_of asked.now.lines ≡ None → OnErr result (E.puts exports.new ≡ E.puts exports.old) }
     ensures unasked { path_of asked.now.lines ≡ None → path_of asked.now.export ≡ None → exports.new ≡ exports.old }
     ensures held { W.holds writer.new ≡ W.holds writer.old }
@@ -352,7 +355,8 @@ fn repair_on_floor<'a, E: Exports, W: Sink>(
         original.now.text.items document floor.old (W.contents writer.old) (W.contents writer.new) (E.puts exports.old) (E.puts exports.new)) }
     ensures err { IfErr result (λ fault. IsUnrepaired (map (λ team. team.now) asked.now.teams.now) (path_of asked.now.export) (path_of asked.now.lines)
         floor.old (W.contents writer.old) (W.contents writer.new) (E.puts exports.old) (E.puts exports.new) fault
-        × BlamesOutputs fault (writer.new ≡ writer.old) (W.has_failed writer.old) (W.has_failed writer.new) (E.has_failed exports.old) (E.has_failed exports.new)) }
+        × BlamesOutputs fault (writer.new ≡ writer.old) (W.has_failed writer.old) (W.has_failed writer.new)
+        (E.has_failed exports.old) (E.has_failed exports.new)) }
     ensures unput { path_of asked.now.lines ≡ None → OnErr result (E.puts exports.new ≡ E.puts exports.old) }
     ensures unasked { path_of asked.now.lines ≡ None → path_of asked.now.export ≡ None → exports.new ≡ exports.old }
     ensures held { W.holds writer.new ≡ W.holds writer.old }
@@ -379,7 +383,8 @@ fn repair_opened<'a, E: Exports, W: Sink>(
     ensures err { IfErr result (λ fault. (((fault ≡ NoMemory) × (E.puts exports.new ≡ E.puts exports.old))
         ⊎ IsUnrepaired (map (λ team. team.now) asked.now.teams.now) (path_of asked.now.export) (path_of asked.now.lines)
         (opening opened.loaded) (W.contents writer.old) (W.contents writer.new) (E.puts exports.old) (E.puts exports.new) fault)
-        × BlamesOutputs fault (writer.new ≡ writer.old) (W.has_failed writer.old) (W.has_failed writer.new) (E.has_failed exports.old) (E.has_failed exports.new)) }
+        × BlamesOutputs fault (writer.new ≡ writer.old) (W.has_failed writer.old) (W.has_failed writer.new)
+        (E.has_failed exports.old) (E.has_failed exports.new)) }
     ensures unput { path_of asked.now.lines ≡ None → OnErr result (E.puts exports.new ≡ E.puts exports.old) }
     ensures unasked { path_of asked.now.lines ≡ None → path_of asked.now.export ≡ None → exports.new ≡ exports.old }
     ensures held { W.holds writer.new ≡ W.holds writer.old }
@@ -406,7 +411,8 @@ pub(crate) fn repair<'a, T: Texts, E: Exports, W: Sink>(
     ensures err { IfErr result (λ fault. IsNotRepaired (T.gives texts.now) asked.now.def.now (map (λ lef. lef.now) asked.now.lefs.now)
         (map (λ team. team.now) asked.now.teams.now) (path_of asked.now.export) (path_of asked.now.lines)
         (W.contents writer.old) (W.contents writer.new) (E.puts exports.old) (E.puts exports.new) fault
-        × BlamesOutputs fault (writer.new ≡ writer.old) (W.has_failed writer.old) (W.has_failed writer.new) (E.has_failed exports.old) (E.has_failed exports.new)) }
+        × BlamesOutputs fault (writer.new ≡ writer.old) (W.has_failed writer.old) (W.has_failed writer.new)
+        (E.has_failed exports.old) (E.has_failed exports.new)) }
     ensures unput { path_of asked.now.lines ≡ None → OnErr result (E.puts exports.new ≡ E.puts exports.old) }
     ensures unasked { path_of asked.now.lines ≡ None → path_of asked.now.export ≡ None → exports.new ≡ exports.old }
     ensures held { W.holds writer.new ≡ W.holds writer.old }

@@ -1,6 +1,7 @@
 //! The report of a loaded design.
 
-ghost use Rattle.std.specs.Prelude.{◌≡◌, ◌++◌, [], ◌∷◌, ◌↔◌, IfErr, IfOk, IsTrue, List, OnErr, OnOk, Option, count_by, false, is_none, is_some, length, map, take, true, ℕ};
+ghost use Rattle.std.specs.Prelude.{◌≡◌, ◌++◌, [], ◌∷◌, ◌↔◌, IfErr, IfOk, IsTrue, List, OnErr, OnOk, Option, count_by, false};
+ghost use Rattle.std.specs.Prelude.{is_none, is_some, length, map, take, true, ℕ};
 ghost use Rattle.std.specs.Io.KnownBytes.{Appends};
 ghost use Rattle.lf_floorplan.specs.declared.place.Place.{Place};
 ghost use Rattle.lf_rules.specs.Legalizer.{Legalizer};
@@ -82,7 +83,8 @@ fn put_cells(
     text: &mut Vec<u8>,
 ) -> Result<(), AllocError>
     requires { length verdicts.now ≡ length loaded.now.cells }
-    ensures { (l : Legalizer) → AreVerdicts l loaded.now.frame 0 (map listed_of loaded.now.cells) verdicts.now → OnOk result (text.new.items ++ violations_text true []
+    ensures { (l : Legalizer) → AreVerdicts l loaded.now.frame 0 (map listed_of loaded.now.cells) verdicts.now
+        → OnOk result (text.new.items ++ violations_text true []
         ≡ text.old.items ++ violations_text false (violations_in l loaded.now.frame 0 (map listed_of loaded.now.cells))) }
 {
     let names = DesignNames {
@@ -103,7 +105,8 @@ fn text_by_verdicts(
     verdicts: &[Option<Broken>],
 ) -> Result<Text, AllocError>
     requires { length verdicts.now ≡ length loaded.now.cells }
-    ensures { (l : Legalizer) → unplaced ≡ (design_report l loaded.now).unplaced → AreVerdicts l loaded.now.frame 0 (map listed_of loaded.now.cells) verdicts.now →
+    ensures { (l : Legalizer) → unplaced ≡ (design_report l loaded.now).unplaced
+        → AreVerdicts l loaded.now.frame 0 (map listed_of loaded.now.cells) verdicts.now →
         IfOk result (λ text. text ≡ report_text (design_report l loaded.now)) }
 {
     let mut text = report_begun(alloc, loaded.cells.len(), unplaced)?;

@@ -1,7 +1,7 @@
 //! The state that a floor is brought into before work on it begins: the one that the text of a file tells.
 
 ghost use Rattle.std.specs.Prelude.{◌≡◌, IfErr, IfOk};
-ghost use Rattle.lf_restore.specs.Saved.{IsRestoredFrom};
+ghost use Rattle.lf_restore.specs.Saved.{AreOfOneDesign, IsRestoredFrom};
 ghost use Rattle.lf_app.specs.declared.faults.TextKind.TheVariants.{State};
 ghost use Rattle.lf_app.specs.States.{IsBegun, IsFileState, IsStateFault, IsStateFileFault, IsStateRefused, IsStateTextFault};
 ghost use Rattle.lf_app.specs.Work.{path_of};
@@ -44,6 +44,7 @@ fn restore<'a>(
     text: &[u8],
 ) -> Result<Floor<IndexSeeker>, Fault<'a>>
     ensures ok { IfOk result (IsRestoredFrom floor text.now) }
+    ensures design { IfOk result (AreOfOneDesign floor) }
     ensures err { IfErr result (IsStateTextFault floor path.now text.now) }
 {
     match floor.restore(text) {
@@ -54,13 +55,14 @@ fn restore<'a>(
 }
 
 /// The floor in the state that the file of that path tells of its design.
-fn restore_file<'a, T: Texts>(
+pub(crate) fn restore_file<'a, T: Texts>(
     alloc: Global,
     texts: &T,
     floor: Floor<IndexSeeker>,
     path: &'a str,
 ) -> Result<Floor<IndexSeeker>, Fault<'a>>
     ensures ok { IfOk result (IsFileState (T.gives texts.now) path.now floor) }
+    ensures design { IfOk result (AreOfOneDesign floor) }
     ensures err { IfErr result (IsStateFileFault (T.gives texts.now) path.now floor) }
 {
     let text = read_text(texts, state_file(path))?;

@@ -126,20 +126,22 @@ fn outcome<'a, T: Texts, E: Exports, V: Services, R: Source, W: Sink, F>(
             };
             work(alloc, around, inputs, lines, outputs)
         }
-        Task::Check { def, lefs } => check(
-            alloc,
-            &around.texts,
-            def,
-            lefs.as_slice(),
-            &mut around.writer,
-        ),
-        Task::Describe { def, lefs } => describe_files(
-            alloc,
-            &around.texts,
-            def,
-            lefs.as_slice(),
-            &mut around.writer,
-        ),
+        Task::Check { def, lefs, state } => {
+            let inputs = Inputs {
+                def: *def,
+                lefs: lefs.as_slice(),
+                state: *state,
+            };
+            check(alloc, &around.texts, inputs, &mut around.writer)
+        }
+        Task::Describe { def, lefs, state } => {
+            let inputs = Inputs {
+                def: *def,
+                lefs: lefs.as_slice(),
+                state: *state,
+            };
+            describe_files(alloc, &around.texts, inputs, &mut around.writer)
+        }
         Task::Repair {
             def,
             lefs,

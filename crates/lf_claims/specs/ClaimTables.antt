@@ -1,6 +1,6 @@
 -- What a table of claims says, and when it is that of components, by the groups and regions of a document (DEF REGIONS, GROUPS,
 -- COMPONENTS).
-use Rattle.std.specs.Prelude.{◌≡◌, ℕ, ◌<◌, List, length, Option, Some, unwrap_or, slice_get, slice_index_or}
+use Rattle.std.specs.Prelude.{◌≡◌, ◌↔◌, ℕ, ◌<◌, Bool, IsTrue, List, [], length, Option, Some, unwrap_or, slice_get, slice_index_or}
 use Rattle.lf_def.specs.declared.regions.Region.{Region}
 use Rattle.lf_def.specs.declared.groups.Group.{Group}
 use Rattle.lf_def.specs.declared.components.Component.{Component}
@@ -8,7 +8,7 @@ use Rattle.lf_claims.specs.declared.claims.Claim.{Claim}
 use Rattle.lf_claims.specs.declared.claims.Claim.TheVariants.{Unclaimed, ByOne, ByTwo}
 use Rattle.lf_claims.specs.Teams.{fences, IsUnclaimed, IsClaimedBy, IsTeamOf}
 use Rattle.lf_claims.specs.Entries.{NoneBreaks, FirstIs}
-use Rattle.lf_claims.specs.Refusals.{HasTwoFences, BearsEarlierName}
+use Rattle.lf_claims.specs.Refusals.{HasTwoFences, BearsEarlierName, IsClaimedTwice}
 
 -- what a table says: the component that has an earlier one's name, the claims of the components by their numbers, and the number
 -- of the ground team
@@ -29,8 +29,8 @@ claim_at claims number = unwrap_or (slice_get claims number) Unclaimed
 
 -- each component has the claim of its number
 abbrev pub AreClaimsOf : List Region → List Group → List Component → List Claim → Type 0
-AreClaimsOf regions groups components claims = (k : ℕ) (d : Component) → k < length components → IsClaimOf regions groups (slice_index_or components k d).name
-    (claim_at claims k)
+AreClaimsOf regions groups components claims =
+    (k : ℕ) (d : Component) → k < length components → IsClaimOf regions groups (slice_index_or components k d).name (claim_at claims k)
 
 -- the table has the first component that has an earlier one's name, the claims of all if there is none, and the number of the
 -- ground team
@@ -41,13 +41,25 @@ pub record IsTableOf (regions : List Region) (groups : List Group) (components :
 
 -- for any components that the table is of, the found one is the first of them that has an earlier one's name
 abbrev pub TellsSecondName : Told → Option ℕ → Type 0
-TellsSecondName table found = (regions : List Region) (groups : List Group) (components : List Component) → IsTableOf regions groups components table →
-    FirstIs BearsEarlierName components found
+TellsSecondName table found =
+    (regions : List Region) (groups : List Group) (components : List Component) → IsTableOf regions groups components table
+    → FirstIs BearsEarlierName components found
 
 -- for any components that the table is of and whose names differ, the team is that of the component of this number, unless two
 -- fences claim it
 abbrev pub TellsTeam : Told → ℕ → ℕ → Type 0
 TellsTeam table number team =
-    (regions : List Region) (groups : List Group) (components : List Component) → IsTableOf regions groups components table → NoneBreaks BearsEarlierName
-    components →
-    (c : Component) → slice_get components number ≡ Some c → (HasTwoFences regions groups c.name → ⊥) → IsTeamOf regions groups c.name team
+    (regions : List Region) (groups : List Group) (components : List Component) → IsTableOf regions groups components table
+    → NoneBreaks BearsEarlierName components → (c : Component) → slice_get components number ≡ Some c → (HasTwoFences regions groups c.name → ⊥) → IsTeamOf regions groups c.name team
+
+-- for any regions and groups by which the claim is that on the component, the answer is whether two fences claim it
+abbrev pub TellsClaimedTwice : Claim → Component → Bool → Type 0
+TellsClaimedTwice claim c answer =
+    (regions : List Region) (groups : List Group) → IsClaimOf regions groups c.name claim → (IsTrue answer ↔ IsClaimedTwice regions groups [] c)
+
+-- for any regions and groups by which the table is of these components, whose names differ, the found one is the first of them that
+-- two fences claim
+abbrev pub TellsFirstClaimedTwice : Told → List Component → Option ℕ → Type 0
+TellsFirstClaimedTwice table components found =
+    (regions : List Region) (groups : List Group) → NoneBreaks BearsEarlierName components → IsTableOf regions groups components table
+    → FirstIs (IsClaimedTwice regions groups) components found

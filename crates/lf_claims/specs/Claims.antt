@@ -1,6 +1,6 @@
 -- Which fences claim a component, by the patterns of all groups (DEF GROUPS).
-use Rattle.std.specs.Prelude.{◌≡◌, ◌≢◌, ℕ, ◌<◌, ◌≤◌, ◌==◌, ◌⊎◌, ◌↔◌, if◌then◌else◌, List, [], ◌∷◌, ◌++◌, length, map, Option, None, Some, Any, slice_get}
-use Rattle.std.specs.Prelude.{slice_index_or, Contains, Vec}
+use Rattle.std.specs.Prelude.{◌≡◌, ◌≢◌, ℕ, ◌<◌, ◌≤◌, ◌==◌, ◌⊎◌, ◌↔◌, if◌then◌else◌, List, [], ◌∷◌, ◌++◌, length, map, Option, None, Some, Any}
+use Rattle.std.specs.Prelude.{slice_get, slice_index_or, slice_set, Contains, Vec}
 use Rattle.std.specs.List.{flat_map}
 use Rattle.std.specs.Global.{Global}
 use Rattle.std.specs.Option.{option_and_then}
@@ -59,6 +59,10 @@ Labels names name label = Contains names (record { label = label; name = name })
 abbrev pub IsMatched : List Match → ℕ → ℕ → Type 0
 IsMatched matches number label = Contains matches (record { own = number; asked = label })
 
+-- the pattern matches its own bytes and no others
+abbrev pub MatchesItselfAlone : List ℕ → Type 0
+MatchesItselfAlone pattern = (name : List ℕ) → (Matches pattern name ↔ (name ≡ pattern))
+
 -- patterns that are bound to one fence, or to none
 abbrev pub bound_to : Option ℕ → List (List ℕ) → List Bound
 bound_to None patterns = []
@@ -92,6 +96,12 @@ pub record HasAtEnd (kept : PatternsAtEnd) (bounds : List Bound) : Type 0 where
   pub found : (name : List ℕ) (fence : ℕ) → ClaimsBy bounds name fence → Any (λ count. ClaimsUnder kept name count fence) kept.lengths.items
   pub own : (key name : List ℕ) (fence : ℕ) → ClaimsBy (kept_under kept key) name fence → ClaimsBy bounds name fence
   pub needed : (count : ℕ) → Contains kept.lengths.items count → Any (λ b. length (key_of kept.end b.pattern) ≡ count) bounds
+
+-- the pattern is appended to those at a place, if it is one; those at other places stay
+abbrev pub AppendsThere : List (Vec Bound Global) → List (Vec Bound Global) → ℕ → Bound → Type 0
+AppendsThere old new place bound =
+    (before : Vec Bound Global) → slice_get old place ≡ Some before
+    → (after : Vec Bound Global) × (after.items ≡ before.items ++ bound ∷ []) × (new ≡ slice_set old place after)
 
 -- the pattern is appended to those of the key; under each other key, and among the lengths, nothing changes, and the end is the
 -- same
@@ -140,3 +150,9 @@ AreTold claims components told = (k : ℕ) (d : Component) → k < length compon
 abbrev pub AreClaimsWhereDistinct : (List ℕ → ℕ → Type 0) → List Component → Option (List Claim) → Type 0
 AreClaimsWhereDistinct claims components (Some told) = NoneBreaks BearsEarlierName components × AreTold claims components told
 AreClaimsWhereDistinct claims components None = NoneBreaks BearsEarlierName components → ⊥
+
+-- claims of all components by literal patterns, and then by the starred ones of the index too, whichever patterns those are
+abbrev pub AddStarred : StarredPatterns → List Component → List Claim → List Claim → Type 0
+AddStarred index components old new =
+    (literals : List Labelled) (starred : List Bound) → HasStarred index starred → length old ≡ length components
+    → AreTold (Labels literals) components old → AreTold (λ name fence. Labels literals name fence ⊎ ClaimsBy starred name fence) components new

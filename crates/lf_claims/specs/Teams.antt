@@ -5,7 +5,6 @@ use Rattle.lf_names.specs.Pattern.{Matches}
 use Rattle.lf_def.specs.Kinds.{is_fence}
 use Rattle.lf_def.specs.declared.regions.Region.{Region}
 use Rattle.lf_def.specs.declared.groups.Group.{Group}
-use Rattle.lf_def.specs.declared.components.Component.{Component}
 
 -- the fences, in the order of the text
 abbrev pub fences : List Region → List Region

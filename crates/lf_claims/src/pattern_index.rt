@@ -1,14 +1,13 @@
 //! The patterns of groups, bound to the fences of the groups.
 
-ghost use Rattle.std.specs.Prelude.{◌≡◌, ◌↔◌, ◌⊎◌, ℕ, [], ◌∷◌, List, Some, IfOk, IfSome, OnOk, length};
+ghost use Rattle.std.specs.Prelude.{◌≡◌, [], ◌∷◌, List, Some, IfOk, IfSome, OnOk, length};
 ghost use Rattle.std.specs.Option.{option_and_then};
-ghost use Rattle.lf_names.specs.Labels.{Labelled};
-ghost use Rattle.lf_names.specs.Pattern.{Matches};
 ghost use Rattle.lf_def.specs.declared.regions.Region.{Region};
 ghost use Rattle.lf_claims.specs.Teams.{fence_names};
 ghost use Rattle.lf_claims.specs.NameMaps.{value_of};
 ghost use Rattle.lf_claims.specs.declared.starred.Bound.{Bound};
-ghost use Rattle.lf_claims.specs.Claims.{Tells, ClaimsBy, bound_to, all_bounds, Labels, Holds, Extends, Numbers, AreTold, AreClaimsWhereDistinct, HasStarred};
+ghost use Rattle.lf_claims.specs.Claims.{AddStarred, AreClaimsWhereDistinct, ClaimsBy, Extends, Holds, Labels, MatchesItselfAlone, Numbers};
+ghost use Rattle.lf_claims.specs.Claims.{all_bounds, bound_to};
 
 use crate::claim_list::{Claims, claims_by_match};
 use crate::component_names::parts_of_components;
@@ -40,7 +39,7 @@ impl PatternIndex {
 
     /// Adds a pattern without a star.
     fn add_literal(&mut self, pattern: &[u8], fence: usize) -> Result<(), AllocError>
-        ensures { ((name : List ℕ) → (Matches pattern.now name ↔ (name ≡ pattern.now))) → OnOk result (Extends self.old self.new (record { pattern = pattern.now; fence = fence } ∷ [])) }
+        ensures { MatchesItselfAlone pattern.now → OnOk result (Extends self.old self.new (record { pattern = pattern.now; fence = fence } ∷ [])) }
     {
         self.literals.push(fence, pattern)?;
         Ok(())
@@ -86,7 +85,8 @@ impl PatternIndex {
         group: &Group,
         numbers: &NameMap<usize>,
     ) -> Result<(), AllocError>
-        ensures { OnOk result (Extends self.old self.new (bound_to (option_and_then (value_of numbers.now) group.now.region) group.now.patterns)) }
+        ensures { OnOk result (Extends self.old self.new
+            (bound_to (option_and_then (value_of numbers.now) group.now.region) group.now.patterns)) }
     {
         match fence_of(group, numbers) {
             Some(fence) => self.add_patterns(alloc, group.patterns.as_slice(), fence),
@@ -120,7 +120,7 @@ impl PatternIndex {
         components: &[Component],
         claims: Claims,
     ) -> Result<Claims, AllocError>
-        ensures { (literals : List Labelled) (starred : List Bound) → HasStarred self.now.starred starred → length claims ≡ length components.now → AreTold (Labels literals) components.now claims → IfOk result (λ all. AreTold (λ name fence. Labels literals name fence ⊎ ClaimsBy starred name fence) components.now all) }
+        ensures { IfOk result (AddStarred self.now.starred components.now claims) }
     {
         let mut all = claims;
         for (number, component) in components.iter().enumerate() {
@@ -137,7 +137,7 @@ impl PatternIndex {
         components: &[Component],
         claims: Claims,
     ) -> Result<Claims, AllocError>
-        ensures { (literals : List Labelled) (starred : List Bound) → HasStarred self.now.starred starred → length claims ≡ length components.now → AreTold (Labels literals) components.now claims → IfOk result (λ all. AreTold (λ name fence. Labels literals name fence ⊎ ClaimsBy starred name fence) components.now all) }
+        ensures { IfOk result (AddStarred self.now.starred components.now claims) }
     {
         if self.starred.is_empty() {
             return Ok(claims);
@@ -176,7 +176,8 @@ pub(crate) fn index_of(
     groups: &[Group],
     numbers: &NameMap<usize>,
 ) -> Result<PatternIndex, AllocError>
-    ensures { (regions : List Region) → Numbers (fence_names regions) numbers.now → IfOk result (λ index. Holds index (all_bounds regions groups.now)) }
+    ensures { (regions : List Region) → Numbers (fence_names regions) numbers.now
+        → IfOk result (λ index. Holds index (all_bounds regions groups.now)) }
 {
     let mut index = PatternIndex::new(alloc)?;
     for group in groups {

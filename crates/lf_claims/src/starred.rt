@@ -1,8 +1,7 @@
 //! Patterns with a star, each tried only on names that begin as it does, or that end as it does.
 
-ghost use Rattle.std.specs.Prelude.{◌≡◌, ◌↔◌, ◌⊎◌, ℕ, [], ◌∷◌, ◌++◌, List, Some, IsTrue, IfOk, OnOk, Contains, Vec, length, slice_get, slice_set};
-ghost use Rattle.std.specs.Global.{Global};
-ghost use Rattle.lf_claims.specs.Claims.{Tells, ClaimsBy, StepsTo, kept_under as bounds_under, ClaimsUnder, HasAtEnd, HasStarred, Keeps};
+ghost use Rattle.std.specs.Prelude.{◌≡◌, ◌↔◌, ◌⊎◌, ℕ, [], ◌∷◌, ◌++◌, List, IsTrue, IfOk, OnOk, Contains, length};
+ghost use Rattle.lf_claims.specs.Claims.{AppendsThere, ClaimsBy, ClaimsUnder, HasAtEnd, HasStarred, Keeps, StepsTo, Tells, kept_under as bounds_under};
 
 use crate::claims::{Claim, joined, merged};
 use crate::ends::{End, key_at, part_at};
@@ -68,7 +67,7 @@ fn one_bound(alloc: Global, bound: Bound) -> Result<Vec<Bound>, AllocError>
 
 /// Appends the pattern to the list at the place, if there is one.
 fn push_at(all: &mut Vec<Vec<Bound>>, place: usize, bound: Bound) -> Result<(), AllocError>
-    ensures { OnOk result ((before : Vec Bound Global) → slice_get all.old.items place ≡ Some before → (after : Vec Bound Global) × (after.items ≡ before.items ++ bound ∷ []) × (all.new.items ≡ slice_set all.old.items place after)) }
+    ensures { OnOk result (AppendsThere all.old.items all.new.items place bound) }
 {
     if let Some(bounds) = all.get_mut(place) {
         bounds.push(bound)?;
@@ -120,7 +119,8 @@ impl PatternsAtEnd {
 
     /// Adds a pattern. After an `Err` the patterns must be dropped.
     fn add(&mut self, alloc: Global, pattern: &[u8], fence: usize) -> Result<(), AllocError>
-        ensures { OnOk result ((bounds : List Bound) → HasAtEnd self.old bounds → HasAtEnd self.new (bounds ++ record { pattern = pattern.now; fence = fence } ∷ [])) }
+        ensures { OnOk result ((bounds : List Bound) → HasAtEnd self.old bounds
+            → HasAtEnd self.new (bounds ++ record { pattern = pattern.now; fence = fence } ∷ [])) }
     {
         let key = key_at(self.end, pattern);
         let pattern = Name::from_slice(alloc, pattern)?;
@@ -190,7 +190,8 @@ impl StarredPatterns {
         pattern: &[u8],
         fence: usize,
     ) -> Result<(), AllocError>
-        ensures { OnOk result ((bounds : List Bound) → HasStarred self.old bounds → HasStarred self.new (bounds ++ record { pattern = pattern.now; fence = fence } ∷ [])) }
+        ensures { OnOk result ((bounds : List Bound) → HasStarred self.old bounds
+            → HasStarred self.new (bounds ++ record { pattern = pattern.now; fence = fence } ∷ [])) }
     {
         if key_at(End::Front, pattern).is_empty() {
             return self.backs.add(alloc, pattern, fence);

@@ -1,13 +1,9 @@
 //! Which fences claim each component.
 
-ghost use Rattle.std.specs.Prelude.{◌≡◌, ◌↔◌, [], List, IsTrue, IfOk, OnOk, length};
-ghost use Rattle.lf_def.specs.declared.regions.Region.{Region};
-ghost use Rattle.lf_def.specs.declared.groups.Group.{Group};
-ghost use Rattle.lf_claims.specs.Entries.{FirstIs, NoneBreaks};
+ghost use Rattle.std.specs.Prelude.{◌≡◌, IfOk, OnOk, length};
 ghost use Rattle.lf_claims.specs.Teams.{fences, fence_names};
-ghost use Rattle.lf_claims.specs.Refusals.{IsClaimedTwice, BearsEarlierName};
 ghost use Rattle.lf_claims.specs.NameMaps.{IsWhole};
-ghost use Rattle.lf_claims.specs.ClaimTables.{IsClaimOf, IsTableOf, TellsSecondName, TellsTeam, claim_at};
+ghost use Rattle.lf_claims.specs.ClaimTables.{IsTableOf, TellsClaimedTwice, TellsFirstClaimedTwice, TellsSecondName, TellsTeam, claim_at};
 ghost use Rattle.lf_claims.specs.Claims.{Numbers, NumbersOneMore};
 
 use crate::claim_list::Claims;
@@ -113,7 +109,7 @@ impl ClaimTable {
 
     /// Whether teams may move the component of this number, and groups of two different fences name it.
     fn is_claimed_twice(&self, number: usize, component: &Component) -> bool
-        ensures { (regions : List Region) (groups : List Group) → IsClaimOf regions groups component.now.name (claim_at self.now.claims number) → (IsTrue result ↔ IsClaimedTwice regions groups [] component.now) }
+        ensures { TellsClaimedTwice (claim_at self.now.claims number) component.now result }
     {
         match self.claims.at(number) {
             Claim::ByTwo => is_movable(component),
@@ -126,7 +122,7 @@ impl ClaimTable {
 /// The first movable component that groups of two different fences name, by its number; none iff there is none. The answer
 /// stands if no two components have one name and the table is that of the components.
 pub fn first_claimed_twice(components: &[Component], table: &ClaimTable) -> Option<usize>
-    ensures { (regions : List Region) (groups : List Group) → NoneBreaks BearsEarlierName components.now → IsTableOf regions groups components.now table.now → FirstIs (IsClaimedTwice regions groups) components.now result }
+    ensures { TellsFirstClaimedTwice table.now components.now result }
 {
     for (number, component) in components.iter().enumerate() {
         if table.is_claimed_twice(number, component) {

@@ -1,5 +1,5 @@
 -- The command line as it is declared to the argument parser, and the jobs that its words name.
-use Rattle.std.specs.Prelude.{◌&&◌, ℕ, Bool, true, false, List, [], ◌∷◌, fold, length, map, nat_le, nat_lt, Option, Some, None}
+use Rattle.std.specs.Prelude.{◌&&◌, ℕ, Bool, true, false, List, [], ◌∷◌, fold, length, map, nat_le, nat_lt, position, slice_get, Option, Some, None}
 use Rattle.std.specs.Prelude.{option_map, option_and_then, unwrap_or, bytes_eq, codes, if◌then◌else◌}
 use Rattle.std.specs.Char.{digit_value}
 use Rattle.std.specs.List.{list_all}
@@ -30,16 +30,13 @@ word_of Replay = codes "replay"
 word_of Serve = codes "serve"
 word_of Repair = codes "repair"
 
+-- all of them, in the order in which they are listed
+abbrev pub subcommands : List Subcommand
+subcommands = Demo ∷ Check ∷ Describe ∷ Replay ∷ Serve ∷ Repair ∷ []
+
 -- the subcommand of that word
 abbrev pub subcommand_named : Text → Option Subcommand
-subcommand_named word =
-    if bytes_eq word (word_of Demo) then Some Demo
-    else if bytes_eq word (word_of Check) then Some Check
-    else if bytes_eq word (word_of Describe) then Some Describe
-    else if bytes_eq word (word_of Replay) then Some Replay
-    else if bytes_eq word (word_of Serve) then Some Serve
-    else if bytes_eq word (word_of Repair) then Some Repair
-    else None
+subcommand_named word = option_and_then (slice_get subcommands) (position (λ chosen. bytes_eq (word_of chosen) word) subcommands)
 
 -- ---- what is declared
 
@@ -82,8 +79,8 @@ design_line name options = fold with_rule (new_app name) (def_rule ∷ lef_rule 
 -- the words that a subcommand takes
 abbrev pub line_of : Subcommand → App
 line_of Demo = new_app (word_of Demo)
-line_of Check = design_line (word_of Check) []
-line_of Describe = design_line (word_of Describe) []
+line_of Check = design_line (word_of Check) (text_rule (codes "state") ∷ [])
+line_of Describe = design_line (word_of Describe) (text_rule (codes "state") ∷ [])
 line_of Replay = design_line (word_of Replay)
     (number_rule (codes "lines") 4294967295 ∷ text_rule (codes "state") ∷ text_rule (codes "save") ∷ text_rule (codes "export") ∷ [])
 line_of Serve = design_line (word_of Serve)
@@ -93,19 +90,22 @@ line_of Repair = design_line (word_of Repair)
     (repeated_rule (codes "team") ∷ flag_rule (codes "keep") ∷ flag_rule (codes "all")
     ∷ text_rule (codes "export") ∷ text_rule (codes "lines") ∷ [])
 
+-- the program with one subcommand more
+abbrev pub with_line : App → Subcommand → App
+with_line app chosen = with_subcommand app (line_of chosen).top
+
 -- the program with its subcommands
 abbrev pub command_line : App
-command_line = fold (λ app chosen. with_subcommand app (line_of chosen).top) (new_app (codes "lefence"))
-    (Demo ∷ Check ∷ Describe ∷ Replay ∷ Serve ∷ Repair ∷ [])
+command_line = fold with_line (new_app (codes "lefence")) subcommands
 
 -- ---- jobs
 
--- what a command line asks for, with the paths as they are written: of the DEF text and of the LEF texts in order; then, of
--- replay and serve, of the saved state; then of each what its comment says
+-- what a command line asks for, with the paths as they are written: of the DEF text and of the LEF texts in order; then, of all but
+-- repair, of the saved state; then of each what its comment says
 pub data Job : Type 0 where
   demo : Job
-  check : Text → List Text → Job
-  describe : Text → List Text → Job
+  check : Text → List Text → Option Text → Job
+  describe : Text → List Text → Option Text → Job
   -- the most lines that are answered; the paths of the state and of the text that are written
   replay : Text → List Text → Option Text → ℕ → Option Text → Option Text → Job
   -- the port and the number of connections; the paths of the state and of the text that are written
@@ -162,8 +162,8 @@ legal_cells true true = None
 -- the job of a subcommand on these paths
 abbrev pub job_on : Subcommand → Text → List Text → List Row → Option Job
 job_on Demo def lefs rows = Some demo
-job_on Check def lefs rows = Some (check def lefs)
-job_on Describe def lefs rows = Some (describe def lefs)
+job_on Check def lefs rows = Some (check def lefs (first_of (codes "state") rows))
+job_on Describe def lefs rows = Some (describe def lefs (first_of (codes "state") rows))
 job_on Replay def lefs rows = option_map
     (λ lines. replay def lefs (first_of (codes "state") rows) lines (first_of (codes "save") rows) (first_of (codes "export") rows))
     (most_lines (first_of (codes "lines") rows))
@@ -207,8 +207,8 @@ job_of words = unless_fault (fault_of command_line words) (job_found (subcommand
 -- the job that a task does
 abbrev pub as_job : Task → Job
 as_job task.Demo = demo
-as_job (task.Check def lefs) = check def.now (map (λ lef. lef.now) lefs)
-as_job (task.Describe def lefs) = describe def.now (map (λ lef. lef.now) lefs)
+as_job (task.Check def lefs state) = check def.now (map (λ lef. lef.now) lefs) (option_map (λ path. path.now) state)
+as_job (task.Describe def lefs state) = describe def.now (map (λ lef. lef.now) lefs) (option_map (λ path. path.now) state)
 as_job (task.Replay def lefs state lines save export) = replay def.now (map (λ lef. lef.now) lefs) (option_map (λ path. path.now) state)
     lines (option_map (λ path. path.now) save) (option_map (λ path. path.now) export)
 as_job (task.Serve def lefs state port connections save export) = serve def.now (map (λ lef. lef.now) lefs) (option_map (λ path. path.now) state)

@@ -38,11 +38,15 @@ pub enum Task<'a> {
     Check {
         def: &'a str,
         lefs: Sequence<&'a str>,
+        /// The path of the saved state that tells where the cells stand, if one does.
+        state: Option<&'a str>,
     },
     /// Writes a design as JSON Lines.
     Describe {
         def: &'a str,
         lefs: Sequence<&'a str>,
+        /// The path of the saved state that tells where the cells stand, if one does.
+        state: Option<&'a str>,
     },
     /// Answers the lines of standard input over a design.
     Replay {
@@ -285,8 +289,14 @@ fn task_on<'a>(
 {
     match chosen {
         Subcommand::Demo => Ok(Some(Task::Demo)),
-        Subcommand::Check => Ok(Some(Task::Check { def, lefs })),
-        Subcommand::Describe => Ok(Some(Task::Describe { def, lefs })),
+        Subcommand::Check => {
+            let state = value_of(matches, "state");
+            Ok(Some(Task::Check { def, lefs, state }))
+        }
+        Subcommand::Describe => {
+            let state = value_of(matches, "state");
+            Ok(Some(Task::Describe { def, lefs, state }))
+        }
         Subcommand::Replay => Ok(replay_on(def, lefs, matches)),
         Subcommand::Serve => Ok(serve_on(def, lefs, matches)),
         Subcommand::Repair => repair_on(alloc, def, lefs, matches),
@@ -365,8 +375,9 @@ fn matches_of<'a>(alloc: Global, words: &'a [&'a str]) -> Result<ArgMatches<'a>,
 ///
 /// The others take the path of a DEF text, then of one LEF text or more. `serve` needs `--port P`, from 1 to 65535, and
 /// `--connections N`, from 1 to 1,000,000; `replay` may have `--lines N`, from 1 to 4,294,967,295; both may have
-/// `--state FILE`, `--save FILE` and `--export FILE`. `repair` may have `--export FILE`, `--lines FILE`, `--keep` or `--all`, and
-/// `--team NAME` any number of times; each other option stands once at most.
+/// `--save FILE` and `--export FILE`, and they, `check` and `describe` may have `--state FILE`. `repair` may have
+/// `--export FILE`, `--lines FILE`, `--keep` or `--all`, and `--team NAME` any number of times; each other option stands once
+/// at most.
 /// Numbers are digits; `+` in front and leading zeros are allowed. Options are before, between or after
 /// the paths, with the value after `=` or as the next word, which may not begin with
 /// '-' unless it is '-'. After `--` each word is a path. Words for help and for the version are usage

@@ -27,6 +27,16 @@ fn program_topic(word: &str) -> Option<Help>
     }
 }
 
+/// What the two words behind the program's name ask to be shown.
+fn subcommand_topic(subcommand: &str, word: &str) -> Option<Help>
+    ensures { result ≡ help_asked ([] ∷ subcommand.now ∷ word.now ∷ []) }
+{
+    if word == "--help" {
+        return Some(Help::Of(subcommand_named(subcommand)?));
+    }
+    None
+}
+
 /// What the words ask to be shown, of which the first is the program's name: it is followed by `--help` or `--version` alone,
 /// or by a subcommand and `--help`. None for all other words.
 pub fn help_of(words: &[&str]) -> Option<Help>
@@ -35,8 +45,8 @@ pub fn help_of(words: &[&str]) -> Option<Help>
     if words.len() == 2 {
         return program_topic(words[1]);
     }
-    if words.len() == 3 && words[2] == "--help" {
-        return Some(Help::Of(subcommand_named(words[1])?));
+    if words.len() == 3 {
+        return subcommand_topic(words[1], words[2]);
     }
     None
 }

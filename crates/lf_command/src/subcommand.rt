@@ -1,11 +1,11 @@
 //! The subcommands of the program, as they are declared to `clap`.
 
-ghost use Rattle.std.specs.Prelude.{◌≡◌, [], ◌∷◌, codes, false, fold, IfOk};
-ghost use Rattle.clap.specs.Simple.{app_of, with_rule, with_subcommand};
+ghost use Rattle.std.specs.Prelude.{◌≡◌, [], ◌∷◌, bytes_eq, codes, false, fold, IfOk, position};
+ghost use Rattle.clap.specs.Simple.{app_of, with_rule};
 ghost use Rattle.clap.specs.Walk.{rule_of};
 ghost use Rattle.clap.specs.declared.builder.command.Command.TheViews.{out-Command};
 ghost use Rattle.lf_command.specs.declared.subcommand.Subcommand.TheVariants.{Repair, Replay, Serve};
-ghost use Rattle.lf_command.specs.Command.{command_line, def_rule, design_line, flag_rule, lef_rule, line_of, needed, number_rule, repeated_rule, subcommand_named, text_rule};
+ghost use Rattle.lf_command.specs.Command.{command_line, def_rule, design_line, flag_rule, lef_rule, line_of, needed, number_rule, repeated_rule, subcommand_named, text_rule, with_line, word_of};
 
 use clap::builder::ValueParser;
 use clap::{Arg, ArgAction, Command};
@@ -31,19 +31,46 @@ pub enum Subcommand {
     Repair,
 }
 
+/// All subcommands, in the order in which they are listed.
+const SUBCOMMANDS: [Subcommand; 6] = [
+    Subcommand::Demo,
+    Subcommand::Check,
+    Subcommand::Describe,
+    Subcommand::Replay,
+    Subcommand::Serve,
+    Subcommand::Repair,
+];
+
+/// The word of a subcommand.
+fn word_of(chosen: Subcommand) -> &'static str
+    ensures { result.now ≡ word_of chosen }
+{
+    match chosen {
+        Subcommand::Demo => "demo",
+        Subcommand::Check => "check",
+        Subcommand::Describe => "describe",
+        Subcommand::Replay => "replay",
+        Subcommand::Serve => "serve",
+        Subcommand::Repair => "repair",
+    }
+}
+
+/// Where the subcommand of that word stands among these.
+fn position_of(subcommands: &[Subcommand], word: &str) -> Option<usize>
+    ensures { result ≡ position (λ chosen. bytes_eq (word_of chosen) word.now) subcommands.now }
+{
+    subcommands
+        .iter()
+        .position(|chosen| word_of(*chosen) == word)
+}
+
 /// The subcommand of that word.
 pub(crate) fn subcommand_named(word: &str) -> Option<Subcommand>
     ensures { result ≡ subcommand_named word.now }
 {
-    match word {
-        "demo" => Some(Subcommand::Demo),
-        "check" => Some(Subcommand::Check),
-        "describe" => Some(Subcommand::Describe),
-        "replay" => Some(Subcommand::Replay),
-        "serve" => Some(Subcommand::Serve),
-        "repair" => Some(Subcommand::Repair),
-        _ => None,
-    }
+    let subcommands: &[Subcommand] = &SUBCOMMANDS;
+    let position = position_of(subcommands, word)?;
+    subcommands.get(position).copied()
 }
 
 /// The path of the DEF text.
@@ -115,6 +142,14 @@ fn over_design<'a>(alloc: Global, name: &'a str) -> Result<Command<'a>, AllocErr
         .arg(lef_paths(alloc))
 }
 
+/// A subcommand of that name that looks at a design, which may stand as a saved state tells.
+fn look<'a>(alloc: Global, name: &'a str) -> Result<Command<'a>, AllocError>
+    ensures line { IfOk result (λ made. app_of made ≡ design_line name.now (text_rule (codes "state") ∷ [])) }
+    ensures local { IfOk result (λ made. (out-Command made).has_globals ≡ false) }
+{
+    over_design(alloc, name)?.arg(text(alloc, "state"))
+}
+
 /// The paths that a subcommand which answers lines may have besides those of the design: of the saved state, and of the state
 /// and the text that are written.
 fn with_outputs<'a>(alloc: Global, command: Command<'a>) -> Result<Command<'a>, AllocError>
@@ -179,8 +214,8 @@ fn line_of<'a>(alloc: Global, chosen: Subcommand) -> Result<Command<'a>, AllocEr
 {
     match chosen {
         Subcommand::Demo => Ok(Command::new(alloc, "demo")),
-        Subcommand::Check => over_design(alloc, "check"),
-        Subcommand::Describe => over_design(alloc, "describe"),
+        Subcommand::Check => look(alloc, "check"),
+        Subcommand::Describe => look(alloc, "describe"),
         Subcommand::Replay => replay(alloc),
         Subcommand::Serve => serve(alloc),
         Subcommand::Repair => repair(alloc),
@@ -193,7 +228,7 @@ fn with<'a>(
     command: Command<'a>,
     chosen: Subcommand,
 ) -> Result<Command<'a>, AllocError>
-    ensures { IfOk result (λ made. app_of made ≡ with_subcommand (app_of command.entry) (line_of chosen).top) }
+    ensures { IfOk result (λ made. app_of made ≡ with_line (app_of command.entry) chosen) }
 {
     command.subcommand(line_of(alloc, chosen)?)
 }
@@ -202,12 +237,9 @@ fn with<'a>(
 pub(crate) fn command_line<'a>(alloc: Global) -> Result<Command<'a>, AllocError>
     ensures { IfOk result (λ made. app_of made ≡ command_line) }
 {
-    let none = Command::new(alloc, "lefence");
-    let demo = with(alloc, none, Subcommand::Demo)?;
-    let check = with(alloc, demo, Subcommand::Check)?;
-    let describe = with(alloc, check, Subcommand::Describe)?;
-    let replay = with(alloc, describe, Subcommand::Replay)?;
-    let serve = with(alloc, replay, Subcommand::Serve)?;
-    let repair = with(alloc, serve, Subcommand::Repair)?;
-    Ok(repair)
+    let mut command = Command::new(alloc, "lefence");
+    for chosen in &SUBCOMMANDS {
+        command = with(alloc, command, *chosen)?;
+    }
+    Ok(command)
 }

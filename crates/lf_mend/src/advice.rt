@@ -201,6 +201,22 @@ fn taken_of(alloc: Global, placement: &Placement, owner: &Owner) -> Result<Vec<T
     Ok(taken)
 }
 
+/// The free sites of the team.
+pub(crate) fn free_land(
+    alloc: Global,
+    placement: &Placement,
+    owner: &Owner,
+) -> Result<Land, AllocError> {
+    let mut taken = taken_of(alloc, placement, owner)?;
+    land_of(
+        alloc,
+        &placement.plan(),
+        placement.frame(),
+        owner,
+        &mut taken,
+    )
+}
+
 /// What a cell takes that stands there, not on its side.
 fn area_of(frame: &Frame, mac: &Macro, place: &Place) -> Area {
     let (x, y) = (place.x as i64, place.y as i64);
@@ -336,8 +352,7 @@ fn planned(
 ) -> Result<Vec<Deed>, AllocError> {
     let frame = placement.frame();
     let Wishes { ids, wishes } = wishes_of(alloc, placement, owner, go)?;
-    let mut taken = taken_of(alloc, placement, owner)?;
-    let land = land_of(alloc, &placement.plan(), frame, owner, &mut taken)?;
+    let land = free_land(alloc, placement, owner)?;
     let spots = plan_cells(alloc, &land, wishes.as_slice(), &STEPS)?;
     let stops = stops_of(alloc, spots.as_slice())?;
     let mut deeds = Vec::with_capacity(alloc, stops.len())?;
@@ -358,6 +373,15 @@ fn planned(
     Ok(deeds)
 }
 
+/// The team of that number, with its padding.
+pub(crate) fn owner_of<S: Seeker + Drop>(floor: &Floor<S>, number: usize) -> Owner {
+    let step = floor.placement().frame().pitch.x;
+    Owner {
+        team: number,
+        pad: (floor.padding_of(number).sites as i64).saturating_mul(step),
+    }
+}
+
 /// What is asked in a round for the cells of the team of that number.
 ///
 /// `Err` if an allocation fails.
@@ -369,11 +393,10 @@ pub(crate) fn deeds_of<S: Seeker + Drop>(
     phase: Phase,
 ) -> Result<Vec<Deed>, AllocError> {
     let placement = floor.placement();
-    let pad = (floor.padding_of(number).sites as i64).saturating_mul(placement.frame().pitch.x);
     match phase {
         Phase::Lift => lift(alloc, placement, number, go),
         Phase::Tall => tall(alloc, placement, number, go),
-        Phase::Plan => planned(alloc, placement, &Owner { team: number, pad }, go),
+        Phase::Plan => planned(alloc, placement, &owner_of(floor, number), go),
         Phase::Rest => rest(alloc, placement, number, go),
     }
 }

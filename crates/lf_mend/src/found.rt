@@ -1,6 +1,6 @@
 //! A team after the rounds of its repair: which cells stand otherwise than before, and which are left.
 
-ghost use Rattle.std.specs.Prelude.{◌≡◌, ◌↔◌, All, IfOk, IsTrue, OnOk, Some};
+ghost use Rattle.std.specs.Prelude.{◌≡◌, All, IfOk, OnOk, Some};
 ghost use Rattle.lf_cells.specs.Cells.{cells_of};
 ghost use Rattle.lf_teams.specs.Teams.{team_number};
 ghost use Rattle.lf_mend.specs.Deeds.{AreHomeBut, HaveLeftHome, IsLegalOrNamed, IsNamed, StandElsewhere, StandHomeBut, home_at};
@@ -9,7 +9,7 @@ ghost use Rattle.lf_mend.specs.Mending.{AreLegalBut, IsLeftIn};
 use crate::deeds::Seat;
 use lf_cells::CellId;
 use lf_floor::Floor;
-use lf_floorplan::Place;
+use lf_floorplan::{Place, are_alike};
 use lf_legalize::Seeker;
 use lf_placement::Placement;
 use std::alloc::{AllocError, Global};
@@ -19,24 +19,6 @@ use std::alloc::{AllocError, Global};
 pub(crate) struct Found {
     pub(crate) changed: Vec<u32>,
     pub(crate) left: Vec<u32>,
-}
-
-/// Whether both are one place.
-fn is_one_place(a: &Place, b: &Place) -> bool
-    ensures { IsTrue result ↔ a.now ≡ b.now }
-{
-    a.x == b.x && a.y == b.y && a.orient == b.orient
-}
-
-/// Whether both are one place, or both none.
-pub(crate) fn are_alike(a: Option<Place>, b: Option<Place>) -> bool
-    ensures { IsTrue result ↔ a ≡ b }
-{
-    match (a, b) {
-        (Some(a), Some(b)) => is_one_place(&a, &b),
-        (None, None) => true,
-        _ => false,
-    }
 }
 
 /// The place of that position in the list, if it has one there.

@@ -14,6 +14,7 @@ mod advice;
 mod ask;
 mod deeds;
 mod found;
+mod gaps;
 mod ground;
 mod line;
 mod need;
@@ -22,6 +23,7 @@ mod team;
 mod told;
 
 pub use ask::Fault;
+pub use gaps::gaps_near;
 pub use line::put_request;
 pub use start::{How, stands_whole};
 pub use team::repair_team;

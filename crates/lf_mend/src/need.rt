@@ -3,11 +3,10 @@
 
 use crate::advice::width_of;
 use crate::deeds::{Deed, Step};
-use crate::found::are_alike;
 use crate::ground::coordinate;
 use crate::start::{Go, Start, homes_of, is_tall};
 use lf_cells::CellId;
-use lf_floorplan::{Frame, Place};
+use lf_floorplan::{Frame, Place, are_alike};
 use lf_legalize::anchor;
 use lf_orient::Orient;
 use lf_placement::Placement;
@@ -16,7 +15,7 @@ use lf_units::Point;
 use std::alloc::{AllocError, Global};
 
 /// A cell is far that stands more than so many rows' heights from where it is wanted.
-const FAR: i64 = 8;
+pub(crate) const FAR: i64 = 8;
 
 /// Which cells a further go may move.
 #[derive(Clone, Copy)]
@@ -46,7 +45,7 @@ struct Need {
 
 /// A box that holds the segments of a team.
 #[derive(Clone, Copy)]
-struct Bounds {
+pub(crate) struct Bounds {
     low: Point,
     high: Point,
 }
@@ -73,7 +72,7 @@ fn with_segment(bounds: &Bounds, segment: &Segment, y: i64) -> Bounds {
 }
 
 /// A box that holds the segments of the team of that number.
-fn bounds_of(placement: &Placement, number: usize) -> Bounds {
+pub(crate) fn bounds_of(placement: &Placement, number: usize) -> Bounds {
     let mut bounds = Bounds {
         low: Point {
             x: i64::MAX,
@@ -97,7 +96,7 @@ fn bounds_of(placement: &Placement, number: usize) -> Bounds {
 }
 
 /// Where a cell is wanted: where it stood, moved into the box that holds its team's segments, or at the team's anchor.
-fn point_of(frame: &Frame, id: CellId, home: Option<Place>, bounds: &Bounds) -> Point {
+pub(crate) fn point_of(frame: &Frame, id: CellId, home: Option<Place>, bounds: &Bounds) -> Point {
     match home {
         Some(home) => Point {
             x: (home.x as i64).max(bounds.low.x).min(bounds.high.x),

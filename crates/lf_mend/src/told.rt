@@ -2,10 +2,10 @@
 
 ghost use Rattle.std.specs.Prelude.{◌≡◌};
 
-use crate::found::{Found, are_alike};
+use crate::found::Found;
 use crate::start::Start;
 use lf_floor::Floor;
-use lf_floorplan::Place;
+use lf_floorplan::{Place, are_alike};
 use lf_legalize::Seeker;
 
 /// What became of the cells of a repaired team. A way is |dx| + |dy| between the places of a cell before and after, in database

@@ -3,7 +3,10 @@ use Rattle.std.specs.Prelude.{◌≡◌, ◌⊎◌, ℕ, ◌<◌, List, [], Opti
 use Rattle.std.specs.Option.{option_copied}
 use Rattle.lf_units.specs.declared.area.Point.{Point}
 use Rattle.lf_lex.specs.declared.fault.FaultNumber.{FaultNumber}
-use Rattle.lf_lex.specs.declared.fault.FaultNumber.TheVariants.{BadToken, UnexpectedEnd, Unexpected, BadNumber, WrongEnd, UnknownStatement, NoUnits, NoSite, NoRows, VerticalRow, BadStep, RowOrient, RowsOverlap, NoMacro, NoSize, NotWhole, SecondName, SecondRegion, NoRegion, TeamName, FencesOverlap, TwoFences, TooMany, OutOfMemory}
+use Rattle.lf_lex.specs.declared.fault.FaultNumber.TheVariants.{BadToken, UnexpectedEnd, Unexpected, BadNumber, WrongEnd, UnknownStatement}
+use Rattle.lf_lex.specs.declared.fault.FaultNumber.TheVariants.{NoUnits, NoSite, NoRows, VerticalRow, BadStep, RowOrient, RowsOverlap}
+use Rattle.lf_lex.specs.declared.fault.FaultNumber.TheVariants.{NoMacro, NoSize, NotWhole, SecondName, SecondRegion, NoRegion, TeamName}
+use Rattle.lf_lex.specs.declared.fault.FaultNumber.TheVariants.{FencesOverlap, TwoFences, TooMany, OutOfMemory}
 use Rattle.lf_lex.specs.declared.fault.LoadFault.{LoadFault}
 use Rattle.lf_floorplan.specs.declared.sites.Site.{Site}
 use Rattle.lf_lef.specs.Contents.{Contents}
@@ -16,7 +19,9 @@ use Rattle.lf_claims.specs.Entries.{FirstIs}
 use Rattle.lf_refusals.specs.Loading.{at_place, core_site, IsWholeSize}
 use Rattle.lf_floorplan.specs.Sizes.{size_in_dbu}
 use Rattle.lf_claims.specs.Refusals.{BearsEarlierName, IsClaimedTwice}
-use Rattle.lf_refusals.specs.Refusals.{HasNoSite, IsVertical, HasBadStep, IsTurned, MeetsEarlierRow, HasNoMacro, HasNoSize, HasPartUnits, BearsEarlierFence, HasNoRegion, BearsGroundName, MeetsEarlierFence, IsRowTooMany, IsFenceTooMany, IsComponentTooMany, EndsTooFar}
+use Rattle.lf_refusals.specs.Refusals.{HasNoSite, IsVertical, HasBadStep, IsTurned, MeetsEarlierRow, HasNoMacro, HasNoSize, HasPartUnits}
+use Rattle.lf_refusals.specs.Refusals.{BearsEarlierFence, HasNoRegion, BearsGroundName, MeetsEarlierFence, IsRowTooMany, IsFenceTooMany}
+use Rattle.lf_refusals.specs.Refusals.{IsComponentTooMany, EndsTooFar}
 
 -- what a design is loaded from: the library of the LEF texts, the document of the DEF text, and the limits
 pub record Inputs : Type 0 where

@@ -1,6 +1,6 @@
 //! The refusals of loading for components.
 
-ghost use Rattle.std.specs.Prelude.{[], ◌∷◌, ◌++◌, Contains, ◌≡◌, ◌≢◌, ◌↔◌, ℕ, ◌<◌, ◌≤◌, ◌<ℤ◌, pos, true, false, None, Some, List, All, Any, IsTrue, IsFalse, IfOk, IfSome, MatchOption, length, int_lt, ◌&&◌};
+ghost use Rattle.std.specs.Prelude.{[], ◌≡◌, ◌↔◌, ◌<◌, ◌≤◌, true, false, None, Some, IsTrue, IfSome, length, ◌&&◌};
 ghost use Rattle.std.specs.Option.{option_copied};
 ghost use Rattle.lf_lef.specs.Lengths.{IsInRange, HasRange};
 ghost use Rattle.lf_units.specs.Length.{IsLength, in_dbu};

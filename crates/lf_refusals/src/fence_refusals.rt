@@ -1,6 +1,7 @@
 //! The refusals of loading for regions and groups.
 
-ghost use Rattle.std.specs.Prelude.{[], ◌∷◌, ◌≡◌, ◌≢◌, ◌↔◌, ℕ, ◌<◌, ◌≤◌, ◌++◌, true, None, List, map, All, Any, Contains, IsTrue, IsFalse, IfOk, OnOk, MatchOption, IfSome, length};
+ghost use Rattle.std.specs.Prelude.{[], ◌∷◌, ◌≡◌, ◌≢◌, ◌↔◌, ℕ, ◌<◌, ◌≤◌, ◌++◌, true, None, List, map, All, Any, Contains, IsTrue};
+ghost use Rattle.std.specs.Prelude.{IsFalse, IfOk, OnOk, MatchOption, IfSome, length};
 ghost use Rattle.lf_units.specs.Area.{SharesPoint};
 ghost use Rattle.lf_claims.specs.Entries.{FirstIs};
 ghost use Rattle.lf_def.specs.Kinds.{is_fence as is_fence_region};
@@ -122,7 +123,7 @@ fn do_rects_meet(first: &[Rect], second: &[Rect]) -> bool
 }
 
 /// Whether a point lies in rectangles of both regions.
-fn do_regions_meet(first: &Region, second: &Region) -> bool
+pub(crate) fn do_regions_meet(first: &Region, second: &Region) -> bool
     ensures { IsTrue result ↔ SharePoint first.now.rects second.now.rects }
 {
     do_rects_meet(first.rects.as_slice(), second.rects.as_slice())

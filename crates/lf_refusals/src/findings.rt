@@ -1,9 +1,10 @@
 //! What each refusal of loading finds.
 
-ghost use Rattle.std.specs.Prelude.{◌≡◌, ◌↔◌, ◌<ℤ◌, ◌≤ℤ◌, pos, ◌≤◌, None, Some, IfOk, IfSome, IsTrue, option_map, unwrap_or, MatchOption, length};
+ghost use Rattle.std.specs.Prelude.{◌≡◌, ◌≤◌, None, Some, IfOk, option_map, unwrap_or};
 ghost use Rattle.std.specs.Option.{option_copied};
-ghost use Rattle.lf_lex.specs.declared.fault.FaultNumber.TheVariants.{NoUnits, NoSite, NoRows, VerticalRow, BadStep, RowOrient, RowsOverlap, NoMacro, NoSize, NotWhole, SecondName, SecondRegion, NoRegion, TeamName, FencesOverlap, TwoFences, TooMany};
-ghost use Rattle.lf_lef.specs.Lengths.{HasRange};
+ghost use Rattle.lf_lex.specs.declared.fault.FaultNumber.TheVariants.{NoUnits, NoSite, NoRows, VerticalRow, BadStep, RowOrient};
+ghost use Rattle.lf_lex.specs.declared.fault.FaultNumber.TheVariants.{RowsOverlap, NoMacro, NoSize, NotWhole, SecondName, SecondRegion};
+ghost use Rattle.lf_lex.specs.declared.fault.FaultNumber.TheVariants.{NoRegion, TeamName, FencesOverlap, TwoFences, TooMany};
 ghost use Rattle.lf_refusals.specs.Loading.{at_place, IsWholeSize, has_size};
 ghost use Rattle.lf_floorplan.specs.Sizes.{size_in_dbu};
 ghost use Rattle.lf_claims.specs.Entries.{NoneBreaks};
@@ -274,7 +275,7 @@ pub(crate) fn second_name<'d>(
 }
 
 /// The name of the region at that position.
-fn region_at<'d>(regions: &'d [Region], place: Option<usize>) -> Option<&'d [u8]>
+pub(crate) fn region_at<'d>(regions: &'d [Region], place: Option<usize>) -> Option<&'d [u8]>
     ensures { option_copied result ≡ option_map (λ r. r.name) (at_place regions.now place) }
 {
     match place {
@@ -297,7 +298,7 @@ fn group_region(group: &Group) -> &[u8]
 }
 
 /// The region of the group at that position.
-fn region_of_group<'d>(groups: &'d [Group], place: Option<usize>) -> Option<&'d [u8]>
+pub(crate) fn region_of_group<'d>(groups: &'d [Group], place: Option<usize>) -> Option<&'d [u8]>
     ensures { option_copied result ≡ option_map region_name (at_place groups.now place) }
 {
     match place {
@@ -381,7 +382,8 @@ pub(crate) fn two_fences<'d>(
 
 /// The first row of core sites beyond the limit.
 fn rows_too_many<'d>(library: &Library, document: &'d DefDoc, limits: &Limits) -> Option<&'d [u8]>
-    ensures { OfCore (inputs library.now document.now limits.now) (λ core. NameOfFirst (λ r. r.name) (IsRowTooMany core limits.now.rows) document.now.rows) (option_copied result) }
+    ensures { OfCore (inputs library.now document.now limits.now)
+        (λ core. NameOfFirst (λ r. r.name) (IsRowTooMany core limits.now.rows) document.now.rows) (option_copied result) }
 {
     let rows = document.rows.as_slice();
     let Some(core) = core_site(library, rows) else {
@@ -414,7 +416,8 @@ fn components_too_many<'d>(document: &'d DefDoc, limits: &Limits) -> Option<&'d 
 
 /// The first row of core sites that ends past the largest coordinate.
 fn row_too_far<'d>(library: &Library, document: &'d DefDoc, limits: &Limits) -> Option<&'d [u8]>
-    ensures { OfPitch (inputs library.now document.now limits.now) (λ core pitch. NameOfFirst (λ r. r.name) (EndsTooFar core pitch) document.now.rows) (option_copied result) }
+    ensures { OfPitch (inputs library.now document.now limits.now)
+        (λ core pitch. NameOfFirst (λ r. r.name) (EndsTooFar core pitch) document.now.rows) (option_copied result) }
 {
     let rows = document.rows.as_slice();
     let Some(core) = sized_core_site(library, rows) else {

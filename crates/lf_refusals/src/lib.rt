@@ -14,6 +14,7 @@
 mod component_refusals;
 mod fence_refusals;
 mod findings;
+mod meetings;
 mod pitch;
 mod refusal;
 mod row_refusals;
@@ -21,6 +22,7 @@ mod sweep;
 
 pub use component_refusals::macro_named;
 pub use findings::units_of;
+pub use meetings::{MetFences, met_fences};
 pub use pitch::{Pitch, core_pitch, sized_core_site};
 pub use refusal::first_refusal;
 pub use row_refusals::is_heeded;

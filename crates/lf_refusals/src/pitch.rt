@@ -40,7 +40,8 @@ pub fn core_pitch(core: &Site, units: u32) -> Option<Pitch>
     requires most { units ≤ 20000 }
     requires range { HasRange core.now.size }
     requires sized { has_size core.now.size ≡ true }
-    ensures { MatchOption result (IsWholeSize units core.now.size → ⊥) (λ p. IsWholeSize units core.now.size × (p.size ≡ size_in_dbu units core.now.size) × IsPitch units core.now.size p.size) }
+    ensures { MatchOption result (IsWholeSize units core.now.size → ⊥) (λ p. IsWholeSize units core.now.size
+        × (p.size ≡ size_in_dbu units core.now.size) × IsPitch units core.now.size p.size) }
 {
     if !is_whole_size(&core.size, units) {
         return None;

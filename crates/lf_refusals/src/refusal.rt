@@ -109,7 +109,8 @@ pub fn first_refusal<'d>(
     limits: &Limits,
 ) -> Result<Option<LoadFault<'d>>, AllocError>
     requires { IsTableOf document.now.regions document.now.groups document.now.components claims.now }
-    ensures { IfOk result (λ found. MatchOption found (IsAccepted (inputs library.now document.now limits.now)) (λ fault. IsFault (inputs library.now document.now limits.now) fault)) }
+    ensures { IfOk result (λ found. MatchOption found (IsAccepted (inputs library.now document.now limits.now))
+        (λ fault. IsFault (inputs library.now document.now limits.now) fault)) }
 {
     let components = document.components.as_slice();
     let faults = macro_faults(components, library, units_of(document));

@@ -1,6 +1,7 @@
 //! The refusals of loading for rows.
 
-ghost use Rattle.std.specs.Prelude.{[], ◌≡◌, ◌≢◌, ◌↔◌, ℕ, ℤ, pos, ◌<◌, ◌≤◌, ◌<ℤ◌, ◌≤ℤ◌, ◌+ℤ◌, ◌*ℤ◌, ◌++◌, true, None, All, Any, IsTrue, IfSome, IfOk, OnOk, MatchOption, length};
+ghost use Rattle.std.specs.Prelude.{[], ◌≡◌, ◌≢◌, ◌↔◌, ℕ, ℤ, pos, ◌<◌, ◌≤◌, ◌<ℤ◌, ◌≤ℤ◌, ◌+ℤ◌, ◌*ℤ◌, ◌++◌, true, None, All, Any};
+ghost use Rattle.std.specs.Prelude.{IsTrue, IfSome, IfOk, OnOk, MatchOption, length};
 ghost use Rattle.std.specs.Option.{option_copied};
 ghost use Rattle.lf_units.specs.Area.{SharesPoint};
 ghost use Rattle.lf_lef.specs.Lengths.{HasRange};
@@ -211,7 +212,8 @@ fn do_rows_meet(first: &Row, second: &Row, pitch: &Pitch) -> bool
 fn meets_one_of(row: &Row, earlier: &[Row], core: &Site, pitch: &Pitch) -> bool
     requires row { IsRow row.now }
     requires each { All IsRow earlier.now }
-    ensures { IsTrue result ↔ Any (λ e. (is_heeded_row core.now e ≡ true) × SharesPoint (row_area pitch.now.size (frame_row e)) (row_area pitch.now.size (frame_row row.now))) earlier.now }
+    ensures { IsTrue result ↔ Any (λ e. (is_heeded_row core.now e ≡ true)
+        × SharesPoint (row_area pitch.now.size (frame_row e)) (row_area pitch.now.size (frame_row row.now))) earlier.now }
 {
     for other in earlier {
         if is_heeded(other, core) && do_rows_meet(other, row, pitch) {

@@ -1,6 +1,6 @@
 //! States that are saved and gone on from, over files in memory.
 
-use crate::tasks::{Kept, Run, done, exporting, files_of, only_lef};
+use crate::tasks::{Kept, Run, done, exporting, files_of, only_lef, with_entries};
 use lf_app::Task;
 use lf_def::W_DEF;
 use lf_lef::W_LEF;
@@ -97,6 +97,53 @@ fn what_is_restored_is_saved_as_it_was(rt: HostRuntime) -> Result<(), Fail> {
     let mut reader = b"".as_slice();
     let run = exporting(&rt, files.as_slice(), &mut exports, &task, &mut reader);
     assert!(rt; run.is_put(0, "", "") && exports.holds(&state));
+    Ok(())
+}
+
+/// The check of `w.def` over `w.lef`, as its cells stand in this state.
+fn checked(rt: &HostRuntime, state: &[u8]) -> Result<Run, AllocError> {
+    let task = Task::Check {
+        def: "w.def",
+        lefs: only_lef(rt.alloc())?,
+        state: Some(STATE),
+    };
+    Ok(done(rt, &files_with(state), &task, ""))
+}
+
+#[test]
+fn a_check_sees_the_working_places_of_a_state(rt: HostRuntime) -> Result<(), Fail> {
+    let state = saved_behind(&rt, BEFORE)?;
+    let report = "{\"cells\":5,\"unplaced\":3,\"violations\":[]}\n";
+    assert!(rt; checked(&rt, &state)?.is(4, report, ""));
+    let design = "lefence: 26 OtherDesign line 2\nlefence: state file w.state, line 2: teams 9\n";
+    assert!(rt; checked(&rt, b"lefence-state 1\nteams 9\n")?.is(1, "", design));
+    Ok(())
+}
+
+/// The description of `w.def` over `w.lef`, as its cells stand in this state if there is one.
+fn describe_of<'a>(alloc: Global, state: Option<&'a str>) -> Result<Task<'a>, AllocError> {
+    Ok(Task::Describe {
+        def: "w.def",
+        lefs: only_lef(alloc)?,
+        state,
+    })
+}
+
+#[test]
+fn a_description_sees_the_working_places_of_a_state(rt: HostRuntime) -> Result<(), Fail> {
+    let state = saved_behind(&rt, BEFORE)?;
+    let task = describe_of(rt.alloc(), Some(STATE))?;
+    let seen = done(&rt, &files_with(&state), &task, "");
+    let entries: [&[u8]; 4] = [
+        b"- a1 INV + PLACED ( 400 0 ) N ;",
+        b"- a2 INV + UNPLACED ;",
+        b"- a3 DBL + WEIGHT 3 ;",
+        b"- b1 INV + PLACED ( 6000 0 ) N ;",
+    ];
+    let text = with_entries(rt.alloc(), entries.as_slice())?;
+    let task = describe_of(rt.alloc(), None)?;
+    let placed = done(&rt, &files_of(&text), &task, "");
+    assert!(rt; !seen.written.is_empty() && seen.written.as_slice() == placed.written.as_slice());
     Ok(())
 }
 

@@ -463,6 +463,7 @@ fn check_of_w<'a>(alloc: Global) -> Result<Task<'a>, AllocError> {
     Ok(Task::Check {
         def: "w.def",
         lefs: only_lef(alloc)?,
+        state: None,
     })
 }
 
@@ -538,7 +539,7 @@ fn fences_that_overlap_are_refused(rt: HostRuntime) -> Result<(), Fail> {
     let fence = b"- B ( 3999 0 ) ( 10000 8000 ) + TYPE FENCE ;";
     let def = with_line(rt.alloc(), W_DEF, 12, fence)?;
     let fault = "lefence: 21 FencesOverlap B\n\
-        lefence: DEF file w.def, line 12: - B ( 3999 0 ) ( 10000 8000 ) + TYPE FENCE ;\n";
+        lefence: DEF file w.def, line 12 (meets fence A of line 11): - B ( 3999 0 ) ( 10000 8000 ) + TYPE FENCE ;\n";
     assert!(rt; ends(&rt, &files_of(&def), LEFS, 1, fault)?);
     assert!(rt; checks(&rt, &files_of(&def), 1, "", fault)?);
     Ok(())
@@ -592,7 +593,7 @@ fn a_file_that_cannot_be_read_is_a_fault(rt: HostRuntime) -> Result<(), Fail> {
 }
 
 /// The sample DEF text, whose first components have these entries; the first of all stands in line 15.
-fn with_entries(alloc: Global, entries: &[&[u8]]) -> Result<Vec<u8>, AllocError> {
+pub(crate) fn with_entries(alloc: Global, entries: &[&[u8]]) -> Result<Vec<u8>, AllocError> {
     let mut text = Vec::from_slice(alloc, W_DEF)?;
     for (i, entry) in entries.iter().enumerate() {
         text = with_line(alloc, &text, 15 + i, entry)?;
@@ -652,6 +653,7 @@ fn a_design_is_described(rt: HostRuntime) -> Result<(), Fail> {
     let task = Task::Describe {
         def: "w.def",
         lefs: only_lef(rt.alloc())?,
+        state: None,
     };
     assert!(rt; done(&rt, &files_of(W_DEF), &task, "open A\n").is(4, DESCRIPTION, ""));
     Ok(())

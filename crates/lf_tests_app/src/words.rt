@@ -11,10 +11,12 @@ enum Named<'a> {
     Check {
         def: &'a str,
         lefs: &'a [&'a str],
+        state: Option<&'a str>,
     },
     Describe {
         def: &'a str,
         lefs: &'a [&'a str],
+        state: Option<&'a str>,
     },
     Replay {
         def: &'a str,
@@ -48,13 +50,15 @@ enum Named<'a> {
 fn as_named<'a>(task: &'a Task<'a>) -> Named<'a> {
     match task {
         Task::Demo => Named::Demo,
-        Task::Check { def, lefs } => Named::Check {
+        Task::Check { def, lefs, state } => Named::Check {
             def: *def,
             lefs: lefs.as_slice(),
+            state: *state,
         },
-        Task::Describe { def, lefs } => Named::Describe {
+        Task::Describe { def, lefs, state } => Named::Describe {
             def: *def,
             lefs: lefs.as_slice(),
+            state: *state,
         },
         Task::Replay {
             def,
@@ -142,11 +146,13 @@ fn words_name_the_demo_a_check_and_a_description(rt: HostRuntime) -> Result<(), 
     let check = Named::Check {
         def: "x.def",
         lefs: &["x.lef"],
+        state: None,
     };
     assert!(rt; names(rt.alloc(), "lefence check x.def x.lef", &check)?);
     let describe = Named::Describe {
         def: "x.def",
         lefs: &["x.lef"],
+        state: None,
     };
     assert!(rt; names(rt.alloc(), "lefence describe x.def x.lef", &describe)?);
     Ok(())
@@ -240,6 +246,28 @@ fn words_name_a_service(rt: HostRuntime) -> Result<(), Fail> {
     Ok(())
 }
 
+/// A saved state is looked at.
+#[test]
+fn words_name_the_state_that_is_looked_at(rt: HostRuntime) -> Result<(), Fail> {
+    let check = Named::Check {
+        def: "a",
+        lefs: &["b", "c"],
+        state: Some("s"),
+    };
+    let lines = [
+        "lefence check a b c --state s",
+        "lefence check --state=s a b c",
+    ];
+    assert!(rt; all_name(rt.alloc(), lines.as_slice(), &check)?);
+    let describe = Named::Describe {
+        def: "a",
+        lefs: &["b"],
+        state: Some("-"),
+    };
+    assert!(rt; names(rt.alloc(), "lefence describe a --state - b", &describe)?);
+    Ok(())
+}
+
 /// A saved state is gone on from, or saved.
 #[test]
 fn words_name_the_files_of_states(rt: HostRuntime) -> Result<(), Fail> {
@@ -304,7 +332,8 @@ fn other_words_are_refused(rt: HostRuntime) -> Result<(), Fail> {
         "lefence describe x.def",
         "lefence describe x.def x.lef --lines 5",
         "lefence describe x.def x.lef --save s",
-        "lefence check x.def x.lef --state s",
+        "lefence check x.def x.lef --state",
+        "lefence check x.def x.lef --state s --state s",
         "lefence replay x.def x.lef --state s --state s",
         "lefence repair x.def",
         "lefence repair x.def x.lef --keep --all",

@@ -16,6 +16,6 @@ returns-in-Err-clause-err c =
       undo = limits.undo;
       revisions = limits.revisions;
     } in
-    told_as Def c.args.path.now c.args.text.now (IsLoadRefusal c.args.library.now (contents c.args.document.now)) c.in-Err.fault c.refused.result
-    (rw (c.def_file.ensures.kind, c.def_file.ensures.path) at c.refused.ensures)
-    (loading c.args.library.now (contents c.args.document.now) c.standard.result c.in-Err.fault standard c.in-Err.ensures.err) (inl refl)
+    let met = c.unloaded.ensures in
+    told_as Def c.args.path.now c.args.text.now (IsLoadRefusal c.args.library.now (contents c.args.document.now)) c.in-Err.fault met.0 c.unloaded.result
+    met.2 (loading c.args.library.now (contents c.args.document.now) c.standard.result c.in-Err.fault standard c.in-Err.ensures.err, met.1) (inl refl, refl)

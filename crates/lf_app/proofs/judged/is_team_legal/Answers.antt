@@ -1,9 +1,8 @@
-use Rattle.std.proofs.Common.{◌≡◌, ◌∙◌, ℕ, List, Some, ap, arith, length, map, subst, sym}
-use Rattle.std.specs.Prelude.{All, slice_get}
+use Rattle.std.proofs.Common.{◌≡◌, ◌∙◌, ℕ, List, ap, arith, length, map, subst, sym}
+use Rattle.std.specs.Prelude.{All}
 use Rattle.std.proofs.Math.ListN.{length-map}
 use Rattle.lf_floorplan.specs.declared.frame.Frame.{Frame}
 use Rattle.lf_cells.specs.Cells.{Cells, cells_of}
-use Rattle.lf_cells.specs.declared.cell.Cell.{Cell}
 use Rattle.lf_rules.specs.declared.report.Listed.{Listed}
 use Rattle.lf_reports.specs.Reports.{IsListed, named}
 use Rattle.lf_reports.proofs.CleanLemmas.{each_named}

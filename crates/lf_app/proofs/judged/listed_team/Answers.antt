@@ -1,11 +1,10 @@
-use Rattle.std.proofs.Common.{◌≡◌, ◌∙◌, ◌<◌, ◌++◌, [], ◌∷◌, List, Some, ap, arith, get_or, length, map, sym, subst, take}
+use Rattle.std.proofs.Common.{◌≡◌, ◌∙◌, ◌<◌, ◌++◌, [], ◌∷◌, Some, ap, arith, get_or, length, map, sym, subst, take}
 use Rattle.std.proofs.lemmas.List.{get_or_default, map_more, take_all}
 use Rattle.std.proofs.lemmas.Option.{get_or_from_slice_get}
 use Rattle.lf_cells.specs.declared.cell.Cell.{Cell}
 use Rattle.lf_cells.specs.declared.cell.CellId.{CellId}
 use Rattle.lf_cells.specs.Cells.{cell_at, cells_of, id_of, ids_of}
 use Rattle.lf_cells.proofs.TeamIds.{ids_long, ids_read}
-use Rattle.lf_rules.specs.declared.report.Listed.{Listed}
 use Rattle.lf_reports.specs.Reports.{named}
 use Rattle.lf_teams.proofs.Standing.{there_within}
 use Rattle.lf_app.specs.Repairs.{committed_listed}

@@ -1,4 +1,4 @@
-use Rattle.std.proofs.Common.{◌≡◌, ◌∙◌, ap, inl, inr, refl}
+use Rattle.std.proofs.Common.{◌∙◌, ap, inl, inr, refl}
 use Rattle.std.proofs.lemmas.Result.{err_from_is_err_and}
 use Rattle.lf_app.specs.Work.{path_of}
 use Rattle.lf_app.proofs.WorkSteps.{blames_as, done_beside, export_blames, fault_beside, outputs_unfinished}
