@@ -13,6 +13,11 @@ W_DEF, W_LEF = DESIGN
 USAGE = "lefence: usage"
 
 
+def line_of(text: str, entry: str) -> int:
+    """The number of the first line that begins so."""
+    return next(at for at, line in enumerate(text.splitlines(), 1) if line.startswith(entry))
+
+
 class Mistakes(unittest.TestCase):
     """Each mistake: the status, what standard error says, and nothing on standard output."""
 
@@ -148,37 +153,28 @@ class Mistakes(unittest.TestCase):
                 where = f"DEF file {W_DEF}, line {number}: {lines[number - 1]}"
                 self.said(["check", W_DEF, str(lef)], 1, f"lefence: {first}", where)
 
-    def test_a_second_component_of_one_name_is_shown(self) -> None:
+    def shown(self, text: str, entry: str, says: str, message: str) -> None:
+        """A check of the DEF text is refused by this message, and shows the last line that begins so, with what is said of it."""
         with tempfile.TemporaryDirectory() as folder:
-            twice = Path(folder) / "twice.def"
-            twice.write_text(DEF.read_text().replace("- a2 INV", "- a1 INV", 1))
-            lines = twice.read_text().splitlines()
-            first, second = (at for at, line in enumerate(lines, 1) if line.startswith("- a1 INV"))
-            where = f"DEF file {twice}, line {second} (the first is in line {first}): {lines[second - 1]}"
-            self.said(["check", str(twice), W_LEF], 1, "lefence: 17 SecondName a1", where)
+            path = Path(folder) / "refused.def"
+            path.write_text(text)
+            at, line = max((at, line) for at, line in enumerate(text.splitlines(), 1) if line.startswith(entry))
+            self.said(["check", str(path), W_LEF], 1, f"lefence: {message}", f"DEF file {path}, line {at} ({says}): {line}")
+
+    def test_a_second_component_of_one_name_is_shown(self) -> None:
+        text = DEF.read_text().replace("- a2 INV", "- a1 INV", 1)
+        self.shown(text, "- a1 INV", f"the first is in line {line_of(text, '- a1 INV')}", "17 SecondName a1")
 
     def test_a_fence_that_meets_another_is_shown_with_that_one(self) -> None:
-        with tempfile.TemporaryDirectory() as folder:
-            meeting = Path(folder) / "meeting.def"
-            others = "- Z ( 0 6000 ) ( 400 8000 ) + TYPE FENCE ;\n- G ( 0 0 ) ( 10000 8000 ) + TYPE GUIDE ;\n"
-            text = DEF.read_text().replace("REGIONS 2 ;\n", f"REGIONS 4 ;\n{others}").replace("- B ( 6000 0 )", "- B ( 3900 0 )")
-            meeting.write_text(text)
-            lines = text.splitlines()
-            first, second = (lines.index(line) + 1 for line in lines if line.startswith(("- A (", "- B (")))
-            where = f"DEF file {meeting}, line {second} (meets fence A of line {first}): {lines[second - 1]}"
-            self.said(["check", str(meeting), W_LEF], 1, "lefence: 21 FencesOverlap B", where)
+        others = "- Z ( 0 6000 ) ( 400 8000 ) + TYPE FENCE ;\n- G ( 0 0 ) ( 10000 8000 ) + TYPE GUIDE ;\n"
+        text = DEF.read_text().replace("REGIONS 2 ;\n", f"REGIONS 4 ;\n{others}").replace("- B ( 6000 0 )", "- B ( 3900 0 )")
+        self.shown(text, "- B (", f"meets fence A of line {line_of(text, '- A (')}", "21 FencesOverlap B")
 
     def test_a_component_of_two_fences_is_shown_with_both(self) -> None:
-        with tempfile.TemporaryDirectory() as folder:
-            twice = Path(folder) / "twice.def"
-            groups = "GROUPS 4 ;\n- all * ;\n"
-            text = DEF.read_text().replace("GROUPS 2 ;\n", groups).replace("- gb b1 + ", "- gc a2 + REGION A ;\n- gb b1 *2 + ")
-            twice.write_text(text)
-            lines = text.splitlines()
-            first, second = (lines.index(line) + 1 for line in lines if line.startswith(("- A (", "- B (")))
-            at = next(at for at, line in enumerate(lines, 1) if line.startswith("- a2 INV"))
-            where = f"DEF file {twice}, line {at} (claimed by fence A of line {first} and fence B of line {second}): {lines[at - 1]}"
-            self.said(["check", str(twice), W_LEF], 1, "lefence: 22 TwoFences a2", where)
+        text = DEF.read_text().replace("GROUPS 2 ;\n", "GROUPS 4 ;\n- all * ;\n")
+        text = text.replace("- gb b1 + ", "- gc a2 + REGION A ;\n- gb b1 *2 + ")
+        claimers = " and ".join(f"fence {fence} of line {line_of(text, f'- {fence} (')}" for fence in "AB")
+        self.shown(text, "- a2 INV", f"claimed by {claimers}", "22 TwoFences a2")
 
     def test_a_def_text_that_is_cut_off(self) -> None:
         with tempfile.TemporaryDirectory() as folder:
