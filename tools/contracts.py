@@ -4,8 +4,9 @@
 
 usage: tools/contracts.py            (from the top) prints all crates, as Markdown, in the order of crates.txt
        tools/contracts.py NAME..     prints these crates
-       tools/contracts.py --check    prints what lacks a comment, and where the table of crates in docs/ARCHITECTURE.md differs from
-                                     the first sentences of the crates; at last 'N items of M crates'; status 1 where anything is printed before
+       tools/contracts.py --check    prints what lacks a comment, what the call in a crate's first lines names and no source declares, and
+                                     where the table of crates in docs/ARCHITECTURE.md differs from the first sentences of the crates; at
+                                     last 'N items of M crates'; status 1 where anything is printed before
        tools/contracts.py --write    writes that table
 """
 
@@ -39,6 +40,12 @@ CLAUSE = re.compile(r"\s*(requires|ensures)\b")
 SEEN = re.compile(r"ghost (Value|invariant) = \{ (.*?) \};", re.S)
 SAYS = {"Value": "Model", "invariant": "It keeps"}
 ENDS = ("{", "{}")
+# What the call in a crate's first lines names: functions, types, variants, fields.
+CODE = re.compile(r"^```\n(.*?)^```", re.M | re.S)
+QUOTED = re.compile(r'b?"[^"]*"|//.*')
+NAMED = re.compile(r"\b([a-z]\w+)(?=\()|\.([a-z]\w+)\b|\b([A-Z]\w+)")
+STD = {"Some", "None", "Ok", "Err", "Global", "is_none"}
+DECLARED = re.compile(r"\b(?:fn|struct|enum|trait|type|const) (\w+)|^ *(?:pub(?:\(crate\))? )?(\w+)\s*(?=[:,({])", re.M)
 
 
 class Item(NamedTuple):
@@ -224,6 +231,15 @@ def lacking(crates: list[str]) -> list[str]:
     return said
 
 
+def unknown(crates: list[str]) -> list[str]:
+    """What the calls in the crates' first lines name, and neither a crate declares nor std's everyday names are."""
+    texts = [path.read_text(encoding="utf-8") for crate in crates for path in Path("crates", crate, "src").rglob("*.rt")]
+    known = {name for text in texts for pair in DECLARED.findall(text) for name in pair} | STD
+    shown = {crate: QUOTED.sub("", "".join(CODE.findall("\n".join(source_of(crate).head)))) for crate in crates}
+    named = {crate: {name for several in NAMED.findall(text) for name in several if name} for crate, text in shown.items()}
+    return [f"crates/{crate}/src: its first lines call {name}, which is not there" for crate in crates for name in sorted(named[crate] - known)]
+
+
 def methods_without(item: Item) -> list[str]:
     """The methods of a trait that have no comment."""
     inner = [(before, line) for before, line in zip(item.text, item.text[1:]) if line.startswith("    fn ")]
@@ -239,7 +255,7 @@ def compare(crates: list[str], is_written: bool) -> int:
     if is_written:
         PAGE.write_text("\n".join([*page[:start], *made, *page[stop:]]), encoding="utf-8")
         return 0
-    said = lacking(crates)
+    said = [*lacking(crates), *unknown(crates)]
     if page[start:stop] != made:
         said += difflib.unified_diff(page[start:stop], made, str(PAGE), "the crates' first sentences", n=0, lineterm="")
         said.append("the table of crates differs: tools/contracts.py --write")
