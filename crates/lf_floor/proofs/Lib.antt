@@ -19,3 +19,4 @@ pub mod Places
 pub mod Asked
 pub mod Saving
 pub mod Numbered
+pub mod Placing

@@ -124,7 +124,7 @@ tables_still old new k others are own fit =
 
 -- ---- the teams of a design as it is loaded
 
-replicate_each : (n k : ℕ) → get_or (replicate {A = List (List Move)} n []) k [] ≡ []
+pub replicate_each : (n k : ℕ) → get_or (replicate {A = List (List Move)} n []) k [] ≡ []
 replicate_each zero k = refl
 replicate_each (suc n) zero = refl
 replicate_each (suc n) (suc k) = replicate_each n k

@@ -28,7 +28,7 @@ use Rattle.lf_state.specs.declared.fault.StateError.TheVariants.{Memory, Fault}
 use Rattle.lf_state.specs.Reading.{FailsAt, state_of}
 use Rattle.lf_state.specs.Saved.{AreOf, IsInRange, SavedTeam, saved_at, team_view, team_views, IsTeamOf as IsSavedTeamOf}
 use Rattle.lf_restore.specs.Saved.{AreDue, AreOfOneDesign, IsRestoredFrom, IsStateText, RestoredIsCommitted, SavedRestores, Tells, map_two, named, named_team, restored, restored_team, saved_design}
-use Rattle.lf_restore.specs.Stands.{stand_of, EntriesFit as StackFits, OthersStay as CellsStay}
+use Rattle.lf_restore.specs.Stands.{entries_in, EntriesFit as StackFits, OthersStay as CellsStay}
 use Rattle.lf_restore.proofs.Telling.{floor_told}
 use Rattle.lf_restore.proofs.Framing.{all_due, last_due, last_restored, still_of_design, team_restored}
 use Rattle.lf_floor.specs.declared.tables.Tables.{Tables}
@@ -158,7 +158,7 @@ module _ (k : ℕ) (old new : Tables) (mid : Tables) (revision padding : ℕ) (s
       ap (λ (xs : List (List (Option ℕ))). slice_index_or xs k []) numbers.sessions
       ∙ get_or-set_same mid.sessions k slots [] (subst (λ (ss : List (List (Option ℕ))). k < length ss) (sym sessions) rows.sessions)
 
-  pub team_is : (cells : List Cell) (entries : List Places) → cells_of mid.placement.cells k ≡ cells → (stand_of mid.placement mid.undo k).entries ≡ entries
+  pub team_is : (cells : List Cell) (entries : List Places) → cells_of mid.placement.cells k ≡ cells → entries_in mid.placement mid.undo k ≡ entries
       → own_team k new ≡ record { cells = cells; revision = revision; entries = entries; slots = slots; padding = padding }
   team_is cells entries cells_are entries_are =
       let own : cells_in k new ≡ cells = ap (λ (p : Placing). cells_of p.cells k) numbers.placement ∙ cells_are in

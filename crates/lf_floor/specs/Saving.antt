@@ -1,12 +1,14 @@
 -- What a state text tells of the tables of a floor.
-use Rattle.std.specs.Prelude.{◌≡◌, ℕ, List, Option, length, map, slice_set}
+use Rattle.std.specs.Prelude.{◌≡◌, ℕ, ◌+◌, ◌<◌, List, [], Option, length, map, replicate, slice_set}
 use Rattle.std.specs.List.{range_with_len}
 use Rattle.lf_undo.specs.Stacks.{stack_of}
 use Rattle.lf_state.specs.Designs.{NamedDesign}
-use Rattle.lf_state.specs.Saved.{SavedTeam, moves_within, state_text}
-use Rattle.lf_restore.specs.Saved.{saved_cell}
+use Rattle.lf_placement.specs.Placings.{BoundsAt, places_of}
+use Rattle.lf_state.specs.Saved.{SavedTeam, moves_within, saved_at, state_text}
+use Rattle.lf_restore.specs.Saved.{map_two, restored_cell, saved_cell}
+use Rattle.lf_restore.specs.Stands.{ArePlaced}
 use Rattle.lf_floor.specs.declared.tables.Tables.{Tables}
-use Rattle.lf_floor.specs.Tables.{cells_in, padding_of, revision_of, sites_in}
+use Rattle.lf_floor.specs.Tables.{cells_in, frame_of, padding_of, revision_of, sites_in}
 use Rattle.lf_sessions.specs.Slots.{slots_of}
 
 -- what is told of the team of that number: of its undo entries the moves of its cells
@@ -34,3 +36,23 @@ pub record HasNumbers (number revision padding : ℕ) (slots : List (Option ℕ)
   pub sessions : new.sessions ≡ slice_set old.sessions number slots
   pub revisions : new.revisions.items ≡ slice_set old.revisions.items number revision
   pub paddings : sites_in new ≡ slice_set (sites_in old) number padding
+
+-- the teams' cells are where the saved teams tell, and there is nothing to undo
+pub record PlacesTeams (saved : List SavedTeam) (old new : Tables) : Type 0 where
+  pub frame : frame_of new ≡ frame_of old
+  pub cells : ArePlaced saved old.placement.cells new.placement.cells
+  pub undo : new.undo.lists ≡ replicate (length (frame_of old).teams + 1) []
+  pub limit : new.undo.limit ≡ (frame_of old).limits.undo
+  pub sessions : new.sessions ≡ old.sessions
+  pub revisions : new.revisions ≡ old.revisions
+  pub paddings : new.paddings ≡ old.paddings
+
+-- the team's cells stand where the saved team tells, it has nothing to undo, and the tally bounds its working places
+pub record AwaitsEntries (number : ℕ) (t : SavedTeam) (tally : List ℕ) (tables : Tables) : Type 0 where
+  pub cells : map_two restored_cell (cells_in number tables) t.cells ≡ cells_in number tables
+  pub none : stack_of tables.undo number ≡ []
+  pub bounds : BoundsAt tables.placement number (places_of (cells_in number tables)) tally
+
+-- so it is for each of these
+abbrev pub EachAwaits : List SavedTeam → List ℕ → Tables → Type 0
+EachAwaits saved tally tables = (number : ℕ) → number < length saved → AwaitsEntries number (saved_at saved number) tally tables

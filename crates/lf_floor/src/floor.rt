@@ -44,7 +44,7 @@ use std::marker::Model;
 #[derive(Drop)]
 pub struct Floor<S: Seeker> {
     pub(crate) alloc: Global,
-    seeker: S,
+    pub(crate) seeker: S,
     pub(crate) tables: Tables,
 }
 

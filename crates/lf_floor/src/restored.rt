@@ -1,6 +1,7 @@
 //! A floor that is restored from a state text.
 
-ghost use Rattle.std.specs.Prelude.{◌≡◌, ◌↔◌, ◌≤◌, [], List, IfErr, IfOk, OnOk, Ok, length};
+ghost use Rattle.std.specs.Prelude.{◌≡◌, ◌≢◌, ◌↔◌, ◌≤◌, ℕ, [], List, IfErr, IfOk, OnOk, Ok, length};
+ghost use Rattle.lf_occupancy.specs.Occupied.{NoLess};
 ghost use Rattle.lf_rules.specs.FullyLegal.{IsFullyLegal};
 ghost use Rattle.lf_teams.specs.Committed.{IsCommittedLegal};
 ghost use Rattle.lf_teams.specs.States.{FloorState};
@@ -8,7 +9,7 @@ ghost use Rattle.lf_state.specs.declared.fault.StateError.TheVariants.{Memory};
 ghost use Rattle.lf_state.specs.Reading.{FailsAt, GivesAt, state_of};
 ghost use Rattle.lf_state.specs.Saved.{SavedTeam, team_view, team_views, IsTeamOf as IsSavedTeamOf};
 ghost use Rattle.lf_restore.specs.Saved.{AreDue, AreOfOneDesign, IsRestoredFrom, IsStateText, named, named_team, restored, restored_team, saved_design};
-ghost use Rattle.lf_floor.specs.Saving.{HasNumbers};
+ghost use Rattle.lf_floor.specs.Saving.{AwaitsEntries, EachAwaits, HasNumbers, PlacesTeams};
 ghost use Rattle.lf_floor.specs.Tables.{AreTables, EntriesFit, HasRows, IsServed, OthersStay, floor_in, frame_of, own_team, teams_in};
 
 use crate::floor::Floor;
@@ -16,9 +17,13 @@ use crate::saved::Told;
 use crate::tables::Tables;
 use lf_floorplan::Frame;
 use lf_legalize::Seeker;
-use lf_restore::{restore_cells, restored_is_committed, saved_restores};
+use lf_occupancy::Tally;
+use lf_restore::{
+    place_teams, restore_entries, restored_is_committed, saved_restores, working_places,
+};
 use lf_rules::Padding;
 use lf_state::{StateError, TeamRow, read_state};
+use lf_undo::UndoStore;
 use std::alloc::{AllocError, Global};
 
 /// A law: a frame has at most 64 session slots for each team.
@@ -45,20 +50,27 @@ fn set_numbers(
     tables.sessions.set_slots(number, slots);
 }
 
-/// Restores the team of that number, of which the row tells.
+/// Restores the team of that number, of which the row tells, where its cells stand already; it has nothing to undo, and the tally
+/// bounds its working places.
 ///
 /// `Err` if an allocation fails.
 fn restore_team(
     alloc: Global,
     tables: &mut Tables,
+    tally: &mut Tally,
     number: usize,
     row: TeamRow,
 ) -> Result<(), AllocError>
     requires served { IsServed number tables.old }
     requires due { IsSavedTeamOf (frame_of tables.old).limits (named_team [] (own_team number tables.old)) (team_view row) }
+    requires room { NoLess tally.old tables.old.placement.held.rooms }
+    requires awaits { AwaitsEntries number (team_view row) tally.old tables.old }
     ensures team { OnOk result (own_team number tables.new ≡ restored_team (own_team number tables.old) (team_view row)) }
     ensures others { OnOk result (OthersStay number tables.old tables.new) }
     ensures fit { OnOk result (EntriesFit number tables.new) }
+    ensures room { OnOk result (NoLess tally.new tables.new.placement.held.rooms) }
+    ensures awaits { (t : SavedTeam) → (other : ℕ) → other ≢ number → AwaitsEntries other t tally.old tables.old
+        → OnOk result (AwaitsEntries other t tally.new tables.new) }
 {
     let TeamRow {
         revision,
@@ -68,24 +80,32 @@ fn restore_team(
         entries,
     } = row;
     slots_are_few(tables.placement.frame());
-    restore_cells(
-        alloc,
+    let places = working_places(alloc, &cells)?;
+    restore_entries(
         &mut tables.placement,
+        tally,
         &mut tables.undo,
         number,
-        &cells,
+        places,
         entries,
     )?;
     set_numbers(tables, number, revision, padding, slots);
     Ok(())
 }
 
-/// Restores the teams of which the rows tell, from the last to the first.
+/// Restores the teams of which the rows tell, from the last to the first, where their cells stand already.
 ///
 /// `Err` if an allocation fails.
-fn restore_teams(alloc: Global, tables: &mut Tables, rows: Vec<TeamRow>) -> Result<(), AllocError>
+fn restore_teams(
+    alloc: Global,
+    tables: &mut Tables,
+    tally: &mut Tally,
+    rows: Vec<TeamRow>,
+) -> Result<(), AllocError>
     requires tables { AreTables tables.old }
     requires due { AreDue (frame_of tables.old).limits (teams_in tables.old) (team_views rows.items) }
+    requires room { NoLess tally.old tables.old.placement.held.rooms }
+    requires each { EachAwaits (team_views rows.items) tally.old tables.old }
     ensures tables { OnOk result (AreTables tables.new) }
     ensures floor { OnOk result (floor_in tables.new ≡ restored (floor_in tables.old) (team_views rows.items)) }
 {
@@ -95,9 +115,50 @@ fn restore_teams(alloc: Global, tables: &mut Tables, rows: Vec<TeamRow>) -> Resu
             unreachable!();
         };
         let number = left.as_slice().len();
-        restore_team(alloc, tables, number, row)?;
+        restore_team(alloc, tables, tally, number, row)?;
     }
     Ok(())
+}
+
+/// The tables with the cells of all teams where the rows tell, and nothing to undo.
+fn place_cells(alloc: Global, tables: Tables, rows: &[TeamRow]) -> Result<Tables, AllocError>
+    requires tables { AreTables tables }
+    requires due { AreDue (frame_of tables).limits (teams_in tables) (team_views rows.now) }
+    ensures { IfOk result (PlacesTeams (team_views rows.now) tables) }
+{
+    let Tables {
+        placement,
+        undo: _,
+        sessions,
+        revisions,
+        paddings,
+    } = tables;
+    let placed = place_teams(alloc, placement, rows)?;
+    let teams = placed.frame().teams.len() + 1;
+    let limit = placed.frame().limits.undo as usize;
+    let undo = UndoStore::build(alloc, teams, limit)?;
+    Ok(Tables {
+        placement: placed,
+        undo,
+        sessions,
+        revisions,
+        paddings,
+    })
+}
+
+/// The tables in the state of which the rows tell: first all cells are placed, and then each team is restored.
+///
+/// `Err` if an allocation fails.
+fn restored_by(alloc: Global, tables: Tables, rows: Vec<TeamRow>) -> Result<Tables, AllocError>
+    requires tables { AreTables tables }
+    requires due { AreDue (frame_of tables).limits (teams_in tables) (team_views rows.items) }
+    ensures tables { IfOk result AreTables }
+    ensures floor { IfOk result (λ now. floor_in now ≡ restored (floor_in tables) (team_views rows.items)) }
+{
+    let mut placed = place_cells(alloc, tables, &rows)?;
+    let mut tally = placed.placement.tally(alloc)?;
+    restore_teams(alloc, &mut placed, &mut tally, rows)?;
+    Ok(placed)
 }
 
 /// What the text tells of the teams.
@@ -110,17 +171,17 @@ fn read_rows(alloc: Global, tables: &Tables, text: &[u8]) -> Result<Vec<TeamRow>
     read_state(alloc, &told, text)
 }
 
-/// Restores the tables from the text.
-fn restore_tables(alloc: Global, tables: &mut Tables, text: &[u8]) -> Result<(), StateError>
-    requires { AreTables tables.old }
-    ensures tables { OnOk result (AreTables tables.new) }
-    ensures restored { OnOk result (IsRestoredFrom (floor_in tables.old) text.now (floor_in tables.new)) }
-    ensures design { OnOk result (AreOfOneDesign (floor_in tables.old) (floor_in tables.new)) }
-    ensures fault { IfErr result (λ error. FailsAt error (state_of (named (floor_in tables.old)) text.now)) }
+/// The tables in the state that the text tells.
+fn restore_tables(alloc: Global, tables: Tables, text: &[u8]) -> Result<Tables, StateError>
+    requires { AreTables tables }
+    ensures tables { IfOk result AreTables }
+    ensures restored { IfOk result (λ now. IsRestoredFrom (floor_in tables) text.now (floor_in now)) }
+    ensures design { IfOk result (λ now. AreOfOneDesign (floor_in tables) (floor_in now)) }
+    ensures fault { IfErr result (λ error. FailsAt error (state_of (named (floor_in tables)) text.now)) }
 {
-    let rows = read_rows(alloc, tables, text)?;
-    match restore_teams(alloc, tables, rows) {
-        Ok(()) => Ok(()),
+    let rows = read_rows(alloc, &tables, text)?;
+    match restored_by(alloc, tables, rows) {
+        Ok(now) => Ok(now),
         Err(_) => Err(StateError::Memory),
     }
 }
@@ -143,9 +204,18 @@ impl<S: Seeker + Drop> Floor<S> {
     {
         saved_restores();
         restored_is_committed();
-        let mut floor = self;
-        match restore_tables(floor.alloc, &mut floor.tables, text) {
-            Ok(()) => Ok(floor),
+        let floor = self;
+        let Floor {
+            alloc,
+            seeker,
+            tables,
+        } = floor;
+        match restore_tables(alloc, tables, text) {
+            Ok(now) => Ok(Floor {
+                alloc,
+                seeker,
+                tables: now,
+            }),
             Err(error) => Err(error),
         }
     }

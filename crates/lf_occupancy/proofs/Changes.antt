@@ -25,12 +25,12 @@ pub record IsBetween (start k end m : ℕ) : Type 0 where
   pub until : m < end
 
 -- nothing is chosen
-pub none_changed : (Chosen : ℕ → Type 0) (Change : ℕ → Lane → Lane → Type 0) (lanes : List Lane) → ((n : ℕ) → Chosen n → ⊥) →
+pub none_changed : {X : Type 0} (Chosen : ℕ → Type 0) (Change : ℕ → X → X → Type 0) (lanes : List X) → ((n : ℕ) → Chosen n → ⊥) →
     AreChanged Chosen Change lanes lanes
 none_changed Chosen Change lanes none = record { many = refl; chosen = λ n e within c. absurd (none n c); others = λ n e within h. refl }
 
 -- the same numbers are chosen
-pub changed_alike : (P Q : ℕ → Type 0) (Change : ℕ → Lane → Lane → Type 0) (old new : List Lane) → ((n : ℕ) → n < length old → P n → Q n) →
+pub changed_alike : {X : Type 0} (P Q : ℕ → Type 0) (Change : ℕ → X → X → Type 0) (old new : List X) → ((n : ℕ) → n < length old → P n → Q n) →
     ((n : ℕ) → n < length old → Q n → P n) → AreChanged P Change old new → AreChanged Q Change old new
 changed_alike P Q Change old new f g a = record {
   many = a.many;
@@ -39,10 +39,10 @@ changed_alike P Q Change old new f g a = record {
 }
 
 -- one more lane is changed
-pub changed_further : (Change : ℕ → Lane → Lane → Type 0) (start k end : ℕ) (old mid : List Lane) (lane new : Lane) → start ≤ k → k < end → k < length mid →
+pub changed_further : {X : Type 0} (Change : ℕ → X → X → Type 0) (start k end : ℕ) (old mid : List X) (lane new : X) → start ≤ k → k < end → k < length mid →
     lane ≡ get_or mid k lane → Change k lane new → AreChanged (IsBetween start k end) Change old mid →
     AreChanged (IsBetween start (k + 1) end) Change old (set mid k new)
-changed_further Change start k end old mid lane new from until within is change a = record {
+changed_further {X} Change start k end old mid lane new from until within is change a = record {
   many = length-set mid k new ∙ a.many;
   chosen = λ n e inner between. elim (order n between.below) [
     | inl less ↦
@@ -54,8 +54,8 @@ changed_further Change start k end old mid lane new from until within is change 
         (arith, h))) in
         let lane_is : lane ≡ get_or old k e = is ∙ get_or_default mid k lane e within ∙ sym here in
         let there : Change k (get_or old k e) (get_or (set mid k new) k e) =
-        subst (λ (l : Lane). Change k (get_or old k e) l) (sym (get_or-set_same mid k new e within))
-        (subst (λ (l : Lane). Change k l new) lane_is change) in
+        subst (λ (l : X). Change k (get_or old k e) l) (sym (get_or-set_same mid k new e within))
+        (subst (λ (l : X). Change k l new) lane_is change) in
         subst (λ (m : ℕ). Change m (get_or old m e) (get_or (set mid k new) m e)) (sym same) there
   ];
   others = λ n e inner never.
@@ -68,7 +68,7 @@ changed_further Change start k end old mid lane new from until within is change 
     order n less = grind arith
 
 -- what lies between the two bisections is what the rectangle reaches in the row
-pub between_is_reached : (xs : List Strip) (row team start k end : ℕ) (rect : Rect) (Change : ℕ → Lane → Lane → Type 0) (old new : List Lane) →
+pub between_is_reached : {X : Type 0} (xs : List Strip) (row team start k end : ℕ) (rect : Rect) (Change : ℕ → X → X → Type 0) (old new : List X) →
     AreNear xs row team rect.x1 rect.x2 start end → end ≤ k → AreChanged (IsBetween start k end) Change old new →
     AreChanged (IsReachedIn xs row team rect) Change old new
 between_is_reached xs row team start k end rect Change old new near past a = changed_alike (IsBetween start k end) (IsReachedIn xs row team rect) Change old new
@@ -97,11 +97,11 @@ other_row xs rows i r team rect n once within is (inner, (k, e, below, same, nea
     once k i r less within (a ∙ sym p ∙ q ∙ b)
 
 -- one more row is changed
-pub rows_further : (Change : ℕ → Lane → Lane → Type 0) (xs : List Strip) (rows : List RowEntry) (i : ℕ) (r : RowEntry) (team : ℕ) (rect : Rect)
-    (old mid new : List Lane) →
+pub rows_further : {X : Type 0} (Change : ℕ → X → X → Type 0) (xs : List Strip) (rows : List RowEntry) (i : ℕ) (r : RowEntry) (team : ℕ) (rect : Rect)
+    (old mid new : List X) →
     AllPairs (λ a b. a.row ≢ b.row) rows → i < length rows → r ≡ get_or rows i r → AreChanged (IsReached xs (take i rows) team rect) Change old mid →
     AreChanged (IsReachedIn xs r.row team rect) Change mid new → AreChanged (IsReached xs (take (i + 1) rows) team rect) Change old new
-rows_further Change xs rows i r team rect old mid new once within is first second = record {
+rows_further {X} Change xs rows i r team rect old mid new once within is first second = record {
   many = second.many ∙ first.many;
   chosen = λ n e inner reached. elim (any_less (Near n) rows i r within is reached.1) [
     | inl before ↦
@@ -110,7 +110,7 @@ rows_further Change xs rows i r team rect old mid new once within is first secon
         (first.chosen n e inner a)
     | inr here ↦
         let b : IsReachedIn xs r.row team rect n = (reached.0, here) in
-        subst (λ (l : Lane). Change n l (get_or new n e)) (first.others n e inner (λ a. other_row xs rows i r team rect n once within is a b))
+        subst (λ (l : X). Change n l (get_or new n e)) (first.others n e inner (λ a. other_row xs rows i r team rect n once within is a b))
         (second.chosen n e (inside n inner) b)
   ];
   others = λ n e inner never.

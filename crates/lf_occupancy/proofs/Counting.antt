@@ -12,7 +12,7 @@ use Rattle.lf_segments.specs.declared.strip.Strip.{Strip}
 use Rattle.lf_occupancy.specs.Occupied.{ArePartOf, FitIn, NoLess, Occupied, cell_box, count_in, felt, meets}
 
 -- 1 for true
-abbrev one_if : Bool → ℕ
+abbrev pub one_if : Bool → ℕ
 one_if b = cond b 1 0
 
 both_true : (a b : Bool) → a && b ≡ true → (a ≡ true) × (b ≡ true)
@@ -23,7 +23,7 @@ both_true false b e = absurd cc
 less_of : (a b : ℤ) → int_lt a b ≡ true → a <ℤ b
 less_of a b e = grind (arith, ints)
 
-of_less : (a b : ℤ) → a <ℤ b → int_lt a b ≡ true
+pub of_less : (a b : ℤ) → a <ℤ b → int_lt a b ≡ true
 of_less a b h = grind (arith, ints)
 
 -- a box meets a strip by its edges where they share a point
@@ -50,7 +50,7 @@ meets_shares g r e = record {
     y : int_max g.area.y1 r.y1 <ℤ int_min g.area.y2 r.y2
     y = less_of (int_max g.area.y1 r.y1) (int_min g.area.y2 r.y2) tests.1
 
-both_are : (a b : Bool) → a ≡ true → b ≡ true → a && b ≡ true
+pub both_are : (a b : Bool) → a ≡ true → b ≡ true → a && b ≡ true
 both_are a b e f = cc
 
 pub shares_meets : (g : Strip) (r : Rect) → SharesPoint g.area r → meets g (Some r) ≡ true
@@ -69,7 +69,7 @@ shares_meets g r s =
     let y : int_max g.area.y1 r.y1 <ℤ int_min g.area.y2 r.y2 = omega (arith, ints, clamps, p, q, t, u) in
     both_are _ _ (of_less _ _ x) (of_less _ _ y)
 
-one_more : (g : Strip) (b : Option Rect) (bs : List (Option Rect)) → count_in g (b ∷ bs) ≡ one_if (meets g b) + count_in g bs
+pub one_more : (g : Strip) (b : Option Rect) (bs : List (Option Rect)) → count_in g (b ∷ bs) ≡ one_if (meets g b) + count_in g bs
 one_more g b bs = sum_by-cons (λ c. one_if (meets g c)) b bs
 
 -- boxes that are part of others

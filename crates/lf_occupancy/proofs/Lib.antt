@@ -18,4 +18,5 @@ pub mod Building
 pub mod Parting
 pub mod Ones
 pub mod Counting
+pub mod Tallying
 pub mod Knowing

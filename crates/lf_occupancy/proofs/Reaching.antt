@@ -115,7 +115,7 @@ decide_near row team lo hi g = elim (eqb_tells g.row row) [
     left : (g.area.x1 <ℤ hi) ⊎ (hi ≤ℤ g.area.x1)
     left = grind (arith, ints)
 
-decide_reached : (xs : List Strip) (run : List RowEntry) (team : ℕ) (rect : Rect) (n : ℕ) → n < length xs →
+pub decide_reached : (xs : List Strip) (run : List RowEntry) (team : ℕ) (rect : Rect) (n : ℕ) → n < length xs →
     IsReached xs run team rect n ⊎ (IsReached xs run team rect n → ⊥)
 decide_reached xs run team rect n within = elim (decide_any P decide run) [ inl a ↦ inl (within, a) | inr none ↦ inr (λ r. none r.1) ]
   where
@@ -128,7 +128,7 @@ decide_reached xs run team rect n within = elim (decide_any P decide run) [ inl 
       | inr not ↦ inr (λ all. not (all no_strip))
     ]
 
-not_of_team : (xs : List Strip) (run : List RowEntry) (team : ℕ) (rect : Rect) (n : ℕ) (d : Strip) → ((get_or xs n d).team ≡ team → ⊥) →
+pub not_of_team : (xs : List Strip) (run : List RowEntry) (team : ℕ) (rect : Rect) (n : ℕ) (d : Strip) → ((get_or xs n d).team ≡ team → ⊥) →
     IsReached xs run team rect n → ⊥
 not_of_team xs run team rect n d other (within, (k, r, below, is, near)) = other (near d).of_team
 
@@ -283,7 +283,7 @@ rooms_out xs run team own rect lanes new many changed = maps_alike (λ (l : Lane
       | inr never ↦ ap (λ (l : Lane). vec_capacity l.marks) (changed.others n e within never)
     ]
 
-order_of : (n m : ℕ) → (n < m) ⊎ (m ≤ n)
+pub order_of : (n m : ℕ) → (n < m) ⊎ (m ≤ n)
 order_of n m = grind arith
 
 -- lanes that take the parts of a box keep their room

@@ -15,7 +15,7 @@ use Rattle.lf_occupancy.proofs.Changes.{IsBetween, changed_alike}
 use Rattle.lf_occupancy.proofs.Finds.{no_strip}
 
 -- each lane of the run is changed
-pub changed_in_run : (near : NearStrips) (k : ℕ) (Change : ℕ → Lane → Lane → Type 0) (old new : List Lane) → near.end ≤ k →
+pub changed_in_run : {X : Type 0} (near : NearStrips) (k : ℕ) (Change : ℕ → X → X → Type 0) (old new : List X) → near.end ≤ k →
     AreChanged (IsBetween near.start k near.end) Change old new → AreChanged (IsOneOf near) Change old new
 changed_in_run near k Change old new past a = changed_alike (IsBetween near.start k near.end) (IsOneOf near) Change old new
     (λ n within b. (b.from, b.until))
@@ -35,7 +35,7 @@ run_is_reached xs row team rect near are n one =
     let inner : n < length xs = omega (arith, bound, until) in
     (inner, λ d. (are.exact n d inner).0 one)
 
-pub changed_in_row : (xs : List Strip) (row team : ℕ) (rect : Rect) (near : NearStrips) (Change : ℕ → Lane → Lane → Type 0) (old new : List Lane) →
+pub changed_in_row : {X : Type 0} (xs : List Strip) (row team : ℕ) (rect : Rect) (near : NearStrips) (Change : ℕ → X → X → Type 0) (old new : List X) →
     AreNear xs row team rect.x1 rect.x2 near.start near.end → AreChanged (IsOneOf near) Change old new →
     AreChanged (IsReachedIn xs row team rect) Change old new
 changed_in_row xs row team rect near Change old new are = changed_alike (IsOneOf near) (IsReachedIn xs row team rect) Change old new

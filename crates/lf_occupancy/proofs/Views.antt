@@ -19,7 +19,7 @@ use Rattle.lf_segments.specs.declared.strip.Strip.{Strip}
 use Rattle.lf_rules.specs.Padding.{wider}
 use Rattle.lf_occupancy.specs.Lanes.{IsLane, IsMarked, LiesInBox, IsLeast, Shown, padded, shown, x_range}
 use Rattle.lf_occupancy.specs.Strips.{AreFreeTo, AreLanes, AreLeft, AreShown, HaveRoom, LiesFree, LiesLeft, MeetsInOne, MeetsStrip, felt_strips, rooms_in}
-use Rattle.lf_occupancy.specs.Occupied.{AreFreeSpans, FitIn, HasRoomFor, IsLeftOver, StandsBut, boxes_of, cell_box, count_in, meets}
+use Rattle.lf_occupancy.specs.Occupied.{AreFreeSpans, Bounds, FitIn, HasRoomFor, IsLeftOver, StandsBut, boxes_of, cell_box, count_in, meets}
 use Rattle.lf_occupancy.specs.Occupied.{Occupied, IsFirstMet, IsFreeInRow, IsFreeOver, IsOther, IsPaddingOf, IsStripOf, MeetsInStrips, across, felt, over, reach}
 use Rattle.lf_occupancy.proofs.Counting.{meets_shares, named_are_counted, shares_meets}
 use Rattle.lf_occupancy.proofs.Finds.{no_strip, some_shown}
@@ -429,6 +429,19 @@ boxes_that_stand_fit o lanes rooms are team n g is of_team =
     let c = ap (λ (ns : List ℕ). get_or ns n 0) rooms in
     let most = (get_or lanes n e).marks.ok.1 in
     omega (arith, a, b, c, most)
+
+-- as many marks as each strip has are no fewer
+pub marks_bound : (o : Occupied) (lanes : List Lane) → AreLanes (felts o) o.boxes lanes → (team : ℕ) →
+    Bounds o team (boxes_of o team) (map (λ l. vec_len l.marks) lanes)
+marks_bound o lanes are team n g is of_team =
+    let around : Strip = felt (reach o) g in
+    let at : slice_get (felts o) n ≡ Some around = made_at (felt (reach o)) o.index.strips n g is in
+    let e = lane_at (felts o) o.boxes lanes n around are at in
+    let within = (strip_is_within (felts o) n around at).0 in
+    let many = are.many in
+    let a = (in_numbers (felts o) o.boxes lanes n around team e are at of_team).count in
+    let b = get_or-map (λ (l : Lane). vec_len l.marks) lanes n e 0 (omega (arith, many, within)) in
+    omega (arith, a, b)
 
 -- room in lanes is room in what a contract sees
 pub room_is_seen : (o : Occupied) (lanes : List Lane) (team : ℕ) (rect : Rect) (more : ℕ) → o.rooms ≡ rooms_in lanes → AreLanes (felts o) o.boxes lanes →

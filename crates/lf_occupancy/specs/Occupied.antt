@@ -131,6 +131,12 @@ abbrev pub FitIn : Occupied → ℕ → List (Option Rect) → Type 0
 FitIn o team boxes =
     (n : ℕ) (g : Strip) → slice_get o.index.strips n ≡ Some g → g.team ≡ team → count_in (felt (reach o) g) boxes ≤ slice_index_or o.rooms n 0
 
+-- the tally, a number for each strip, bounds these boxes of the team's cells: for no strip of the team is it less than how many share
+-- a point with the strip, felt as far around as the reach
+abbrev pub Bounds : Occupied → ℕ → List (Option Rect) → List ℕ → Type 0
+Bounds o team boxes tally =
+    (n : ℕ) (g : Strip) → slice_get o.index.strips n ≡ Some g → g.team ≡ team → count_in (felt (reach o) g) boxes ≤ slice_index_or tally n 0
+
 -- each strip of the team that shares a point with the rectangle, felt as far around as the reach, has room for its boxes and so
 -- many more
 abbrev pub HasRoomFor : Occupied → ℕ → Rect → ℕ → Type 0

@@ -90,11 +90,11 @@ IsReached strips rows team rect n = (n < length strips) × Any (λ r. (d : Strip
 abbrev pub IsReachedIn : List Strip → ℕ → ℕ → Rect → ℕ → Type 0
 IsReachedIn strips row team rect n = (n < length strips) × ((d : Strip) → IsNear row team rect.x1 rect.x2 (slice_index_or strips n d))
 
--- of two lists of lanes, those of the chosen numbers are changed in this way, and the others are the same
-pub record AreChanged (Chosen : ℕ → Type 0) (Change : ℕ → Lane → Lane → Type 0) (old new : List Lane) : Type 0 where
+-- of two lists, the elements of the chosen numbers are changed in this way, and the others are the same
+pub record AreChanged {X : Type 0} (Chosen : ℕ → Type 0) (Change : ℕ → X → X → Type 0) (old new : List X) : Type 0 where
   pub many : length new ≡ length old
-  pub chosen : (n : ℕ) (e : Lane) → n < length old → Chosen n → Change n (slice_index_or old n e) (slice_index_or new n e)
-  pub others : (n : ℕ) (e : Lane) → n < length old → (Chosen n → ⊥) → slice_index_or new n e ≡ slice_index_or old n e
+  pub chosen : (n : ℕ) (e : X) → n < length old → Chosen n → Change n (slice_index_or old n e) (slice_index_or new n e)
+  pub others : (n : ℕ) (e : X) → n < length old → (Chosen n → ⊥) → slice_index_or new n e ≡ slice_index_or old n e
 
 -- each lane holds what it held, and has no less room
 pub record AreKept (old new : List Lane) : Type 0 where

@@ -182,7 +182,7 @@ fn fill_team(
 
 /// A number above that of each of these cells' teams. It is asked of the cells, since no contract says how
 /// many teams a table has.
-fn teams_of(ids: &[CellId]) -> usize
+pub fn teams_of(ids: &[CellId]) -> usize
     ensures { All (λ id. id.team < result) ids.now }
 {
     let mut teams = 0;

@@ -9,6 +9,9 @@
 //! the cells; `filled` brings both together as a `Filled`, of which contracts see the look-ups, the width of a core site, the boxes
 //! of each team, and for each strip how many boxes it has room for.
 //!
+//! A `Tally` counts boxes for each strip, as they would be if some cells were elsewhere. With `fit` there is room for these, where no
+//! cell is moved.
+//!
 //! Lists of free spans rise: each span holds a number, and ends no later than the next ones begin.
 //!
 //! ```
@@ -27,8 +30,11 @@ mod find;
 mod lane;
 mod laws;
 mod occupancy;
+mod tally;
 mod walk;
 
+pub use build::teams_of;
 pub use filled::Filled;
 pub use laws::{strips_cover, strips_feel};
 pub use occupancy::Occupancy;
+pub use tally::Tally;

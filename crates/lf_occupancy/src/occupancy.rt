@@ -1,11 +1,12 @@
 //! The cells in the strips of a frame.
 
-ghost use Rattle.std.specs.Prelude.{◌≡◌, ◌≤ℤ◌, ◌*ℤ◌, [], All, IfOk, IfSome, List, None, OnOk, Option, Some, length, pos, slice_index_or, ℕ};
+ghost use Rattle.std.specs.Prelude.{◌≡◌, ◌≢◌, ◌≤ℤ◌, ◌*ℤ◌, [], All, IfOk, IfSome, List, None, OnOk, Option, Some, length, map, pos, slice_index_or, slice_set, ℕ};
+ghost use Rattle.std.specs.Vec.{vec_len};
 ghost use Rattle.lf_units.specs.declared.area.Rect.{Rect};
 ghost use Rattle.lf_segments.specs.Grounds.{IsGroundOf};
 ghost use Rattle.lf_occupancy.specs.Floorplans.{HaveSize, IsMarkedBy, boxes_in};
 ghost use Rattle.lf_occupancy.specs.Lanes.{IsPlaceX};
-ghost use Rattle.lf_occupancy.specs.Occupied.{AreFreeSpans, FitIn, HasRoomFor, IsPaddingOf, NoLess};
+ghost use Rattle.lf_occupancy.specs.Occupied.{AreFreeSpans, Bounds, FitIn, HasRoomFor, IsPaddingOf, NoLess, cell_box};
 ghost use Rattle.lf_occupancy.specs.Strips.{CanEnter, CanLeave, Holds, IsAt, IsNowhere, boxes_set, filled_by, rooms_in};
 
 use crate::boxes::Boxes;
@@ -13,6 +14,7 @@ use crate::build::lanes_of;
 use crate::change::{reserve_moves, take_in, take_out};
 use crate::filled::Filled;
 use crate::lane::Lane;
+use crate::tally::{Tally, lower, marks_of, raise};
 use lf_cells::{CellId, CellTable};
 use lf_floorplan::Frame;
 use lf_segments::Ground;
@@ -158,6 +160,53 @@ impl Occupancy {
         ensures rooms { NoLess (rooms_in self.old.lanes) (rooms_in self.new.lanes) }
     {
         reserve_moves(&mut self.lanes, &self.index, &self.site, moves)
+    }
+
+    /// How many boxes each strip holds. With `fit` the tally of the boxes that stand becomes that of others.
+    ///
+    /// `Err` if an allocation fails.
+    pub fn tally(&self, alloc: Global) -> Result<Tally, AllocError>
+        ensures is { IfOk result (λ tally. tally ≡ map (λ l. vec_len l.marks) self.now.lanes) }
+        ensures room { IfOk result (λ tally. NoLess tally (rooms_in self.now.lanes)) }
+        ensures bounds { (boxes : List (List (Option Rect))) → (team : ℕ) → Holds self.now boxes
+            → IfOk result (λ tally. Bounds (filled_by self.now boxes) team (slice_index_or boxes team []) tally) }
+    {
+        let counts = marks_of(alloc, self.lanes.as_slice())?;
+        Ok(Tally { counts })
+    }
+
+    /// Counts a box of the team in place of another: if the tally bounds boxes of the team of which one is
+    /// `from`, it bounds those with `to` instead, and what it bounds of other teams it still does. Each strip
+    /// has then room for what is counted; none has less room, and the strips hold the same boxes.
+    ///
+    /// `Err` if an allocation fails: then the tally counts something else, and strips may have gained room.
+    pub fn fit(
+        &mut self,
+        tally: &mut Tally,
+        team: usize,
+        from: &Option<Rect>,
+        to: &Option<Rect>,
+    ) -> Result<(), AllocError>
+        requires { NoLess tally.old (rooms_in self.old.lanes) }
+        ensures room { OnOk result (NoLess tally.new (rooms_in self.new.lanes)) }
+        ensures own { (boxes : List (Option Rect)) → (own : ℕ) → cell_box boxes own ≡ from.now → Bounds (filled_by self.old []) team boxes tally.old
+            → OnOk result (Bounds (filled_by self.new []) team (slice_set boxes own to.now) tally.new) }
+        ensures others { (boxes : List (Option Rect)) → (other : ℕ) → other ≢ team → Bounds (filled_by self.old []) other boxes tally.old
+            → OnOk result (Bounds (filled_by self.new []) other boxes tally.new) }
+        ensures holds { (boxes : List (List (Option Rect))) → Holds self.old boxes → Holds self.new boxes }
+        ensures index { self.new.index ≡ self.old.index }
+        ensures site { self.new.site ≡ self.old.site }
+        ensures rooms { NoLess (rooms_in self.old.lanes) (rooms_in self.new.lanes) }
+    {
+        lower(&mut tally.counts, &self.index, &self.site, team, from);
+        raise(
+            &mut self.lanes,
+            &mut tally.counts,
+            &self.index,
+            &self.site,
+            team,
+            to,
+        )
     }
 
     /// A law: the boxes that the strips hold fit, that is, each strip has room for as many of its team's

@@ -6,3 +6,4 @@ pub mod Keeping
 pub mod Overlapping
 pub mod Judging
 pub mod Counts
+pub mod Tallying

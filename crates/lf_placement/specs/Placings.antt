@@ -15,7 +15,7 @@ use Rattle.lf_rules.specs.Team.{box_in, boxes_beside}
 use Rattle.lf_cells.specs.declared.cell.Cell.{Cell}
 use Rattle.lf_cells.specs.declared.cell.CellId.{CellId}
 use Rattle.lf_cells.specs.Cells.{Cells, cell_at, cells_of, moved}
-use Rattle.lf_occupancy.specs.Occupied.{FitIn, NoLess, Occupied}
+use Rattle.lf_occupancy.specs.Occupied.{Bounds, FitIn, NoLess, Occupied}
 use Rattle.lf_occupancy.specs.Floorplans.{IsOccupancyOf, boxes_in}
 use Rattle.lf_occupancy.specs.Strips.{Holds, Marked, filled_by}
 use Rattle.lf_undo.specs.declared.moves.Move.{Move}
@@ -51,6 +51,10 @@ boxes_at f (c ∷ cs) (place ∷ places) = option_map (λ p. box_in f c.mac (spo
 -- the team's cells have room at these places: each strip of the team for as many boxes as share a point with it
 abbrev pub Fits : Placing → ℕ → Places → Type 0
 Fits p team places = FitIn p.held team (boxes_at p.frame (cells_of p.cells team) places)
+
+-- the tally bounds the boxes of the team's cells at these places
+abbrev pub BoundsAt : Placing → ℕ → Places → List ℕ → Type 0
+BoundsAt p team places tally = Bounds p.held team (boxes_at p.frame (cells_of p.cells team) places) tally
 
 -- ---- moves
 

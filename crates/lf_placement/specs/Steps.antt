@@ -9,7 +9,7 @@ use Rattle.lf_rules.specs.Team.{box_in}
 use Rattle.lf_cells.specs.declared.cell.Cell.{Cell}
 use Rattle.lf_cells.specs.declared.cell.CellId.{CellId}
 use Rattle.lf_cells.specs.Cells.{Cells, cells_of, id_in, moved}
-use Rattle.lf_occupancy.specs.Occupied.{ArePartOf, FitIn, HasRoomFor, Occupied, boxes_of, cell_box}
+use Rattle.lf_occupancy.specs.Occupied.{ArePartOf, FitIn, HasRoomFor, NoLess, Occupied, boxes_of, cell_box}
 use Rattle.lf_occupancy.specs.Strips.{Holds, IsAt, Marked, filled_by, rooms_in}
 use Rattle.lf_occupancy.specs.Floorplans.{box_of}
 use Rattle.lf_undo.specs.declared.moves.Move.{Move}
@@ -63,6 +63,13 @@ pub record KeepsRooms (old new : Marked) : Type 0 where
   pub index : new.index ≡ old.index
   pub site : new.site ≡ old.site
   pub rooms : rooms_in new.lanes ≡ rooms_in old.lanes
+
+-- the strips hold what they held, and none has less room
+pub record GainsRoom (old new : Marked) : Type 0 where
+  pub holds : (boxes : List (List (Option Rect))) → Holds old boxes → Holds new boxes
+  pub index : new.index ≡ old.index
+  pub site : new.site ≡ old.site
+  pub rooms : NoLess (rooms_in old.lanes) (rooms_in new.lanes)
 
 -- the boxes of the team's cells are part of these, which are as many
 pub record IsPartly (team : ℕ) (boxes : List (Option Rect)) (o : Occupied) : Type 0 where

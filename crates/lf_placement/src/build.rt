@@ -7,6 +7,7 @@ ghost use Rattle.lf_occupancy.specs.Floorplans.{HaveSize, IsMarkedBy, boxes_in};
 ghost use Rattle.lf_occupancy.specs.Strips.{Holds};
 ghost use Rattle.lf_placement.specs.Placings.{AreSized, IsPlacing, placing_of};
 
+use crate::tallies::fit_all_committed;
 use lf_cells::CellTable;
 use lf_floorplan::{Frame, Loaded};
 use lf_occupancy::Occupancy;
@@ -40,6 +41,22 @@ fn occupancy_of(alloc: Global, frame: &Frame, cells: &CellTable) -> Result<Occup
 {
     let index = Ground::build(alloc, frame)?;
     Occupancy::build(alloc, frame, index, cells)
+}
+
+/// What stands in the strips of the frame, with room for the cells' committed places.
+pub(crate) fn fitted(
+    alloc: Global,
+    frame: &Frame,
+    cells: &CellTable,
+) -> Result<Occupancy, AllocError>
+    requires sized { AreSized frame.now cells.now }
+    requires few { (team : ℕ) → length (cells_of cells.now team) ≤ 4000000 }
+    ensures holds { IfOk result (λ held. Holds held (boxes_in frame.now cells.now)) }
+    ensures placing { IfOk result (λ held. IsPlacing (placing_of frame.now cells.now held)) }
+{
+    let mut occupancy = occupancy_of(alloc, frame, cells)?;
+    fit_all_committed(alloc, frame, cells, &mut occupancy)?;
+    Ok(occupancy)
 }
 
 /// The tables of a design.

@@ -13,8 +13,17 @@
 //! placement.make(team, &mut moves, 0);
 //! placement.take_back(team, &moves);
 //! ```
+//!
+//! Room for places that a team had before is made where no cell is moved: with a tally of the boxes that stand, moves are taken back
+//! on a list of places.
+//!
+//! ```
+//! let mut tally = placement.tally(alloc)?;
+//! placement.fit_back(&mut tally, team, &mut places, &moves)?;
+//! ```
 #![tactic(auto)]
 
+mod back;
 mod build;
 mod laws;
 mod moving;
@@ -22,6 +31,7 @@ mod placement;
 mod rooms;
 mod strips;
 mod table;
+mod tallies;
 
 pub use laws::{broken_alone_lasts, fits_last};
 pub use placement::Placement;

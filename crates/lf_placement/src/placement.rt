@@ -1,6 +1,6 @@
 //! Where the cells of all teams stand on a frame.
 
-ghost use Rattle.std.specs.Prelude.{◌≡◌, ◌≤◌, ℕ, List, length, None, OnOk, IfOk, Some, drop, map, option_map, take};
+ghost use Rattle.std.specs.Prelude.{◌≡◌, ◌≢◌, ◌<◌, ◌≤◌, ℕ, All, List, length, None, OnOk, IfOk, Some, drop, map, option_map, slice_get, slice_set, take};
 ghost use Rattle.lf_rules.specs.declared.rule.Rule.TheVariants.{Overlap};
 ghost use Rattle.lf_rules.specs.Choice.{spot_of};
 ghost use Rattle.lf_rules.specs.Legalizer.{Legalizer};
@@ -8,17 +8,20 @@ ghost use Rattle.lf_cells.specs.declared.cell.Cell.{Cell};
 ghost use Rattle.lf_cells.specs.Cells.{as_committed, cells_of};
 ghost use Rattle.lf_cells.specs.Openings.{opening_cells, opening_components};
 ghost use Rattle.lf_legalize.specs.Members.{best_of};
-ghost use Rattle.lf_undo.specs.Entries.{taken_back};
-ghost use Rattle.lf_placement.specs.Placings.{AreSized, Fits, HaveMoved, IsBrokenAlone, IsBrokenAt, KeepsRest, OtherCellsStay, SameButRooms};
+ghost use Rattle.lf_occupancy.specs.Occupied.{NoLess};
+ghost use Rattle.lf_undo.specs.Entries.{Places, taken_back};
+ghost use Rattle.lf_placement.specs.Placings.{AreSized, BoundsAt, Fits, HaveMoved, IsBrokenAlone, IsBrokenAt, KeepsRest, OtherCellsStay, SameButRooms};
 ghost use Rattle.lf_placement.specs.Placings.{committed_of, made, places_of};
 
-use crate::build::{Tables, tables_of};
+use crate::back::fit_moves_back;
+use crate::build::{Tables, fitted, tables_of};
 use crate::moving::{commit_places, make_moves, take_back_moves};
 use crate::rooms::make_room;
+use crate::tallies::{Change, fit_change};
 use lf_cells::{CellId, CellTable};
-use lf_floorplan::{Frame, Loaded, Place};
+use lf_floorplan::{Frame, Loaded, PackedPlace, Place};
 use lf_legalize::Seeker;
-use lf_occupancy::{Occupancy, strips_feel};
+use lf_occupancy::{Occupancy, Tally, strips_feel};
 use lf_rules::{Broken, Padding, Rule, broken_alone, overlap_with, padded_box};
 use lf_segments::Plan;
 use lf_undo::{Move, Moves};
@@ -69,6 +72,39 @@ impl Placement {
             cells,
             occupancy,
         })
+    }
+
+    /// The placement of these cells on the frame, at their working places; there is room for their committed
+    /// ones. The macros of the cells are the frame's, of whole size, and no team has more than 4,000,000.
+    ///
+    /// `Err` if an allocation fails; frame and cells are then gone.
+    pub fn of(alloc: Global, frame: Frame, cells: CellTable) -> Result<Placement, AllocError>
+        requires sized { AreSized frame cells }
+        requires few { (team : ℕ) → length (cells_of cells team) ≤ 4000000 }
+        ensures frame { IfOk result (λ placement. placement.frame ≡ frame) }
+        ensures cells { IfOk result (λ placement. placement.cells ≡ cells) }
+    {
+        let occupancy = fitted(alloc, &frame, &cells)?;
+        Ok(Placement {
+            frame,
+            cells,
+            occupancy,
+        })
+    }
+
+    /// The frame and the cells.
+    pub fn into_parts(self) -> (Frame, CellTable)
+        ensures frame { result.0 ≡ self.frame }
+        ensures cells { result.1 ≡ self.cells }
+        ensures sized { AreSized result.0 result.1 }
+        ensures few { (team : ℕ) → length (cells_of result.1 team) ≤ 4000000 }
+    {
+        let Placement {
+            frame,
+            cells,
+            occupancy: _,
+        } = self;
+        (frame, cells)
     }
 
     /// The frame of the design.
@@ -172,6 +208,71 @@ impl Placement {
             team,
             moves,
         )
+    }
+
+    /// How many boxes each strip holds: the tally bounds the working places of each team. With `fit_back` it
+    /// becomes that of places which the team had before.
+    ///
+    /// `Err` if an allocation fails.
+    pub fn tally(&self, alloc: Global) -> Result<Tally, AllocError>
+        ensures room { IfOk result (λ tally. NoLess tally self.now.held.rooms) }
+        ensures bounds { (team : ℕ) → IfOk result (λ tally. BoundsAt self.now team (places_of (cells_of self.now.cells team)) tally) }
+    {
+        self.occupancy.tally(alloc)
+    }
+
+    /// Counts a cell of the team at one place in place of another, and makes the room that is lacking then.
+    ///
+    /// `Err` if an allocation fails: then the tally counts something else.
+    pub(crate) fn fit_change(
+        &mut self,
+        tally: &mut Tally,
+        team: usize,
+        change: &Change,
+    ) -> Result<(), AllocError>
+        requires { NoLess tally.old self.old.held.rooms }
+        ensures room { OnOk result (NoLess tally.new self.new.held.rooms) }
+        ensures own { (places : Places) → slice_get places change.now.own ≡ Some change.now.from → BoundsAt self.old team places tally.old
+            → OnOk result (BoundsAt self.new team (slice_set places change.now.own change.now.to) tally.new) }
+        ensures others { (places : Places) → (other : ℕ) → other ≢ team → BoundsAt self.old other places tally.old
+            → OnOk result (BoundsAt self.new other places tally.new) }
+        ensures same { SameButRooms self.old self.new }
+    {
+        fit_change(
+            &self.frame,
+            &self.cells,
+            &mut self.occupancy,
+            tally,
+            team,
+            change,
+        )
+    }
+
+    /// Takes moves of the team's cells back on a list of places, the last one first, and makes room for the
+    /// places before them, where no cell is moved: the tally bounds the places after the moves, and then those
+    /// before them, which fit; what it bounds of other teams it still does. Taken back so one after the
+    /// other, the newest first, the places before each of a team's undo entries fit.
+    ///
+    /// `Err` if an allocation fails: then the tally counts something else, and some room may have been made.
+    pub fn fit_back(
+        &mut self,
+        tally: &mut Tally,
+        team: usize,
+        places: &mut [PackedPlace],
+        moves: &Moves,
+    ) -> Result<(), AllocError>
+        requires own { All (λ m. m.own < length places.old) moves.now }
+        requires room { NoLess tally.old self.old.held.rooms }
+        requires bounds { BoundsAt self.old team places.old tally.old }
+        ensures places { OnOk result (places.new ≡ taken_back moves.now places.old) }
+        ensures room { OnOk result (NoLess tally.new self.new.held.rooms) }
+        ensures bounds { OnOk result (BoundsAt self.new team places.new tally.new) }
+        ensures fits { OnOk result (Fits self.new team places.new) }
+        ensures others { (at : Places) → (other : ℕ) → other ≢ team → BoundsAt self.old other at tally.old
+            → OnOk result (BoundsAt self.new other at tally.new) }
+        ensures same { SameButRooms self.old self.new }
+    {
+        fit_moves_back(self, tally, team, places, moves)
     }
 
     /// Makes the moves of the team's cells from that one on, in their order, and leaves in each the

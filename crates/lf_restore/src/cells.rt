@@ -1,19 +1,16 @@
-//! A team whose cells and undo entries are restored.
+//! The cells of all teams at their saved places.
 
-ghost use Rattle.std.specs.Prelude.{◌≡◌, ◌≢◌, ◌<◌, ◌≤◌, ℕ, [], All, IfOk, OnOk, length, map};
-ghost use Rattle.lf_cells.specs.Cells.{cells_of};
-ghost use Rattle.lf_undo.specs.Entries.{entries_of};
-ghost use Rattle.lf_undo.specs.Stacks.{stack_of};
-ghost use Rattle.lf_placement.specs.Placings.{SameButPlaces, places_of};
+ghost use Rattle.std.specs.Prelude.{◌≡◌, ◌<◌, IfOk, OnOk, length, map};
+ghost use Rattle.lf_cells.specs.Cells.{as_committed, cells_of, moved};
+ghost use Rattle.lf_placement.specs.Placings.{OtherCellsStay, SameButPlaces, places_of};
+ghost use Rattle.lf_state.specs.Saved.{team_views};
 ghost use Rattle.lf_restore.specs.Saved.{map_two, restored_cell};
-ghost use Rattle.lf_restore.specs.Stands.{EntriesFit, OthersStay, stand_of};
+ghost use Rattle.lf_restore.specs.Stands.{AreAsMany, ArePlaced};
 
-use crate::moving::{commit_at, stand_at};
-use crate::replaying::changes_again;
-use lf_floorplan::PackedPlace;
+use lf_cells::{CellId, CellTable};
+use lf_floorplan::{PackedPlace, Place};
 use lf_placement::Placement;
-use lf_state::{SavedCell, changes_come_back, rewind_all};
-use lf_undo::{Moves, UndoStore};
+use lf_state::{SavedCell, TeamRow};
 use std::alloc::{AllocError, Global};
 
 /// The committed places of the cells.
@@ -27,8 +24,10 @@ fn committed_places(alloc: Global, cells: &[SavedCell]) -> Result<Vec<PackedPlac
     Ok(places)
 }
 
-/// Their working places.
-fn working_places(alloc: Global, cells: &[SavedCell]) -> Result<Vec<PackedPlace>, AllocError>
+/// The working places of the cells.
+///
+/// `Err` if an allocation fails.
+pub fn working_places(alloc: Global, cells: &[SavedCell]) -> Result<Vec<PackedPlace>, AllocError>
     ensures { IfOk result (λ places. places.items ≡ map (λ c. c.working) cells.now) }
 {
     let mut places = Vec::with_capacity(alloc, cells.len())?;
@@ -38,79 +37,90 @@ fn working_places(alloc: Global, cells: &[SavedCell]) -> Result<Vec<PackedPlace>
     Ok(places)
 }
 
-/// Drops all undo entries of the team.
-fn forget(undo: &mut UndoStore, team: usize)
-    requires { team < length undo.old.lists }
-    ensures none { stack_of undo.new team ≡ [] }
-    ensures others { (other : ℕ) → other ≢ team → stack_of undo.new other ≡ stack_of undo.old other }
-    ensures teams { length undo.new.lists ≡ length undo.old.lists }
-    ensures limit { undo.new.limit ≡ undo.old.limit }
+/// Changes the working place of one cell, and nothing else.
+fn set_place(cells: &mut CellTable, id: CellId, place: Option<Place>)
+    ensures own { cells_of cells.new id.team ≡ moved (cells_of cells.old id.team) id.own place }
+    ensures others { OtherCellsStay id.team cells.old cells.new }
 {
-    for _ in 0..undo.depth(team) {
-        undo.pop(team);
+    cells.set_working(id, place);
+}
+
+/// Changes the working place of the team's cell of that position, which there is.
+fn put_at(cells: &mut CellTable, team: usize, own: usize, place: Option<Place>)
+    requires { own < length (cells_of cells.old team) }
+    ensures own { cells_of cells.new team ≡ moved (cells_of cells.old team) own place }
+    ensures others { OtherCellsStay team cells.old cells.new }
+{
+    let Some(id) = cells.cell_of(team, own) else {
+        unreachable!();
+    };
+    set_place(cells, id, place);
+}
+
+/// Changes the working places of the team's cells to these, of which there is one for each.
+fn stand_at(cells: &mut CellTable, team: usize, places: &[PackedPlace])
+    requires { length places.now ≡ length (cells_of cells.old team) }
+    ensures places { places_of (cells_of cells.new team) ≡ places.now }
+    ensures same { SameButPlaces (cells_of cells.old team) (cells_of cells.new team) }
+    ensures others { OtherCellsStay team cells.old cells.new }
+{
+    for own in 0..places.len() {
+        put_at(cells, team, own, places[own].place());
     }
 }
 
-/// Moves the team's cells, which has no undo entries, to these places, so that these are its undo entries.
-///
-/// `Err` if an allocation fails.
-fn make_all(
-    alloc: Global,
-    placement: &mut Placement,
-    undo: &mut UndoStore,
-    team: usize,
-    places: Vec<PackedPlace>,
-    entries: Vec<Moves>,
-) -> Result<(), AllocError>
-    requires team { team < length undo.old.lists }
-    requires none { stack_of undo.old team ≡ [] }
-    requires many { length places.items ≡ length (cells_of placement.old.cells team) }
-    requires few { length entries.items ≤ undo.old.limit }
-    requires own { All (λ moves. All (λ m. m.own < length places.items) moves) entries.items }
-    ensures stand { OnOk result (stand_of placement.new undo.new team
-        ≡ record { places = places.items; entries = entries_of places.items entries.items }) }
-    ensures fit { OnOk result (EntriesFit placement.new undo.new team) }
-    ensures same { OnOk result (SameButPlaces (cells_of placement.old.cells team) (cells_of placement.new.cells team)) }
-    ensures others { OnOk result (OthersStay team placement.old placement.new undo.old undo.new) }
-    ensures teams { length undo.new.lists ≡ length undo.old.lists }
-    ensures limit { undo.new.limit ≡ undo.old.limit }
+/// Commits the team's cells where they stand.
+fn commit(cells: &mut CellTable, team: usize)
+    ensures own { cells_of cells.new team ≡ map as_committed (cells_of cells.old team) }
+    ensures others { OtherCellsStay team cells.old cells.new }
 {
-    changes_come_back();
-    let mut oldest = places;
-    let mut changes = entries;
-    rewind_all(&mut oldest, &mut changes);
-    stand_at(alloc, placement, team, &oldest)?;
-    changes_again(alloc, placement, undo, team, changes)?;
+    cells.commit_team(team);
+}
+
+/// Gives the team's cells, of which there is one for each, their saved places.
+fn place_team(
+    alloc: Global,
+    cells: &mut CellTable,
+    team: usize,
+    saved: &[SavedCell],
+) -> Result<(), AllocError>
+    requires { length saved.now ≡ length (cells_of cells.old team) }
+    ensures cells { OnOk result (cells_of cells.new team ≡ map_two restored_cell (cells_of cells.old team) saved.now) }
+    ensures others { OnOk result (OtherCellsStay team cells.old cells.new) }
+{
+    let committed = committed_places(alloc, saved)?;
+    stand_at(cells, team, &committed);
+    commit(cells, team);
+    let working = working_places(alloc, saved)?;
+    stand_at(cells, team, &working);
     Ok(())
 }
 
-/// Gives the team's cells, of which there is one for each, their saved places, working and committed, and the team these undo
-/// entries in place of its own.
-///
-/// `Err` if an allocation fails.
-pub fn restore_cells(
-    alloc: Global,
-    placement: &mut Placement,
-    undo: &mut UndoStore,
-    team: usize,
-    cells: &[SavedCell],
-    entries: Vec<Moves>,
-) -> Result<(), AllocError>
-    requires team { team < length undo.old.lists }
-    requires many { length cells.now ≡ length (cells_of placement.old.cells team) }
-    requires few { length entries.items ≤ undo.old.limit }
-    requires own { All (λ moves. All (λ m. m.own < length cells.now) moves) entries.items }
-    ensures cells { OnOk result (cells_of placement.new.cells team ≡ map_two restored_cell (cells_of placement.old.cells team) cells.now) }
-    ensures entries { OnOk result ((stand_of placement.new undo.new team).entries ≡ entries_of (map (λ c. c.working) cells.now) entries.items) }
-    ensures fit { OnOk result (EntriesFit placement.new undo.new team) }
-    ensures others { OnOk result (OthersStay team placement.old placement.new undo.old undo.new) }
-    ensures teams { OnOk result (length undo.new.lists ≡ length undo.old.lists) }
-    ensures limit { OnOk result (undo.new.limit ≡ undo.old.limit) }
+/// Gives each team's cells, of which there is one for each, the places that its row tells.
+fn place_in_table(alloc: Global, cells: &mut CellTable, rows: &[TeamRow]) -> Result<(), AllocError>
+    requires { AreAsMany (team_views rows.now) cells.old }
+    ensures { OnOk result (ArePlaced (team_views rows.now) cells.old cells.new) }
 {
-    let committed = committed_places(alloc, cells)?;
-    let working = working_places(alloc, cells)?;
-    forget(undo, team);
-    commit_at(alloc, placement, team, &committed)?;
-    make_all(alloc, placement, undo, team, working, entries)?;
+    for team in 0..rows.len() {
+        place_team(alloc, cells, team, &rows[team].cells)?;
+    }
     Ok(())
+}
+
+/// The placement with each team's cells at the places that its row tells, working and committed. The strips are built anew.
+///
+/// `Err` if an allocation fails; the placement is then gone.
+pub fn place_teams(
+    alloc: Global,
+    placement: Placement,
+    rows: &[TeamRow],
+) -> Result<Placement, AllocError>
+    requires { AreAsMany (team_views rows.now) placement.cells }
+    ensures frame { IfOk result (λ placed. placed.frame ≡ placement.frame) }
+    ensures cells { IfOk result (λ placed. ArePlaced (team_views rows.now) placement.cells placed.cells) }
+{
+    let (frame, cells) = placement.into_parts();
+    let mut placed = cells;
+    place_in_table(alloc, &mut placed, rows)?;
+    Placement::of(alloc, frame, placed)
 }

@@ -3,4 +3,3 @@ pub mod Words
 pub mod Saved
 pub mod Reading
 pub mod Writing
-pub mod Replay

@@ -4,4 +4,4 @@ use Rattle.lf_floor.proofs.restored.restore_tables.Goals as goal
 
 pub returns-in-Ok-clause-design : goal.returns-in-Ok-clause-design
 returns-in-Ok-clause-design c =
-    of_design c.args.tables.now c.restore_teams.new.tables (team_views c.in_ok-rows.rows.items) c.in_ok-rows.ensures.due c.in-Ok.ensures.floor
+    of_design c.args.tables c.in-Ok.now (team_views c.in_ok-rows.rows.items) c.in_ok-rows.ensures.due c.in-Ok.ensures.floor

@@ -1,24 +1,38 @@
-use Rattle.std.proofs.Common.{◌<◌, ◌≤◌, ℕ, length, map, refl, ap, sym, subst, ◌∙◌, arith}
+use Rattle.std.proofs.Common.{◌≡◌, ◌<◌, ◌≤◌, ℕ, List, length, map, refl, ap, sym, subst, ◌∙◌, arith}
 use Rattle.std.proofs.lemmas.List.{length-map}
 use Rattle.lf_floorplan.specs.declared.frame.Frame.{Frame}
-use Rattle.lf_cells.specs.declared.cell.Cell.{Cell}
-use Rattle.lf_undo.specs.Entries.{entries_of}
+use Rattle.lf_cells.specs.Cells.{Cells, cells_of}
+use Rattle.lf_undo.specs.declared.moves.Move.{Move}
+use Rattle.lf_undo.specs.Entries.{Places, entries_of}
+use Rattle.lf_undo.specs.Stacks.{stack_of}
+use Rattle.lf_placement.specs.Placings.{BoundsAt, places_of}
+use Rattle.lf_state.specs.declared.rows.SavedCell.{SavedCell}
+use Rattle.lf_state.specs.Saved.{team_view}
 use Rattle.lf_restore.specs.Saved.{map_two, restored_cell}
 use Rattle.lf_floor.specs.Tables.{cells_in}
 use Rattle.lf_floor.specs.declared.tables.Tables.{Tables}
+use Rattle.lf_floor.proofs.Placing.{stands_there, still_awaits}
 use Rattle.lf_floor.proofs.Saving.{fit_is, others_are, own_cells, team_is}
 use Rattle.lf_floor.proofs.restored.restore_team.Goals as goal
 
-pub restore_cells-requires : goal.restore_cells-requires
-restore_cells-requires c =
+pub restore_entries-requires : goal.restore_entries-requires
+restore_entries-requires c =
+    let k = c.args.number in
     let old = c.args.tables.now in
-    let names = length-map (cells_in c.args.number old) (λ (x : Cell). x.name) in
-    let many = c.requires.due.cells ∙ names in
+    let t = team_view c.args.row in
+    let working : c.in_ok-places.places.items ≡ map (λ c. c.working) c.args.row.cells.items =
+    c.in_ok-places.ensures ∙ ap (λ (cs : List SavedCell). map (λ c. c.working) cs) c.deref.ensures.value in
+    let stand : c.in_ok-places.places.items ≡ places_of (cells_in k old) = working ∙ stands_there k t c.args.tally.now old c.requires.due.cells c.requires.awaits in
+    let many : length c.in_ok-places.places.items ≡ length c.args.row.cells.items =
+    ap (λ (ps : Places). length ps) working ∙ length-map c.args.row.cells.items (λ (s : SavedCell). s.working) in
     record {
       team = c.requires.served.rows.undo;
-      many = ap (λ cs. length cs) c.deref.ensures.value ∙ many;
+      none = c.requires.awaits.none;
       few = subst (λ (n : ℕ). length c.args.row.entries.items ≤ n) (sym c.requires.served.limit) c.requires.due.entries;
-      own = own_cells (length c.deref.result.now) _ c.args.row.entries.items (sym c.requires.due.cells ∙ sym (ap (λ cs. length cs) c.deref.ensures.value)) c.requires.due.own;
+      own = own_cells (length c.in_ok-places.places.items) _ c.args.row.entries.items (sym c.requires.due.cells ∙ sym many) c.requires.due.own;
+      stand = stand;
+      room = c.requires.room;
+      bounds = subst (λ (ps : Places). BoundsAt old.placement k ps c.args.tally.now) (sym stand) c.requires.awaits.bounds;
     }
 
 pub set_numbers-requires : goal.set_numbers-requires
@@ -27,7 +41,7 @@ set_numbers-requires c =
     let most = ap (λ (f : Frame). f.limits.sessions) c.frame.ensures in
     record {
       rows = record {
-        undo = subst (λ (n : ℕ). c.args.number < n) (sym c.in_ok-restore_cells.ensures.teams) rows.undo;
+        undo = subst (λ (n : ℕ). c.args.number < n) (sym c.in_ok-restore_entries.ensures.teams) rows.undo;
         sessions = rows.sessions;
         revisions = rows.revisions;
         paddings = rows.paddings;
@@ -38,25 +52,36 @@ set_numbers-requires c =
 pub returns-clause-team : goal.returns-clause-team
 returns-clause-team c =
     let old = c.args.tables.now in
-    let mid : Tables = record old { placement = c.restore_cells.new.placement; undo = c.restore_cells.new.undo } in
+    let mid : Tables = record old { placement = c.restore_entries.new.placement; undo = c.restore_entries.new.undo } in
     team_is c.args.number old c.set_numbers.new.tables mid c.args.row.revision c.args.row.padding.sites c.args.row.slots.items c.requires.served.rows
-    c.in_ok-restore_cells.ensures.others refl refl refl c.in_ok-restore_cells.ensures.teams c.in_ok-restore_cells.ensures.limit c.set_numbers.ensures
+    c.in_ok-restore_entries.ensures.others refl refl refl c.in_ok-restore_entries.ensures.teams c.in_ok-restore_entries.ensures.limit c.set_numbers.ensures
     (map_two restored_cell (cells_in c.args.number old) c.args.row.cells.items)
     (entries_of (map (λ c. c.working) c.args.row.cells.items) c.args.row.entries.items)
-    (c.in_ok-restore_cells.ensures.cells ∙ ap (λ cs. map_two restored_cell (cells_in c.args.number old) cs) c.deref.ensures.value)
-    (c.in_ok-restore_cells.ensures.entries ∙ ap (λ cs. entries_of (map (λ c. c.working) cs) c.args.row.entries.items) c.deref.ensures.value)
+    (ap (λ (cs : Cells). cells_of cs c.args.number) c.in_ok-restore_entries.ensures.cells ∙ sym c.requires.awaits.cells)
+    (ap (λ (cs : Cells). entries_of (places_of (cells_of cs c.args.number)) (stack_of mid.undo c.args.number)) c.in_ok-restore_entries.ensures.cells
+    ∙ ap (λ (ps : Places). entries_of ps (stack_of mid.undo c.args.number))
+    (sym (stands_there c.args.number (team_view c.args.row) c.args.tally.now old c.requires.due.cells c.requires.awaits))
+    ∙ ap (λ (es : List (List Move)). entries_of (map (λ c. c.working) c.args.row.cells.items) es) c.in_ok-restore_entries.ensures.stack)
 
 pub returns-clause-others : goal.returns-clause-others
 returns-clause-others c =
     let old = c.args.tables.now in
-    let mid : Tables = record old { placement = c.restore_cells.new.placement; undo = c.restore_cells.new.undo } in
+    let mid : Tables = record old { placement = c.restore_entries.new.placement; undo = c.restore_entries.new.undo } in
     others_are c.args.number old c.set_numbers.new.tables mid c.args.row.revision c.args.row.padding.sites c.args.row.slots.items c.requires.served.rows
-    c.in_ok-restore_cells.ensures.others refl refl refl c.in_ok-restore_cells.ensures.teams c.in_ok-restore_cells.ensures.limit c.set_numbers.ensures
+    c.in_ok-restore_entries.ensures.others refl refl refl c.in_ok-restore_entries.ensures.teams c.in_ok-restore_entries.ensures.limit c.set_numbers.ensures
 
 pub returns-clause-fit : goal.returns-clause-fit
 returns-clause-fit c =
     let old = c.args.tables.now in
-    let mid : Tables = record old { placement = c.restore_cells.new.placement; undo = c.restore_cells.new.undo } in
+    let mid : Tables = record old { placement = c.restore_entries.new.placement; undo = c.restore_entries.new.undo } in
     fit_is c.args.number old c.set_numbers.new.tables mid c.args.row.revision c.args.row.padding.sites c.args.row.slots.items c.requires.served.rows
-    c.in_ok-restore_cells.ensures.others refl refl refl c.in_ok-restore_cells.ensures.teams c.in_ok-restore_cells.ensures.limit c.set_numbers.ensures
-    c.in_ok-restore_cells.ensures.fit
+    c.in_ok-restore_entries.ensures.others refl refl refl c.in_ok-restore_entries.ensures.teams c.in_ok-restore_entries.ensures.limit c.set_numbers.ensures
+    c.in_ok-restore_entries.ensures.fit
+
+pub returns-clause-awaits : goal.returns-clause-awaits
+returns-clause-awaits c = λ t other apart awaits.
+    let old = c.args.tables.now in
+    let mid : Tables = record old { placement = c.restore_entries.new.placement; undo = c.restore_entries.new.undo } in
+    still_awaits other t c.args.tally.now c.restore_entries.new.tally old mid c.set_numbers.new.tables c.in_ok-restore_entries.ensures.cells
+    (c.in_ok-restore_entries.ensures.others.stacks other apart) c.set_numbers.ensures.placement c.set_numbers.ensures.undo
+    (λ at bounds. c.in_ok-restore_entries.ensures.tally at other apart bounds) awaits

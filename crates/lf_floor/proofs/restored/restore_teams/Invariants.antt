@@ -1,10 +1,16 @@
 use Rattle.std.proofs.Common.{length}
+use Rattle.lf_occupancy.specs.Occupied.{NoLess}
 use Rattle.lf_state.specs.Saved.{team_views}
+use Rattle.lf_floor.specs.Saving.{EachAwaits}
 use Rattle.lf_floor.proofs.Saving.{AreLeft}
 use Rattle.lf_floor.proofs.restored.restore_teams.Given as goal
 
 abbrev pub invariant-loop-alloc : goal.invariant-loop-alloc
-invariant-loop-alloc l = AreLeft l.fn.tables l.tables (team_views l.fn.rows.items) (team_views l.left.items)
+invariant-loop-alloc l = record {
+  left : AreLeft l.fn.tables l.tables (team_views l.fn.rows.items) (team_views l.left.items);
+  room : NoLess l.tally l.tables.placement.held.rooms;
+  each : EachAwaits (team_views l.left.items) l.tally l.tables;
+}
 
 abbrev pub decreases-loop-alloc : goal.decreases-loop-alloc
 decreases-loop-alloc l = length l.left.items

@@ -11,12 +11,12 @@ use Rattle.lf_floor.proofs.floor.Floor.restore.Goals as goal
 
 pub returns-in-Ok-clause-again : goal.returns-in-Ok-clause-again
 returns-in-Ok-clause-again g c = λ saved one is.
-    back_again c.saved_restores.ensures (floor_in c.floor.inside.tables) saved (floor_in c.restore_tables.new.tables) c.args.text.now c.in-Ok.ensures.restored
+    back_again c.saved_restores.ensures (floor_in c.floor.inside.tables) saved (floor_in c.in-Ok.now) c.args.text.now c.in-Ok.ensures.restored
     (subst (λ (f : FloorState). AreOfOneDesign f saved) (sym c.floor.view_is) one) is
 
 pub returns-in-Ok-clause-legal : goal.returns-in-Ok-clause-legal
 returns-in-Ok-clause-legal g c = λ saved read.
-    let now = floor_in c.restore_tables.new.tables in
+    let now = floor_in c.in-Ok.now in
     subst (λ (f : FloorState). IsCommittedLegal now ↔ IsFullyLegal f.frame (saved_design f saved)) c.floor.view_is
     (legal_told c.restored_is_committed.ensures (floor_in c.floor.inside.tables) now c.args.text.now saved c.in-Ok.ensures.restored
     (subst (λ (f : FloorState). state_of (named f) c.args.text.now ≡ Ok saved) (sym c.floor.view_is) read))

@@ -1,0 +1,204 @@
+-- Tables whose teams' cells are placed first, and that then await their undo entries.
+use Rattle.std.proofs.Common.{◌≡◌, ◌≢◌, ◌<◌, ℕ, zero, suc, ◌+◌, List, [], ◌∷◌, ◌++◌, length, map, Option, refl, ap, sym, subst, ◌∙◌, arith}
+use Rattle.std.specs.Prelude.{All, slice_index_or}
+use Rattle.std.proofs.lemmas.List.{length-append, length-map, length-replicate}
+use Rattle.std.proofs.lemmas.List.Elements.{All-nil}
+use Rattle.lf_floorplan.specs.declared.frame.Frame.{Frame}
+use Rattle.lf_cells.specs.declared.cell.Cell.{Cell}
+use Rattle.lf_cells.specs.Cells.{Cells, cells_of}
+use Rattle.lf_sessions.specs.Slots.{slots_of}
+use Rattle.lf_undo.specs.declared.moves.Move.{Move}
+use Rattle.lf_undo.specs.Entries.{Places, entries_of}
+use Rattle.lf_undo.specs.Stacks.{Stacks, stack_of}
+use Rattle.lf_placement.specs.Placings.{BoundsAt, Fits, Placing, places_of}
+use Rattle.lf_teams.specs.States.{FloorState, TeamState}
+use Rattle.lf_teams.specs.Steps.{floor_of}
+use Rattle.lf_teams.specs.Teams.{IsTeamOf}
+use Rattle.lf_state.specs.Designs.{NamedTeam}
+use Rattle.lf_state.specs.Saved.{SavedTeam, saved_at, IsTeamOf as IsSavedTeamOf}
+use Rattle.lf_restore.specs.Saved.{AreDue, map_two, named_team, restored, restored_cell, restored_team}
+use Rattle.lf_restore.specs.Stands.{AreAsMany}
+use Rattle.lf_restore.proofs.Framing.{cells_names, due_at, due_each, due_many, restored_each, restored_twice, team_placed, working_restored}
+use Rattle.lf_floor.specs.declared.tables.Tables.{Tables}
+use Rattle.lf_floor.specs.Saving.{AwaitsEntries, EachAwaits, PlacesTeams}
+use Rattle.lf_floor.specs.Tables.{AreTables, EntriesFit, cells_in, floor_in, frame_of, own_team, padding_of, revision_of, team_with, teams_in}
+use Rattle.lf_floor.proofs.Rows.{count_teams, each_team, replicate_each, team_at}
+
+-- ---- all teams' cells are placed
+
+module _ (saved : List SavedTeam) (old : Tables) (are : AreTables old) (due : AreDue (frame_of old).limits (teams_in old) saved) where
+  long : length saved ≡ length old.revisions.items
+  long = due_many (frame_of old).limits (teams_in old) saved due ∙ count_teams old
+
+  due_here : (k : ℕ) → k < length saved → IsSavedTeamOf (frame_of old).limits (named_team [] (own_team k old)) (saved_at saved k)
+  due_here k less =
+      subst (λ (s : TeamState). IsSavedTeamOf (frame_of old).limits (named_team [] s) (saved_at saved k))
+      (team_at old k (own_team k old) (subst (λ (n : ℕ). k < n) long less))
+      (due_at (frame_of old).limits (teams_in old) saved k (own_team k old) due less)
+
+  pub as_many : AreAsMany saved old.placement.cells
+  as_many = λ k less. (due_here k less).cells ∙ length-map (cells_in k old) (λ (c : Cell). c.name)
+
+  module _ (new : Tables) (placed : PlacesTeams saved old new) where
+    none_there : (k : ℕ) → stack_of new.undo k ≡ []
+    none_there k = ap (λ (xs : List (List (List Move))). slice_index_or xs k []) placed.undo ∙ replicate_each (length (frame_of old).teams + 1) k
+
+    own_cells : (k : ℕ) → k < length saved → cells_in k new ≡ map_two restored_cell (cells_in k old) (saved_at saved k).cells
+    own_cells k less = placed.cells.cells k less
+
+    still_cells : (k : ℕ) → k < length saved → map_two restored_cell (cells_in k new) (saved_at saved k).cells ≡ cells_in k new
+    still_cells k less =
+        ap (λ (cs : List Cell). map_two restored_cell cs (saved_at saved k).cells) (own_cells k less)
+        ∙ restored_twice (cells_in k old) (saved_at saved k).cells
+        ∙ sym (own_cells k less)
+
+    pub each_awaits : (tally : List ℕ) → ((k : ℕ) → BoundsAt new.placement k (places_of (cells_in k new)) tally) → EachAwaits saved tally new
+    each_awaits tally bounds = λ k less. record { cells = still_cells k less; none = none_there k; bounds = bounds k }
+
+    placed_team : (k : ℕ) → k < length saved → own_team k new
+        ≡ record {
+          cells = map_two restored_cell (cells_in k old) (saved_at saved k).cells;
+          revision = revision_of old k;
+          entries = [];
+          slots = slots_of old.sessions k;
+          padding = padding_of old k;
+        }
+    placed_team k less =
+        let now : List Cell = map_two restored_cell (cells_in k old) (saved_at saved k).cells in
+        let revision_is : revision_of new k ≡ revision_of old k = ap (λ rs. slice_index_or rs.items k 0) placed.revisions in
+        let padding_is : padding_of new k ≡ padding_of old k = ap (λ ps. slice_index_or (map (λ p. p.sites) ps.items) k 0) placed.paddings in
+        let slots_are : slots_of new.sessions k ≡ slots_of old.sessions k = ap (λ (ss : List (List (Option ℕ))). slice_index_or ss k []) placed.sessions in
+        ap (λ (cs : List Cell). team_with k cs new) (own_cells k less)
+        ∙ ap (λ (st : List (List Move)). record { cells = now; revision = revision_of new k; entries = entries_of (places_of now) st; slots = slots_of new.sessions k; padding = padding_of new k }) (none_there k)
+        ∙ ap (λ (n : ℕ). record { cells = now; revision = n; entries = []; slots = slots_of new.sessions k; padding = padding_of new k }) revision_is
+        ∙ ap (λ (ss : List (Option ℕ)). record { cells = now; revision = revision_of old k; entries = []; slots = ss; padding = padding_of new k }) slots_are
+        ∙ ap (λ (n : ℕ). record { cells = now; revision = revision_of old k; entries = []; slots = slots_of old.sessions k; padding = n }) padding_is
+
+    -- one team more than fences
+    teams_many : length (frame_of old).teams + 1 ≡ length (frame_of new).teams + 1
+    teams_many = ap (λ (f : Frame). length f.teams + 1) (sym placed.frame)
+
+    revisions_many : length new.revisions.items ≡ length old.revisions.items
+    revisions_many = ap (λ rs. length rs.items) placed.revisions
+
+    new_many : length (teams_in new) ≡ length saved
+    new_many = count_teams new ∙ revisions_many ∙ sym long
+
+    within : (k : ℕ) → k < length saved → k < length new.revisions.items
+    within k less = subst (λ (n : ℕ). k < n) (long ∙ sym revisions_many) less
+
+    one_team : (k : ℕ) → k < length saved → IsTeamOf (frame_of old) (own_team k new)
+    one_team k less =
+        subst (λ (s : TeamState). IsTeamOf (frame_of old) s) (sym (placed_team k less))
+        (team_placed (frame_of old) (own_team k old) (saved_at saved k).cells
+        (each_team (λ t. IsTeamOf (frame_of old) t) old k are.teams (subst (λ (n : ℕ). k < n) long less)) (as_many k less))
+
+    all_teams : All (λ t. IsTeamOf (frame_of new) t) (teams_in new)
+    all_teams = λ k d less.
+        let there : k < length saved = subst (λ (n : ℕ). k < n) new_many less in
+        subst (λ (f : Frame). IsTeamOf f (slice_index_or (teams_in new) k d)) (sym placed.frame)
+        (subst (λ (s : TeamState). IsTeamOf (frame_of old) s) (sym (team_at new k d (within k there))) (one_team k there))
+
+    no_entries : (k : ℕ) → EntriesFit k new
+    no_entries k =
+        subst (λ (stack : List (List Move)). All (λ (places : Places). Fits new.placement k places) (entries_of (places_of (cells_in k new)) stack))
+        (sym (none_there k)) (All-nil (λ (places : Places). Fits new.placement k places))
+
+    pub tables_placed : AreTables new
+    tables_placed = record {
+      components = ap (λ (cs : List (List ℕ)). length cs) placed.cells.components ∙ are.components ∙ teams_many;
+      undo = ap (λ (xs : List (List (List Move))). length xs) placed.undo ∙ length-replicate (length (frame_of old).teams + 1) [] ∙ teams_many;
+      sessions = ap (λ (ss : List (List (Option ℕ))). length ss) placed.sessions ∙ are.sessions ∙ teams_many;
+      revisions = revisions_many ∙ are.revisions ∙ teams_many;
+      paddings = ap (λ ps. length (map (λ p. p.sites) ps.items)) placed.paddings ∙ are.paddings ∙ teams_many;
+      limit = placed.limit ∙ ap (λ (f : Frame). f.limits.undo) (sym placed.frame);
+      teams = all_teams;
+      fit = no_entries;
+    }
+
+    same_named : (k : ℕ) → k < length saved → named_team [] (own_team k new) ≡ named_team [] (own_team k old)
+    same_named k less =
+        ap (λ (cs : List Cell). record { name = []; cells = map (λ c. c.name) cs }) (own_cells k less)
+        ∙ ap (λ (ns : List (List ℕ)). record { name = []; cells = ns }) (cells_names (cells_in k old) (saved_at saved k).cells (as_many k less))
+
+    pub due_placed : AreDue (frame_of new).limits (teams_in new) saved
+    due_placed =
+        let d = own_team 0 old in
+        subst (λ (f : Frame). AreDue f.limits (teams_in new) saved) (sym placed.frame)
+        (due_each (frame_of old).limits (teams_in new) saved d (sym new_many)
+        (λ k less. subst (λ (s : TeamState). IsSavedTeamOf (frame_of old).limits (named_team [] s) (saved_at saved k)) (sym (team_at new k d (within k less)))
+        (subst (λ (t : NamedTeam). IsSavedTeamOf (frame_of old).limits t (saved_at saved k)) (sym (same_named k less)) (due_here k less))))
+
+    same_restored : (k : ℕ) → k < length saved → restored_team (own_team k new) (saved_at saved k) ≡ restored_team (own_team k old) (saved_at saved k)
+    same_restored k less =
+        let t = saved_at saved k in
+        ap (λ (cs : List Cell). restored_team (team_with k cs new) t) (own_cells k less)
+        ∙ ap (λ (cs : List Cell). record { cells = cs; revision = t.revision; entries = entries_of (map (λ c. c.working) t.cells) t.entries; slots = t.slots; padding = t.padding })
+        (restored_twice (cells_in k old) t.cells)
+
+    same_teams : map_two restored_team (teams_in new) saved ≡ map_two restored_team (teams_in old) saved
+    same_teams =
+        let d = own_team 0 old in
+        restored_each (teams_in new) (teams_in old) saved d new_many (count_teams old ∙ sym long)
+        (λ k less. ap (λ (s : TeamState). restored_team s (saved_at saved k)) (team_at new k d (within k less))
+        ∙ same_restored k less
+        ∙ sym (ap (λ (s : TeamState). restored_team s (saved_at saved k)) (team_at old k d (subst (λ (n : ℕ). k < n) long less))))
+
+    -- what is restored of the placed cells is restored of those before
+    pub floor_placed : (floor : FloorState) → floor ≡ restored (floor_in new) saved → floor ≡ restored (floor_in old) saved
+    floor_placed floor is =
+        is
+        ∙ ap (λ (f : Frame). floor_of f new.placement.cells.components (map_two restored_team (teams_in new) saved)) placed.frame
+        ∙ ap (λ (cs : List (List ℕ)). floor_of (frame_of old) cs (map_two restored_team (teams_in new) saved)) placed.cells.components
+        ∙ ap (floor_of (frame_of old) old.placement.cells.components) same_teams
+
+-- ---- one team after the other gets its entries
+
+pub still_awaits : (other : ℕ) (t : SavedTeam) (before after : List ℕ) (old mid new : Tables) → mid.placement.cells ≡ old.placement.cells
+    → stack_of mid.undo other ≡ stack_of old.undo other → new.placement ≡ mid.placement → new.undo ≡ mid.undo
+    → ((at : Places) → BoundsAt old.placement other at before → BoundsAt mid.placement other at after)
+    → AwaitsEntries other t before old → AwaitsEntries other t after new
+still_awaits other t before after old mid new cells stack placement undo bounds awaits =
+    let same : cells_in other new ≡ cells_in other old =
+    ap (λ (p : Placing). cells_of p.cells other) placement ∙ ap (λ (cs : Cells). cells_of cs other) cells in
+    record {
+      cells = ap (λ (cs : List Cell). map_two restored_cell cs t.cells) same ∙ awaits.cells ∙ sym same;
+      none = ap (λ (u : Stacks (List Move)). stack_of u other) undo ∙ stack ∙ awaits.none;
+      bounds =
+          subst (λ (p : Placing). BoundsAt p other (places_of (cells_of p.cells other)) after) (sym placement)
+          (subst (λ (cs : Cells). BoundsAt mid.placement other (places_of (cells_of cs other)) after) (sym cells)
+          (bounds (places_of (cells_in other old)) awaits.bounds));
+    }
+
+-- where the team's cells stand
+pub stands_there : (number : ℕ) (t : SavedTeam) (tally : List ℕ) (tables : Tables) → length t.cells ≡ length (map (λ c. c.name) (cells_in number tables))
+    → AwaitsEntries number t tally tables → map (λ c. c.working) t.cells ≡ places_of (cells_in number tables)
+stands_there number t tally tables many awaits =
+    sym (working_restored (cells_in number tables) t.cells (many ∙ length-map (cells_in number tables) (λ (c : Cell). c.name)))
+    ∙ ap (λ (cs : List Cell). places_of cs) awaits.cells
+
+-- the last of those that are left, and the others
+saved_last : (rest : List SavedTeam) (t : SavedTeam) → saved_at (rest ++ t ∷ []) (length rest) ≡ t
+saved_last [] t = refl
+saved_last (s ∷ rest) t = saved_last rest t
+
+saved_first : (rest : List SavedTeam) (t : SavedTeam) (k : ℕ) → k < length rest → saved_at (rest ++ t ∷ []) k ≡ saved_at rest k
+saved_first [] t k less = absurd (omega (arith, less))
+saved_first (s ∷ rest) t zero less = refl
+saved_first (s ∷ rest) t (suc k) less = saved_first rest t k (omega (arith, less))
+
+module _ (rest left : List SavedTeam) (t : SavedTeam) (tally : List ℕ) (tables : Tables) (is : left ≡ rest ++ t ∷ []) (each : EachAwaits left tally tables) where
+  more : length left ≡ length rest + 1
+  more = ap (λ (l : List SavedTeam). length l) is ∙ length-append rest (t ∷ [])
+
+  pub last_awaits : (k : ℕ) → k ≡ length rest → AwaitsEntries k t tally tables
+  last_awaits k at =
+      subst (λ (u : SavedTeam). AwaitsEntries k u tally tables)
+      (ap (λ (l : List SavedTeam). saved_at l k) is ∙ ap (λ (n : ℕ). saved_at (rest ++ t ∷ []) n) at ∙ saved_last rest t)
+      (each k (omega (arith, at, more)))
+
+  pub rest_awaits : (k : ℕ) → k ≡ length rest → (after : List ℕ) (new : Tables)
+      → ((u : SavedTeam) (other : ℕ) → other ≢ k → AwaitsEntries other u tally tables → AwaitsEntries other u after new) → EachAwaits rest after new
+  rest_awaits k at after new stay = λ n less.
+      stay (saved_at rest n) n (λ same. absurd (omega (arith, less, same, at)))
+      (subst (λ (u : SavedTeam). AwaitsEntries n u tally tables) (ap (λ (l : List SavedTeam). saved_at l n) is ∙ saved_first rest t n less) (each n (omega (arith, less, more))))

@@ -1,0 +1,191 @@
+-- How the counts of strips change where a cell's box is elsewhere.
+use Rattle.std.proofs.Common.{◌≡◌, ◌≢◌, ◌⊎◌, inl, inr, ℕ, zero, suc, ◌+◌, ◌<◌, ◌≤◌, Bool, true, false, List, [], ◌∷◌, Option, Some, None, length, get_or, set, map, refl, sym, ap, subst, ◌∙◌, arith}
+use Rattle.std.specs.Prelude.{All, slice_get}
+use Rattle.std.specs.Vec.{vec_capacity, vec_len}
+use Rattle.std.proofs.lemmas.Bool.Decides.{eqb_tells}
+use Rattle.std.proofs.lemmas.List.{get_or-set_same, get_or-set_other, get_or_past, get_or-map, length-map, length-set, map-set}
+use Rattle.std.proofs.lemmas.Option.{get_or_from_slice_get, slice_get_within}
+use Rattle.lf_units.specs.declared.area.Rect.{Rect}
+use Rattle.lf_segments.specs.declared.rows_by_y.RowEntry.{RowEntry}
+use Rattle.lf_segments.specs.declared.strip.Strip.{Strip}
+use Rattle.lf_segments.specs.Grounds.{Lookups}
+use Rattle.lf_segments.specs.Strips.{AreRowsNear}
+use Rattle.lf_occupancy.specs.declared.lane.Lane.{Lane}
+use Rattle.lf_occupancy.specs.Lanes.{IsWhole, part_in}
+use Rattle.lf_occupancy.specs.Occupied.{Bounds, NoLess, Occupied, cell_box, count_in, felt, meets, reach}
+use Rattle.lf_occupancy.specs.Strips.{AreChanged, IsReached, rooms_in}
+use Rattle.lf_occupancy.specs.Tallies.{IsHigher, IsLess, IsLessAt, IsLower, IsMore}
+use Rattle.lf_occupancy.proofs.Around.{IsFelt}
+use Rattle.lf_occupancy.proofs.Changes.{some_lane}
+use Rattle.lf_occupancy.proofs.Counting.{both_are, meets_shares, of_less, one_if, one_more}
+use Rattle.lf_occupancy.proofs.Finds.{no_strip}
+use Rattle.lf_occupancy.proofs.Lists.{made_at}
+use Rattle.lf_occupancy.proofs.Reaching.{decide_reached, not_of_team, order_of, point_is_reached}
+use Rattle.lf_occupancy.proofs.Views.{felts}
+
+-- one box in place of another: the new one is counted, and the other is not
+pub set_counts : (g : Strip) (boxes : List (Option Rect)) (own : ℕ) (to : Option Rect) →
+    (count_in g (set boxes own to) + count_in g (cell_box boxes own ∷ [])) ≤ count_in g boxes + count_in g (to ∷ [])
+set_counts g [] own to =
+    let none = one_more g None [] in
+    omega (arith, none)
+set_counts g (b ∷ bs) zero to =
+    let after = one_more g to bs in
+    let before = one_more g b bs in
+    let here = one_more g b [] in
+    let there = one_more g to [] in
+    omega (arith, after, before, here, there)
+set_counts g (b ∷ bs) (suc own) to =
+    let rest = set_counts g bs own to in
+    let after = one_more g b (set bs own to) in
+    let before = one_more g b bs in
+    omega (arith, rest, after, before)
+
+-- a box is counted once or not at all
+yes_or_no : (b : Bool) → (b ≡ true) ⊎ (b ≡ false)
+yes_or_no true = inl refl
+yes_or_no false = inr refl
+
+counted : (g : Strip) (box : Option Rect) → meets g box ≡ true → count_in g (box ∷ []) ≡ 1
+counted g box it_does = one_more g box [] ∙ ap (λ (b : Bool). one_if b + 0) it_does
+
+not_counted : (g : Strip) (box : Option Rect) → meets g box ≡ false → count_in g (box ∷ []) ≡ 0
+not_counted g box it_does_not = one_more g box [] ∙ ap (λ (b : Bool). one_if b + 0) it_does_not
+
+not_whole : (g : Strip) (rect : Rect) → meets g (Some rect) ≡ false → IsWhole (part_in g.area rect) → ⊥
+not_whole g rect it_does_not whole = clash (meets g (Some rect)) (both_are _ _ (of_less _ _ whole.wide) (of_less _ _ whole.high)) it_does_not
+  where
+    clash : (b : Bool) → b ≡ true → b ≡ false → ⊥
+    clash b a_yes a_no = cc
+
+-- one less is counted where the box was
+less_counts : (g : Strip) (rect : Rect) (old new : ℕ) → IsLess g.area rect old new → old ≤ new + count_in g (Some rect ∷ [])
+less_counts g rect old new less = elim (yes_or_no (meets g (Some rect))) [
+  | inl it_does ↦ let one = counted g (Some rect) it_does in let least = less.least in omega (arith, one, least)
+  | inr it_does_not ↦ let same = less.same (not_whole g rect it_does_not) in omega (arith, same)
+]
+
+-- a number past the end of both lists
+past_both : (old new : List ℕ) (n : ℕ) → length new ≡ length old → length old ≤ n → get_or new n 0 ≡ get_or old n 0
+past_both old new n many past = get_or_past new n 0 (omega (arith, many, past)) ∙ sym (get_or_past old n 0 past)
+
+pub lower_of_reached : (xs : List Strip) (rows : List RowEntry) (team : ℕ) (rect : Rect) (old new : List ℕ) → length old ≡ length xs →
+    AreChanged (IsReached xs rows team rect) (IsLessAt xs rect) old new → IsLower xs team (Some rect) old new
+lower_of_reached xs rows team rect old new many changed = record {
+  many = changed.many;
+  most = λ n. elim (order_of n (length old)) [
+    | inl within ↦ elim (decide_reached xs rows team rect n (omega (arith, within, many))) [
+      | inl reached ↦ (changed.chosen n 0 within reached no_strip).most
+      | inr never ↦ let same = changed.others n 0 within never in omega (arith, same)
+    ]
+    | inr past ↦ let same = past_both old new n changed.many past in omega (arith, same)
+  ];
+  least = λ n d within. elim (decide_reached xs rows team rect n within) [
+    | inl reached ↦ less_counts (get_or xs n d) rect (get_or old n 0) (get_or new n 0) (changed.chosen n 0 (omega (arith, within, many)) reached d)
+    | inr never ↦ let same = changed.others n 0 (omega (arith, within, many)) never in omega (arith, same)
+  ];
+  others = λ n d within other. changed.others n 0 (omega (arith, within, many)) (not_of_team xs rows team rect n d other);
+}
+
+pub higher_of_reached : (s : Lookups) (rows : List RowEntry) (team : ℕ) (rect : Rect) (old new : List ℕ) → All (IsFelt s.rows s.height) s.strips →
+    AreRowsNear s.rows s.height rect rows → length old ≡ length s.strips → AreChanged (IsReached s.strips rows team rect) IsMore old new →
+    IsHigher s.strips team (Some rect) old new
+higher_of_reached s rows team rect old new strips near many changed = record { many = changed.many; least = least; more = more } where
+  xs : List Strip
+  xs = s.strips
+
+  least : (n : ℕ) → get_or old n 0 ≤ get_or new n 0
+  least n = elim (order_of n (length old)) [
+    | inl within ↦ elim (decide_reached xs rows team rect n (omega (arith, within, many))) [
+      | inl reached ↦ let one = changed.chosen n 0 within reached in omega (arith, one)
+      | inr never ↦ let same = changed.others n 0 within never in omega (arith, same)
+    ]
+    | inr past ↦ let same = past_both old new n changed.many past in omega (arith, same)
+  ]
+
+  more : (n : ℕ) (d : Strip) → n < length xs → (get_or xs n d).team ≡ team →
+      (get_or old n 0 + count_in (get_or xs n d) (Some rect ∷ [])) ≤ get_or new n 0
+  more n d within of_team = elim (yes_or_no (meets (get_or xs n d) (Some rect))) [
+    | inl it_does ↦
+        let shares = meets_shares (get_or xs n d) rect it_does in
+        let reached = point_is_reached s rect rows team n d shares.x shares.y strips near within of_team shares.in_first shares.in_second in
+        let next = changed.chosen n 0 (omega (arith, within, many)) reached in
+        let one = counted (get_or xs n d) (Some rect) it_does in
+        omega (arith, next, one)
+    | inr it_does_not ↦
+        let none = not_counted (get_or xs n d) (Some rect) it_does_not in
+        let h = least n in
+        omega (arith, none, h)
+  ]
+
+-- the counts of two strips side by side
+no_less_set : (xs ys : List ℕ) (k x y : ℕ) → k < length xs → x ≤ y → NoLess xs ys → NoLess (set xs k x) (set ys k y)
+no_less_set xs ys k x y within less all = record {
+  many = length-set ys k y ∙ all.many ∙ sym (length-set xs k x);
+  each = λ n. elim (eqb_tells n k) [
+    | inl same ↦
+        let many = all.many in
+        let a : get_or (set xs k x) n 0 ≡ x = ap (λ (m : ℕ). get_or (set xs k x) m 0) same.1 ∙ get_or-set_same xs k x 0 within in
+        let b : get_or (set ys k y) n 0 ≡ y = ap (λ (m : ℕ). get_or (set ys k y) m 0) same.1 ∙ get_or-set_same ys k y 0 (omega (arith, within, many)) in
+        omega (arith, a, b, less)
+    | inr apart ↦
+        let a = get_or-set_other xs k n x 0 apart.1 in
+        let b = get_or-set_other ys k n y 0 apart.1 in
+        let h = all.each n in
+        omega (arith, a, b, h)
+  ];
+}
+
+-- a strip counts more, and its lane has room for that
+pub room_for_more : (counts : List ℕ) (lanes : List Lane) (k count : ℕ) (lane : Lane) → k < length counts → count ≤ vec_capacity lane.marks →
+    NoLess counts (rooms_in lanes) → NoLess (set counts k count) (rooms_in (set lanes k lane))
+room_for_more counts lanes k count lane within most room =
+    subst (NoLess (set counts k count)) (sym (map-set (λ (l : Lane). vec_capacity l.marks) lanes k lane))
+    (no_less_set counts (rooms_in lanes) k count (vec_capacity lane.marks) within most room)
+
+-- a tally that is lowered by one box and raised by another bounds the boxes with this one
+pub bounds_own : (o : Occupied) (team : ℕ) (boxes : List (Option Rect)) (own : ℕ) (from to : Option Rect) (old mid new : List ℕ) → cell_box boxes own ≡ from →
+    IsLower (felts o) team from old mid → IsHigher (felts o) team to mid new → Bounds o team boxes old → Bounds o team (set boxes own to) new
+bounds_own o team boxes own from to old mid new is lower higher bounds = λ n g at of_team.
+    let around : Strip = felt (reach o) g in
+    let there : slice_get (felts o) n ≡ Some around = made_at (felt (reach o)) o.index.strips n g at in
+    let within : n < length (felts o) = slice_get_within (felts o) n around there in
+    let here : get_or (felts o) n around ≡ around = get_or_from_slice_get (felts o) n around around there in
+    let less = subst (λ (x : Strip). get_or old n 0 ≤ get_or mid n 0 + count_in x (from ∷ [])) here (lower.least n around within) in
+    let more = subst (λ (x : Strip). (get_or mid n 0 + count_in x (to ∷ [])) ≤ get_or new n 0) here
+    (higher.more n around within (ap (λ (x : Strip). x.team) here ∙ of_team)) in
+    let moved = subst (λ (b : Option Rect). (count_in around (set boxes own to) + count_in around (b ∷ [])) ≤ count_in around boxes + count_in around (to ∷ []))
+    is (set_counts around boxes own to) in
+    let before = bounds n g at of_team in
+    omega (arith, less, more, moved, before)
+
+-- and what it bounds of another team it still does
+pub bounds_other : (o : Occupied) (team other : ℕ) (boxes : List (Option Rect)) (from to : Option Rect) (old mid new : List ℕ) → other ≢ team →
+    IsLower (felts o) team from old mid → IsHigher (felts o) team to mid new → Bounds o other boxes old → Bounds o other boxes new
+bounds_other o team other boxes from to old mid new differ lower higher bounds = λ n g at of_team.
+    let around : Strip = felt (reach o) g in
+    let there : slice_get (felts o) n ≡ Some around = made_at (felt (reach o)) o.index.strips n g at in
+    let within : n < length (felts o) = slice_get_within (felts o) n around there in
+    let here : get_or (felts o) n around ≡ around = get_or_from_slice_get (felts o) n around around there in
+    let same = lower.others n around within (λ is. differ (sym of_team ∙ sym (ap (λ (x : Strip). x.team) here) ∙ is)) in
+    let more = higher.least n in
+    let before = bounds n g at of_team in
+    omega (arith, same, more, before)
+
+-- lanes have room for the marks that they have
+pub marks_fit : (lanes : List Lane) → NoLess (map (λ l. vec_len l.marks) lanes) (rooms_in lanes)
+marks_fit lanes = record {
+  many = length-map lanes (λ (l : Lane). vec_capacity l.marks) ∙ sym (length-map lanes (λ (l : Lane). vec_len l.marks));
+  each = λ n. elim (order_of n (length lanes)) [
+    | inl within ↦
+        let e = some_lane lanes n within in
+        let a = get_or-map (λ (l : Lane). vec_len l.marks) lanes n e 0 within in
+        let b = get_or-map (λ (l : Lane). vec_capacity l.marks) lanes n e 0 within in
+        let most = (get_or lanes n e).marks.ok.1 in
+        omega (arith, a, b, most)
+    | inr past ↦
+        let long = length-map lanes (λ (l : Lane). vec_len l.marks) in
+        let a = get_or_past (map (λ (l : Lane). vec_len l.marks) lanes) n 0 (omega (arith, past, long)) in
+        omega (arith, a)
+  ];
+}

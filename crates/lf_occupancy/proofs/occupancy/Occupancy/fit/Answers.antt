@@ -1,0 +1,45 @@
+use Rattle.std.proofs.Common.{ℕ, List, [], subst, sym}
+use Rattle.std.proofs.lemmas.Result.{on_ok_weaker}
+use Rattle.lf_occupancy.specs.Occupied.{Bounds, NoLess, Occupied}
+use Rattle.lf_occupancy.specs.Strips.{Holds, Marked, felt_strips, filled_by, rooms_in}
+use Rattle.lf_occupancy.specs.Tallies.{IsHigher}
+use Rattle.lf_occupancy.proofs.Reaching.{lanes_kept, rooms_kept}
+use Rattle.lf_occupancy.proofs.Tallying.{bounds_other, bounds_own}
+use Rattle.lf_occupancy.proofs.occupancy.Occupancy.fit.Goals as goal
+
+pub returns-clause-own : goal.returns-clause-own
+returns-clause-own c = λ boxes own is bounds.
+    let o = c.self.inside in
+    let team = c.args.team in
+    let held : Occupied = filled_by record { index = o.index; site = o.site; lanes = o.lanes.items } [] in
+    let was : Bounds held team boxes c.args.tally.now =
+    subst (λ (m : Marked). Bounds (filled_by m []) team boxes c.args.tally.now) (sym c.self.view_is) bounds in
+    let before : Bounds held team boxes c.tally.inside.counts.items = subst (λ (ns : List ℕ). Bounds held team boxes ns) (sym c.tally.view_is) was in
+    on_ok_weaker c.raise.result
+    (λ (higher : IsHigher (felt_strips o.site o.index.strips) team c.args.to.now c.lower.new.counts.items c.raise.new.counts.items).
+    bounds_own held team boxes own c.args.from.now c.args.to.now c.tally.inside.counts.items c.lower.new.counts.items c.raise.new.counts.items is
+    c.lower.ensures higher before) c.raise.ensures.more
+
+pub returns-clause-others : goal.returns-clause-others
+returns-clause-others c = λ boxes other differ bounds.
+    let o = c.self.inside in
+    let team = c.args.team in
+    let held : Occupied = filled_by record { index = o.index; site = o.site; lanes = o.lanes.items } [] in
+    let was : Bounds held other boxes c.args.tally.now =
+    subst (λ (m : Marked). Bounds (filled_by m []) other boxes c.args.tally.now) (sym c.self.view_is) bounds in
+    let before : Bounds held other boxes c.tally.inside.counts.items = subst (λ (ns : List ℕ). Bounds held other boxes ns) (sym c.tally.view_is) was in
+    on_ok_weaker c.raise.result
+    (λ (higher : IsHigher (felt_strips o.site o.index.strips) team c.args.to.now c.lower.new.counts.items c.raise.new.counts.items).
+    bounds_other held team other boxes c.args.from.now c.args.to.now c.tally.inside.counts.items c.lower.new.counts.items c.raise.new.counts.items differ
+    c.lower.ensures higher before) c.raise.ensures.more
+
+pub returns-clause-holds : goal.returns-clause-holds
+returns-clause-holds c = λ boxes holds.
+    let o = c.self.inside in
+    lanes_kept (felt_strips o.site o.index.strips) boxes o.lanes.items c.raise.new.lanes.items c.raise.ensures.kept
+    (subst (λ (m : Marked). Holds m boxes) (sym c.self.view_is) holds)
+
+pub returns-clause-rooms : goal.returns-clause-rooms
+returns-clause-rooms c =
+    subst (λ (m : Marked). NoLess (rooms_in m.lanes) (rooms_in c.raise.new.lanes.items)) c.self.view_is
+    (rooms_kept c.self.inside.lanes.items c.raise.new.lanes.items c.raise.ensures.kept)

@@ -1,0 +1,35 @@
+-- The steps of counting a cell's box elsewhere; no public clause cites it.
+use Rattle.std.specs.Prelude.{◌≡◌, ◌≢◌, ℕ, ◌+◌, ◌<◌, ◌≤◌, List, [], ◌∷◌, length, Option, slice_index_or}
+use Rattle.lf_units.specs.declared.area.Rect.{Rect}
+use Rattle.lf_segments.specs.declared.strip.Strip.{Strip}
+use Rattle.lf_occupancy.specs.Lanes.{IsWhole, part_in}
+use Rattle.lf_occupancy.specs.Occupied.{count_in}
+
+-- one less, unless it is none already, where the rectangle shares a point with the area; else the same
+pub record IsLess (area rect : Rect) (old new : ℕ) : Type 0 where
+  pub most : new ≤ old
+  pub least : old ≤ new + 1
+  pub same : (IsWhole (part_in area rect) → ⊥) → new ≡ old
+
+-- the same of the strip of that number
+abbrev pub IsLessAt : List Strip → Rect → ℕ → ℕ → ℕ → Type 0
+IsLessAt strips rect n old new = (d : Strip) → IsLess (slice_index_or strips n d).area rect old new
+
+-- one more
+abbrev pub IsMore : ℕ → ℕ → ℕ → Type 0
+IsMore n old new = new ≡ old + 1
+
+-- only strips of the team that share a point with the box may count less, and these one less at most
+pub record IsLower (strips : List Strip) (team : ℕ) (from : Option Rect) (old new : List ℕ) : Type 0 where
+  pub many : length new ≡ length old
+  pub most : (n : ℕ) → slice_index_or new n 0 ≤ slice_index_or old n 0
+  pub least : (n : ℕ) (d : Strip) → n < length strips →
+      slice_index_or old n 0 ≤ slice_index_or new n 0 + count_in (slice_index_or strips n d) (from ∷ [])
+  pub others : (n : ℕ) (d : Strip) → n < length strips → (slice_index_or strips n d).team ≢ team → slice_index_or new n 0 ≡ slice_index_or old n 0
+
+-- no strip counts less, and those of the team that share a point with the box one more at least
+pub record IsHigher (strips : List Strip) (team : ℕ) (to : Option Rect) (old new : List ℕ) : Type 0 where
+  pub many : length new ≡ length old
+  pub least : (n : ℕ) → slice_index_or old n 0 ≤ slice_index_or new n 0
+  pub more : (n : ℕ) (d : Strip) → n < length strips → (slice_index_or strips n d).team ≡ team →
+      (slice_index_or old n 0 + count_in (slice_index_or strips n d) (to ∷ [])) ≤ slice_index_or new n 0

@@ -1,0 +1,185 @@
+//! A count of boxes for each strip, were some cells elsewhere. The strips are felt around here.
+
+ghost use Rattle.std.specs.Prelude.{◌≡◌, ◌+◌, ◌≢◌, ◌≤◌, AllPairs, IfOk, OnOk, Some, length, map};
+ghost use Rattle.std.specs.Vec.{vec_capacity, vec_len};
+ghost use Rattle.lf_occupancy.specs.Occupied.{NoLess};
+ghost use Rattle.lf_occupancy.specs.Settling.{IsOneOf};
+ghost use Rattle.lf_occupancy.specs.Strips.{AreChanged, AreKept, IsReached, IsSite, felt_strips, rooms_in};
+ghost use Rattle.lf_occupancy.specs.Lanes.{IsKept};
+ghost use Rattle.lf_occupancy.specs.Tallies.{IsLess, IsLessAt, IsLower, IsMore, IsHigher};
+
+use crate::felt::{felt_area, near_felt};
+use crate::lane::{Lane, is_whole, make_room, part_of};
+use lf_segments::{Ground, NearStrips, RowEntry};
+use lf_units::Rect;
+use std::alloc::{AllocError, Global};
+use std::marker::Model;
+
+/// For each strip of a frame a number of boxes: as many as stand in it, or would stand in it if some cells
+/// were at other places. Contracts see the numbers.
+#[derive(Drop)]
+pub struct Tally {
+    pub(crate) counts: Vec<usize>,
+}
+
+impl Model for Tally {
+    ghost use Rattle.std.specs.Prelude.{List, ℕ};
+
+    ghost Value = { List ℕ };
+
+    ghost view = { λ t. t.counts.items };
+}
+
+/// How many marks each lane has.
+pub(crate) fn marks_of(alloc: Global, lanes: &[Lane]) -> Result<Vec<usize>, AllocError>
+    ensures { IfOk result (λ counts. counts.items ≡ map (λ l. vec_len l.marks) lanes.now) }
+{
+    let mut counts = Vec::with_capacity(alloc, lanes.len())?;
+    for lane in lanes {
+        counts.push(lane.marks.len())?;
+    }
+    Ok(counts)
+}
+
+/// Counts one less where the rectangle shares a point with the area of the strip.
+fn count_less(count: &mut usize, area: &Rect, rect: &Rect)
+    ensures { IsLess area.now rect.now count.old count.new }
+{
+    if is_whole(&part_of(area, rect)) {
+        *count = count.saturating_sub(1);
+    }
+}
+
+/// Counts one less in each strip of a run that shares a point with the rectangle.
+fn lower_run(counts: &mut Vec<usize>, index: &Ground, site: &i64, near: &NearStrips, rect: &Rect)
+    requires site { IsSite site.now }
+    requires many { length counts.old.items ≡ length (felt_strips site.now index.now.strips) }
+    requires within { near.now.end ≤ length (felt_strips site.now index.now.strips) }
+    ensures { AreChanged (IsOneOf near.now) (IsLessAt (felt_strips site.now index.now.strips) rect.now) counts.old.items counts.new.items }
+{
+    for n in near.start..near.end {
+        count_less(&mut counts[n], &felt_area(index, site, n), rect);
+    }
+}
+
+/// The same in the strips of the team in all these rows.
+fn lower_rows(
+    counts: &mut Vec<usize>,
+    index: &Ground,
+    site: &i64,
+    rows: &[RowEntry],
+    team: usize,
+    rect: &Rect,
+)
+    requires site { IsSite site.now }
+    requires many { length counts.old.items ≡ length (felt_strips site.now index.now.strips) }
+    requires once { AllPairs (λ a b. a.row ≢ b.row) rows.now }
+    ensures { AreChanged (IsReached (felt_strips site.now index.now.strips) rows.now team rect.now) (IsLessAt (felt_strips site.now index.now.strips) rect.now)
+        counts.old.items counts.new.items }
+{
+    for entry in rows {
+        let near = near_felt(index, site, entry.row, team, rect);
+        lower_run(counts, index, site, &near, rect);
+    }
+}
+
+/// Counts one less in each strip of the team that shares a point with the box, if there is one.
+pub(crate) fn lower(
+    counts: &mut Vec<usize>,
+    index: &Ground,
+    site: &i64,
+    team: usize,
+    from: &Option<Rect>,
+)
+    requires site { IsSite site.now }
+    requires many { length counts.old.items ≡ length (felt_strips site.now index.now.strips) }
+    ensures { IsLower (felt_strips site.now index.now.strips) team from.now counts.old.items counts.new.items }
+{
+    index.strips_are_placed();
+    if let Some(rect) = from {
+        lower_rows(counts, index, site, index.rows_near(rect), team, rect);
+    }
+}
+
+/// Counts one more in a strip, which has then room for what is counted.
+///
+/// `Err` if an allocation fails; the strip holds what it held.
+fn count_more(lane: &mut Lane, count: &mut usize) -> Result<(), AllocError>
+    ensures kept { IsKept lane.old lane.new }
+    ensures more { OnOk result (count.new ≡ count.old + 1) }
+    ensures room { OnOk result (count.new ≤ vec_capacity lane.new.marks) }
+{
+    let Some(next) = count.checked_add(1) else {
+        return Err(AllocError);
+    };
+    let marks = &mut lane.marks;
+    let more = next.saturating_sub(marks.len());
+    make_room(lane, more)?;
+    *count = next;
+    Ok(())
+}
+
+/// Counts one more in each strip of a run.
+fn raise_run(
+    lanes: &mut Vec<Lane>,
+    counts: &mut Vec<usize>,
+    near: &NearStrips,
+) -> Result<(), AllocError>
+    requires room { NoLess counts.old.items (rooms_in lanes.old.items) }
+    requires within { near.now.end ≤ length lanes.old.items }
+    ensures kept { AreKept lanes.old.items lanes.new.items }
+    ensures more { OnOk result (AreChanged (IsOneOf near.now) IsMore counts.old.items counts.new.items) }
+    ensures room { OnOk result (NoLess counts.new.items (rooms_in lanes.new.items)) }
+{
+    for n in near.start..near.end {
+        count_more(&mut lanes[n], &mut counts[n])?;
+    }
+    Ok(())
+}
+
+/// Counts one more in each strip of the team that shares a point with the rectangle.
+fn raise_rows(
+    lanes: &mut Vec<Lane>,
+    counts: &mut Vec<usize>,
+    index: &Ground,
+    site: &i64,
+    team: usize,
+    rect: &Rect,
+) -> Result<(), AllocError>
+    requires site { IsSite site.now }
+    requires many { length lanes.old.items ≡ length (felt_strips site.now index.now.strips) }
+    requires room { NoLess counts.old.items (rooms_in lanes.old.items) }
+    ensures kept { AreKept lanes.old.items lanes.new.items }
+    ensures more { OnOk result (IsHigher (felt_strips site.now index.now.strips) team (Some rect.now) counts.old.items counts.new.items) }
+    ensures room { OnOk result (NoLess counts.new.items (rooms_in lanes.new.items)) }
+{
+    index.strips_are_placed();
+    let rows = index.rows_near(rect);
+    for entry in rows {
+        let near = near_felt(index, site, entry.row, team, rect);
+        raise_run(lanes, counts, &near)?;
+    }
+    Ok(())
+}
+
+/// The same with the box, if there is one.
+pub(crate) fn raise(
+    lanes: &mut Vec<Lane>,
+    counts: &mut Vec<usize>,
+    index: &Ground,
+    site: &i64,
+    team: usize,
+    to: &Option<Rect>,
+) -> Result<(), AllocError>
+    requires site { IsSite site.now }
+    requires many { length lanes.old.items ≡ length (felt_strips site.now index.now.strips) }
+    requires room { NoLess counts.old.items (rooms_in lanes.old.items) }
+    ensures kept { AreKept lanes.old.items lanes.new.items }
+    ensures more { OnOk result (IsHigher (felt_strips site.now index.now.strips) team to.now counts.old.items counts.new.items) }
+    ensures room { OnOk result (NoLess counts.new.items (rooms_in lanes.new.items)) }
+{
+    match to {
+        Some(rect) => raise_rows(lanes, counts, index, site, team, rect),
+        None => Ok(()),
+    }
+}

@@ -1,0 +1,147 @@
+//! Room for places, found by counting: no cell is moved.
+
+ghost use Rattle.std.specs.Prelude.{◌≡◌, ◌≢◌, ◌<◌, ◌≤◌, [], All, IfOk, List, None, OnOk, Option, Some, length, slice_get, slice_set, ℕ};
+ghost use Rattle.lf_units.specs.declared.area.Rect.{Rect};
+ghost use Rattle.lf_cells.specs.Cells.{cells_of, committed_at, working_at};
+ghost use Rattle.lf_legalize.specs.Members.{IsSizedCell};
+ghost use Rattle.lf_occupancy.specs.Floorplans.{boxes_in};
+ghost use Rattle.lf_occupancy.specs.Occupied.{Bounds, FitIn, NoLess};
+ghost use Rattle.lf_occupancy.specs.Strips.{Holds, filled_by, rooms_in};
+ghost use Rattle.lf_undo.specs.Entries.{Places};
+ghost use Rattle.lf_placement.specs.Placings.{AreSized, boxes_at, committed_of, places_of};
+ghost use Rattle.lf_placement.specs.Steps.{GainsRoom, box_moved};
+
+use crate::strips::box_at;
+use lf_cells::{CellId, CellTable};
+use lf_floorplan::{Frame, PackedPlace, Place, are_alike};
+use lf_occupancy::{Occupancy, Tally, teams_of};
+use lf_units::Rect;
+use std::alloc::{AllocError, Global};
+
+/// A cell of a team, by its position, and two places of it.
+#[derive(Clone, Copy)]
+pub(crate) struct Change {
+    pub(crate) own: u32,
+    pub(crate) from: PackedPlace,
+    pub(crate) to: PackedPlace,
+}
+
+/// The box of the team's cell of that position at a place; none where there is no such cell, or no place.
+fn box_of_own(
+    frame: &Frame,
+    cells: &CellTable,
+    team: usize,
+    own: u32,
+    place: Option<Place>,
+) -> Option<Rect>
+    requires { All (IsSizedCell frame.now) (cells_of cells.now team) }
+    ensures { result ≡ box_moved frame.now (slice_get (cells_of cells.now team) own) place }
+{
+    let id = cells.cell_of(team, own as usize)?;
+    box_at(frame, cells, id, place)
+}
+
+/// Counts a cell at one place in place of another, and makes the room that is lacking then.
+///
+/// `Err` if an allocation fails.
+pub(crate) fn fit_change(
+    frame: &Frame,
+    cells: &CellTable,
+    occupancy: &mut Occupancy,
+    tally: &mut Tally,
+    team: usize,
+    change: &Change,
+) -> Result<(), AllocError>
+    requires sized { All (IsSizedCell frame.now) (cells_of cells.now team) }
+    requires room { NoLess tally.old (rooms_in occupancy.old.lanes) }
+    ensures room { OnOk result (NoLess tally.new (rooms_in occupancy.new.lanes)) }
+    ensures own { (places : Places) → slice_get places change.now.own ≡ Some change.now.from
+        → Bounds (filled_by occupancy.old []) team (boxes_at frame.now (cells_of cells.now team) places) tally.old
+        → OnOk result (Bounds (filled_by occupancy.new []) team
+        (boxes_at frame.now (cells_of cells.now team) (slice_set places change.now.own change.now.to)) tally.new) }
+    ensures others { (boxes : List (Option Rect)) → (other : ℕ) → other ≢ team → Bounds (filled_by occupancy.old []) other boxes tally.old
+        → OnOk result (Bounds (filled_by occupancy.new []) other boxes tally.new) }
+    ensures gains { GainsRoom occupancy.old occupancy.new }
+{
+    let from = box_of_own(frame, cells, team, change.own, change.from.place());
+    let to = box_of_own(frame, cells, team, change.own, change.to.place());
+    occupancy.fit(tally, team, &from, &to)
+}
+
+/// Counts a cell at its committed place in place of its working one.
+fn fit_committed(
+    frame: &Frame,
+    cells: &CellTable,
+    occupancy: &mut Occupancy,
+    tally: &mut Tally,
+    id: &CellId,
+) -> Result<(), AllocError>
+    requires sized { All (IsSizedCell frame.now) (cells_of cells.now id.now.team) }
+    requires room { NoLess tally.old (rooms_in occupancy.old.lanes) }
+    ensures room { OnOk result (NoLess tally.new (rooms_in occupancy.new.lanes)) }
+    ensures own { (places : Places) → slice_get places id.now.own ≡ Some (working_at (cells_of cells.now id.now.team) id.now.own)
+        → Bounds (filled_by occupancy.old []) id.now.team (boxes_at frame.now (cells_of cells.now id.now.team) places) tally.old
+        → OnOk result (Bounds (filled_by occupancy.new []) id.now.team (boxes_at frame.now (cells_of cells.now id.now.team)
+        (slice_set places id.now.own (committed_at (cells_of cells.now id.now.team) id.now.own))) tally.new) }
+    ensures others { (boxes : List (Option Rect)) → (other : ℕ) → other ≢ id.now.team → Bounds (filled_by occupancy.old []) other boxes tally.old
+        → OnOk result (Bounds (filled_by occupancy.new []) other boxes tally.new) }
+    ensures gains { GainsRoom occupancy.old occupancy.new }
+{
+    let from = cells.working(*id);
+    let to = cells.committed(*id);
+    if are_alike(from, to) {
+        return Ok(());
+    }
+    let change = Change {
+        own: id.own,
+        from: PackedPlace::of(from),
+        to: PackedPlace::of(to),
+    };
+    fit_change(frame, cells, occupancy, tally, id.team as usize, &change)
+}
+
+/// Counts each cell of the team at its committed place in place of its working one.
+fn fit_team(
+    frame: &Frame,
+    cells: &CellTable,
+    occupancy: &mut Occupancy,
+    tally: &mut Tally,
+    team: usize,
+) -> Result<(), AllocError>
+    requires sized { All (IsSizedCell frame.now) (cells_of cells.now team) }
+    requires room { NoLess tally.old (rooms_in occupancy.old.lanes) }
+    ensures room { OnOk result (NoLess tally.new (rooms_in occupancy.new.lanes)) }
+    ensures own { Bounds (filled_by occupancy.old []) team (boxes_at frame.now (cells_of cells.now team) (places_of (cells_of cells.now team))) tally.old
+        → OnOk result (Bounds (filled_by occupancy.new []) team
+        (boxes_at frame.now (cells_of cells.now team) (committed_of (cells_of cells.now team))) tally.new) }
+    ensures others { (boxes : List (Option Rect)) → (other : ℕ) → other ≢ team → Bounds (filled_by occupancy.old []) other boxes tally.old
+        → OnOk result (Bounds (filled_by occupancy.new []) other boxes tally.new) }
+    ensures gains { GainsRoom occupancy.old occupancy.new }
+{
+    for id in cells.cells_of(team) {
+        fit_committed(frame, cells, occupancy, tally, id)?;
+    }
+    Ok(())
+}
+
+/// Makes room for the committed places of all cells, which stand at their working places.
+///
+/// `Err` if an allocation fails.
+pub(crate) fn fit_all_committed(
+    alloc: Global,
+    frame: &Frame,
+    cells: &CellTable,
+    occupancy: &mut Occupancy,
+) -> Result<(), AllocError>
+    requires sized { AreSized frame.now cells.now }
+    requires holds { Holds occupancy.old (boxes_in frame.now cells.now) }
+    ensures fits { (team : ℕ) → OnOk result (FitIn (filled_by occupancy.new []) team
+        (boxes_at frame.now (cells_of cells.now team) (committed_of (cells_of cells.now team)))) }
+    ensures gains { GainsRoom occupancy.old occupancy.new }
+{
+    let mut tally = occupancy.tally(alloc)?;
+    for team in 0..teams_of(cells.all()) {
+        fit_team(frame, cells, occupancy, &mut tally, team)?;
+    }
+    Ok(())
+}

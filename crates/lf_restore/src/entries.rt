@@ -1,0 +1,97 @@
+//! The undo entries of a team, restored.
+
+ghost use Rattle.std.specs.Prelude.{◌≡◌, ◌≢◌, ◌<◌, ◌≤◌, ℕ, [], All, OnOk, length};
+ghost use Rattle.lf_cells.specs.Cells.{cells_of};
+ghost use Rattle.lf_occupancy.specs.Occupied.{NoLess};
+ghost use Rattle.lf_undo.specs.Entries.{Places, entries_of};
+ghost use Rattle.lf_undo.specs.Stacks.{stack_of};
+ghost use Rattle.lf_placement.specs.Placings.{BoundsAt, Fits, SameButRooms, places_of};
+ghost use Rattle.lf_restore.specs.Stands.{EntriesFit, OthersStay};
+
+use lf_floorplan::PackedPlace;
+use lf_occupancy::Tally;
+use lf_placement::{Placement, fits_last};
+use lf_undo::{Moves, UndoStore};
+use std::alloc::AllocError;
+
+/// Takes the entries of the team back on its places, the newest first, and makes room for the places before each of them.
+fn fit_entries(
+    placement: &mut Placement,
+    tally: &mut Tally,
+    team: usize,
+    places: &mut [PackedPlace],
+    entries: &[Moves],
+) -> Result<(), AllocError>
+    requires own { All (λ moves. All (λ m. m.own < length places.old) moves) entries.now }
+    requires room { NoLess tally.old placement.old.held.rooms }
+    requires bounds { BoundsAt placement.old team places.old tally.old }
+    ensures fit { OnOk result (All (Fits placement.new team) (entries_of places.old entries.now)) }
+    ensures room { OnOk result (NoLess tally.new placement.new.held.rooms) }
+    ensures same { OnOk result (SameButRooms placement.old placement.new) }
+    ensures others { (at : Places) → (other : ℕ) → other ≢ team → BoundsAt placement.old other at tally.old
+        → OnOk result (BoundsAt placement.new other at tally.new) }
+{
+    fits_last();
+    for moves in entries {
+        placement.fit_back(tally, team, places, moves)?;
+    }
+    Ok(())
+}
+
+/// Pushes the entries onto the team's stack, which is empty, so that the first of them is the newest.
+fn push_entries(undo: &mut UndoStore, team: usize, entries: Vec<Moves>) -> Result<(), AllocError>
+    requires team { team < length undo.old.lists }
+    requires none { stack_of undo.old team ≡ [] }
+    requires few { length entries.items ≤ undo.old.limit }
+    ensures stack { OnOk result (stack_of undo.new team ≡ entries.items) }
+    ensures others { (other : ℕ) → other ≢ team → stack_of undo.new other ≡ stack_of undo.old other }
+    ensures teams { length undo.new.lists ≡ length undo.old.lists }
+    ensures limit { undo.new.limit ≡ undo.old.limit }
+{
+    let mut left = entries;
+    while !left.is_empty() {
+        let Some(moves) = left.pop() else {
+            unreachable!();
+        };
+        match undo.push(team, moves) {
+            Ok(()) => {}
+            Err(_) => return Err(AllocError),
+        }
+    }
+    Ok(())
+}
+
+/// Gives the team, which stands at these places and has no undo entries, these ones, the newest first. There is then room for the
+/// places before each of them. The tally, which bounds the team's places, is spent for the team, and bounds other teams' as before.
+///
+/// `Err` if an allocation fails.
+pub fn restore_entries(
+    placement: &mut Placement,
+    tally: &mut Tally,
+    undo: &mut UndoStore,
+    team: usize,
+    places: Vec<PackedPlace>,
+    entries: Vec<Moves>,
+) -> Result<(), AllocError>
+    requires team { team < length undo.old.lists }
+    requires none { stack_of undo.old team ≡ [] }
+    requires few { length entries.items ≤ undo.old.limit }
+    requires own { All (λ moves. All (λ m. m.own < length places.items) moves) entries.items }
+    requires stand { places.items ≡ places_of (cells_of placement.old.cells team) }
+    requires room { NoLess tally.old placement.old.held.rooms }
+    requires bounds { BoundsAt placement.old team places.items tally.old }
+    ensures stack { OnOk result (stack_of undo.new team ≡ entries.items) }
+    ensures fit { OnOk result (EntriesFit placement.new undo.new team) }
+    ensures cells { OnOk result (placement.new.cells ≡ placement.old.cells) }
+    ensures others { OnOk result (OthersStay team placement.old placement.new undo.old undo.new) }
+    ensures room { OnOk result (NoLess tally.new placement.new.held.rooms) }
+    ensures tally { (at : Places) → (other : ℕ) → other ≢ team → BoundsAt placement.old other at tally.old
+        → OnOk result (BoundsAt placement.new other at tally.new) }
+    ensures teams { OnOk result (length undo.new.lists ≡ length undo.old.lists) }
+    ensures limit { OnOk result (undo.new.limit ≡ undo.old.limit) }
+{
+    let mut now = places;
+    fit_entries(placement, tally, team, &mut now, &entries)?;
+    push_entries(undo, team, entries)?;
+    Ok(())
+}
