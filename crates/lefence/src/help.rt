@@ -5,15 +5,15 @@ use lf_app::{Help, Subcommand};
 /// What the program can be asked.
 pub(crate) const USAGE: &str =
     "  lefence [demo]                answers the lines of standard input over the built-in design
-  lefence check DEF LEF... [--state FILE]
+  lefence check DEF LEF... [--state FILE] [--sessions N]
                                 writes a report of the design
-  lefence describe DEF LEF... [--state FILE]
+  lefence describe DEF LEF... [--state FILE] [--sessions N]
                                 writes the design as JSON Lines: rows, fences, obstacles, cells with boxes and
                                 broken rules
-  lefence replay DEF LEF... [--state FILE] [--save FILE] [--export FILE] [--lines N]
+  lefence replay DEF LEF... [--state FILE] [--save FILE] [--export FILE] [--lines N] [--sessions N]
                                 answers the lines of standard input over the design, N at most; then its text,
                                 with the committed places in it, goes to FILE
-  lefence serve DEF LEF... --port P --connections N [--state FILE] [--save FILE] [--export FILE]
+  lefence serve DEF LEF... --port P --connections N [--state FILE] [--save FILE] [--export FILE] [--sessions N]
                                 answers the lines of N connections to port P of this machine, one after the other
   lefence repair DEF LEF... [--team NAME]... [--keep | --all] [--export FILE] [--lines FILE]
                                 gives the cells that break a rule or have no place legal places
@@ -36,33 +36,34 @@ example:
   printf 'open A\\nplace A 0 a1 0 0 N\\nwhere A 0 a1\\n' | lefence demo
 ";
 
-const CHECK: &str = "lefence check DEF LEF... [--state FILE]
+const CHECK: &str = "lefence check DEF LEF... [--state FILE] [--sessions N]
 
 Writes a report of the design as one line of JSON: how many cells there are, how many are unplaced, which break
 which rule, which overlap which. With --state, each cell stands where the state that was saved to FILE has it at
-work. The exit status is 0 if the design is fully legal, and 4 if it is not.
+work, of teams with N session slots (8 if not given). The exit status is 0 if the design is fully legal, and 4 if it is not.
 
 example:
   lefence check chip.def tech.lef cells.lef
 ";
 
-const DESCRIBE: &str = "lefence describe DEF LEF... [--state FILE]
+const DESCRIBE: &str = "lefence describe DEF LEF... [--state FILE] [--sessions N]
 
 Writes the design as JSON Lines: rows, fences, obstacles, cells with boxes and broken rules. With --state, each cell
-stands where the state that was saved to FILE has it at work. The exit status is 0 if the design is fully legal, and 4
-if it is not.
+stands where the state that was saved to FILE has it at work, of teams with N session slots (8 if not given). The exit
+status is 0 if the design is fully legal, and 4 if it is not.
 
 example:
   lefence describe chip.def tech.lef cells.lef > chip.jsonl
 ";
 
 const REPLAY: &str =
-    "lefence replay DEF LEF... [--state FILE] [--save FILE] [--export FILE] [--lines N]
+    "lefence replay DEF LEF... [--state FILE] [--save FILE] [--export FILE] [--lines N] [--sessions N]
 
 Answers the lines of standard input over the design, one reply to each line, to the end of the input or a line
 'bye'. N is the most lines that are answered (1 to 4294967295; 1000000 if not given). With --export, the DEF text
 with the committed places in it then goes to FILE; all else in it stays. With --save, the state at the end is saved
-to FILE, and with --state the lines go on from a state so saved.
+to FILE, and with --state the lines go on from a state so saved. With --sessions, each team has N session slots (1 to
+64; 8 if not given), and the state at the beginning and at the end is of so many.
 
 example:
   lefence replay chip.def tech.lef cells.lef --export new.def < session.txt
@@ -70,10 +71,12 @@ example:
 
 const SERVE: &str =
     "lefence serve DEF LEF... --port P --connections N [--state FILE] [--save FILE] [--export FILE]
+              [--sessions N]
 
 Listens on port P (1 to 65535) of 127.0.0.1, writes a line 'listening', and answers the lines of N connections
 (1 to 1000000), one after the other. With --export, the DEF text with the committed places in it then goes to FILE.
-With --save, the state at the end is saved to FILE, and with --state the lines go on from a state so saved.
+With --save, the state at the end is saved to FILE, and with --state the lines go on from a state so saved. With
+--sessions, each team has N session slots (1 to 64; 8 if not given).
 
 example:
   lefence serve chip.def tech.lef cells.lef --port 5800 --connections 100 --export new.def

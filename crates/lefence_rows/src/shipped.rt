@@ -4,8 +4,8 @@
 ghost use Rattle.std.specs.Prelude.{◌≡◌, false};
 
 use lf_app::{
-    Acceptor, ClientReader, ClientWriter, Connection, Offer, Services, Surroundings, Task, Texts,
-    Unbound, Unread, perform_over,
+    Acceptor, ClientReader, ClientWriter, Connection, Offer, Services, Slots, Surroundings, Task,
+    Texts, Unbound, Unread, perform_over,
 };
 use lf_devices::{DeviceFault, FromRead, ToWrite};
 use lf_files::{Exports, Pieces, Unwritten};
@@ -130,6 +130,7 @@ pub fn report(texts: &RowTexts<'_>) -> Result<Vec<u8>, AllocError> {
         def: "row.def",
         lefs: lef_alone(texts.alloc)?,
         state: None,
+        slots: Slots::standard(),
     };
     Ok(performed(texts, &task, b"")?.written)
 }
@@ -140,6 +141,7 @@ pub fn replay(texts: &RowTexts<'_>, lines: &[u8]) -> Result<Shipped, AllocError>
         def: "row.def",
         lefs: lef_alone(texts.alloc)?,
         state: None,
+        slots: Slots::standard(),
         lines: 1_000,
         save: None,
         export: Some("row.out"),

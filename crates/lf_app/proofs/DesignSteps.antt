@@ -1,5 +1,5 @@
 -- Designs of files, step by step: which fault a refusal becomes, and LEF files one after the other.
-use Rattle.std.proofs.Common.{◌≡◌, ◌⊎◌, inl, inr, ℕ, ◌+◌, ◌<◌, List, ◌∷◌, length, map, drop, slice_index_or, ap, subst, ◌∙◌}
+use Rattle.std.proofs.Common.{◌≡◌, inl, inr, ℕ, ◌+◌, ◌<◌, List, ◌∷◌, length, map, drop, slice_index_or, ap, subst, ◌∙◌}
 use Rattle.std.specs.Borrow.{Bor}
 use Rattle.std.proofs.Math.Numerals.{suc-eq-add-one}
 use Rattle.std.proofs.Math.Seq.{drop-cons}
@@ -7,23 +7,13 @@ use Rattle.lf_lex.specs.declared.fault.LoadFault.{LoadFault}
 use Rattle.lf_lex.specs.declared.fault.ReadError.TheVariants.{Memory}
 use Rattle.lf_lex.specs.Faults.{load_fault_of}
 use Rattle.lf_lef.specs.Contents.{Contents}
-use Rattle.lf_def.specs.Document.{Document}
-use Rattle.lf_floorplan.specs.declared.limits.Limits.{Limits}
-use Rattle.lf_refusals.specs.Findings.{IsFault}
 use Rattle.lf_app.specs.declared.faults.Fault.{Fault}
 use Rattle.lf_app.specs.declared.faults.TextKind.{TextKind}
 use Rattle.lf_app.specs.declared.faults.TextKind.TheVariants.{Lef}
 use Rattle.lf_refusals.specs.Meetings.{Met, no_fence}
 use Rattle.lf_app.specs.Refusals.{IsTold}
-use Rattle.lf_app.specs.Designs.{Adds, AreStandard, Cause, Gives, IsFaultIn, IsFileFault, IsLefRefusal, IsLibraryFault, IsLibraryOf, IsRefused}
+use Rattle.lf_app.specs.Designs.{Adds, Cause, Gives, IsFileFault, IsLefRefusal, IsLibraryFault, IsLibraryOf, IsRefused}
 use Rattle.lf_app.proofs.WorkSteps.{refused_as}
-
--- what loading answers within the standard limits
-pub loading : (library : Contents) (document : Document) (limits : Limits) (refusal : LoadFault) → AreStandard limits
-    → (refusal ≡ load_fault_of Memory) ⊎ IsFault (record { library = library; document = document; limits = limits }) refusal
-    → (refusal ≡ load_fault_of Memory) ⊎ IsFaultIn library document refusal
-loading library document limits refusal standard (inl memory) = inl memory
-loading library document limits refusal standard (inr fault) = inr (limits, standard, fault)
 
 -- what is told is the fault that was found with the fences that it meets, or that there was no memory to tell it
 told_of : (P : Cause) (found told : LoadFault) (met fences : Met) → IsTold found met told fences → P found met → P (load_fault_of Memory) no_fence

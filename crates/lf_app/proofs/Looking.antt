@@ -28,7 +28,7 @@ use Rattle.lf_app.specs.Designs.{Gives}
 use Rattle.lf_app.specs.Standing.{place_named, place_on, stood}
 use Rattle.lf_app.specs.States.{IsFileState, IsStateFileFault}
 use Rattle.lf_app.specs.Twins.{IsTwin, moved_by}
-use Rattle.lf_app.proofs.Copying.{AreOneCell, design_moved}
+use Rattle.lf_alone.proofs.Copying.{AreOneCell, design_moved}
 
 -- ---- a design and its copy
 

@@ -52,18 +52,20 @@ not_both status (inr is) (inr fails) = omega (arith, is, fails)
 
 -- the status of the outcome of a job is one of a task that was done
 pub succeeds : (gives : Gives) (job : Job) (io : Streams) (status : ℕ) → IsOutcome gives job io status → IsDone status
-succeeds gives demo io status is = inl is.3
-succeeds gives (replay def lefs state lines save export) io status is = inl is.1
-succeeds gives (serve def lefs state port connections save export) io status is = inl is.1
-succeeds gives (check def lefs state) io status is = is.2.done
-succeeds gives (describe def lefs state) io status is = is.shown.2.done
-succeeds gives (repair def lefs teams legal export lines) io status is = is.repaired.judged.done
+succeeds gives demo io status (limits, slots, is) = inl is.3
+succeeds gives (replay def lefs state number lines save export) io status (limits, slots, is) = inl is.1
+succeeds gives (serve def lefs state number port connections save export) io status (limits, slots, is) = inl is.1
+succeeds gives (check def lefs state number) io status (limits, slots, is) = is.2.done
+succeeds gives (describe def lefs state number) io status (limits, slots, is) = is.shown.2.done
+succeeds gives (repair def lefs teams legal export lines) io status (limits, slots, is) = is.repaired.judged.done
 
 -- 4 is the status of a check, a description or a repair alone
 pub checked : (gives : Gives) (task : Task) (io : Streams) (status : ℕ) → IsOutcome gives (as_job task) io status → status ≡ 4 → ReadsNone task
-checked gives Demo io status is four = let zero : status ≡ 0 = is.3 in absurd (omega (arith, zero, four))
-checked gives (Replay def lefs state lines save export) io status is four = let zero : status ≡ 0 = is.1 in absurd (omega (arith, zero, four))
-checked gives (Serve def lefs state port connections save export) io status is four = let zero : status ≡ 0 = is.1 in absurd (omega (arith, zero, four))
-checked gives (Check def lefs state) io status is four = tt
-checked gives (Describe def lefs state) io status is four = tt
+checked gives Demo io status (limits, slots, is) four = let zero : status ≡ 0 = is.3 in absurd (omega (arith, zero, four))
+checked gives (Replay def lefs state number lines save export) io status (limits, slots, is) four =
+    let zero : status ≡ 0 = is.1 in absurd (omega (arith, zero, four))
+checked gives (Serve def lefs state number port connections save export) io status (limits, slots, is) four =
+    let zero : status ≡ 0 = is.1 in absurd (omega (arith, zero, four))
+checked gives (Check def lefs state number) io status is four = tt
+checked gives (Describe def lefs state number) io status is four = tt
 checked gives (Repair def lefs teams legal export lines) io status is four = tt

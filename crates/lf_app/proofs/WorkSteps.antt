@@ -7,6 +7,7 @@ use Rattle.lf_lef.specs.Contents.{Contents}
 use Rattle.lf_def.specs.Document.{Document, document_of}
 use Rattle.lf_files.specs.Shelf.{Put}
 use Rattle.lf_server.specs.Connections.{Accepted}
+use Rattle.lf_floorplan.specs.declared.limits.Limits.{Limits}
 use Rattle.lf_floorplan.specs.declared.loaded.Loaded.{Loaded}
 use Rattle.lf_app.specs.declared.faults.Fault.{Fault}
 use Rattle.lf_app.specs.declared.faults.Fault.TheVariants.{Refused, File, NoState, NoTeam, ReadFault, WriteFault, TooManyLines, OutOfMemory, Output, Bind, Accept, Unwritten, Unsaved, Unlisted, NoMemory, NoRoom}
@@ -173,9 +174,9 @@ library_early gives old (path ∷ paths) fault (inl file) = file_early gives Lef
 library_early gives old (path ∷ paths) fault (inr later) = library_early gives later.0 paths fault later.2
 
 -- of a design
-pub design_early : (gives : Gives) (path : List ℕ) (lefs : List (List ℕ)) (fault : Fault) → IsDesignFault gives path lefs fault → IsEarly fault
-design_early gives path lefs fault (inl library) = library_early gives no_library lefs fault library
-design_early gives path lefs fault (inr file) = file_early gives Def path (IsDefRefusal file.0) fault file.2
+pub design_early : (limits : Limits) (gives : Gives) (path : List ℕ) (lefs : List (List ℕ)) (fault : Fault) → IsDesignFault limits gives path lefs fault → IsEarly fault
+design_early limits gives path lefs fault (inl library) = library_early gives no_library lefs fault library
+design_early limits gives path lefs fault (inr file) = file_early gives Def path (IsDefRefusal limits file.0) fault file.2
 
 -- a fault before anything is written is one of the whole
 pub first_fails : (why all : Fault → Type 0) (kept reader writer export service sound : Type 0) (fault : Fault) → kept → sound → why fault
@@ -204,36 +205,36 @@ refused_as kind path text P Q (Unlisted its_path) is gives = absurd is
 refused_as kind path text P Q NoMemory is gives = absurd is
 refused_as kind path text P Q NoRoom is gives = absurd is
 
-load_refused : (library : Contents) (text : List ℕ) (document : Document) (refusal : LoadFault) (met : Met) → document_of text ≡ Ok document
-    → IsLoadRefusal library document refusal met → IsDefRefusal library text refusal met
-load_refused library text document refusal met is (inl memory, meets) = inl (inl memory, subst (λ (found : LoadFault). MeetsIn document found met) memory meets)
-load_refused library text document refusal met is (inr found, meets) = inr (document, is, found, meets)
+load_refused : (limits : Limits) (library : Contents) (text : List ℕ) (document : Document) (refusal : LoadFault) (met : Met) → document_of text ≡ Ok document
+    → IsLoadRefusal limits library document refusal met → IsDefRefusal limits library text refusal met
+load_refused limits library text document refusal met is (inl memory, meets) = inl (inl memory, subst (λ (found : LoadFault). MeetsIn document found met) memory meets)
+load_refused limits library text document refusal met is (inr found, meets) = inr (document, is, found, meets)
 
 -- a refusal of loading a document is one of its text
-pub text_refused : (library : Contents) (path text : List ℕ) (document : Document) (fault : Fault) → document_of text ≡ Ok document
-    → IsRefused Def path text (IsLoadRefusal library document) fault → IsRefused Def path text (IsDefRefusal library text) fault
-text_refused library path text document fault is refused =
-    refused_as Def path text (IsLoadRefusal library document) (IsDefRefusal library text) fault refused
-    (λ refusal met why. load_refused library text document refusal met is why)
+pub text_refused : (limits : Limits) (library : Contents) (path text : List ℕ) (document : Document) (fault : Fault) → document_of text ≡ Ok document
+    → IsRefused Def path text (IsLoadRefusal limits library document) fault → IsRefused Def path text (IsDefRefusal limits library text) fault
+text_refused limits library path text document fault is refused =
+    refused_as Def path text (IsLoadRefusal limits library document) (IsDefRefusal limits library text) fault refused
+    (λ refusal met why. load_refused limits library text document refusal met is why)
 
 -- why the design of a text is not described is why that of a file with this text is not
-pub file_fails : (gives : Gives) (path : List ℕ) (library : Contents) (text : List ℕ) (why : Document → Loaded → Type 0) (fault : Fault) → gives path (Some text)
-    → IsRefused Def path text (IsDefRefusal library text) fault
-    ⊎ ((d : Document) × (document_of text ≡ Ok d) × ((loaded : Loaded) × IsLoadedIn library d loaded × why d loaded))
-    → IsFileFault gives Def path (IsDefRefusal library) fault
-    ⊎ ((t : List ℕ) × gives path (Some t) × ((d : Document) × (document_of t ≡ Ok d) × ((loaded : Loaded) × IsLoadedIn library d loaded × why d loaded)))
-file_fails gives path library text why fault given (inl refused) = inl (inr (text, given, refused))
-file_fails gives path library text why fault given (inr work) = inr (text, given, work)
+pub file_fails : (limits : Limits) (gives : Gives) (path : List ℕ) (library : Contents) (text : List ℕ) (why : Document → Loaded → Type 0) (fault : Fault) → gives path (Some text)
+    → IsRefused Def path text (IsDefRefusal limits library text) fault
+    ⊎ ((d : Document) × (document_of text ≡ Ok d) × ((loaded : Loaded) × IsLoadedIn limits library d loaded × why d loaded))
+    → IsFileFault gives Def path (IsDefRefusal limits library) fault
+    ⊎ ((t : List ℕ) × gives path (Some t) × ((d : Document) × (document_of t ≡ Ok d) × ((loaded : Loaded) × IsLoadedIn limits library d loaded × why d loaded)))
+file_fails limits gives path library text why fault given (inl refused) = inl (inr (text, given, refused))
+file_fails limits gives path library text why fault given (inr work) = inr (text, given, work)
 
 -- and of a file over LEF files that make this library
-pub files_fail : (gives : Gives) (path : List ℕ) (lefs : List (List ℕ)) (state : Option (List ℕ)) (library : Contents) (before after : Option (List ℕ))
+pub files_fail : (limits : Limits) (gives : Gives) (path : List ℕ) (lefs : List (List ℕ)) (state : Option (List ℕ)) (library : Contents) (before after : Option (List ℕ))
     (fault : Fault) → IsLibraryOf gives no_library lefs library
-    → IsFileFault gives Def path (IsDefRefusal library) fault
+    → IsFileFault gives Def path (IsDefRefusal limits library) fault
     ⊎ ((t : List ℕ) × gives path (Some t) × ((d : Document) × (document_of t ≡ Ok d)
-    × ((loaded : Loaded) × IsLoadedIn library d loaded × IsUnshown gives state d loaded before after fault)))
-    → IsDesignFault gives path lefs fault ⊎ IsOpenUndescribed gives path lefs state before after fault
-files_fail gives path lefs state library before after fault is (inl file) = inl (inr (library, is, file))
-files_fail gives path lefs state library before after fault is (inr work) = inr record {
+    × ((loaded : Loaded) × IsLoadedIn limits library d loaded × IsUnshown gives state d loaded before after fault)))
+    → IsDesignFault limits gives path lefs fault ⊎ IsOpenUndescribed limits gives path lefs state before after fault
+files_fail limits gives path lefs state library before after fault is (inl file) = inl (inr (library, is, file))
+files_fail limits gives path lefs state library before after fault is (inr work) = inr record {
   text = work.0;
   document = work.2.0;
   loaded = work.2.2.0;
@@ -308,21 +309,21 @@ unbegun_early gives state loaded fault (inl memory) = subst IsEarly (sym memory)
 unbegun_early gives state loaded fault (inr state_fault) = state_early gives state (opening loaded) fault state_fault
 
 -- a design that is opened is that of its files
-pub design_opened : (gives : Gives) (def : List ℕ) (lefs : List (List ℕ)) (text : List ℕ) (document : Document) (loaded : Loaded)
-    → IsOpened gives def lefs text document loaded → IsDesignOf gives def lefs loaded
-design_opened gives def lefs text document loaded is =
+pub design_opened : (limits : Limits) (gives : Gives) (def : List ℕ) (lefs : List (List ℕ)) (text : List ℕ) (document : Document) (loaded : Loaded)
+    → IsOpened limits gives def lefs text document loaded → IsDesignOf limits gives def lefs loaded
+design_opened limits gives def lefs text document loaded is =
     (is.library, is.lefs_are, record { text = text; given = is.given; design = (document, is.read, is.loads) })
 
 -- why the work on the design of a text is not done is why the work on that of its files is not
-pub undone : (gives : Gives) (def : List ℕ) (lefs : List (List ℕ)) (state save export : Option (List ℕ)) (lines : Lines) (text : List ℕ)
-    (document : Document) (loaded : Loaded) (fault : Fault) (io : Streams) → IsOpened gives def lefs text document loaded
+pub undone : (limits : Limits) (gives : Gives) (def : List ℕ) (lefs : List (List ℕ)) (state save export : Option (List ℕ)) (lines : Lines) (text : List ℕ)
+    (document : Document) (loaded : Loaded) (fault : Fault) (io : Streams) → IsOpened limits gives def lefs text document loaded
     → IsUnworked gives state save export lines loaded text document fault io
-    → IsUndone gives def lefs state save export (IsFault lines) (IsDone lines) fault io
-undone gives def lefs state save export lines text document loaded fault io is (inl unbegun) =
-    inl (inl (inr (loaded, design_opened gives def lefs text document loaded is, unbegun.0)), unbegun.1)
-undone gives def lefs state save export lines text document loaded fault io is (inr (begin, begins, inl stopped)) =
-    inl (inr (begin, (loaded, design_opened gives def lefs text document loaded is, begins), stopped.0), stopped.1)
-undone gives def lefs state save export lines text document loaded fault io is (inr (begin, begins, inr unsaved)) =
+    → IsUndone limits gives def lefs state save export (IsFault lines) (IsDone lines) fault io
+undone limits gives def lefs state save export lines text document loaded fault io is (inl unbegun) =
+    inl (inl (inr (loaded, design_opened limits gives def lefs text document loaded is, unbegun.0)), unbegun.1)
+undone limits gives def lefs state save export lines text document loaded fault io is (inr (begin, begins, inl stopped)) =
+    inl (inr (begin, (loaded, design_opened limits gives def lefs text document loaded is, begins), stopped.0), stopped.1)
+undone limits gives def lefs state save export lines text document loaded fault io is (inr (begin, begins, inr unsaved)) =
     inr (unsaved.0, record { text = text; document = document; loaded = loaded; opened = is; begin = begin; begins = begins; finished = unsaved.1 })
 
 -- a fault of what is written once the lines are done leaves the work unfinished
@@ -347,24 +348,24 @@ pub still_sound : {T E V R W F : Type 0} (e : E → Bool) (v : V → Bool) (r : 
 still_sound e v r w around = record { exports = refl; services = refl; reader = refl; writer = refl }
 
 -- a design that is not brought into the state that was asked for is not looked at: that is told before anything is written
-pub unseen_early : (gives : Gives) (path : List ℕ) (library : Contents) (text : List ℕ) (document : Document) (state : Option (List ℕ)) (fault : Fault)
-    → IsRefused Def path text (IsLoadRefusal library document) fault
-    ⊎ ((loaded : Loaded) × IsLoadedIn library document loaded × IsUnbegun gives state loaded fault) → IsEarly fault
-unseen_early gives path library text document state fault (inl refused) = refused_early Def path text (IsLoadRefusal library document) fault refused
-unseen_early gives path library text document state fault (inr (loaded, loads, unbegun)) = unbegun_early gives state loaded fault unbegun
+pub unseen_early : (limits : Limits) (gives : Gives) (path : List ℕ) (library : Contents) (text : List ℕ) (document : Document) (state : Option (List ℕ)) (fault : Fault)
+    → IsRefused Def path text (IsLoadRefusal limits library document) fault
+    ⊎ ((loaded : Loaded) × IsLoadedIn limits library document loaded × IsUnbegun gives state loaded fault) → IsEarly fault
+unseen_early limits gives path library text document state fault (inl refused) = refused_early Def path text (IsLoadRefusal limits library document) fault refused
+unseen_early limits gives path library text document state fault (inr (loaded, loads, unbegun)) = unbegun_early gives state loaded fault unbegun
 
 -- and it is why its document is not described
-pub unseen_fails : (gives : Gives) (path : List ℕ) (library : Contents) (text : List ℕ) (document : Document) (state before after : Option (List ℕ))
+pub unseen_fails : (limits : Limits) (gives : Gives) (path : List ℕ) (library : Contents) (text : List ℕ) (document : Document) (state before after : Option (List ℕ))
     (fault : Fault) → document_of text ≡ Ok document
-    → IsRefused Def path text (IsLoadRefusal library document) fault
-    ⊎ ((loaded : Loaded) × IsLoadedIn library document loaded × IsUnbegun gives state loaded fault)
-    → IsRefused Def path text (IsDefRefusal library text) fault
-    ⊎ ((d : Document) × (document_of text ≡ Ok d) × ((loaded : Loaded) × IsLoadedIn library d loaded × IsUnshown gives state d loaded before after fault))
-unseen_fails gives path library text document state before after fault is (inl refused) = inl (text_refused library path text document fault is refused)
-unseen_fails gives path library text document state before after fault is (inr (loaded, loads, unbegun)) = inr (document, is, (loaded, loads, inl unbegun))
+    → IsRefused Def path text (IsLoadRefusal limits library document) fault
+    ⊎ ((loaded : Loaded) × IsLoadedIn limits library document loaded × IsUnbegun gives state loaded fault)
+    → IsRefused Def path text (IsDefRefusal limits library text) fault
+    ⊎ ((d : Document) × (document_of text ≡ Ok d) × ((loaded : Loaded) × IsLoadedIn limits library d loaded × IsUnshown gives state d loaded before after fault))
+unseen_fails limits gives path library text document state before after fault is (inl refused) = inl (text_refused limits library path text document fault is refused)
+unseen_fails limits gives path library text document state before after fault is (inr (loaded, loads, unbegun)) = inr (document, is, (loaded, loads, inl unbegun))
 
 -- why there is no floor with which work begins is told before anything is written
-pub floor_early : (gives : Gives) (def : List ℕ) (lefs : List (List ℕ)) (state : Option (List ℕ)) (fault : Fault) → IsFloorFault gives def lefs state fault
+pub floor_early : (limits : Limits) (gives : Gives) (def : List ℕ) (lefs : List (List ℕ)) (state : Option (List ℕ)) (fault : Fault) → IsFloorFault limits gives def lefs state fault
     → IsEarly fault
-floor_early gives def lefs state fault (inl design) = design_early gives def lefs fault design
-floor_early gives def lefs state fault (inr (loaded, is, unbegun)) = unbegun_early gives state loaded fault unbegun
+floor_early limits gives def lefs state fault (inl design) = design_early limits gives def lefs fault design
+floor_early limits gives def lefs state fault (inr (loaded, is, unbegun)) = unbegun_early gives state loaded fault unbegun

@@ -39,24 +39,22 @@ abbrev pub IsLibraryOf : Gives → Contents → List (List ℕ) → Contents →
 IsLibraryOf gives old [] new = new ≡ old
 IsLibraryOf gives old (path ∷ paths) new = (next : Contents) × Adds gives path old next × IsLibraryOf gives next paths new
 
--- the limits if none are given
-pub record AreStandard (limits : Limits) : Type 0 where
+-- the limits of a design whose teams have this many session slots; all others are those that are given by default
+pub record AreWithSlots (slots : ℕ) (limits : Limits) : Type 0 where
   pub rows : limits.rows ≡ 65535
   pub fences : limits.fences ≡ 1024
   pub components : limits.components ≡ 4000000
-  pub sessions : limits.sessions ≡ 8
+  pub sessions : limits.sessions ≡ slots
   pub undo : limits.undo ≡ 64
   pub revisions : limits.revisions ≡ 4000000000
 
--- what is loaded from the library, the document and the standard limits
-abbrev pub IsLoadedIn : Contents → def.Document → Loaded → Type 0
-IsLoadedIn library document loaded =
-    (limits : Limits) × AreStandard limits × IsLoadedFrom (record { library = library; document = document; limits = limits }) loaded
+-- what is loaded from the library and the document within these limits
+abbrev pub IsLoadedIn : Limits → Contents → def.Document → Loaded → Type 0
+IsLoadedIn limits library document loaded = IsLoadedFrom (record { library = library; document = document; limits = limits }) loaded
 
 -- why nothing is loaded from them
-abbrev pub IsFaultIn : Contents → def.Document → LoadFault → Type 0
-IsFaultIn library document refusal =
-    (limits : Limits) × AreStandard limits × IsFault (record { library = library; document = document; limits = limits }) refusal
+abbrev pub IsFaultIn : Limits → Contents → def.Document → LoadFault → Type 0
+IsFaultIn limits library document refusal = IsFault (record { library = library; document = document; limits = limits }) refusal
 
 -- why a text is refused: the fault, and the fences that it meets
 abbrev pub Cause : Type 1
@@ -67,33 +65,33 @@ abbrev pub MeetsIn : def.Document → Cause
 MeetsIn document = Meets document.regions document.groups
 
 -- why loading them is refused: a fault that it finds, with the fences that it meets, or an allocation that fails
-abbrev pub IsLoadRefusal : Contents → def.Document → Cause
-IsLoadRefusal library document refusal met =
-    ((refusal ≡ load_fault_of Memory) ⊎ IsFaultIn library document refusal) × MeetsIn document refusal met
+abbrev pub IsLoadRefusal : Limits → Contents → def.Document → Cause
+IsLoadRefusal limits library document refusal met =
+    ((refusal ≡ load_fault_of Memory) ⊎ IsFaultIn limits library document refusal) × MeetsIn document refusal met
 
 -- the design of a DEF text over the library
-abbrev pub IsDesignIn : Contents → List ℕ → Loaded → Type 0
-IsDesignIn library text loaded = (document : def.Document) × (def.document_of text ≡ Ok document) × IsLoadedIn library document loaded
+abbrev pub IsDesignIn : Limits → Contents → List ℕ → Loaded → Type 0
+IsDesignIn limits library text loaded = (document : def.Document) × (def.document_of text ≡ Ok document) × IsLoadedIn limits library document loaded
 
 -- what is kept of a DEF text besides its bytes: the design of its document over the library, and the clauses of its components
-pub record IsKept (text : List ℕ) (library : Contents) (document : def.Document) (clauses : List ClauseFacts) (loaded : Loaded) : Type 0 where
+pub record IsKept (limits : Limits) (text : List ℕ) (library : Contents) (document : def.Document) (clauses : List ClauseFacts) (loaded : Loaded) : Type 0 where
   pub read : def.document_of text ≡ Ok document
   pub clauses_are : clauses ≡ map (clause_of text) document.components
-  pub loads : IsLoadedIn library document loaded
+  pub loads : IsLoadedIn limits library document loaded
 
 -- the file of the path is read, and the design is that of its DEF text over the library
-pub record IsFileDesign (gives : Gives) (path : List ℕ) (library : Contents) (loaded : Loaded) : Type 0 where
+pub record IsFileDesign (limits : Limits) (gives : Gives) (path : List ℕ) (library : Contents) (loaded : Loaded) : Type 0 where
   pub text : List ℕ
   pub given : gives path (Some text)
-  pub design : IsDesignIn library text loaded
+  pub design : IsDesignIn limits library text loaded
 
 -- the design of a DEF file over the library of LEF files
-abbrev pub IsDesignOf : Gives → List ℕ → List (List ℕ) → Loaded → Type 0
-IsDesignOf gives path lefs loaded = (library : Contents) × IsLibraryOf gives no_library lefs library × IsFileDesign gives path library loaded
+abbrev pub IsDesignOf : Limits → Gives → List ℕ → List (List ℕ) → Loaded → Type 0
+IsDesignOf limits gives path lefs loaded = (library : Contents) × IsLibraryOf gives no_library lefs library × IsFileDesign limits gives path library loaded
 
 -- the design of a DEF text over a LEF text
-abbrev pub IsTextDesign : List ℕ → List ℕ → Loaded → Type 0
-IsTextDesign text lef_text loaded = (library : Contents) × (lef.library_after no_library lef_text ≡ Ok library) × IsDesignIn library text loaded
+abbrev pub IsTextDesign : Limits → List ℕ → List ℕ → Loaded → Type 0
+IsTextDesign limits text lef_text loaded = (library : Contents) × (lef.library_after no_library lef_text ≡ Ok library) × IsDesignIn limits library text loaded
 
 -- why a LEF text is refused over the library: its first fault with its line, or an allocation that fails
 abbrev pub IsLefRefusal : Contents → List ℕ → Cause
@@ -104,10 +102,10 @@ abbrev pub IsReadRefusal : List ℕ → Cause
 IsReadRefusal text refusal met = def.Refuses refusal (def.document_of text) × (met ≡ no_fence)
 
 -- why there is no design of a DEF text over the library: it is not read, or the document is not loaded
-abbrev pub IsDefRefusal : Contents → List ℕ → Cause
-IsDefRefusal library text refusal met =
+abbrev pub IsDefRefusal : Limits → Contents → List ℕ → Cause
+IsDefRefusal limits library text refusal met =
     IsReadRefusal text refusal met
-    ⊎ ((document : def.Document) × (def.document_of text ≡ Ok document) × IsFaultIn library document refusal × MeetsIn document refusal met)
+    ⊎ ((document : def.Document) × (def.document_of text ≡ Ok document) × IsFaultIn limits library document refusal × MeetsIn document refusal met)
 
 -- the fault tells a refusal of this kind of the text, read as this from the file of the path
 abbrev pub IsRefused : TextKind → List ℕ → List ℕ → Cause → Fault → Type 0
@@ -133,13 +131,13 @@ IsLibraryFault gives old (path ∷ paths) fault =
     IsFileFault gives Lef path (IsLefRefusal old) fault ⊎ ((next : Contents) × Adds gives path old next × IsLibraryFault gives next paths fault)
 
 -- why there is no design of a DEF file over LEF files: the fault of the LEF files or, if they have none, that of the DEF file
-abbrev pub IsDesignFault : Gives → List ℕ → List (List ℕ) → Fault → Type 0
-IsDesignFault gives path lefs fault =
+abbrev pub IsDesignFault : Limits → Gives → List ℕ → List (List ℕ) → Fault → Type 0
+IsDesignFault limits gives path lefs fault =
     IsLibraryFault gives no_library lefs fault
-    ⊎ ((library : Contents) × IsLibraryOf gives no_library lefs library × IsFileFault gives Def path (IsDefRefusal library) fault)
+    ⊎ ((library : Contents) × IsLibraryOf gives no_library lefs library × IsFileFault gives Def path (IsDefRefusal limits library) fault)
 
 -- why there is no design of a DEF text over a LEF text, both built in: the refusal of the LEF text or, if it has none, of the DEF text
-abbrev pub IsTextFault : List ℕ → List ℕ → Fault → Type 0
-IsTextFault text lef_text fault =
+abbrev pub IsTextFault : Limits → List ℕ → List ℕ → Fault → Type 0
+IsTextFault limits text lef_text fault =
     IsRefused Lef BUILT_IN.now lef_text (IsLefRefusal no_library lef_text) fault
-    ⊎ ((library : Contents) × (lef.library_after no_library lef_text ≡ Ok library) × IsRefused Def BUILT_IN.now text (IsDefRefusal library text) fault)
+    ⊎ ((library : Contents) × (lef.library_after no_library lef_text ≡ Ok library) × IsRefused Def BUILT_IN.now text (IsDefRefusal limits library text) fault)

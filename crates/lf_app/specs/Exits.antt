@@ -1,6 +1,7 @@
 -- How tasks end.
 use Rattle.std.specs.Prelude.{◌≡◌, ◌<◌, ◌⊎◌, ◌*◌, ◌++◌, ℕ, Bool, true, false, List, [], ◌∷◌, Option, Some, None, IsTrue, Ok, codes, map, take}
 use Rattle.std.specs.Io.KnownBytes.{Appends}
+use Rattle.lf_floorplan.specs.declared.limits.Limits.{Limits}
 use Rattle.lf_floorplan.specs.declared.loaded.Loaded.{Loaded}
 use Rattle.lf_floorplan.specs.declared.place.Place.{Place}
 use Rattle.lf_rules.specs.Legalizer.{Legalizer}
@@ -24,7 +25,7 @@ use Rattle.lf_app.specs.declared.faults.Fault.{Fault}
 use Rattle.lf_app.specs.declared.faults.Fault.TheVariants.{Accept, Bind, NoMemory, Output}
 use Rattle.lf_app.specs.declared.faults.Exit.{Exit}
 use Rattle.lf_app.specs.Checks.{IsLegalDesign, report_line}
-use Rattle.lf_app.specs.Designs.{Gives, IsDesignFault, IsLibraryOf, IsLoadedIn, IsTextDesign, IsTextFault, no_library}
+use Rattle.lf_app.specs.Designs.{AreWithSlots, Gives, IsDesignFault, IsLibraryOf, IsLoadedIn, IsTextDesign, IsTextFault, no_library}
 use Rattle.lf_app.specs.Faults.{IsDescriptionFault, IsDone, IsExportFault, IsLinesFileFault, IsReportFault, IsSaveFault, ending_fault, status_of, told_text}
 use Rattle.lf_app.specs.Lines.{IsServed, most_lines}
 use Rattle.lf_app.specs.Repairs.{AllLegalStay, AreKnown, IsJudged, IsKeptRun, IsListed, IsRepairFault, OnlyAsked, begun_lines}
@@ -102,17 +103,18 @@ IsExported (Some path) text document floor old new =
     (places : List (ℕ × Option Place)) × AreCommittedPlaces floor places × Puts old new path (exported text document.components places)
 
 -- the design of a DEF file over LEF files, with the DEF text and what it says
-pub record IsOpened (gives : Gives) (def : List ℕ) (lefs : List (List ℕ)) (text : List ℕ) (document : Document) (loaded : Loaded) : Type 0 where
+pub record IsOpened (limits : Limits) (gives : Gives) (def : List ℕ) (lefs : List (List ℕ)) (text : List ℕ) (document : Document)
+    (loaded : Loaded) : Type 0 where
   pub library : Contents
   pub lefs_are : IsLibraryOf gives no_library lefs library
   pub given : gives def (Some text)
   pub read : document_of text ≡ Ok document
-  pub loads : IsLoadedIn library document loaded
+  pub loads : IsLoadedIn limits library document loaded
 
 -- the design of a DEF file over LEF files is opened, and its text is kept with the clauses of its components
-abbrev pub IsOpenedOf : Gives → List ℕ → List (List ℕ) → Opened → Type 0
-IsOpenedOf gives def lefs opened =
-    (document : Document) × IsOpened gives def lefs opened.original.text.items document opened.loaded
+abbrev pub IsOpenedOf : Limits → Gives → List ℕ → List (List ℕ) → Opened → Type 0
+IsOpenedOf limits gives def lefs opened =
+    (document : Document) × IsOpened limits gives def lefs opened.original.text.items document opened.loaded
     × (opened.original.clauses ≡ map (clause_of opened.original.text.items) document.components)
 
 -- this work led to the state of the floor; then the exported text of the document was put where one was asked for, and then the state
@@ -124,33 +126,41 @@ pub record IsFinished (Work : FloorState → Streams → Type 0) (save export : 
   pub saves : IsSaved save floor between io.new_puts
 
 -- the design was opened, its floor was brought into the state that was asked for, and this work on it finished
-pub record IsWorked (gives : Gives) (def : List ℕ) (lefs : List (List ℕ)) (state save export : Option (List ℕ))
+pub record IsWorked (limits : Limits) (gives : Gives) (def : List ℕ) (lefs : List (List ℕ)) (state save export : Option (List ℕ))
     (Work : FloorState → FloorState → Streams → Type 0) (io : Streams) : Type 0 where
   pub text : List ℕ
   pub document : Document
   pub loaded : Loaded
-  pub opened : IsOpened gives def lefs text document loaded
+  pub opened : IsOpened limits gives def lefs text document loaded
   pub begin : FloorState
   pub begins : IsBegun gives state (opening loaded) begin
   pub finished : IsFinished (Work begin) save export text document io
 
 -- a job that asks for no state at the end, and for no lines of a repair: nothing is put behind the exported text
 abbrev pub AsksForNoState : Job → Type 0
-AsksForNoState (replay def lefs state lines save export) = save ≡ None
-AsksForNoState (serve def lefs state port connections save export) = save ≡ None
+AsksForNoState (replay def lefs state slots lines save export) = save ≡ None
+AsksForNoState (serve def lefs state slots port connections save export) = save ≡ None
 AsksForNoState (repair def lefs teams legal export lines) = lines ≡ None
 AsksForNoState job = Unit {0}
 
 -- a job that asks for no text to be put into a file
 abbrev pub AsksForNoFile : Job → Type 0
-AsksForNoFile (replay def lefs state lines save export) = (save ≡ None) × (export ≡ None)
-AsksForNoFile (serve def lefs state port connections save export) = (save ≡ None) × (export ≡ None)
+AsksForNoFile (replay def lefs state slots lines save export) = (save ≡ None) × (export ≡ None)
+AsksForNoFile (serve def lefs state slots port connections save export) = (save ≡ None) × (export ≡ None)
 AsksForNoFile (repair def lefs teams legal export lines) = (lines ≡ None) × (export ≡ None)
 AsksForNoFile job = Unit {0}
 
+-- how many session slots each team of a job's design has
+abbrev pub slots_of : Job → ℕ
+slots_of (check def lefs state slots) = slots
+slots_of (describe def lefs state slots) = slots
+slots_of (replay def lefs state slots lines save export) = slots
+slots_of (serve def lefs state slots port connections save export) = slots
+slots_of _ = 8
+
 -- the most lines of its input that a job answers
 abbrev pub reads_of : Job → ℕ
-reads_of (replay def lefs state lines save export) = lines
+reads_of (replay def lefs state slots lines save export) = lines
 reads_of _ = most_lines
 
 -- the description of the design is appended to the output, and the status says whether the design is fully legal
@@ -166,11 +176,12 @@ IsShown gives state document loaded before after status =
     (seen : Loaded) × IsSeen gives state loaded seen × IsDescribed document seen before after status
 
 -- the design was opened, and its description written, at the places of its DEF text or of the state that was asked for
-pub record IsOpenDescribed (gives : Gives) (def : List ℕ) (lefs : List (List ℕ)) (state before after : Option (List ℕ)) (status : ℕ) : Type 0 where
+pub record IsOpenDescribed (limits : Limits) (gives : Gives) (def : List ℕ) (lefs : List (List ℕ)) (state before after : Option (List ℕ))
+    (status : ℕ) : Type 0 where
   pub text : List ℕ
   pub document : Document
   pub loaded : Loaded
-  pub opened : IsOpened gives def lefs text document loaded
+  pub opened : IsOpened limits gives def lefs text document loaded
   pub shown : IsShown gives state document loaded before after status
 
 -- a report was written; the exported text was put where one was asked for, and then the lines
@@ -198,29 +209,34 @@ pub record IsRepaired (teams : List (List ℕ)) (legal : LegalCells) (export lin
   pub judged : IsJudged floor status
 
 -- the design was opened, and its teams were repaired
-pub record IsOpenRepaired (gives : Gives) (def : List ℕ) (lefs teams : List (List ℕ)) (legal : LegalCells) (export lines : Option (List ℕ))
+pub record IsOpenRepaired (limits : Limits) (gives : Gives) (def : List ℕ) (lefs teams : List (List ℕ)) (legal : LegalCells) (export lines : Option (List ℕ))
     (before after : Option (List ℕ)) (old_puts new_puts : Option (List Put)) (status : ℕ) : Type 0 where
   pub text : List ℕ
   pub document : Document
   pub loaded : Loaded
-  pub opened : IsOpened gives def lefs text document loaded
+  pub opened : IsOpened limits gives def lefs text document loaded
   pub repaired : IsRepaired teams legal export lines text document (opening loaded) before after old_puts new_puts status
+
+-- the outcome of a job that is done on a design within these limits, with this status
+abbrev pub IsOutcomeWithin : Limits → Gives → Job → Streams → ℕ → Type 0
+IsOutcomeWithin limits gives demo io status =
+    (loaded : Loaded) × IsTextDesign limits W_DEF.now W_LEF.now loaded
+    × ((floor : FloorState) × IsAnswered most_lines (opening loaded) floor io.input io.left io.before io.after)
+    × (status ≡ 0)
+IsOutcomeWithin limits gives (replay def lefs state slots lines save export) io status =
+    IsWorked limits gives def lefs state save export (λ begin floor io. IsAnswered lines begin floor io.input io.left io.before io.after) io × (status ≡ 0)
+IsOutcomeWithin limits gives (serve def lefs state slots port connections save export) io status =
+    IsWorked limits gives def lefs state save export
+    (λ begin floor io. IsOffered begin floor connections io.before io.after io.old_accepted io.new_accepted) io × (status ≡ 0)
+IsOutcomeWithin limits gives (check def lefs state slots) io status =
+    (seen : Loaded) × IsSeenOf limits gives def lefs state seen × IsReported seen io.before io.after status
+IsOutcomeWithin limits gives (describe def lefs state slots) io status = IsOpenDescribed limits gives def lefs state io.before io.after status
+IsOutcomeWithin limits gives (repair def lefs teams legal export lines) io status =
+    IsOpenRepaired limits gives def lefs teams legal export lines io.before io.after io.old_puts io.new_puts status
 
 -- the outcome of a job that is done, with this status
 abbrev pub IsOutcome : Gives → Job → Streams → ℕ → Type 0
-IsOutcome gives demo io status =
-    (loaded : Loaded) × IsTextDesign W_DEF.now W_LEF.now loaded × ((floor : FloorState) × IsAnswered most_lines (opening loaded) floor io.input io.left io.before io.after)
-    × (status ≡ 0)
-IsOutcome gives (replay def lefs state lines save export) io status =
-    IsWorked gives def lefs state save export (λ begin floor io. IsAnswered lines begin floor io.input io.left io.before io.after) io × (status ≡ 0)
-IsOutcome gives (serve def lefs state port connections save export) io status =
-    IsWorked gives def lefs state save export
-    (λ begin floor io. IsOffered begin floor connections io.before io.after io.old_accepted io.new_accepted) io × (status ≡ 0)
-IsOutcome gives (check def lefs state) io status =
-    (seen : Loaded) × IsSeenOf gives def lefs state seen × IsReported seen io.before io.after status
-IsOutcome gives (describe def lefs state) io status = IsOpenDescribed gives def lefs state io.before io.after status
-IsOutcome gives (repair def lefs teams legal export lines) io status =
-    IsOpenRepaired gives def lefs teams legal export lines io.before io.after io.old_puts io.new_puts status
+IsOutcome gives job io status = (limits : Limits) × AreWithSlots (slots_of job) limits × IsOutcomeWithin limits gives job io status
 
 -- ---- faults
 
@@ -263,11 +279,12 @@ IsUnshown gives state document loaded before after fault =
     IsUnbegun gives state loaded fault ⊎ ((seen : Loaded) × IsSeen gives state loaded seen × IsUndescribed document seen before after fault)
 
 -- the design was opened, and is not described so
-pub record IsOpenUndescribed (gives : Gives) (def : List ℕ) (lefs : List (List ℕ)) (state before after : Option (List ℕ)) (fault : Fault) : Type 0 where
+pub record IsOpenUndescribed (limits : Limits) (gives : Gives) (def : List ℕ) (lefs : List (List ℕ)) (state before after : Option (List ℕ))
+    (fault : Fault) : Type 0 where
   pub text : List ℕ
   pub document : Document
   pub loaded : Loaded
-  pub opened : IsOpened gives def lefs text document loaded
+  pub opened : IsOpened limits gives def lefs text document loaded
   pub unshown : IsUnshown gives state document loaded before after fault
 
 -- a report is not written, or only a front of it, or what is asked for is not put: then no text is, unless the lines alone are not put
@@ -285,11 +302,11 @@ pub record IsUnrepaired (teams : List (List ℕ)) (export lines : Option (List �
   pub unput : (new_puts ≡ old_puts) ⊎ IsLinesFileFault lines fault
 
 -- there is no floor of the design, and nothing was put; or there is, and its teams are not repaired
-abbrev pub IsNotRepaired : Gives → List ℕ → List (List ℕ) → List (List ℕ) → Option (List ℕ) → Option (List ℕ) → Option (List ℕ) → Option (List ℕ)
+abbrev pub IsNotRepaired : Limits → Gives → List ℕ → List (List ℕ) → List (List ℕ) → Option (List ℕ) → Option (List ℕ) → Option (List ℕ) → Option (List ℕ)
     → Option (List Put) → Option (List Put) → Fault → Type 0
-IsNotRepaired gives def lefs teams export lines before after old_puts new_puts fault =
-    (IsFloorFault gives def lefs None fault × (new_puts ≡ old_puts))
-    ⊎ ((begin : FloorState) × IsFloorOf gives def lefs None begin × IsUnrepaired teams export lines begin before after old_puts new_puts fault)
+IsNotRepaired limits gives def lefs teams export lines before after old_puts new_puts fault =
+    (IsFloorFault limits gives def lefs None fault × (new_puts ≡ old_puts))
+    ⊎ ((begin : FloorState) × IsFloorOf limits gives def lefs None begin × IsUnrepaired teams export lines begin before after old_puts new_puts fault)
 
 -- nothing was read, written, put or accepted
 pub record IsUntouched (io : Streams) : Type 0 where
@@ -310,30 +327,35 @@ abbrev pub IsJobStop : {A : Type 0} → (Fault → Type 0) → (A → Type 0) �
 IsJobStop {A} nothing IsWorkedOn why fault io = nothing fault ⊎ ((on : A) × IsWorkedOn on × why on fault io)
 
 -- why a job on lines is not done: it is stopped, and no text is put; or all is done but that the state is not saved
-abbrev pub IsUndone : Gives → List ℕ → List (List ℕ) → Option (List ℕ) → Option (List ℕ) → Option (List ℕ)
+abbrev pub IsUndone : Limits → Gives → List ℕ → List (List ℕ) → Option (List ℕ) → Option (List ℕ) → Option (List ℕ)
     → (FloorState → Fault → Streams → Type 0) → (FloorState → FloorState → Streams → Type 0) → Fault → Streams → Type 0
-IsUndone gives def lefs state save export why Work fault io =
-    (IsJobStop (IsFloorFault gives def lefs state) (IsFloorOf gives def lefs state) (λ begin. IsWorkFault save export (why begin) (Work begin)) fault io
-    × (io.new_puts ≡ io.old_puts))
-    ⊎ (IsSaveFault save fault × IsWorked gives def lefs state None export Work io)
+IsUndone limits gives def lefs state save export why Work fault io =
+    (IsJobStop (IsFloorFault limits gives def lefs state) (IsFloorOf limits gives def lefs state)
+    (λ begin. IsWorkFault save export (why begin) (Work begin)) fault io × (io.new_puts ≡ io.old_puts))
+    ⊎ (IsSaveFault save fault × IsWorked limits gives def lefs state None export Work io)
 
--- why a job is not done: there is no design, or no floor in the state that was asked for; or there is, and the lines, the service,
--- what is put, the report, the description or the repair fails
-abbrev pub IsJobFault : Gives → Job → Fault → Streams → Type 0
-IsJobFault gives demo fault io =
-    IsJobStop (IsTextFault W_DEF.now W_LEF.now) (IsTextDesign W_DEF.now W_LEF.now)
+-- why a job on a design within these limits is not done: there is no design, or no floor in the state that was asked for; or there is,
+-- and the lines, the service, what is put, the report, the description or the repair fails
+abbrev pub IsJobFaultWithin : Limits → Gives → Job → Fault → Streams → Type 0
+IsJobFaultWithin limits gives demo fault io =
+    IsJobStop (IsTextFault limits W_DEF.now W_LEF.now) (IsTextDesign limits W_DEF.now W_LEF.now)
     (λ loaded fault io. IsLinesFault most_lines (opening loaded) fault io.input io.left io.before io.after) fault io
-IsJobFault gives (replay def lefs state lines save export) fault io =
-    IsUndone gives def lefs state save export
+IsJobFaultWithin limits gives (replay def lefs state slots lines save export) fault io =
+    IsUndone limits gives def lefs state save export
     (λ begin fault io. IsBrokenOff lines begin fault io.input io.left io.before io.after)
     (λ begin floor io. IsAnswered lines begin floor io.input io.left io.before io.after) fault io
-IsJobFault gives (serve def lefs state port connections save export) fault io =
-    IsUndone gives def lefs state save export
+IsJobFaultWithin limits gives (serve def lefs state slots port connections save export) fault io =
+    IsUndone limits gives def lefs state save export
     (λ begin fault io. IsServiceFault port connections begin fault io.before io.after io.old_accepted io.new_accepted)
     (λ begin floor io. IsOffered begin floor connections io.before io.after io.old_accepted io.new_accepted) fault io
-IsJobFault gives (check def lefs state) fault io =
-    IsJobStop (IsFloorFault gives def lefs state) (IsSeenOf gives def lefs state) (λ seen fault io. IsUnreported seen io.before io.after fault) fault io
-IsJobFault gives (describe def lefs state) fault io =
-    IsDesignFault gives def lefs fault ⊎ IsOpenUndescribed gives def lefs state io.before io.after fault
-IsJobFault gives (repair def lefs teams legal export lines) fault io =
-    IsNotRepaired gives def lefs teams export lines io.before io.after io.old_puts io.new_puts fault
+IsJobFaultWithin limits gives (check def lefs state slots) fault io =
+    IsJobStop (IsFloorFault limits gives def lefs state) (IsSeenOf limits gives def lefs state)
+    (λ seen fault io. IsUnreported seen io.before io.after fault) fault io
+IsJobFaultWithin limits gives (describe def lefs state slots) fault io =
+    IsDesignFault limits gives def lefs fault ⊎ IsOpenUndescribed limits gives def lefs state io.before io.after fault
+IsJobFaultWithin limits gives (repair def lefs teams legal export lines) fault io =
+    IsNotRepaired limits gives def lefs teams export lines io.before io.after io.old_puts io.new_puts fault
+
+-- why a job is not done
+abbrev pub IsJobFault : Gives → Job → Fault → Streams → Type 0
+IsJobFault gives job fault io = (limits : Limits) × AreWithSlots (slots_of job) limits × IsJobFaultWithin limits gives job fault io

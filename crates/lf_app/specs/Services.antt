@@ -24,5 +24,5 @@ OffersLocal port connections old new = (offer : Offer) × IsLocal port connectio
 
 -- what a job offers: the service that it is, and nothing if it is none
 abbrev pub IsOfferOf : Job → Option (List Offer) → Option (List Offer) → Type 0
-IsOfferOf (serve def lefs state port connections save export) old new = OffersLocal port connections old new
+IsOfferOf (serve def lefs state slots port connections save export) old new = OffersLocal port connections old new
 IsOfferOf _ old new = new ≡ old

@@ -3,6 +3,7 @@ use Rattle.std.specs.Prelude.{◌≡◌, ◌⊎◌, ℕ, List, Option, Some, Non
 use Rattle.lf_files.specs.Shelf.{Put, Puts}
 use Rattle.lf_state.specs.declared.fault.StateFault.{StateFault}
 use Rattle.lf_state.specs.Reading.{state_of}
+use Rattle.lf_floorplan.specs.declared.limits.Limits.{Limits}
 use Rattle.lf_floorplan.specs.declared.loaded.Loaded.{Loaded}
 use Rattle.lf_teams.specs.States.{FloorState}
 use Rattle.lf_teams.specs.Designs.{opening}
@@ -52,13 +53,13 @@ IsUnbegun gives state loaded fault = (fault ≡ NoMemory) ⊎ IsStateFault gives
 
 -- why there is no floor with which work begins: there is no design; or there is one, and an allocation for its floor failed, or it is
 -- not brought into the state that was asked for
-abbrev pub IsFloorFault : Gives → List ℕ → List (List ℕ) → Option (List ℕ) → Fault → Type 0
-IsFloorFault gives def lefs state fault =
-    IsDesignFault gives def lefs fault ⊎ ((loaded : Loaded) × IsDesignOf gives def lefs loaded × IsUnbegun gives state loaded fault)
+abbrev pub IsFloorFault : Limits → Gives → List ℕ → List (List ℕ) → Option (List ℕ) → Fault → Type 0
+IsFloorFault limits gives def lefs state fault =
+    IsDesignFault limits gives def lefs fault ⊎ ((loaded : Loaded) × IsDesignOf limits gives def lefs loaded × IsUnbegun gives state loaded fault)
 
 -- the floor with which work begins
-abbrev pub IsFloorOf : Gives → List ℕ → List (List ℕ) → Option (List ℕ) → FloorState → Type 0
-IsFloorOf gives def lefs state begin = (loaded : Loaded) × IsDesignOf gives def lefs loaded × IsBegun gives state (opening loaded) begin
+abbrev pub IsFloorOf : Limits → Gives → List ℕ → List (List ℕ) → Option (List ℕ) → FloorState → Type 0
+IsFloorOf limits gives def lefs state begin = (loaded : Loaded) × IsDesignOf limits gives def lefs loaded × IsBegun gives state (opening loaded) begin
 
 -- ---- the design that is looked at
 
@@ -72,8 +73,8 @@ IsSeen gives None design seen = seen ≡ design
 IsSeen gives (Some path) design seen = IsStood gives path design seen
 
 -- the design of a DEF file over LEF files as it is looked at
-abbrev pub IsSeenOf : Gives → List ℕ → List (List ℕ) → Option (List ℕ) → Loaded → Type 0
-IsSeenOf gives def lefs state seen = (design : Loaded) × IsDesignOf gives def lefs design × IsSeen gives state design seen
+abbrev pub IsSeenOf : Limits → Gives → List ℕ → List (List ℕ) → Option (List ℕ) → Loaded → Type 0
+IsSeenOf limits gives def lefs state seen = (design : Loaded) × IsDesignOf limits gives def lefs design × IsSeen gives state design seen
 
 -- ---- the state at the end
 

@@ -7,18 +7,12 @@ use Rattle.lf_floorplan.specs.declared.loaded.Cell.{Cell as LoadedCell}
 use Rattle.lf_floorplan.specs.declared.loaded.Loaded.{Loaded}
 use Rattle.lf_floorplan.specs.LoadedCells.{with_names}
 use Rattle.lf_cells.specs.Cells.{Cells, cells_of}
+use Rattle.lf_alone.specs.Copies.{AreTwins}
 use Rattle.lf_app.specs.Standing.{place_named}
 
 -- the cells, each with its name
 abbrev pub cells_in : CellParts → List LoadedCell
 cells_in parts = with_names parts.names parts.cells.items
-
--- what names and numbers of a frame are needed by a floor of it that is restored
-pub record AreTwins (f g : Frame) : Type 0 where
-  pub teams : g.teams ≡ f.teams
-  pub limits : g.limits ≡ f.limits
-  pub macros : g.macros ≡ f.macros
-  pub header : g.header ≡ f.header
 
 -- a design of such a frame with these cells
 pub record IsTwin (f : Frame) (all : List LoadedCell) (twin : Loaded) : Type 0 where

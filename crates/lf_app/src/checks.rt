@@ -42,12 +42,12 @@ fn seen_of_files<'a, T: Texts>(
     texts: &T,
     inputs: Inputs<'a>,
 ) -> Result<Loaded, Fault<'a>>
-    ensures ok { IfOk result (IsSeenOf (T.gives texts.now) inputs.entry.def.now (map (λ lef. lef.now) inputs.entry.lefs.now)
+    ensures ok { IfOk result (IsSeenOf inputs.entry.limits (T.gives texts.now) inputs.entry.def.now (map (λ lef. lef.now) inputs.entry.lefs.now)
         (path_of inputs.entry.state)) }
-    ensures err { IfErr result (IsFloorFault (T.gives texts.now) inputs.entry.def.now (map (λ lef. lef.now) inputs.entry.lefs.now)
+    ensures err { IfErr result (IsFloorFault inputs.entry.limits (T.gives texts.now) inputs.entry.def.now (map (λ lef. lef.now) inputs.entry.lefs.now)
         (path_of inputs.entry.state)) }
 {
-    let loaded = design_of_files(alloc, texts, inputs.def, inputs.lefs)?;
+    let loaded = design_of_files(alloc, inputs.limits, texts, inputs.def, inputs.lefs)?;
     seen(alloc, texts, loaded, inputs.state)
 }
 
@@ -59,12 +59,13 @@ pub(crate) fn check<'a, T: Texts, W: Sink>(
     writer: &mut W,
 ) -> Result<u8, Fault<'a>>
     ensures ok { IfOk result (λ status. (seen : Loaded)
-        × IsSeenOf (T.gives texts.now) inputs.entry.def.now (map (λ lef. lef.now) inputs.entry.lefs.now) (path_of inputs.entry.state) seen
+        × IsSeenOf inputs.entry.limits (T.gives texts.now) inputs.entry.def.now (map (λ lef. lef.now) inputs.entry.lefs.now) (path_of inputs.entry.state) seen
         × IsReported seen (W.contents writer.old) (W.contents writer.new) status) }
     ensures err { IfErr result (λ fault.
-        (IsFloorFault (T.gives texts.now) inputs.entry.def.now (map (λ lef. lef.now) inputs.entry.lefs.now) (path_of inputs.entry.state) fault
+        (IsFloorFault inputs.entry.limits (T.gives texts.now) inputs.entry.def.now (map (λ lef. lef.now) inputs.entry.lefs.now)
+        (path_of inputs.entry.state) fault
         ⊎ ((seen : Loaded)
-        × IsSeenOf (T.gives texts.now) inputs.entry.def.now (map (λ lef. lef.now) inputs.entry.lefs.now) (path_of inputs.entry.state) seen
+        × IsSeenOf inputs.entry.limits (T.gives texts.now) inputs.entry.def.now (map (λ lef. lef.now) inputs.entry.lefs.now) (path_of inputs.entry.state) seen
         × IsUnreported seen (W.contents writer.old) (W.contents writer.new) fault))
         × BlamesWriter fault (writer.new ≡ writer.old) (W.has_failed writer.old) (W.has_failed writer.new)) }
     ensures held { W.holds writer.new ≡ W.holds writer.old }

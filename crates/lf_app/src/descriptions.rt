@@ -54,13 +54,14 @@ fn seen_of_document<'a, T: Texts>(
     text: &[u8],
     document: &DefDoc<'_>,
 ) -> Result<Loaded, Fault<'a>>
-    ensures ok { IfOk result (λ seen. (loaded : Loaded) × IsLoadedIn library.now (contents document.now) loaded
+    ensures ok { IfOk result (λ seen. (loaded : Loaded) × IsLoadedIn inputs.entry.limits library.now (contents document.now) loaded
         × IsSeen (T.gives texts.now) (path_of inputs.entry.state) loaded seen) }
-    ensures err { IfErr result (λ fault. IsRefused Def inputs.entry.def.now text.now (IsLoadRefusal library.now (contents document.now)) fault
-        ⊎ ((loaded : Loaded) × IsLoadedIn library.now (contents document.now) loaded
+    ensures err { IfErr result (λ fault.
+        IsRefused Def inputs.entry.def.now text.now (IsLoadRefusal inputs.entry.limits library.now (contents document.now)) fault
+        ⊎ ((loaded : Loaded) × IsLoadedIn inputs.entry.limits library.now (contents document.now) loaded
         × IsUnbegun (T.gives texts.now) (path_of inputs.entry.state) loaded fault)) }
 {
-    let loaded = load_document(alloc, library, inputs.def, text, document)?;
+    let loaded = load_document(alloc, inputs.limits, library, inputs.def, text, document)?;
     seen(alloc, texts, loaded, inputs.state)
 }
 
@@ -74,10 +75,10 @@ fn describe_text<'a, T: Texts, W: Sink>(
     writer: &mut W,
 ) -> Result<u8, Fault<'a>>
     ensures ok { IfOk result (λ status. (document : Document) × (document_of text.now ≡ Ok document) × ((loaded : Loaded)
-        × IsLoadedIn library.now document loaded
+        × IsLoadedIn inputs.entry.limits library.now document loaded
         × IsShown (T.gives texts.now) (path_of inputs.entry.state) document loaded (W.contents writer.old) (W.contents writer.new) status)) }
-    ensures err { IfErr result (λ fault. (IsRefused Def inputs.entry.def.now text.now (IsDefRefusal library.now text.now) fault
-        ⊎ ((document : Document) × (document_of text.now ≡ Ok document) × ((loaded : Loaded) × IsLoadedIn library.now document loaded
+    ensures err { IfErr result (λ fault. (IsRefused Def inputs.entry.def.now text.now (IsDefRefusal inputs.entry.limits library.now text.now) fault
+        ⊎ ((document : Document) × (document_of text.now ≡ Ok document) × ((loaded : Loaded) × IsLoadedIn inputs.entry.limits library.now document loaded
         × IsUnshown (T.gives texts.now) (path_of inputs.entry.state) document loaded (W.contents writer.old) (W.contents writer.new) fault)))
         × BlamesWriter fault (writer.new ≡ writer.old) (W.has_failed writer.old) (W.has_failed writer.new)) }
     ensures held { W.holds writer.new ≡ W.holds writer.old }
@@ -96,11 +97,11 @@ fn describe_file<'a, T: Texts, W: Sink>(
     writer: &mut W,
 ) -> Result<u8, Fault<'a>>
     ensures ok { IfOk result (λ status. (text : List ℕ) × T.gives texts.now inputs.entry.def.now (Some text) × ((document : Document)
-        × (document_of text ≡ Ok document) × ((loaded : Loaded) × IsLoadedIn library.now document loaded
+        × (document_of text ≡ Ok document) × ((loaded : Loaded) × IsLoadedIn inputs.entry.limits library.now document loaded
         × IsShown (T.gives texts.now) (path_of inputs.entry.state) document loaded (W.contents writer.old) (W.contents writer.new) status))) }
-    ensures err { IfErr result (λ fault. (IsFileFault (T.gives texts.now) Def inputs.entry.def.now (IsDefRefusal library.now) fault
+    ensures err { IfErr result (λ fault. (IsFileFault (T.gives texts.now) Def inputs.entry.def.now (IsDefRefusal inputs.entry.limits library.now) fault
         ⊎ ((text : List ℕ) × T.gives texts.now inputs.entry.def.now (Some text) × ((document : Document) × (document_of text ≡ Ok document)
-        × ((loaded : Loaded) × IsLoadedIn library.now document loaded
+        × ((loaded : Loaded) × IsLoadedIn inputs.entry.limits library.now document loaded
         × IsUnshown (T.gives texts.now) (path_of inputs.entry.state) document loaded (W.contents writer.old) (W.contents writer.new) fault))))
         × BlamesWriter fault (writer.new ≡ writer.old) (W.has_failed writer.old) (W.has_failed writer.new)) }
     ensures held { W.holds writer.new ≡ W.holds writer.old }
@@ -116,10 +117,11 @@ pub(crate) fn describe_files<'a, T: Texts, W: Sink>(
     inputs: Inputs<'a>,
     writer: &mut W,
 ) -> Result<u8, Fault<'a>>
-    ensures ok { IfOk result (IsOpenDescribed (T.gives texts.now) inputs.entry.def.now (map (λ lef. lef.now) inputs.entry.lefs.now)
+    ensures ok { IfOk result (IsOpenDescribed inputs.entry.limits (T.gives texts.now) inputs.entry.def.now (map (λ lef. lef.now) inputs.entry.lefs.now)
         (path_of inputs.entry.state) (W.contents writer.old) (W.contents writer.new)) }
-    ensures err { IfErr result (λ fault. (IsDesignFault (T.gives texts.now) inputs.entry.def.now (map (λ lef. lef.now) inputs.entry.lefs.now) fault
-        ⊎ IsOpenUndescribed (T.gives texts.now) inputs.entry.def.now (map (λ lef. lef.now) inputs.entry.lefs.now)
+    ensures err { IfErr result (λ fault.
+        (IsDesignFault inputs.entry.limits (T.gives texts.now) inputs.entry.def.now (map (λ lef. lef.now) inputs.entry.lefs.now) fault
+        ⊎ IsOpenUndescribed inputs.entry.limits (T.gives texts.now) inputs.entry.def.now (map (λ lef. lef.now) inputs.entry.lefs.now)
         (path_of inputs.entry.state) (W.contents writer.old) (W.contents writer.new) fault)
         × BlamesWriter fault (writer.new ≡ writer.old) (W.has_failed writer.old) (W.has_failed writer.new)) }
     ensures held { W.holds writer.new ≡ W.holds writer.old }

@@ -10,13 +10,14 @@ ghost use Rattle.lf_def.specs.Contents.{contents};
 ghost use Rattle.lf_def.specs.Document.{document_of};
 ghost use Rattle.lf_refusals.specs.Meetings.{Meets, Met, no_fence};
 ghost use Rattle.lf_app.specs.Refusals.{IsTold};
-ghost use Rattle.lf_app.specs.Designs.{Adds, IsDefRefusal, IsDesignFault, IsDesignIn, IsDesignOf, IsFileDesign, IsFileFault};
+ghost use Rattle.lf_app.specs.Designs.{Adds, AreWithSlots, IsDefRefusal, IsDesignFault, IsDesignIn, IsDesignOf, IsFileDesign, IsFileFault};
 ghost use Rattle.lf_app.specs.Designs.{IsLefRefusal, IsLibraryFault, IsLibraryOf, IsLoadRefusal, IsLoadedIn, IsReadRefusal, IsRefused};
 ghost use Rattle.lf_app.specs.Designs.{IsTextDesign, IsTextFault, IsUnread, no_library};
 
 use crate::faults::{Fault, TextFile, TextKind, unread_fault};
 use crate::refusals::Refusal;
 use crate::texts::Texts;
+use lf_command::Slots;
 use lf_def::{DefDoc, read_def};
 use lf_frame::{Limits, Loaded, load};
 use lf_lef::{Library, read_lef};
@@ -26,6 +27,21 @@ use std::alloc::Global;
 
 /// What the built-in texts are called in place of a path.
 pub(crate) const BUILT_IN: &str = "(built in)";
+
+/// The limits of a design whose teams have these session slots.
+pub(crate) fn limits_with(slots: Slots) -> Limits
+    ensures { AreWithSlots slots.number result }
+{
+    let standard = Limits::standard();
+    Limits {
+        rows: standard.rows,
+        fences: standard.fences,
+        components: standard.components,
+        sessions: slots.number,
+        undo: standard.undo,
+        revisions: standard.revisions,
+    }
+}
 
 /// The text of a file.
 pub(crate) fn read_text<'a, T: Texts>(texts: &T, file: TextFile<'a>) -> Result<Vec<u8>, Fault<'a>>
@@ -169,18 +185,19 @@ pub(crate) fn read_document<'t, 'a>(
     }
 }
 
-/// The design of a document, that of the text of the path, over the library.
+/// The design of a document, that of the text of the path, over the library, within these limits.
 pub(crate) fn load_document<'a>(
     alloc: Global,
+    limits: Limits,
     library: &Library,
     path: &'a str,
     text: &[u8],
     document: &DefDoc,
 ) -> Result<Loaded, Fault<'a>>
-    ensures ok { IfOk result (IsLoadedIn library.now (contents document.now)) }
-    ensures err { IfErr result (IsRefused Def path.now text.now (IsLoadRefusal library.now (contents document.now))) }
+    ensures ok { IfOk result (IsLoadedIn limits library.now (contents document.now)) }
+    ensures err { IfErr result (IsRefused Def path.now text.now (IsLoadRefusal limits library.now (contents document.now))) }
 {
-    match load(alloc, library, document, Limits::standard()) {
+    match load(alloc, library, document, limits) {
         Ok(loaded) => Ok(loaded),
         Err(fault) => Err(unloaded(alloc, path, text, document, &fault)),
     }
@@ -189,55 +206,59 @@ pub(crate) fn load_document<'a>(
 /// The design of a DEF text, that of the path, over the library.
 fn load_text<'a>(
     alloc: Global,
+    limits: Limits,
     library: &Library,
     path: &'a str,
     text: &[u8],
 ) -> Result<Loaded, Fault<'a>>
-    ensures ok { IfOk result (IsDesignIn library.now text.now) }
-    ensures err { IfErr result (IsRefused Def path.now text.now (IsDefRefusal library.now text.now)) }
+    ensures ok { IfOk result (IsDesignIn limits library.now text.now) }
+    ensures err { IfErr result (IsRefused Def path.now text.now (IsDefRefusal limits library.now text.now)) }
 {
     let document = read_document(alloc, path, text)?;
-    load_document(alloc, library, path, text, &document)
+    load_document(alloc, limits, library, path, text, &document)
 }
 
 /// The design of the DEF text of a file over the library.
 fn load_file<'a, T: Texts>(
     alloc: Global,
+    limits: Limits,
     texts: &T,
     library: &Library,
     path: &'a str,
 ) -> Result<Loaded, Fault<'a>>
-    ensures ok { IfOk result (IsFileDesign (T.gives texts.now) path.now library.now) }
-    ensures err { IfErr result (IsFileFault (T.gives texts.now) Def path.now (IsDefRefusal library.now)) }
+    ensures ok { IfOk result (IsFileDesign limits (T.gives texts.now) path.now library.now) }
+    ensures err { IfErr result (IsFileFault (T.gives texts.now) Def path.now (IsDefRefusal limits library.now)) }
 {
     let text = read_text(texts, def_file(path))?;
-    load_text(alloc, library, path, &text)
+    load_text(alloc, limits, library, path, &text)
 }
 
 /// The design of a DEF file over LEF files, given by their paths.
 pub(crate) fn design_of_files<'a, T: Texts>(
     alloc: Global,
+    limits: Limits,
     texts: &T,
     def: &'a str,
     lefs: &[&'a str],
 ) -> Result<Loaded, Fault<'a>>
-    ensures ok { IfOk result (IsDesignOf (T.gives texts.now) def.now (map (λ lef. lef.now) lefs.now)) }
-    ensures err { IfErr result (IsDesignFault (T.gives texts.now) def.now (map (λ lef. lef.now) lefs.now)) }
+    ensures ok { IfOk result (IsDesignOf limits (T.gives texts.now) def.now (map (λ lef. lef.now) lefs.now)) }
+    ensures err { IfErr result (IsDesignFault limits (T.gives texts.now) def.now (map (λ lef. lef.now) lefs.now)) }
 {
     let library = library_of(alloc, texts, lefs)?;
-    load_file(alloc, texts, &library, def)
+    load_file(alloc, limits, texts, &library, def)
 }
 
 /// The design of a DEF text over a LEF text, both built in.
 pub(crate) fn design_of_texts<'a>(
     alloc: Global,
+    limits: Limits,
     def: &[u8],
     lef: &[u8],
 ) -> Result<Loaded, Fault<'a>>
-    ensures ok { IfOk result (IsTextDesign def.now lef.now) }
-    ensures err { IfErr result (IsTextFault def.now lef.now) }
+    ensures ok { IfOk result (IsTextDesign limits def.now lef.now) }
+    ensures err { IfErr result (IsTextFault limits def.now lef.now) }
 {
     let mut library = Library::new(alloc);
     add_text(alloc, &mut library, BUILT_IN, lef)?;
-    load_text(alloc, &library, BUILT_IN, def)
+    load_text(alloc, limits, &library, BUILT_IN, def)
 }

@@ -5,8 +5,8 @@
 //! done. `Task`, `UsageFault`, `command_of`, `Help` and `help_of` are those of `lf_command`.
 //!
 //! Status 0 or 4: the task is done, and no fault is written. The design is that of the LEF texts, in the order of the words, and of
-//! the DEF text, within the standard limits; a demo has the built-in texts. Demo and replay have served the lines, at most as many
-//! as asked for, to their end or a `bye`; serve has written `listening` and served that many connections, at 127.0.0.1 and that
+//! the DEF text, within the standard limits but for the number of session slots, where one is asked for; a demo has the built-in
+//! texts. Demo and replay have served the lines, at most as many as asked for, to their end or a `bye`; serve has written `listening` and served that many connections, at 127.0.0.1 and that
 //! port, within 1,000,000 lines each and 4,200 reads for each line; check has written the report of all cells at their places in
 //! the DEF text, and describe the description, or both with `--state` at the working places that the state tells; repair has asked
 //! the floor commands, each of them accepted, and written a report. 4, which only these three return, says that the design is not
@@ -28,7 +28,6 @@
 #![tactic(auto)]
 
 mod checks;
-mod copies;
 mod descriptions;
 mod designs;
 mod exported;
@@ -57,7 +56,7 @@ mod work;
 pub use faults::{Exit, Fault, TextFile, TextKind, status_of, write_fault};
 pub use hints::Hint;
 pub use lf_command::{
-    Help, LegalCells, Subcommand, Task, UsageFault, command_of, complaint_of, help_of,
+    Help, LegalCells, Slots, Subcommand, Task, UsageFault, command_of, complaint_of, help_of,
 };
 pub use lf_devices::{FromRead, ToWrite};
 pub use lf_files::FileExports;

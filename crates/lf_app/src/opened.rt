@@ -15,7 +15,7 @@ use crate::designs::{def_file, library_of, load_document, read_document, read_te
 use crate::faults::Fault;
 use crate::texts::Texts;
 use lf_def::DefDoc;
-use lf_frame::Loaded;
+use lf_frame::{Limits, Loaded};
 use lf_lef::Library;
 use lf_lex::ReadError;
 use lf_write::{Clauses, clauses_of};
@@ -31,16 +31,17 @@ struct Kept {
 /// What is kept of a document, that of the text of the path, over the library.
 fn open_document<'a>(
     alloc: Global,
+    limits: Limits,
     library: &Library,
     path: &'a str,
     text: &[u8],
     document: &DefDoc,
 ) -> Result<Kept, Fault<'a>>
-    ensures design { IfOk result (λ kept. IsLoadedIn library.now (contents document.now) kept.loaded) }
+    ensures design { IfOk result (λ kept. IsLoadedIn limits library.now (contents document.now) kept.loaded) }
     ensures clauses { IfOk result (λ kept. kept.clauses ≡ map (clause_of document.now.text.now) document.now.components) }
-    ensures err { IfErr result (IsRefused Def path.now text.now (IsLoadRefusal library.now (contents document.now))) }
+    ensures err { IfErr result (IsRefused Def path.now text.now (IsLoadRefusal limits library.now (contents document.now))) }
 {
-    let loaded = load_document(alloc, library, path, text, document)?;
+    let loaded = load_document(alloc, limits, library, path, text, document)?;
     match clauses_of(alloc, document) {
         Ok(clauses) => Ok(Kept { loaded, clauses }),
         Err(_) => {
@@ -53,15 +54,16 @@ fn open_document<'a>(
 /// What is kept of the document of a DEF text, that of the path, over the library.
 fn open_text<'a>(
     alloc: Global,
+    limits: Limits,
     library: &Library,
     path: &'a str,
     text: &[u8],
 ) -> Result<Kept, Fault<'a>>
-    ensures ok { IfOk result (λ kept. (document : Document) × IsKept text.now library.now document kept.clauses kept.loaded) }
-    ensures err { IfErr result (IsRefused Def path.now text.now (IsDefRefusal library.now text.now)) }
+    ensures ok { IfOk result (λ kept. (document : Document) × IsKept limits text.now library.now document kept.clauses kept.loaded) }
+    ensures err { IfErr result (IsRefused Def path.now text.now (IsDefRefusal limits library.now text.now)) }
 {
     let document = read_document(alloc, path, text)?;
-    open_document(alloc, library, path, text, &document)
+    open_document(alloc, limits, library, path, text, &document)
 }
 
 /// A DEF text, of which its committed places make an exported text.
@@ -82,15 +84,16 @@ pub(crate) struct Opened {
 /// The text of a DEF file, that of the path, and its design over the library.
 fn open_kept<'a>(
     alloc: Global,
+    limits: Limits,
     library: &Library,
     path: &'a str,
     text: Vec<u8>,
 ) -> Result<Opened, Fault<'a>>
     ensures text { IfOk result (λ opened. opened.original.text.items ≡ text.items) }
-    ensures ok { IfOk result (λ opened. (document : Document) × IsKept text.items library.now document opened.original.clauses opened.loaded) }
-    ensures err { IfErr result (IsRefused Def path.now text.items (IsDefRefusal library.now text.items)) }
+    ensures ok { IfOk result (λ opened. (document : Document) × IsKept limits text.items library.now document opened.original.clauses opened.loaded) }
+    ensures err { IfErr result (IsRefused Def path.now text.items (IsDefRefusal limits library.now text.items)) }
 {
-    let Kept { loaded, clauses } = open_text(alloc, library, path, &text)?;
+    let Kept { loaded, clauses } = open_text(alloc, limits, library, path, &text)?;
     let original = Original { text, clauses };
     Ok(Opened { loaded, original })
 }
@@ -98,29 +101,31 @@ fn open_kept<'a>(
 /// The design of a DEF file over the library, and the text of the file.
 fn open_file<'a, T: Texts>(
     alloc: Global,
+    limits: Limits,
     texts: &T,
     library: &Library,
     path: &'a str,
 ) -> Result<Opened, Fault<'a>>
     ensures given { IfOk result (λ opened. T.gives texts.now path.now (Some opened.original.text.items)) }
     ensures ok { IfOk result (λ opened. (document : Document)
-        × IsKept opened.original.text.items library.now document opened.original.clauses opened.loaded) }
-    ensures err { IfErr result (IsFileFault (T.gives texts.now) Def path.now (IsDefRefusal library.now)) }
+        × IsKept limits opened.original.text.items library.now document opened.original.clauses opened.loaded) }
+    ensures err { IfErr result (IsFileFault (T.gives texts.now) Def path.now (IsDefRefusal limits library.now)) }
 {
     let text = read_text(texts, def_file(path))?;
-    open_kept(alloc, library, path, text)
+    open_kept(alloc, limits, library, path, text)
 }
 
 /// The design of a DEF file over LEF files, given by their paths, and the text of the DEF file.
 pub(crate) fn open_files<'a, T: Texts>(
     alloc: Global,
+    limits: Limits,
     texts: &T,
     def: &'a str,
     lefs: &[&'a str],
 ) -> Result<Opened, Fault<'a>>
-    ensures ok { IfOk result (IsOpenedOf (T.gives texts.now) def.now (map (λ lef. lef.now) lefs.now)) }
-    ensures err { IfErr result (IsDesignFault (T.gives texts.now) def.now (map (λ lef. lef.now) lefs.now)) }
+    ensures ok { IfOk result (IsOpenedOf limits (T.gives texts.now) def.now (map (λ lef. lef.now) lefs.now)) }
+    ensures err { IfErr result (IsDesignFault limits (T.gives texts.now) def.now (map (λ lef. lef.now) lefs.now)) }
 {
     let library = library_of(alloc, texts, lefs)?;
-    open_file(alloc, texts, &library, def)
+    open_file(alloc, limits, texts, &library, def)
 }

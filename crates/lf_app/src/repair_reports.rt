@@ -22,10 +22,11 @@ struct Sums {
     left: u64,
     total: u64,
     largest: u64,
+    least_largest: u64,
 }
 
-/// The sums with those of one more team.
-fn with_team(sums: &Sums, repaired: &Repaired) -> Sums {
+/// The sums with those of one more team, of whose cells the largest of the least ways is this.
+fn with_team(sums: &Sums, repaired: &Repaired, least: u64) -> Sums {
     Sums {
         teams: sums.teams.saturating_add(1),
         cells: sums.cells.saturating_add(u64::from(repaired.cells)),
@@ -37,6 +38,7 @@ fn with_team(sums: &Sums, repaired: &Repaired) -> Sums {
         left: sums.left.saturating_add(repaired.left.len() as u64),
         total: sums.total.saturating_add(repaired.total),
         largest: sums.largest.max(repaired.largest),
+        least_largest: sums.least_largest.max(least),
     }
 }
 
@@ -88,12 +90,13 @@ fn gaps_of(
     Ok(Value::Array(gaps))
 }
 
-/// The line of a team.
+/// The line of a team, of whose cells the largest of the least ways is this.
 fn team_value(
     alloc: Global,
     floor: &Floor<IndexSeeker>,
     team: &[u8],
     repaired: &Repaired,
+    least: u64,
 ) -> Result<Value, AllocError> {
     let left = names_of(alloc, floor, team, &repaired.left)?;
     let gaps = gaps_of(alloc, floor, team, &repaired.left)?;
@@ -108,8 +111,8 @@ fn team_value(
         repaired.turned,
     );
     json!(in alloc; {
-        "cells": cells, "gaps": gaps, "kept": kept, "largest": largest, "left": left, "mean": mean, "moved": moved,
-        "placed": placed, "pushed": pushed, "team": name, "total": total, "turned": turned
+        "cells": cells, "gaps": gaps, "kept": kept, "largest": largest, "least_largest": least, "left": left, "mean": mean,
+        "moved": moved, "placed": placed, "pushed": pushed, "team": name, "total": total, "turned": turned
     })
 }
 
@@ -117,6 +120,7 @@ fn team_value(
 fn all_value(alloc: Global, sums: &Sums, legal: bool) -> Result<Value, AllocError> {
     let mean = mean(sums.total, sums.moved);
     let (cells, kept, largest, left) = (sums.cells, sums.kept, sums.largest, sums.left);
+    let least = sums.least_largest;
     let (moved, placed, pushed, teams, total, turned) = (
         sums.moved,
         sums.placed,
@@ -126,8 +130,8 @@ fn all_value(alloc: Global, sums: &Sums, legal: bool) -> Result<Value, AllocErro
         sums.turned,
     );
     json!(in alloc; {
-        "cells": cells, "kept": kept, "largest": largest, "left_cells": left, "legal": legal, "mean": mean, "moved": moved,
-        "placed": placed, "pushed": pushed, "teams": teams, "total": total, "turned": turned
+        "cells": cells, "kept": kept, "largest": largest, "least_largest": least, "left_cells": left, "legal": legal, "mean": mean,
+        "moved": moved, "placed": placed, "pushed": pushed, "teams": teams, "total": total, "turned": turned
     })
 }
 
@@ -144,12 +148,14 @@ fn push_line(alloc: Global, text: &mut Vec<u8>, value: &Value) -> Result<(), All
 pub(crate) struct RepairReport {
     text: Vec<u8>,
     sums: Sums,
+    /// For each team the largest of the least ways of its cells, before any is repaired.
+    least: Vec<u64>,
 }
 
 impl RepairReport {
-    /// No line yet.
-    pub(crate) fn new(alloc: Global) -> RepairReport {
-        RepairReport {
+    /// No line yet; for each team the largest of the least ways of its cells is this.
+    pub(crate) fn new(alloc: Global, least: &[u64]) -> Result<RepairReport, AllocError> {
+        Ok(RepairReport {
             text: Vec::new(alloc),
             sums: Sums {
                 teams: 0,
@@ -162,7 +168,20 @@ impl RepairReport {
                 left: 0,
                 total: 0,
                 largest: 0,
+                least_largest: 0,
             },
+            least: Vec::from_slice(alloc, least)?,
+        })
+    }
+
+    /// The largest of the least ways of the team's cells; 0 if there is no such team.
+    fn least_of(&self, floor: &Floor<IndexSeeker>, team: &[u8]) -> u64 {
+        let Some(number) = floor.number_of(team) else {
+            return 0;
+        };
+        match self.least.get(number) {
+            Some(least) => *least,
+            None => 0,
         }
     }
 
@@ -174,9 +193,10 @@ impl RepairReport {
         team: &[u8],
         repaired: &Repaired,
     ) -> Result<(), AllocError> {
-        let line = team_value(alloc, floor, team, repaired)?;
+        let least = self.least_of(floor, team);
+        let line = team_value(alloc, floor, team, repaired, least)?;
         push_line(alloc, &mut self.text, &line)?;
-        self.sums = with_team(&self.sums, repaired);
+        self.sums = with_team(&self.sums, repaired, least);
         Ok(())
     }
 

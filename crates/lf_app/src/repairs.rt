@@ -6,6 +6,7 @@ ghost use Rattle.std.specs.Io.KnownBytes.{Appends};
 ghost use Rattle.lf_command.specs.declared.command.LegalCells.TheVariants.{Stay};
 ghost use Rattle.lf_def.specs.Document.{Document};
 ghost use Rattle.lf_files.specs.Shelf.{Put};
+ghost use Rattle.lf_floorplan.specs.declared.limits.Limits.{Limits as TheLimits};
 ghost use Rattle.lf_floorplan.specs.declared.place.Place.{Place};
 ghost use Rattle.lf_lef.specs.Contents.{Contents};
 ghost use Rattle.lf_rules.specs.Legalizer.{Legalizer};
@@ -32,11 +33,12 @@ use crate::repair_reports::RepairReport;
 use crate::tasks::{DONE, ILLEGAL};
 use crate::texts::Texts;
 use crate::work::floor_of;
+use lf_alone::least_largest;
 use lf_command::LegalCells;
 use lf_devices::{Sink, send};
 use lf_files::Exports;
 use lf_floor::Floor;
-use lf_floorplan::Frame;
+use lf_floorplan::{Frame, Limits};
 use lf_legalize::IndexSeeker;
 use lf_mend::{How, repair_team};
 use lf_reread::loaded_cells_can_be_given;
@@ -232,11 +234,12 @@ struct RepairDone {
     status: u8,
 }
 
-/// Repairs the teams that are asked for, and tells of them.
+/// Repairs the teams that are asked for, and tells of them; for each team the largest of the least ways of its cells is this.
 fn repaired<'a>(
     alloc: Global,
     floor: &mut Floor<IndexSeeker>,
     asked: &RepairAsked<'a>,
+    least: &[u64],
 ) -> Result<RepairDone, Fault<'a>>
     requires { length floor.old.teams ≡ length floor.old.frame.teams + 1 }
     ensures run { (l : Legalizer) → IfOk result (λ done. IsKeptRun l floor.old (begun_lines (path_of asked.now.lines)) (kept_text done.lines) floor.new) }
@@ -247,7 +250,7 @@ fn repaired<'a>(
 {
     legalizer_is_there();
     let mut lines = KeptLines::new(alloc, asked.lines);
-    let mut report = RepairReport::new(alloc);
+    let mut report = RepairReport::new(alloc, least)?;
     repair_teams(alloc, floor, asked, &mut lines, &mut report)?;
     let status = judge(alloc, floor, &mut report)?;
     Ok(RepairDone {
@@ -337,22 +340,30 @@ fn put_all<'a, E: Exports, W: Sink>(
     Ok(done.status)
 }
 
+/// What is known of a design beside its floor, before any team is repaired.
+#[derive(Drop)]
+struct Before {
+    original: Original,
+    /// For each team the largest of the least ways of its cells.
+    least: Vec<u64>,
+}
+
 /// Repairs the teams of a floor of the text's design, and writes what is asked for. Where that cannot be, as far as it shows
 /// beforehand, nothing is asked of the floor.
 fn repair_on_floor<'a, E: Exports, W: Sink>(
     alloc: Global,
     floor: &mut Floor<IndexSeeker>,
-    original: &Original,
+    before: &Before,
     asked: &RepairAsked<'a>,
     exports: &mut E,
     writer: &mut W,
 ) -> Result<u8, Fault<'a>>
     requires teams { length floor.old.teams ≡ length floor.old.frame.teams + 1 }
     requires fits { (s : FloorState) (places : List (ℕ × Option Place)) → s.components ≡ floor.old.components → AreCommittedPlaces s places
-        → CanBeRenewed original.now.text.items original.now.clauses places }
-    ensures ok { (document : Document) → original.now.clauses ≡ map (clause_of original.now.text.items) document.components
+        → CanBeRenewed before.now.original.text.items before.now.original.clauses places }
+    ensures ok { (document : Document) → before.now.original.clauses ≡ map (clause_of before.now.original.text.items) document.components
         → IfOk result (IsRepaired (map (λ team. team.now) asked.now.teams.now) asked.now.legal (path_of asked.now.export) (path_of asked.now.lines)
-        original.now.text.items document floor.old (W.contents writer.old) (W.contents writer.new) (E.puts exports.old) (E.puts exports.new)) }
+        before.now.original.text.items document floor.old (W.contents writer.old) (W.contents writer.new) (E.puts exports.old) (E.puts exports.new)) }
     ensures err { IfErr result (λ fault. IsUnrepaired (map (λ team. team.now) asked.now.teams.now) (path_of asked.now.export) (path_of asked.now.lines)
         floor.old (W.contents writer.old) (W.contents writer.new) (E.puts exports.old) (E.puts exports.new) fault
         × BlamesOutputs fault (writer.new ≡ writer.old) (W.has_failed writer.old) (W.has_failed writer.new)
@@ -363,8 +374,8 @@ fn repair_on_floor<'a, E: Exports, W: Sink>(
 {
     all_known(floor, asked.teams)?;
     try_files(asked, exports)?;
-    let done = repaired(alloc, floor, asked)?;
-    put_all(floor, original, &done, asked, exports, writer)
+    let done = repaired(alloc, floor, asked, &before.least)?;
+    put_all(floor, &before.original, &done, asked, exports, writer)
 }
 
 /// Repairs the teams of the design of a text that was opened.
@@ -375,8 +386,8 @@ fn repair_opened<'a, E: Exports, W: Sink>(
     exports: &mut E,
     writer: &mut W,
 ) -> Result<u8, Fault<'a>>
-    requires loads { (library : Contents) × (document : Document)
-        × IsKept opened.original.text.items library document opened.original.clauses opened.loaded }
+    requires loads { (limits : TheLimits) × (library : Contents) × (document : Document)
+        × IsKept limits opened.original.text.items library document opened.original.clauses opened.loaded }
     ensures ok { (document : Document) → opened.original.clauses ≡ map (clause_of opened.original.text.items) document.components
         → IfOk result (IsRepaired (map (λ team. team.now) asked.now.teams.now) asked.now.legal (path_of asked.now.export) (path_of asked.now.lines)
         opened.original.text.items document (opening opened.loaded) (W.contents writer.old) (W.contents writer.new) (E.puts exports.old) (E.puts exports.new)) }
@@ -393,22 +404,25 @@ fn repair_opened<'a, E: Exports, W: Sink>(
     loaded_cells_can_be_given();
     places_follow_design();
     let Opened { loaded, original } = opened;
+    let least = least_largest(alloc, &loaded)?;
     let mut floor = floor_of(alloc, loaded)?;
-    repair_on_floor(alloc, &mut floor, &original, asked, exports, writer)
+    let before = Before { original, least };
+    repair_on_floor(alloc, &mut floor, &before, asked, exports, writer)
 }
 
 /// Repairs the teams of the design of a DEF file over LEF files.
 pub(crate) fn repair<'a, T: Texts, E: Exports, W: Sink>(
     alloc: Global,
+    limits: Limits,
     texts: &T,
     exports: &mut E,
     writer: &mut W,
     asked: &RepairAsked<'a>,
 ) -> Result<u8, Fault<'a>>
-    ensures ok { IfOk result (IsOpenRepaired (T.gives texts.now) asked.now.def.now (map (λ lef. lef.now) asked.now.lefs.now)
+    ensures ok { IfOk result (IsOpenRepaired limits (T.gives texts.now) asked.now.def.now (map (λ lef. lef.now) asked.now.lefs.now)
         (map (λ team. team.now) asked.now.teams.now) asked.now.legal (path_of asked.now.export) (path_of asked.now.lines)
         (W.contents writer.old) (W.contents writer.new) (E.puts exports.old) (E.puts exports.new)) }
-    ensures err { IfErr result (λ fault. IsNotRepaired (T.gives texts.now) asked.now.def.now (map (λ lef. lef.now) asked.now.lefs.now)
+    ensures err { IfErr result (λ fault. IsNotRepaired limits (T.gives texts.now) asked.now.def.now (map (λ lef. lef.now) asked.now.lefs.now)
         (map (λ team. team.now) asked.now.teams.now) (path_of asked.now.export) (path_of asked.now.lines)
         (W.contents writer.old) (W.contents writer.new) (E.puts exports.old) (E.puts exports.new) fault
         × BlamesOutputs fault (writer.new ≡ writer.old) (W.has_failed writer.old) (W.has_failed writer.new)
@@ -417,6 +431,6 @@ pub(crate) fn repair<'a, T: Texts, E: Exports, W: Sink>(
     ensures unasked { path_of asked.now.lines ≡ None → path_of asked.now.export ≡ None → exports.new ≡ exports.old }
     ensures held { W.holds writer.new ≡ W.holds writer.old }
 {
-    let opened = open_files(alloc, texts, asked.def, asked.lefs)?;
+    let opened = open_files(alloc, limits, texts, asked.def, asked.lefs)?;
     repair_opened(alloc, opened, asked, exports, writer)
 }

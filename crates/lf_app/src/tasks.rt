@@ -6,7 +6,8 @@ ghost use Rattle.lf_floorplan.specs.declared.loaded.Loaded.{Loaded};
 ghost use Rattle.lf_teams.specs.Designs.{opening};
 ghost use Rattle.lf_teams.specs.States.{FloorState};
 ghost use Rattle.lf_app.specs.Designs.{IsTextDesign, IsTextFault};
-ghost use Rattle.lf_app.specs.Exits.{AsksForNoFile, AsksForNoState, Ends, IsAnswered, IsJobFault, IsJobStop, IsLinesFault, IsOutcome, alone, reads_of};
+ghost use Rattle.lf_app.specs.Exits.{AsksForNoFile, AsksForNoState, Ends, IsAnswered, IsJobFault, IsJobFaultWithin, IsJobStop, IsLinesFault};
+ghost use Rattle.lf_app.specs.Exits.{IsOutcome, IsOutcomeWithin, alone, reads_of, slots_of};
 ghost use Rattle.lf_app.specs.Faults.{BlamesStreams, IsDone, IsEarly, IsFailure};
 ghost use Rattle.lf_app.specs.Lines.{most_lines};
 ghost use Rattle.lf_app.specs.Services.{IsOfferOf};
@@ -14,7 +15,7 @@ ghost use Rattle.lf_app.specs.Surroundings.{BlamesOver, IsReady, Keeps, io_of};
 
 use crate::checks::check;
 use crate::descriptions::describe_files;
-use crate::designs::design_of_texts;
+use crate::designs::{design_of_texts, limits_with};
 use crate::faults::{Exit, Fault, done, tell};
 use crate::outputs::Outputs;
 use crate::repairs::{RepairAsked, repair};
@@ -22,10 +23,11 @@ use crate::services::{NetServices, Services};
 use crate::surroundings::Surroundings;
 use crate::texts::{FileTexts, Texts};
 use crate::work::{Inputs, Lines, answer_over, work};
-use lf_command::Task;
+use lf_command::{Slots, Task};
 use lf_def::W_DEF;
 use lf_devices::{FromRead, Sink, Source, ToWrite};
 use lf_files::{Exports, FileExports};
+use lf_frame::Limits;
 use lf_lef::W_LEF;
 use std::alloc::Global;
 use std::io::{Read, Write};
@@ -41,15 +43,16 @@ pub(crate) const ILLEGAL: u8 = 4;
 /// Answers the lines of the reader over the design that the program holds.
 fn demo<'a, R: Source, W: Sink>(
     alloc: Global,
+    limits: Limits,
     reader: &mut R,
     writer: &mut W,
 ) -> Result<u8, Fault<'a>>
     requires ready { IsReady R.has_failed R.reads W.has_failed reader.old writer.old }
-    ensures ok { IfOk result (λ status. (loaded : Loaded) × IsTextDesign W_DEF.now W_LEF.now loaded × ((floor : FloorState)
+    ensures ok { IfOk result (λ status. (loaded : Loaded) × IsTextDesign limits W_DEF.now W_LEF.now loaded × ((floor : FloorState)
         × IsAnswered most_lines (opening loaded) floor (R.remaining reader.old) (R.remaining reader.new) (W.contents writer.old) (W.contents writer.new))
         × (status ≡ 0)) }
     ensures err { IfErr result (λ fault.
-        IsJobStop (IsTextFault W_DEF.now W_LEF.now) (IsTextDesign W_DEF.now W_LEF.now)
+        IsJobStop (IsTextFault limits W_DEF.now W_LEF.now) (IsTextDesign limits W_DEF.now W_LEF.now)
         (λ loaded fault io. IsLinesFault most_lines (opening loaded) fault io.input io.left io.before io.after) fault
         (alone (R.remaining reader.old) (R.remaining reader.new) (W.contents writer.old) (W.contents writer.new))
         × BlamesStreams most_lines fault (writer.new ≡ writer.old) (R.has_failed reader.new) (R.reads reader.old) (R.reads reader.new)
@@ -57,8 +60,150 @@ fn demo<'a, R: Source, W: Sink>(
     ensures reader_held { R.holds reader.new ≡ R.holds reader.old }
     ensures writer_held { W.holds writer.new ≡ W.holds writer.old }
 {
-    let loaded = design_of_texts(alloc, W_DEF, W_LEF)?;
+    let loaded = design_of_texts(alloc, limits, W_DEF, W_LEF)?;
     answer_over(alloc, loaded, reader, writer)
+}
+
+/// Does the task on a design within these limits, and returns its exit status.
+fn outcome_within<'a, T: Texts, E: Exports, V: Services, R: Source, W: Sink, F>(
+    alloc: Global,
+    around: &mut Surroundings<T, E, V, R, W, F>,
+    task: &'a Task<'_>,
+    limits: Limits,
+) -> Result<u8, Fault<'a>>
+    requires ready { IsReady R.has_failed R.reads W.has_failed around.old.reader around.old.writer }
+    ensures ok { IfOk result (IsOutcomeWithin limits (T.gives around.old.texts) (as_job task.now)
+        (io_of R.remaining W.contents E.puts V.accepted around.old around.new)) }
+    ensures err { IfErr result (λ fault. IsJobFaultWithin limits (T.gives around.old.texts) (as_job task.now) fault
+        (io_of R.remaining W.contents E.puts V.accepted around.old around.new)
+        × BlamesOver E.has_failed V.has_failed R.has_failed R.reads W.has_failed (reads_of (as_job task.now)) around.old around.new fault) }
+    ensures unread { ReadsNone task.now → around.new.reader ≡ around.old.reader }
+    ensures unput { AsksForNoState (as_job task.now) → OnErr result (E.puts around.new.exports ≡ E.puts around.old.exports) }
+    ensures unasked { AsksForNoFile (as_job task.now) → around.new.exports ≡ around.old.exports }
+    ensures offered { OnOk result (IsOfferOf (as_job task.now) (V.offers around.old.services) (V.offers around.new.services)) }
+    ensures unoffered { (V.offers around.new.services ≡ V.offers around.old.services)
+        ⊎ IsOfferOf (as_job task.now) (V.offers around.old.services) (V.offers around.new.services) }
+    ensures keeps { Keeps R.holds W.holds around.old around.new }
+{
+    match task {
+        Task::Demo => demo(alloc, limits, &mut around.reader, &mut around.writer),
+        Task::Replay {
+            def,
+            lefs,
+            state,
+            lines,
+            save,
+            export,
+            ..
+        } => {
+            let inputs = Inputs {
+                def: *def,
+                lefs: lefs.as_slice(),
+                state: *state,
+                limits,
+            };
+            let lines = Lines::Stream { most: *lines };
+            let outputs = Outputs {
+                export: *export,
+                save: *save,
+            };
+            work(alloc, around, inputs, lines, outputs)
+        }
+        Task::Serve {
+            def,
+            lefs,
+            state,
+            port,
+            connections,
+            save,
+            export,
+            ..
+        } => {
+            let inputs = Inputs {
+                def: *def,
+                lefs: lefs.as_slice(),
+                state: *state,
+                limits,
+            };
+            let lines = Lines::Port {
+                port: *port,
+                connections: *connections,
+            };
+            let outputs = Outputs {
+                export: *export,
+                save: *save,
+            };
+            work(alloc, around, inputs, lines, outputs)
+        }
+        Task::Check {
+            def,
+            lefs,
+            state,
+            ..
+        } => {
+            let inputs = Inputs {
+                def: *def,
+                lefs: lefs.as_slice(),
+                state: *state,
+                limits,
+            };
+            check(alloc, &around.texts, inputs, &mut around.writer)
+        }
+        Task::Describe {
+            def,
+            lefs,
+            state,
+            ..
+        } => {
+            let inputs = Inputs {
+                def: *def,
+                lefs: lefs.as_slice(),
+                state: *state,
+                limits,
+            };
+            describe_files(alloc, &around.texts, inputs, &mut around.writer)
+        }
+        Task::Repair {
+            def,
+            lefs,
+            teams,
+            legal,
+            export,
+            lines,
+        } => {
+            let asked = RepairAsked {
+                def: *def,
+                lefs: lefs.as_slice(),
+                teams: teams.as_slice(),
+                legal: *legal,
+                export: *export,
+                lines: *lines,
+            };
+            let exports = &mut around.exports;
+            repair(
+                alloc,
+                limits,
+                &around.texts,
+                exports,
+                &mut around.writer,
+                &asked,
+            )
+        }
+    }
+}
+
+/// The session slots of each team of the task's design.
+fn slots_of(task: &Task<'_>) -> Slots
+    ensures { result.number ≡ slots_of (as_job task.now) }
+{
+    match task {
+        Task::Check { slots, .. } => *slots,
+        Task::Describe { slots, .. } => *slots,
+        Task::Replay { slots, .. } => *slots,
+        Task::Serve { slots, .. } => *slots,
+        Task::Demo => Slots::standard(),
+        Task::Repair { .. } => Slots::standard(),
+    }
 }
 
 /// Does the task, and returns its exit status.
@@ -80,88 +225,8 @@ fn outcome<'a, T: Texts, E: Exports, V: Services, R: Source, W: Sink, F>(
         ⊎ IsOfferOf (as_job task.now) (V.offers around.old.services) (V.offers around.new.services) }
     ensures keeps { Keeps R.holds W.holds around.old around.new }
 {
-    match task {
-        Task::Demo => demo(alloc, &mut around.reader, &mut around.writer),
-        Task::Replay {
-            def,
-            lefs,
-            state,
-            lines,
-            save,
-            export,
-        } => {
-            let inputs = Inputs {
-                def: *def,
-                lefs: lefs.as_slice(),
-                state: *state,
-            };
-            let lines = Lines::Stream { most: *lines };
-            let outputs = Outputs {
-                export: *export,
-                save: *save,
-            };
-            work(alloc, around, inputs, lines, outputs)
-        }
-        Task::Serve {
-            def,
-            lefs,
-            state,
-            port,
-            connections,
-            save,
-            export,
-        } => {
-            let inputs = Inputs {
-                def: *def,
-                lefs: lefs.as_slice(),
-                state: *state,
-            };
-            let lines = Lines::Port {
-                port: *port,
-                connections: *connections,
-            };
-            let outputs = Outputs {
-                export: *export,
-                save: *save,
-            };
-            work(alloc, around, inputs, lines, outputs)
-        }
-        Task::Check { def, lefs, state } => {
-            let inputs = Inputs {
-                def: *def,
-                lefs: lefs.as_slice(),
-                state: *state,
-            };
-            check(alloc, &around.texts, inputs, &mut around.writer)
-        }
-        Task::Describe { def, lefs, state } => {
-            let inputs = Inputs {
-                def: *def,
-                lefs: lefs.as_slice(),
-                state: *state,
-            };
-            describe_files(alloc, &around.texts, inputs, &mut around.writer)
-        }
-        Task::Repair {
-            def,
-            lefs,
-            teams,
-            legal,
-            export,
-            lines,
-        } => {
-            let asked = RepairAsked {
-                def: *def,
-                lefs: lefs.as_slice(),
-                teams: teams.as_slice(),
-                legal: *legal,
-                export: *export,
-                lines: *lines,
-            };
-            let exports = &mut around.exports;
-            repair(alloc, &around.texts, exports, &mut around.writer, &asked)
-        }
-    }
+    let limits = limits_with(slots_of(task));
+    outcome_within(alloc, around, task, limits)
 }
 
 /// Does the task and returns how it ended: with status 0 if it is done, 1 if a text or the design was refused, a team is not one of

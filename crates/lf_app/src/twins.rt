@@ -7,7 +7,7 @@ ghost use Rattle.lf_floorplan.specs.LoadedCells.{with_name};
 ghost use Rattle.lf_app.specs.Standing.{place_named};
 ghost use Rattle.lf_app.specs.Twins.{IsTwin, cells_in, moved_by};
 
-use crate::copies::copy_frame;
+use lf_alone::copy_frame;
 use lf_cells::CellTable;
 use lf_floorplan::{CellParts, Frame, Loaded, LoadedCells, PackedPlace, Place, PlainCell};
 use std::alloc::{AllocError, Global};

@@ -4,6 +4,7 @@
 ghost use Rattle.std.specs.Prelude.{◌≡◌, ◌*◌, ℕ, List, Option, IfErr, IfOk, OnOk, false, map, true};
 ghost use Rattle.lf_lef.specs.Contents.{Contents};
 ghost use Rattle.lf_def.specs.Document.{Document};
+ghost use Rattle.lf_floorplan.specs.declared.limits.Limits.{Limits as TheLimits};
 ghost use Rattle.lf_floorplan.specs.declared.place.Place.{Place};
 ghost use Rattle.lf_write.specs.Export.{CanBeRenewed, clause_of};
 ghost use Rattle.lf_teams.specs.Designs.{opening};
@@ -29,7 +30,7 @@ use crate::texts::Texts;
 use lf_devices::{Sink, Source, send};
 use lf_files::Exports;
 use lf_floor::Floor;
-use lf_frame::Loaded;
+use lf_frame::{Limits, Loaded};
 use lf_legalize::IndexSeeker;
 use lf_reread::loaded_cells_can_be_given;
 use lf_server::{Offer, serve_connections};
@@ -195,8 +196,8 @@ fn work_on_opened<'a, T: Texts, E: Exports, V: Services, R: Source, W: Sink, F>(
     outputs: Outputs<'a>,
 ) -> Result<u8, Fault<'a>>
     requires ready { IsReady R.has_failed R.reads W.has_failed around.old.reader around.old.writer }
-    requires loads { (library : Contents) × (document : Document)
-        × IsKept opened.original.text.items library document opened.original.clauses opened.loaded }
+    requires loads { (limits : TheLimits) × (library : Contents) × (document : Document)
+        × IsKept limits opened.original.text.items library document opened.original.clauses opened.loaded }
     ensures ok { (document : Document) → opened.original.clauses ≡ map (clause_of opened.original.text.items) document.components
         → IfOk result (λ status. (status ≡ 0) × ((begin : FloorState) × IsBegun (T.gives around.old.texts) (path_of state.entry) (opening opened.loaded) begin
         × IsFinished (IsDone lines begin) (path_of outputs.entry.save) (path_of outputs.entry.export)
@@ -216,12 +217,14 @@ fn work_on_opened<'a, T: Texts, E: Exports, V: Services, R: Source, W: Sink, F>(
     work_on_floor(alloc, around, &original, &mut floor, lines, outputs)
 }
 
-/// The files of the command line that work is done over: those of its design, and that of the state with which it begins.
+/// What work is done over: the files of the command line, those of its design and that of the state with which it begins, and
+/// the limits of the design.
 #[derive(Clone, Copy)]
 pub(crate) struct Inputs<'a> {
     pub(crate) def: &'a str,
     pub(crate) lefs: &'a [&'a str],
     pub(crate) state: Option<&'a str>,
+    pub(crate) limits: Limits,
 }
 
 /// Works on the design of a DEF file over LEF files, in the state of a third file if one is given.
@@ -233,17 +236,19 @@ pub(crate) fn work<'a, T: Texts, E: Exports, V: Services, R: Source, W: Sink, F>
     outputs: Outputs<'a>,
 ) -> Result<u8, Fault<'a>>
     requires ready { IsReady R.has_failed R.reads W.has_failed around.old.reader around.old.writer }
-    ensures ok { IfOk result (λ status. IsWorked (T.gives around.old.texts) inputs.entry.def.now (map (λ lef. lef.now) inputs.entry.lefs.now)
+    ensures ok { IfOk result (λ status. IsWorked inputs.entry.limits (T.gives around.old.texts)
+        inputs.entry.def.now (map (λ lef. lef.now) inputs.entry.lefs.now)
         (path_of inputs.entry.state) (path_of outputs.entry.save) (path_of outputs.entry.export) (IsDone lines)
         (io_of R.remaining W.contents E.puts V.accepted around.old around.new) × (status ≡ 0)) }
-    ensures err { IfErr result (λ fault. IsUndone (T.gives around.old.texts) inputs.entry.def.now (map (λ lef. lef.now) inputs.entry.lefs.now)
+    ensures err { IfErr result (λ fault. IsUndone inputs.entry.limits (T.gives around.old.texts)
+        inputs.entry.def.now (map (λ lef. lef.now) inputs.entry.lefs.now)
         (path_of inputs.entry.state) (path_of outputs.entry.save) (path_of outputs.entry.export) (IsFault lines) (IsDone lines) fault
         (io_of R.remaining W.contents E.puts V.accepted around.old around.new)
         × BlamesIn E.has_failed V.has_failed R.has_failed R.reads W.has_failed lines around.old around.new fault) }
     ensures leaves { Leaves E.puts V.offers lines (path_of outputs.entry.save) (path_of outputs.entry.export) result around.old around.new }
     ensures keeps { Keeps R.holds W.holds around.old around.new }
 {
-    let opened = open_files(alloc, &around.texts, inputs.def, inputs.lefs)?;
+    let opened = open_files(alloc, inputs.limits, &around.texts, inputs.def, inputs.lefs)?;
     work_on_opened(alloc, around, opened, inputs.state, lines, outputs)
 }
 

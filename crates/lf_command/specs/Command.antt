@@ -76,16 +76,21 @@ needed rule = record rule { required = true }
 abbrev pub design_line : Text → List Rule → App
 design_line name options = fold with_rule (new_app name) (def_rule ∷ lef_rule ∷ options)
 
+-- the number of session slots of each team
+abbrev pub slots_rule : Rule
+slots_rule = number_rule (codes "sessions") 64
+
 -- the words that a subcommand takes
 abbrev pub line_of : Subcommand → App
 line_of Demo = new_app (word_of Demo)
-line_of Check = design_line (word_of Check) (text_rule (codes "state") ∷ [])
-line_of Describe = design_line (word_of Describe) (text_rule (codes "state") ∷ [])
+line_of Check = design_line (word_of Check) (text_rule (codes "state") ∷ slots_rule ∷ [])
+line_of Describe = design_line (word_of Describe) (text_rule (codes "state") ∷ slots_rule ∷ [])
 line_of Replay = design_line (word_of Replay)
-    (number_rule (codes "lines") 4294967295 ∷ text_rule (codes "state") ∷ text_rule (codes "save") ∷ text_rule (codes "export") ∷ [])
+    (number_rule (codes "lines") 4294967295
+    ∷ text_rule (codes "state") ∷ slots_rule ∷ text_rule (codes "save") ∷ text_rule (codes "export") ∷ [])
 line_of Serve = design_line (word_of Serve)
     (needed (number_rule (codes "port") 65535) ∷ needed (number_rule (codes "connections") 1000000)
-    ∷ text_rule (codes "state") ∷ text_rule (codes "save") ∷ text_rule (codes "export") ∷ [])
+    ∷ text_rule (codes "state") ∷ slots_rule ∷ text_rule (codes "save") ∷ text_rule (codes "export") ∷ [])
 line_of Repair = design_line (word_of Repair)
     (repeated_rule (codes "team") ∷ flag_rule (codes "keep") ∷ flag_rule (codes "all")
     ∷ text_rule (codes "export") ∷ text_rule (codes "lines") ∷ [])
@@ -101,15 +106,15 @@ command_line = fold with_line (new_app (codes "lefence")) subcommands
 -- ---- jobs
 
 -- what a command line asks for, with the paths as they are written: of the DEF text and of the LEF texts in order; then, of all but
--- repair, of the saved state; then of each what its comment says
+-- repair, of the saved state, and the number of session slots of each team; then of each what its comment says
 pub data Job : Type 0 where
   demo : Job
-  check : Text → List Text → Option Text → Job
-  describe : Text → List Text → Option Text → Job
+  check : Text → List Text → Option Text → ℕ → Job
+  describe : Text → List Text → Option Text → ℕ → Job
   -- the most lines that are answered; the paths of the state and of the text that are written
-  replay : Text → List Text → Option Text → ℕ → Option Text → Option Text → Job
+  replay : Text → List Text → Option Text → ℕ → ℕ → Option Text → Option Text → Job
   -- the port and the number of connections; the paths of the state and of the text that are written
-  serve : Text → List Text → Option Text → ℕ → ℕ → Option Text → Option Text → Job
+  serve : Text → List Text → Option Text → ℕ → ℕ → ℕ → Option Text → Option Text → Job
   -- the teams, all of them if none is named; what may be done with legal cells; the paths of the text and of the lines
   repair : Text → List Text → List Text → LegalCells → Option Text → Option Text → Job
 
@@ -143,6 +148,15 @@ abbrev pub most_lines : Option Text → Option ℕ
 most_lines None = Some 1000000
 most_lines (Some text) = number_in 1 4294967295 text
 
+-- the number of session slots of each team: 8 if none is asked for
+abbrev pub slots_asked : Option Text → Option ℕ
+slots_asked None = Some 8
+slots_asked (Some text) = number_in 1 64 text
+
+-- the number of session slots that is asked for among the words
+abbrev pub slots_among : List Row → Option ℕ
+slots_among rows = slots_asked (first_of (codes "sessions") rows)
+
 -- the port and the number of connections of a service: both are needed
 abbrev pub service_of : List Row → Option (ℕ × ℕ)
 service_of rows =
@@ -162,13 +176,17 @@ legal_cells true true = None
 -- the job of a subcommand on these paths
 abbrev pub job_on : Subcommand → Text → List Text → List Row → Option Job
 job_on Demo def lefs rows = Some demo
-job_on Check def lefs rows = Some (check def lefs (first_of (codes "state") rows))
-job_on Describe def lefs rows = Some (describe def lefs (first_of (codes "state") rows))
-job_on Replay def lefs rows = option_map
-    (λ lines. replay def lefs (first_of (codes "state") rows) lines (first_of (codes "save") rows) (first_of (codes "export") rows))
+job_on Check def lefs rows = option_map (λ slots. check def lefs (first_of (codes "state") rows) slots) (slots_among rows)
+job_on Describe def lefs rows = option_map (λ slots. describe def lefs (first_of (codes "state") rows) slots) (slots_among rows)
+job_on Replay def lefs rows =
+    option_and_then (λ lines. option_map
+    (λ slots. replay def lefs (first_of (codes "state") rows) slots lines (first_of (codes "save") rows) (first_of (codes "export") rows))
+    (slots_among rows))
     (most_lines (first_of (codes "lines") rows))
-job_on Serve def lefs rows = option_map
-    (λ service. serve def lefs (first_of (codes "state") rows) service.0 service.1 (first_of (codes "save") rows) (first_of (codes "export") rows))
+job_on Serve def lefs rows =
+    option_and_then (λ service. option_map
+    (λ slots. serve def lefs (first_of (codes "state") rows) slots service.0 service.1 (first_of (codes "save") rows) (first_of (codes "export") rows))
+    (slots_among rows))
     (service_of rows)
 job_on Repair def lefs rows = option_map
     (λ legal. repair def lefs (values_of (codes "team") rows) legal (first_of (codes "export") rows) (first_of (codes "lines") rows))
@@ -207,11 +225,13 @@ job_of words = unless_fault (fault_of command_line words) (job_found (subcommand
 -- the job that a task does
 abbrev pub as_job : Task → Job
 as_job task.Demo = demo
-as_job (task.Check def lefs state) = check def.now (map (λ lef. lef.now) lefs) (option_map (λ path. path.now) state)
-as_job (task.Describe def lefs state) = describe def.now (map (λ lef. lef.now) lefs) (option_map (λ path. path.now) state)
-as_job (task.Replay def lefs state lines save export) = replay def.now (map (λ lef. lef.now) lefs) (option_map (λ path. path.now) state)
+as_job (task.Check def lefs state slots) = check def.now (map (λ lef. lef.now) lefs) (option_map (λ path. path.now) state) slots.number
+as_job (task.Describe def lefs state slots) = describe def.now (map (λ lef. lef.now) lefs) (option_map (λ path. path.now) state) slots.number
+as_job (task.Replay def lefs state slots lines save export) =
+    replay def.now (map (λ lef. lef.now) lefs) (option_map (λ path. path.now) state) slots.number
     lines (option_map (λ path. path.now) save) (option_map (λ path. path.now) export)
-as_job (task.Serve def lefs state port connections save export) = serve def.now (map (λ lef. lef.now) lefs) (option_map (λ path. path.now) state)
+as_job (task.Serve def lefs state slots port connections save export) =
+    serve def.now (map (λ lef. lef.now) lefs) (option_map (λ path. path.now) state) slots.number
     port connections (option_map (λ path. path.now) save) (option_map (λ path. path.now) export)
 as_job (task.Repair def lefs teams legal export lines) = repair def.now (map (λ lef. lef.now) lefs) (map (λ team. team.now) teams)
     legal (option_map (λ path. path.now) export) (option_map (λ path. path.now) lines)
@@ -219,6 +239,6 @@ as_job (task.Repair def lefs teams legal export lines) = repair def.now (map (λ
 -- the task reads no line
 abbrev pub ReadsNone : Task → Type 0
 ReadsNone task.Demo = ⊥
-ReadsNone (task.Replay def lefs state lines save export) = ⊥
-ReadsNone (task.Serve def lefs state port connections save export) = ⊥
+ReadsNone (task.Replay def lefs state slots lines save export) = ⊥
+ReadsNone (task.Serve def lefs state slots port connections save export) = ⊥
 ReadsNone _ = Unit {0}

@@ -1,13 +1,14 @@
 //! The words of the command line.
 
-ghost use Rattle.std.specs.Prelude.{◌≡◌, None, Some, codes, map, IfErr, IfOk, option_map};
+ghost use Rattle.std.specs.Prelude.{◌≡◌, ◌≤◌, None, Some, codes, map, IfErr, IfOk, IfSome, option_map};
 ghost use Rattle.clap.specs.Matches.{found_of};
 ghost use Rattle.clap.specs.Simple.{subcommand_rows_of};
 ghost use Rattle.clap.specs.Walk.{all_of, first_of, rows_of};
-ghost use Rattle.lf_command.specs.declared.subcommand.Subcommand.TheVariants.{Repair, Replay, Serve};
+ghost use Rattle.lf_command.specs.declared.subcommand.Subcommand.TheVariants.{Check, Describe, Repair, Replay, Serve};
 ghost use Rattle.lf_command.specs.declared.command.UsageFault.TheVariants.{Usage};
-ghost use Rattle.lf_command.specs.Command.{as_job, is_demo, is_set, job_by, job_found, job_of, job_on, legal_cells, most_lines, number_in, service_of, values_of};
+ghost use Rattle.lf_command.specs.Command.{as_job, is_demo, is_set, job_by, job_found, job_of, job_on, legal_cells, most_lines, number_in, service_of, slots_among, values_of};
 
+use crate::slots::{MOST_SLOTS, Slots};
 use crate::subcommand::{MOST_CONNECTIONS, Subcommand, command_line, subcommand_named};
 use clap::ArgMatches;
 use clap::error::ErrorKind;
@@ -40,6 +41,7 @@ pub enum Task<'a> {
         lefs: Sequence<&'a str>,
         /// The path of the saved state that tells where the cells stand, if one does.
         state: Option<&'a str>,
+        slots: Slots,
     },
     /// Writes a design as JSON Lines.
     Describe {
@@ -47,6 +49,7 @@ pub enum Task<'a> {
         lefs: Sequence<&'a str>,
         /// The path of the saved state that tells where the cells stand, if one does.
         state: Option<&'a str>,
+        slots: Slots,
     },
     /// Answers the lines of standard input over a design.
     Replay {
@@ -54,6 +57,7 @@ pub enum Task<'a> {
         lefs: Sequence<&'a str>,
         /// The path of the saved state that is gone on from, if one is.
         state: Option<&'a str>,
+        slots: Slots,
         /// The most lines that are answered: from 1 to 4,294,967,295; 1,000,000 if none is asked for.
         lines: u32,
         /// The path that the state at the end is saved to, if that is asked for.
@@ -67,6 +71,7 @@ pub enum Task<'a> {
         lefs: Sequence<&'a str>,
         /// The path of the saved state that is gone on from, if one is.
         state: Option<&'a str>,
+        slots: Slots,
         /// The port to listen on: 1 at least.
         port: u16,
         /// The number of connections to serve: from 1 to 1,000,000.
@@ -146,6 +151,33 @@ fn lines_of(text: &str) -> Option<u32>
     Some(lines)
 }
 
+/// The number of session slots that the text writes.
+#[tactic(auto, using(crate::proofs::Numbers::number_none, crate::proofs::Numbers::number_some, crate::proofs::Numbers::number_out))]
+fn slot_number(text: &str) -> Option<u32>
+    ensures number { result ≡ number_in 1 64 text.now }
+    ensures least { IfSome result (λ number. 1 ≤ number) }
+    ensures most { IfSome result (λ number. number ≤ 64) }
+{
+    let Ok(number) = text.parse::<u32>() else {
+        return None;
+    };
+    if number == 0 {
+        return None;
+    }
+    if number > MOST_SLOTS {
+        return None;
+    }
+    Some(number)
+}
+
+/// The session slots that the text writes.
+fn slots_in(text: &str) -> Option<Slots>
+    ensures { option_map (λ slots. slots.number) result ≡ number_in 1 64 text.now }
+{
+    let number = slot_number(text)?;
+    Some(Slots { number })
+}
+
 /// The first value of the argument of that name.
 fn value_of<'a>(matches: &ArgMatches<'a>, name: &str) -> Option<&'a str>
     ensures { option_map (λ text. text.now) result ≡ first_of name.now (rows_of (found_of matches.now)) }
@@ -194,6 +226,16 @@ fn most_lines(matches: &ArgMatches<'_>) -> Option<u32>
     }
 }
 
+/// The session slots of each team.
+fn slots_of(matches: &ArgMatches<'_>) -> Option<Slots>
+    ensures { option_map (λ slots. slots.number) result ≡ slots_among (rows_of (found_of matches.now)) }
+{
+    match value_of(matches, "sessions") {
+        Some(text) => slots_in(text),
+        None => Some(Slots::standard()),
+    }
+}
+
 /// The port and the number of connections of a service.
 fn service_of(matches: &ArgMatches<'_>) -> Option<(u16, u32)>
     ensures { result ≡ service_of (rows_of (found_of matches.now)) }
@@ -215,6 +257,38 @@ fn legal_cells(keep: bool, all: bool) -> Option<LegalCells>
     }
 }
 
+/// The task of a check on these paths.
+fn check_on<'a>(def: &'a str, lefs: Sequence<&'a str>, matches: &ArgMatches<'a>) -> Option<Task<'a>>
+    ensures { option_map as_job result ≡ job_on Check def.now (map (λ lef. lef.now) lefs.entry) (rows_of (found_of matches.now)) }
+{
+    let slots = slots_of(matches)?;
+    let state = value_of(matches, "state");
+    Some(Task::Check {
+        def,
+        lefs,
+        state,
+        slots,
+    })
+}
+
+/// The task of a description on these paths.
+fn describe_on<'a>(
+    def: &'a str,
+    lefs: Sequence<&'a str>,
+    matches: &ArgMatches<'a>,
+) -> Option<Task<'a>>
+    ensures { option_map as_job result ≡ job_on Describe def.now (map (λ lef. lef.now) lefs.entry) (rows_of (found_of matches.now)) }
+{
+    let slots = slots_of(matches)?;
+    let state = value_of(matches, "state");
+    Some(Task::Describe {
+        def,
+        lefs,
+        state,
+        slots,
+    })
+}
+
 /// The task of a replay on these paths.
 fn replay_on<'a>(
     def: &'a str,
@@ -224,10 +298,12 @@ fn replay_on<'a>(
     ensures { option_map as_job result ≡ job_on Replay def.now (map (λ lef. lef.now) lefs.entry) (rows_of (found_of matches.now)) }
 {
     let lines = most_lines(matches)?;
+    let slots = slots_of(matches)?;
     Some(Task::Replay {
         def,
         lefs,
         state: value_of(matches, "state"),
+        slots,
         lines,
         save: value_of(matches, "save"),
         export: value_of(matches, "export"),
@@ -239,10 +315,12 @@ fn serve_on<'a>(def: &'a str, lefs: Sequence<&'a str>, matches: &ArgMatches<'a>)
     ensures { option_map as_job result ≡ job_on Serve def.now (map (λ lef. lef.now) lefs.entry) (rows_of (found_of matches.now)) }
 {
     let (port, connections) = service_of(matches)?;
+    let slots = slots_of(matches)?;
     Some(Task::Serve {
         def,
         lefs,
         state: value_of(matches, "state"),
+        slots,
         port,
         connections,
         save: value_of(matches, "save"),
@@ -289,14 +367,8 @@ fn task_on<'a>(
 {
     match chosen {
         Subcommand::Demo => Ok(Some(Task::Demo)),
-        Subcommand::Check => {
-            let state = value_of(matches, "state");
-            Ok(Some(Task::Check { def, lefs, state }))
-        }
-        Subcommand::Describe => {
-            let state = value_of(matches, "state");
-            Ok(Some(Task::Describe { def, lefs, state }))
-        }
+        Subcommand::Check => Ok(check_on(def, lefs, matches)),
+        Subcommand::Describe => Ok(describe_on(def, lefs, matches)),
         Subcommand::Replay => Ok(replay_on(def, lefs, matches)),
         Subcommand::Serve => Ok(serve_on(def, lefs, matches)),
         Subcommand::Repair => repair_on(alloc, def, lefs, matches),
@@ -375,9 +447,9 @@ fn matches_of<'a>(alloc: Global, words: &'a [&'a str]) -> Result<ArgMatches<'a>,
 ///
 /// The others take the path of a DEF text, then of one LEF text or more. `serve` needs `--port P`, from 1 to 65535, and
 /// `--connections N`, from 1 to 1,000,000; `replay` may have `--lines N`, from 1 to 4,294,967,295; both may have
-/// `--save FILE` and `--export FILE`, and they, `check` and `describe` may have `--state FILE`. `repair` may have
-/// `--export FILE`, `--lines FILE`, `--keep` or `--all`, and `--team NAME` any number of times; each other option stands once
-/// at most.
+/// `--save FILE` and `--export FILE`, and they, `check` and `describe` may have `--state FILE` and `--sessions N`, from 1 to 64.
+/// `repair` may have `--export FILE`, `--lines FILE`, `--keep` or `--all`, and `--team NAME` any number of times; each other
+/// option stands once at most.
 /// Numbers are digits; `+` in front and leading zeros are allowed. Options are before, between or after
 /// the paths, with the value after `=` or as the next word, which may not begin with
 /// '-' unless it is '-'. After `--` each word is a path. Words for help and for the version are usage

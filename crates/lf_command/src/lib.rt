@@ -13,8 +13,10 @@
 
 mod command;
 mod help;
+mod slots;
 mod subcommand;
 
 pub use command::{LegalCells, Task, UsageFault, command_of, complaint_of};
 pub use help::{Help, help_of};
+pub use slots::Slots;
 pub use subcommand::Subcommand;

@@ -5,8 +5,9 @@ ghost use Rattle.clap.specs.Simple.{app_of, with_rule};
 ghost use Rattle.clap.specs.Walk.{rule_of};
 ghost use Rattle.clap.specs.declared.builder.command.Command.TheViews.{out-Command};
 ghost use Rattle.lf_command.specs.declared.subcommand.Subcommand.TheVariants.{Repair, Replay, Serve};
-ghost use Rattle.lf_command.specs.Command.{command_line, def_rule, design_line, flag_rule, lef_rule, line_of, needed, number_rule, repeated_rule, subcommand_named, text_rule, with_line, word_of};
+ghost use Rattle.lf_command.specs.Command.{command_line, def_rule, design_line, flag_rule, lef_rule, line_of, needed, number_rule, repeated_rule, slots_rule, subcommand_named, text_rule, with_line, word_of};
 
+use crate::slots::MOST_SLOTS;
 use clap::builder::ValueParser;
 use clap::{Arg, ArgAction, Command};
 use std::alloc::{AllocError, Global};
@@ -142,24 +143,34 @@ fn over_design<'a>(alloc: Global, name: &'a str) -> Result<Command<'a>, AllocErr
         .arg(lef_paths(alloc))
 }
 
-/// A subcommand of that name that looks at a design, which may stand as a saved state tells.
-fn look<'a>(alloc: Global, name: &'a str) -> Result<Command<'a>, AllocError>
-    ensures line { IfOk result (λ made. app_of made ≡ design_line name.now (text_rule (codes "state") ∷ [])) }
-    ensures local { IfOk result (λ made. (out-Command made).has_globals ≡ false) }
+/// The number of session slots of each team.
+fn slots<'a>(alloc: Global) -> Arg<'a>
+    ensures rule { rule_of result ≡ slots_rule }
+    ensures local { result.global ≡ false }
 {
-    over_design(alloc, name)?.arg(text(alloc, "state"))
+    number(alloc, "sessions", MOST_SLOTS as u64)
 }
 
-/// The paths that a subcommand which answers lines may have besides those of the design: of the saved state, and of the state
-/// and the text that are written.
+/// A subcommand of that name that looks at a design, which may stand as a saved state tells.
+fn look<'a>(alloc: Global, name: &'a str) -> Result<Command<'a>, AllocError>
+    ensures line { IfOk result (λ made. app_of made ≡ design_line name.now (text_rule (codes "state") ∷ slots_rule ∷ [])) }
+    ensures local { IfOk result (λ made. (out-Command made).has_globals ≡ false) }
+{
+    let command = over_design(alloc, name)?.arg(text(alloc, "state"))?;
+    command.arg(slots(alloc))
+}
+
+/// What a subcommand that answers lines may have besides the paths of the design: the path of the saved state, the number of session
+/// slots, and the paths of the state and of the text that are written.
 fn with_outputs<'a>(alloc: Global, command: Command<'a>) -> Result<Command<'a>, AllocError>
     requires local { (out-Command command).has_globals ≡ false }
-    ensures line { IfOk result (λ made. app_of made
-        ≡ fold with_rule (app_of command.entry) (text_rule (codes "state") ∷ text_rule (codes "save") ∷ text_rule (codes "export") ∷ [])) }
+    ensures line { IfOk result (λ made. app_of made ≡ fold with_rule (app_of command.entry)
+        (text_rule (codes "state") ∷ slots_rule ∷ text_rule (codes "save") ∷ text_rule (codes "export") ∷ [])) }
     ensures local { IfOk result (λ made. (out-Command made).has_globals ≡ false) }
 {
     command
         .arg(text(alloc, "state"))?
+        .arg(slots(alloc))?
         .arg(text(alloc, "save"))?
         .arg(text(alloc, "export"))
 }

@@ -77,6 +77,17 @@ fn loose_cell<'a>(placement: &'a Placement, go: &Go, id: CellId) -> Option<Loose
     })
 }
 
+/// How many cells may move.
+fn loose_count(go: &Go) -> usize {
+    let mut count = 0usize;
+    for held in &go.marks {
+        if !*held {
+            count = count.saturating_add(1);
+        }
+    }
+    count
+}
+
 /// Where a cell is wanted: where it stood, or at the team's anchor.
 fn target_of(frame: &Frame, cell: &Loose<'_>) -> Point {
     match cell.home {
@@ -128,7 +139,7 @@ fn lift(
     number: usize,
     go: &Go,
 ) -> Result<Vec<Deed>, AllocError> {
-    let mut deeds = Vec::new(alloc);
+    let mut deeds = Vec::with_capacity(alloc, loose_count(go))?;
     for id in placement.cells().cells_of(number) {
         if let Some(cell) = loose_cell(placement, go, *id) {
             if placement.cells().working(*id).is_some() {
@@ -256,18 +267,18 @@ fn kinds_of(frame: &Frame, mac: &Macro) -> Kinds {
     }
 }
 
-/// A site of a span, and the position of the cell that goes there in the list of wishes.
+/// A site of a span, and the position in the team of the cell that goes there.
 #[derive(Clone, Copy, PartialEq, Eq, PartialOrd, Ord)]
 struct Stop {
-    span: usize,
+    span: u32,
     at: u32,
-    wish: usize,
+    own: u32,
 }
 
-/// Cells of one row's height, and what each wishes.
+/// The positions of cells of one row's height, and what each wishes.
 #[derive(Drop)]
 struct Wishes {
-    ids: Vec<CellId>,
+    owns: Vec<u32>,
     wishes: Vec<Wish>,
 }
 
@@ -289,8 +300,9 @@ fn wishes_of(
     go: &Go,
 ) -> Result<Wishes, AllocError> {
     let frame = placement.frame();
-    let mut ids = Vec::new(alloc);
-    let mut wishes = Vec::new(alloc);
+    let most = loose_count(go);
+    let mut owns = Vec::with_capacity(alloc, most)?;
+    let mut wishes = Vec::with_capacity(alloc, most)?;
     for id in placement.cells().cells_of(owner.team) {
         let Some(cell) = loose_cell(placement, go, *id) else {
             continue;
@@ -299,22 +311,22 @@ fn wishes_of(
             continue;
         };
         if cell.height <= frame.pitch.y {
-            ids.push(*id)?;
+            owns.push(id.own)?;
             wishes.push(wish_of(frame, &cell, &home, owner.pad))?;
         }
     }
-    Ok(Wishes { ids, wishes })
+    Ok(Wishes { owns, wishes })
 }
 
-/// The spots of a plan, row after row from left to right.
-fn stops_of(alloc: Global, spots: &[Option<Spot>]) -> Result<Vec<Stop>, AllocError> {
+/// The spots of a plan for cells of these positions, row after row from left to right.
+fn stops_of(alloc: Global, owns: &[u32], spots: &[Option<Spot>]) -> Result<Vec<Stop>, AllocError> {
     let mut stops = Vec::with_capacity(alloc, spots.len())?;
-    for (wish, spot) in spots.iter().enumerate() {
+    for (own, spot) in owns.iter().zip(spots.iter()) {
         if let Some(spot) = spot {
             stops.push(Stop {
-                span: spot.span,
+                span: spot.span.min(4_294_967_295) as u32,
                 at: spot.at,
-                wish,
+                own: *own,
             })?;
         }
     }
@@ -335,12 +347,26 @@ fn orient_of(kind: RowKind) -> Orient {
 /// The place of a cell at a site of a land.
 fn place_at(frame: &Frame, land: &Land, stop: &Stop, cell: &Loose<'_>) -> Option<Place> {
     let home = cell.home?;
-    let sites = land.spans.get(stop.span)?;
-    let after = land.rows.partition_point(|row| row.first <= stop.span);
+    let span = stop.span as usize;
+    let sites = land.spans.get(span)?;
+    let after = land.rows.partition_point(|row| row.first <= span);
     let row = land.rows.get(after.checked_sub(1)?)?;
     let orient = orient_on(frame, cell.mac, home.orient, orient_of(row.kind))?;
     let x = (sites.first as i64).saturating_add((sites.step as i64).saturating_mul(stop.at as i64));
     Some(Place::new(coordinate(x), coordinate(row.y as i64), orient))
+}
+
+/// The stops of a plan for the cells of one row's height that may move. What else a plan is made of is gone with it.
+fn all_stops(
+    alloc: Global,
+    placement: &Placement,
+    owner: &Owner,
+    go: &Go,
+    land: &Land,
+) -> Result<Vec<Stop>, AllocError> {
+    let Wishes { owns, wishes } = wishes_of(alloc, placement, owner, go)?;
+    let spots = plan_cells(alloc, land, wishes.as_slice(), &STEPS)?;
+    stops_of(alloc, owns.as_slice(), spots.as_slice())
 }
 
 /// The places of a plan for the cells of one row's height that may move.
@@ -351,21 +377,19 @@ fn planned(
     go: &Go,
 ) -> Result<Vec<Deed>, AllocError> {
     let frame = placement.frame();
-    let Wishes { ids, wishes } = wishes_of(alloc, placement, owner, go)?;
     let land = free_land(alloc, placement, owner)?;
-    let spots = plan_cells(alloc, &land, wishes.as_slice(), &STEPS)?;
-    let stops = stops_of(alloc, spots.as_slice())?;
+    let stops = all_stops(alloc, placement, owner, go, &land)?;
     let mut deeds = Vec::with_capacity(alloc, stops.len())?;
     for stop in &stops {
-        let Some(id) = ids.get(stop.wish) else {
+        let Some(id) = placement.cells().cell_of(owner.team, stop.own as usize) else {
             continue;
         };
-        let Some(cell) = loose_cell(placement, go, *id) else {
+        let Some(cell) = loose_cell(placement, go, id) else {
             continue;
         };
         if let Some(place) = place_at(frame, &land, stop, &cell) {
             deeds.push(Deed {
-                own: id.own,
+                own: stop.own,
                 step: Step::Place(place),
             })?;
         }

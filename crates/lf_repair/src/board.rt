@@ -1,5 +1,6 @@
 //! Where the cells of a plan stand so far.
 
+use crate::costs::number_of;
 use crate::land::Land;
 use lf_packing::{Cell, Segment};
 use std::alloc::{AllocError, Global};
@@ -15,7 +16,7 @@ pub(crate) struct Gap {
 /// The span in which a cell stands, and a site near to which it does.
 #[derive(Clone, Copy)]
 pub(crate) struct Stand {
-    pub(crate) span: usize,
+    pub(crate) span: u32,
     pub(crate) near: u32,
 }
 
@@ -72,7 +73,7 @@ impl Board {
         }
         if let Some(stand) = self.stands.get_mut(gap.cell.number as usize) {
             *stand = Some(Stand {
-                span: gap.span,
+                span: number_of(gap.span),
                 near: gap.cell.at,
             });
         }
@@ -82,13 +83,10 @@ impl Board {
     /// The gap that a cell would leave; none if it stands nowhere.
     pub(crate) fn place_of(&self, number: u32) -> Option<Gap> {
         let stand = (*self.stands.get(number as usize)?)?;
-        let segment = self.segments.get(stand.span)?;
+        let span = stand.span as usize;
+        let segment = self.segments.get(span)?;
         let (gap, cell) = find_in(segment, number, stand.near)?;
-        Some(Gap {
-            span: stand.span,
-            gap,
-            cell,
-        })
+        Some(Gap { span, gap, cell })
     }
 
     /// Takes the cell of a gap out.

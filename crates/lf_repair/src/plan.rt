@@ -162,6 +162,17 @@ fn improve(
     Ok(())
 }
 
+/// The order of the cells: those that are far from any place first.
+fn first_order(
+    alloc: Global,
+    given: &Given,
+    how: &How,
+    curve: &mut Curve,
+) -> Result<Vec<u32>, AllocError> {
+    let away = nearest_alone(alloc, given, how, curve)?;
+    order_of(alloc, given.wishes, away.as_slice(), given.height)
+}
+
 /// Plans a place for each cell: all in turn, then passes, then rounds over those farthest off. A cell with no spot found no room.
 /// Each cell that has one lies within its span there, and two cells of one span lie apart.
 ///
@@ -182,15 +193,14 @@ pub fn plan_cells(
         height,
     };
     let mut curve = Curve::new(alloc);
-    let mut board = Board::new(alloc, land, wishes.len())?;
     let how = How {
         gaps: 1,
         most: 10,
         near: 2 * height as i64,
         weight: 3,
     };
-    let away = nearest_alone(alloc, &given, &how, &mut curve)?;
-    let order = order_of(alloc, wishes, away.as_slice(), height)?;
+    let order = first_order(alloc, &given, &how, &mut curve)?;
+    let mut board = Board::new(alloc, land, wishes.len())?;
     place_all(&given, order.as_slice(), &how, &mut board, &mut curve)?;
     improve(alloc, &given, order.as_slice(), steps, &how, &mut board)?;
     spots_of(alloc, &given, &board)

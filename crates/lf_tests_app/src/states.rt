@@ -1,7 +1,7 @@
 //! States that are saved and gone on from, over files in memory.
 
 use crate::tasks::{Kept, Run, done, exporting, files_of, only_lef, with_entries};
-use lf_app::Task;
+use lf_app::{Slots, Task};
 use lf_def::W_DEF;
 use lf_lef::W_LEF;
 use std::alloc::{AllocError, Global};
@@ -18,9 +18,10 @@ const BEHIND: &str =
     "where A 0 a1\nundo A 0\nwhere A 0 a1\nundo A 0\nwhere A 0 a1\nrevert A 0\nopen A\n\
     undo A 0\nplace A 1 a2 400 0 N\nsync A 1\nplace A 1 a2 400 0 N\nwhere B 0 b1\ncommit B 0\ncheck B 0\n";
 
-/// The replay of `w.def` over `w.lef` that begins in this state and saves to this path.
-fn replay_of<'a>(
+/// The replay of `w.def` over `w.lef` with these session slots, which begins in this state and saves to this path.
+fn replay_with<'a>(
     alloc: Global,
+    slots: Slots,
     state: Option<&'a str>,
     save: Option<&'a str>,
 ) -> Result<Task<'a>, AllocError> {
@@ -28,10 +29,20 @@ fn replay_of<'a>(
         def: "w.def",
         lefs: only_lef(alloc)?,
         state,
+        slots,
         lines: 1_000_000,
         save,
         export: None,
     })
+}
+
+/// The same with the usual number of session slots.
+fn replay_of<'a>(
+    alloc: Global,
+    state: Option<&'a str>,
+    save: Option<&'a str>,
+) -> Result<Task<'a>, AllocError> {
+    replay_with(alloc, Slots::standard(), state, save)
 }
 
 /// The files of the sample, and this text as a state.
@@ -100,12 +111,46 @@ fn what_is_restored_is_saved_as_it_was(rt: HostRuntime) -> Result<(), Fail> {
     Ok(())
 }
 
+/// Nine sessions of a team are opened.
+const NINE: &str = "open A\nopen A\nopen A\nopen A\nopen A\nopen A\nopen A\nopen A\nopen A\n";
+
+/// The replay of the nine lines with these session slots, and what is saved behind them.
+fn nine_opened(rt: &HostRuntime, slots: Slots) -> Result<(Run, Vec<u8>), AllocError> {
+    let task = replay_with(rt.alloc(), slots, None, Some(STATE))?;
+    let mut exports = Kept::at(rt.alloc(), Some(STATE));
+    let mut reader = NINE.as_bytes();
+    let files = files_of(W_DEF);
+    let run = exporting(rt, files.as_slice(), &mut exports, &task, &mut reader);
+    match exports.text {
+        Some(text) => Ok((run, text)),
+        None => Ok((run, Vec::new(rt.alloc()))),
+    }
+}
+
+#[test]
+fn a_team_has_as_many_sessions_as_slots(rt: HostRuntime) -> Result<(), Fail> {
+    let eight = "ok 0 0\nok 1 0\nok 2 0\nok 3 0\nok 4 0\nok 5 0\nok 6 0\nok 7 0\n";
+    let mut full = Vec::from_slice(rt.alloc(), eight.as_bytes())?;
+    full.extend_from_slice(b"no 10 SessionsFull\n")?;
+    let (run, _) = nine_opened(&rt, Slots::standard())?;
+    assert!(rt; run.written.as_slice() == full.as_slice());
+    let mut open = Vec::from_slice(rt.alloc(), eight.as_bytes())?;
+    open.extend_from_slice(b"ok 8 0\n")?;
+    let (run, state) = nine_opened(&rt, Slots { number: 9 })?;
+    assert!(rt; run.written.as_slice() == open.as_slice());
+    let other =
+        "lefence: 26 OtherDesign line 3\nlefence: state file w.state, line 3: team A 0 0 9 3 0\n";
+    assert!(rt; checked(&rt, &state)?.is(1, "", other));
+    Ok(())
+}
+
 /// The check of `w.def` over `w.lef`, as its cells stand in this state.
 fn checked(rt: &HostRuntime, state: &[u8]) -> Result<Run, AllocError> {
     let task = Task::Check {
         def: "w.def",
         lefs: only_lef(rt.alloc())?,
         state: Some(STATE),
+        slots: Slots::standard(),
     };
     Ok(done(rt, &files_with(state), &task, ""))
 }
@@ -126,6 +171,7 @@ fn describe_of<'a>(alloc: Global, state: Option<&'a str>) -> Result<Task<'a>, Al
         def: "w.def",
         lefs: only_lef(alloc)?,
         state,
+        slots: Slots::standard(),
     })
 }
 

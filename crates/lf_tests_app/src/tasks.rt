@@ -7,7 +7,7 @@ ghost use Rattle.lf_server.specs.Devices.{writer};
 use crate::shelf::Shelf;
 use lf_app::{
     Acceptor, ClientReader, ClientWriter, Connection, Exit, FileTexts, NetServices, Offer,
-    Services, Surroundings, Task, Unbound, perform, perform_over,
+    Services, Slots, Surroundings, Task, Unbound, perform, perform_over,
 };
 use lf_def::W_DEF;
 use lf_devices::{DeviceFault, FromRead, ToWrite};
@@ -442,6 +442,7 @@ fn replayed(
         def: "w.def",
         lefs: Sequence::from_vec(Vec::from_slice(rt.alloc(), lefs)?),
         state: None,
+        slots: Slots::standard(),
         lines: 1_000_000,
         save: None,
         export: None,
@@ -464,6 +465,7 @@ fn check_of_w<'a>(alloc: Global) -> Result<Task<'a>, AllocError> {
         def: "w.def",
         lefs: only_lef(alloc)?,
         state: None,
+        slots: Slots::standard(),
     })
 }
 
@@ -516,6 +518,7 @@ fn answers_at_most(
         def: "w.def",
         lefs: only_lef(rt.alloc())?,
         state: None,
+        slots: Slots::standard(),
         lines,
         save: None,
         export: None,
@@ -654,6 +657,7 @@ fn a_design_is_described(rt: HostRuntime) -> Result<(), Fail> {
         def: "w.def",
         lefs: only_lef(rt.alloc())?,
         state: None,
+        slots: Slots::standard(),
     };
     assert!(rt; done(&rt, &files_of(W_DEF), &task, "open A\n").is(4, DESCRIPTION, ""));
     Ok(())
@@ -767,6 +771,7 @@ fn exporting_replay<'a>(alloc: Global) -> Result<Task<'a>, AllocError> {
         def: "w.def",
         lefs: only_lef(alloc)?,
         state: None,
+        slots: Slots::standard(),
         lines: 1_000_000,
         save: None,
         export: Some("new.def"),
@@ -859,6 +864,7 @@ fn service<'a>(alloc: Global, port: u16) -> Result<Task<'a>, AllocError> {
         def: "w.def",
         lefs: only_lef(alloc)?,
         state: None,
+        slots: Slots::standard(),
         port,
         connections: 1,
         save: None,

@@ -12,16 +12,19 @@ enum Named<'a> {
         def: &'a str,
         lefs: &'a [&'a str],
         state: Option<&'a str>,
+        sessions: u32,
     },
     Describe {
         def: &'a str,
         lefs: &'a [&'a str],
         state: Option<&'a str>,
+        sessions: u32,
     },
     Replay {
         def: &'a str,
         lefs: &'a [&'a str],
         state: Option<&'a str>,
+        sessions: u32,
         lines: u32,
         save: Option<&'a str>,
         export: Option<&'a str>,
@@ -30,6 +33,7 @@ enum Named<'a> {
         def: &'a str,
         lefs: &'a [&'a str],
         state: Option<&'a str>,
+        sessions: u32,
         port: u16,
         connections: u32,
         save: Option<&'a str>,
@@ -50,20 +54,33 @@ enum Named<'a> {
 fn as_named<'a>(task: &'a Task<'a>) -> Named<'a> {
     match task {
         Task::Demo => Named::Demo,
-        Task::Check { def, lefs, state } => Named::Check {
+        Task::Check {
+            def,
+            lefs,
+            state,
+            slots,
+        } => Named::Check {
             def: *def,
             lefs: lefs.as_slice(),
             state: *state,
+            sessions: slots.number,
         },
-        Task::Describe { def, lefs, state } => Named::Describe {
+        Task::Describe {
+            def,
+            lefs,
+            state,
+            slots,
+        } => Named::Describe {
             def: *def,
             lefs: lefs.as_slice(),
             state: *state,
+            sessions: slots.number,
         },
         Task::Replay {
             def,
             lefs,
             state,
+            slots,
             lines,
             save,
             export,
@@ -71,6 +88,7 @@ fn as_named<'a>(task: &'a Task<'a>) -> Named<'a> {
             def: *def,
             lefs: lefs.as_slice(),
             state: *state,
+            sessions: slots.number,
             lines: *lines,
             save: *save,
             export: *export,
@@ -79,6 +97,7 @@ fn as_named<'a>(task: &'a Task<'a>) -> Named<'a> {
             def,
             lefs,
             state,
+            slots,
             port,
             connections,
             save,
@@ -87,6 +106,7 @@ fn as_named<'a>(task: &'a Task<'a>) -> Named<'a> {
             def: *def,
             lefs: lefs.as_slice(),
             state: *state,
+            sessions: slots.number,
             port: *port,
             connections: *connections,
             save: *save,
@@ -147,12 +167,14 @@ fn words_name_the_demo_a_check_and_a_description(rt: HostRuntime) -> Result<(), 
         def: "x.def",
         lefs: &["x.lef"],
         state: None,
+        sessions: 8,
     };
     assert!(rt; names(rt.alloc(), "lefence check x.def x.lef", &check)?);
     let describe = Named::Describe {
         def: "x.def",
         lefs: &["x.lef"],
         state: None,
+        sessions: 8,
     };
     assert!(rt; names(rt.alloc(), "lefence describe x.def x.lef", &describe)?);
     Ok(())
@@ -170,6 +192,7 @@ fn words_name_a_replay(rt: HostRuntime) -> Result<(), Fail> {
         def: "w.def",
         lefs: &["w.lef", "x.lef"],
         state: None,
+        sessions: 8,
         lines: 1_000_000,
         save: None,
         export: None,
@@ -179,6 +202,7 @@ fn words_name_a_replay(rt: HostRuntime) -> Result<(), Fail> {
         def: "-w.def",
         lefs: &["--"],
         state: None,
+        sessions: 8,
         lines: 1_000_000,
         save: None,
         export: None,
@@ -198,6 +222,7 @@ fn words_name_the_file_of_an_export(rt: HostRuntime) -> Result<(), Fail> {
             def: "a",
             lefs: &["b"],
             state: None,
+            sessions: 8,
             lines: 1_000_000,
             save: None,
             export: Some(path),
@@ -217,6 +242,7 @@ fn words_name_the_most_lines(rt: HostRuntime) -> Result<(), Fail> {
             def: "a",
             lefs: &["b"],
             state: None,
+            sessions: 8,
             lines,
             save: None,
             export: None,
@@ -236,6 +262,7 @@ fn words_name_a_service(rt: HostRuntime) -> Result<(), Fail> {
             def: "a",
             lefs: &["b"],
             state: None,
+            sessions: 8,
             port,
             connections: 3,
             save: None,
@@ -253,6 +280,7 @@ fn words_name_the_state_that_is_looked_at(rt: HostRuntime) -> Result<(), Fail> {
         def: "a",
         lefs: &["b", "c"],
         state: Some("s"),
+        sessions: 8,
     };
     let lines = [
         "lefence check a b c --state s",
@@ -263,8 +291,89 @@ fn words_name_the_state_that_is_looked_at(rt: HostRuntime) -> Result<(), Fail> {
         def: "a",
         lefs: &["b"],
         state: Some("-"),
+        sessions: 8,
     };
     assert!(rt; names(rt.alloc(), "lefence describe a --state - b", &describe)?);
+    Ok(())
+}
+
+/// A number of session slots is asked for.
+#[test]
+fn words_name_the_number_of_sessions(rt: HostRuntime) -> Result<(), Fail> {
+    for (line, sessions) in [
+        ("lefence check a b --sessions 1", 1),
+        ("lefence check --sessions=+9 a b", 9),
+        ("lefence check a b --sessions 064", 64),
+    ] {
+        let check = Named::Check {
+            def: "a",
+            lefs: &["b"],
+            state: None,
+            sessions,
+        };
+        assert!(rt; names(rt.alloc(), line, &check)?, "{line}");
+    }
+    let describe = Named::Describe {
+        def: "a",
+        lefs: &["b"],
+        state: None,
+        sessions: 9,
+    };
+    assert!(rt; names(rt.alloc(), "lefence describe a b --sessions 9", &describe)?);
+    let replay = Named::Replay {
+        def: "a",
+        lefs: &["b"],
+        state: None,
+        sessions: 64,
+        lines: 3,
+        save: None,
+        export: None,
+    };
+    assert!(rt;
+        names(
+            rt.alloc(),
+            "lefence replay a b --sessions 64 --lines 3",
+            &replay
+        )?
+    );
+    let service = Named::Serve {
+        def: "a",
+        lefs: &["b"],
+        state: None,
+        sessions: 9,
+        port: 80,
+        connections: 3,
+        save: None,
+        export: None,
+    };
+    assert!(rt;
+        names(
+            rt.alloc(),
+            "lefence serve a b --port 80 --sessions 9 --connections 3",
+            &service
+        )?
+    );
+    Ok(())
+}
+
+#[test]
+fn other_numbers_of_sessions_are_refused(rt: HostRuntime) -> Result<(), Fail> {
+    let lines = [
+        "lefence check a b --sessions 0",
+        "lefence check a b --sessions 65",
+        "lefence describe a b --sessions x",
+        "lefence describe a b --sessions -1",
+        "lefence replay a b --sessions",
+        "lefence replay a b --sessions 0",
+        "lefence replay a b --sessions 65",
+        "lefence replay a b --sessions 4294967304",
+        "lefence replay a b --sessions 9 --sessions 9",
+        "lefence serve a b --port 80 --connections 3 --sessions 65",
+        "lefence repair a b --sessions 9",
+        "lefence demo --sessions 9",
+    ];
+    let nothing = Named::Nothing(UsageFault::Usage);
+    assert!(rt; all_name(rt.alloc(), lines.as_slice(), &nothing)?);
     Ok(())
 }
 
@@ -275,6 +384,7 @@ fn words_name_the_files_of_states(rt: HostRuntime) -> Result<(), Fail> {
         def: "a",
         lefs: &["b"],
         state: Some("s"),
+        sessions: 8,
         lines: 1_000_000,
         save: Some("s"),
         export: None,
@@ -288,6 +398,7 @@ fn words_name_the_files_of_states(rt: HostRuntime) -> Result<(), Fail> {
         def: "a",
         lefs: &["b"],
         state: None,
+        sessions: 8,
         port: 80,
         connections: 3,
         save: Some("s"),

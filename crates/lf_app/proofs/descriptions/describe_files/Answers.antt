@@ -20,7 +20,7 @@ returns-clause-ok g c =
 pub returns-clause-err : goal.returns-clause-err
 returns-clause-err g c =
     step_fails c.describe_file.result _ _ _ c.describe_file.ensures.err
-    (λ fault why. files_fail (g.T.Texts.gives c.args.texts.now) c.args.inputs.def.now (map (λ lef. lef.now) c.args.inputs.lefs.now)
+    (λ fault why. files_fail c.args.inputs.limits (g.T.Texts.gives c.args.texts.now) c.args.inputs.def.now (map (λ lef. lef.now) c.args.inputs.lefs.now)
     (path_of c.args.inputs.state) c.in_ok-library.library
     (g.W.Sink.contents c.args.writer.now) (g.W.Sink.contents c.describe_file.new.writer) fault c.in_ok-library.ensures.ok why)
 
@@ -30,6 +30,6 @@ returns-in_err-library-clause-err g c =
     let gives = g.T.Texts.gives c.args.texts.now in
     let lefs = map (λ lef. lef.now) c.args.inputs.lefs.now in
     rw (p.1, p.2) (first_fails (IsLibraryFault gives no_library lefs)
-    (λ fault. IsDesignFault gives c.args.inputs.def.now lefs fault
-    ⊎ IsOpenUndescribed gives c.args.inputs.def.now lefs (path_of c.args.inputs.state) (g.W.Sink.contents c.args.writer.now) (g.W.Sink.contents c.args.writer.now) fault)
+    (λ fault. IsDesignFault c.args.inputs.limits gives c.args.inputs.def.now lefs fault
+    ⊎ IsOpenUndescribed c.args.inputs.limits gives c.args.inputs.def.now lefs (path_of c.args.inputs.state) (g.W.Sink.contents c.args.writer.now) (g.W.Sink.contents c.args.writer.now) fault)
     (c.args.writer.now ≡ c.args.writer.now) _ _ _ _ _ _ refl refl c.in_err-library.ensures.err (library_early gives no_library lefs) (λ fault why. inl (inl why)))

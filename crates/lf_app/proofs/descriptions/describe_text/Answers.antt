@@ -34,10 +34,10 @@ returns-in_err-seen-clause-err g c =
     let def = c.args.inputs.def.now in
     let document = contents c.in_ok-document.document in
     let bytes = g.W.Sink.contents c.args.writer.now in
-    rw (p.1, p.2) (first_fails (λ fault. IsRefused Def def text (IsLoadRefusal library document) fault
-    ⊎ ((loaded : Loaded) × IsLoadedIn library document loaded × IsUnbegun gives state loaded fault))
-    (λ fault. IsRefused Def def text (IsDefRefusal library text) fault
-    ⊎ ((d : Document) × (document_of text ≡ Ok d) × ((loaded : Loaded) × IsLoadedIn library d loaded × IsUnshown gives state d loaded bytes bytes fault)))
+    rw (p.1, p.2) (first_fails (λ fault. IsRefused Def def text (IsLoadRefusal c.args.inputs.limits library document) fault
+    ⊎ ((loaded : Loaded) × IsLoadedIn c.args.inputs.limits library document loaded × IsUnbegun gives state loaded fault))
+    (λ fault. IsRefused Def def text (IsDefRefusal c.args.inputs.limits library text) fault
+    ⊎ ((d : Document) × (document_of text ≡ Ok d) × ((loaded : Loaded) × IsLoadedIn c.args.inputs.limits library d loaded × IsUnshown gives state d loaded bytes bytes fault)))
     (c.args.writer.now ≡ c.args.writer.now) _ _ _ _ _ _ refl refl c.in_err-seen.ensures.err
-    (unseen_early gives def library text document state)
-    (λ fault. unseen_fails gives def library text document state bytes bytes fault c.in_ok-document.ensures.ok))
+    (unseen_early c.args.inputs.limits gives def library text document state)
+    (λ fault. unseen_fails c.args.inputs.limits gives def library text document state bytes bytes fault c.in_ok-document.ensures.ok))

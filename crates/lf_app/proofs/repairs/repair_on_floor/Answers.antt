@@ -24,7 +24,7 @@ returns-clause-ok g c = λ document kept.
       run = λ l. c.in_ok-done.ensures.run l;
       only = c.in_ok-done.ensures.only;
       stay = λ to_stay. c.in_ok-done.ensures.kept to_stay;
-      put = subst (λ (puts : Option (List Put)). IsPut (path_of asked.export) (path_of asked.lines) c.args.original.now.text.items document floor lines
+      put = subst (λ (puts : Option (List Put)). IsPut (path_of asked.export) (path_of asked.lines) c.args.before.now.original.text.items document floor lines
           (g.W.Sink.contents c.args.writer.now) (g.W.Sink.contents c.put_all.new.writer) puts (g.E.Exports.puts c.put_all.new.exports)) c.try_files.ensures.unput put;
       judged = subst (λ (n : ℕ). IsJudged floor n) (sym is) c.in_ok-done.ensures.judged;
     })

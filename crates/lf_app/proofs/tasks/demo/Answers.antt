@@ -15,7 +15,7 @@ returns-clause-ok g c =
 
 pub returns-clause-err : goal.returns-clause-err
 returns-clause-err g c =
-    fails (IsTextDesign W_DEF.now W_LEF.now) c.in_ok-loaded.loaded c.in_ok-loaded.ensures.ok c.answer_over.result
-    (IsTextFault W_DEF.now W_LEF.now) _
+    fails (IsTextDesign c.args.limits W_DEF.now W_LEF.now) c.in_ok-loaded.loaded c.in_ok-loaded.ensures.ok c.answer_over.result
+    (IsTextFault c.args.limits W_DEF.now W_LEF.now) _
     (λ loaded fault. IsLinesFault most_lines (opening loaded) fault (g.R.Source.remaining c.args.reader.now) (g.R.Source.remaining c.answer_over.new.reader)
     (g.W.Sink.contents c.args.writer.now) (g.W.Sink.contents c.answer_over.new.writer)) c.answer_over.ensures.err

@@ -6,7 +6,8 @@ use Rattle.lf_floorplan.specs.LoadedCells.{with_name}
 use Rattle.lf_floorplan.proofs.NamedCells.{cell_seen, many_seen}
 use Rattle.lf_reports.proofs.ListedCells.{one_more}
 use Rattle.lf_app.specs.Twins.{cells_in, moved_by}
-use Rattle.lf_app.proofs.Copying.{apart_before, from_here, is_read, moved_one, named_apart, none_left, there}
+use Rattle.lf_alone.proofs.Copying.{apart_before, from_here, is_read, named_apart, none_left, there}
+use Rattle.lf_app.proofs.Copying.{moved_one}
 use Rattle.lf_app.proofs.twins.copy_cells.Goals as goal
 
 pub unwrap-name-requires : goal.unwrap-name-requires

@@ -1,7 +1,8 @@
 use Rattle.std.proofs.Common.{◌≡◌, ◌∙◌, subst, sym}
 use Rattle.lf_floorplan.specs.Design.{MakeDesign}
 use Rattle.lf_app.specs.Twins.{cells_in}
-use Rattle.lf_app.proofs.Copying.{design_twin, moved_none}
+use Rattle.lf_alone.proofs.Copying.{design_twin}
+use Rattle.lf_app.proofs.Copying.{moved_none}
 use Rattle.lf_app.proofs.twins.twin_of.Goals as goal
 
 pub copy_cells-requires : goal.copy_cells-requires

@@ -12,7 +12,7 @@ work_on_opened-requires g c =
     let is = c.in_ok-opened.ensures.ok.1 in
     record {
       ready = c.requires.ready;
-      loads = (is.library, c.in_ok-opened.ensures.ok.0, record { read = is.read; clauses_are = c.in_ok-opened.ensures.ok.2; loads = is.loads });
+      loads = (c.args.inputs.limits, is.library, c.in_ok-opened.ensures.ok.0, record { read = is.read; clauses_are = c.in_ok-opened.ensures.ok.2; loads = is.loads });
     }
 
 pub returns-clause-ok : goal.returns-clause-ok
@@ -37,7 +37,7 @@ pub returns-clause-err : goal.returns-clause-err
 returns-clause-err g c =
     let of = c.in_ok-opened.ensures.ok in
     step_fails c.work_on_opened.result _ _ _ (c.work_on_opened.ensures.err of.0 of.2)
-    (λ fault why. undone _ _ _ (path_of c.args.inputs.state) (path_of c.args.outputs.save) (path_of c.args.outputs.export) c.args.lines _ of.0 _ fault _ of.1 why)
+    (λ fault why. undone _ _ _ _ (path_of c.args.inputs.state) (path_of c.args.outputs.save) (path_of c.args.outputs.export) c.args.lines _ of.0 _ fault _ of.1 why)
 
 pub returns-in_err-opened-clause-err : goal.returns-in_err-opened-clause-err
 returns-in_err-opened-clause-err g c =
@@ -45,10 +45,10 @@ returns-in_err-opened-clause-err g c =
     let gives = g.T.Texts.gives c.args.around.now.texts in
     let def = c.args.inputs.def.now in
     let lefs = map (λ lef. lef.now) c.args.inputs.lefs.now in
-    rw (p.1, p.2) (first_fails (IsDesignFault gives def lefs)
-    (λ fault. IsUndone gives def lefs (path_of c.args.inputs.state) (path_of c.args.outputs.save) (path_of c.args.outputs.export)
+    rw (p.1, p.2) (first_fails (IsDesignFault c.args.inputs.limits gives def lefs)
+    (λ fault. IsUndone c.args.inputs.limits gives def lefs (path_of c.args.inputs.state) (path_of c.args.outputs.save) (path_of c.args.outputs.export)
     (IsFault c.args.lines) (IsDone c.args.lines) fault
     (io_of g.R.Source.remaining g.W.Sink.contents g.E.Exports.puts g.V.Acceptor.accepted c.args.around.now c.args.around.now))
     (c.args.around.now.writer ≡ c.args.around.now.writer) _ _ _ _ _ _ refl
     (still_sound g.E.Exports.has_failed g.V.Acceptor.has_failed g.R.Source.has_failed g.W.Sink.has_failed c.args.around.now) c.in_err-opened.ensures.err
-    (design_early gives def lefs) (λ fault why. inl (inl (inl why), refl)))
+    (design_early c.args.inputs.limits gives def lefs) (λ fault why. inl (inl (inl why), refl)))

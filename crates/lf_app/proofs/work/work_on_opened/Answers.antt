@@ -8,14 +8,14 @@ use Rattle.lf_app.proofs.work.work_on_opened.Goals as goal
 
 pub work_on_floor-requires : goal.work_on_floor-requires
 work_on_floor-requires g c =
-    let document = c.requires.loads.1 in
-    let kept = c.requires.loads.2 in
+    let document = c.requires.loads.2 in
+    let kept = c.requires.loads.3 in
     record {
       ready = c.requires.ready;
       fits = λ s places same are.
           subst (λ (clauses : List ClauseFacts). CanBeRenewed c.args.opened.original.text.items clauses places) (sym kept.clauses_are)
           (c.clauses_serve.ensures.ready c.args.opened.original.text.items document places kept.read
-          (c.loaded_cells_can_be_given.ensures _ c.args.opened.loaded places kept.loads.2
+          (c.loaded_cells_can_be_given.ensures _ c.args.opened.loaded places kept.loads
           (c.places_follow_design.ensures c.args.opened.loaded s places (same ∙ begun_components (g.T.Texts.gives c.args.around.now.texts) (path_of c.args.state) (opening c.args.opened.loaded) c.in_ok-floor.floor c.in_ok-floor.ensures.ok) are)));
     }
 

@@ -1,5 +1,5 @@
 use Rattle.std.proofs.Common.{refl}
-use Rattle.lf_app.proofs.copies.copy_frame.Goals as goal
+use Rattle.lf_alone.proofs.copies.copy_frame.Goals as goal
 
 pub invariant_of-result : goal.invariant_of-result
 invariant_of-result c =

@@ -1,5 +1,5 @@
 use Rattle.std.proofs.Common.{◌≡◌, ◌++◌, drop}
-use Rattle.lf_app.proofs.copies.copy_fences.Given as goal
+use Rattle.lf_alone.proofs.copies.copy_fences.Given as goal
 
 -- the copies so far, followed by the fences that are left, are all of them
 abbrev pub invariant-loop-fence : goal.invariant-loop-fence

@@ -1,7 +1,7 @@
 //! Copies of frames.
 
 ghost use Rattle.std.specs.Prelude.{◌≡◌, IfOk};
-ghost use Rattle.lf_app.specs.Twins.{AreTwins};
+ghost use Rattle.lf_alone.specs.Copies.{AreTwins};
 
 use lf_floorplan::{Frame, Header, Macro, Row, Site, Team};
 use lf_units::{Name, Rect, Sequence};
@@ -108,7 +108,7 @@ fn copy_header(alloc: Global, header: &Header) -> Result<Header, AllocError>
 /// A copy of the frame.
 ///
 /// `Err` if an allocation fails.
-pub(crate) fn copy_frame(alloc: Global, frame: &Frame) -> Result<Frame, AllocError>
+pub fn copy_frame(alloc: Global, frame: &Frame) -> Result<Frame, AllocError>
     ensures { IfOk result (λ copy. AreTwins frame.now copy) }
 {
     Ok(Frame {

@@ -1,5 +1,5 @@
 use Rattle.std.proofs.Common.{◌≡◌, ◌++◌, drop}
-use Rattle.lf_app.proofs.copies.copy_macros.Given as goal
+use Rattle.lf_alone.proofs.copies.copy_macros.Given as goal
 
 -- the copies so far, followed by the macros that are left, are all of them
 abbrev pub invariant-loop-mac : goal.invariant-loop-mac

@@ -1,0 +1,4 @@
+pub mod Copying
+pub mod Keeping
+pub mod Standing
+pub mod Ways

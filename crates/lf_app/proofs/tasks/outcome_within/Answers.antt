@@ -1,0 +1,74 @@
+use Rattle.std.proofs.Common.{◌∙◌, refl, sym}
+use Rattle.lf_app.specs.Lines.{most_lines}
+use Rattle.lf_app.proofs.Answering.{streams_blame}
+use Rattle.lf_app.proofs.WorkSteps.{also_fails, blames_as, writer_blames}
+use Rattle.lf_app.proofs.tasks.outcome_within.Goals as goal
+
+pub returns-in-Replay-clause-ok : goal.returns-in-Replay-clause-ok
+returns-in-Replay-clause-ok g c = rw c.in-Replay.is (rw c.as_slice.ensures at c.work.ensures.ok)
+
+pub returns-in-Replay-clause-err : goal.returns-in-Replay-clause-err
+returns-in-Replay-clause-err g c = rw c.in-Replay.is (rw c.as_slice.ensures at c.work.ensures.err)
+
+pub returns-in-Serve-clause-ok : goal.returns-in-Serve-clause-ok
+returns-in-Serve-clause-ok g c = rw c.in-Serve.is (rw c.as_slice-in-Serve.ensures at c.work-in-Serve.ensures.ok)
+
+pub returns-in-Serve-clause-err : goal.returns-in-Serve-clause-err
+returns-in-Serve-clause-err g c =
+    rw c.in-Serve.is (also_fails c.work-in-Serve.result _ _ _ (rw c.as_slice-in-Serve.ensures at c.work-in-Serve.ensures.err)
+    (λ fault blames. blames_as fault _ _ _ _ _ _ _ _ _ _ _ _ blames (λ k. k) (λ none. absurd none) (λ w. w) (λ e. e) (λ s. s) (λ n. n)))
+
+pub returns-in-Check-clause-ok : goal.returns-in-Check-clause-ok
+returns-in-Check-clause-ok g c = rw c.in-Check.is (rw c.as_slice-in-Check.ensures at c.check.ensures.ok)
+
+pub returns-in-Check-clause-err : goal.returns-in-Check-clause-err
+returns-in-Check-clause-err g c =
+    rw c.in-Check.is (also_fails c.check.result _ _ _ (rw c.as_slice-in-Check.ensures at c.check.ensures.err)
+    (λ fault blames. writer_blames fault _ _ _ _ _ _ _ _ blames (λ k. k) (λ same. record { exports = refl; services = refl; reader = refl; writer = same })))
+
+pub returns-in-Describe-clause-ok : goal.returns-in-Describe-clause-ok
+returns-in-Describe-clause-ok g c = rw c.in-Describe.is (rw c.as_slice-in-Describe.ensures at c.describe_files.ensures.ok)
+
+pub returns-in-Describe-clause-err : goal.returns-in-Describe-clause-err
+returns-in-Describe-clause-err g c =
+    rw c.in-Describe.is (also_fails c.describe_files.result _ _ _ (rw c.as_slice-in-Describe.ensures at c.describe_files.ensures.err)
+    (λ fault blames. writer_blames fault _ _ _ _ _ _ _ _ blames (λ k. k) (λ same. record { exports = refl; services = refl; reader = refl; writer = same })))
+
+pub returns-in-Replay-clause-unput : goal.returns-in-Replay-clause-unput
+returns-in-Replay-clause-unput g c = λ none. c.work.ensures.leaves.unput (rw c.in-Replay.is at none)
+
+pub returns-in-Serve-clause-unput : goal.returns-in-Serve-clause-unput
+returns-in-Serve-clause-unput g c = λ none. c.work-in-Serve.ensures.leaves.unput (rw c.in-Serve.is at none)
+
+pub returns-in-Replay-clause-unasked : goal.returns-in-Replay-clause-unasked
+returns-in-Replay-clause-unasked g c = λ asks.
+    let none = rw c.in-Replay.is at asks in
+    c.work.ensures.leaves.unasked none.0 none.1
+
+pub returns-in-Serve-clause-unasked : goal.returns-in-Serve-clause-unasked
+returns-in-Serve-clause-unasked g c = λ asks.
+    let none = rw c.in-Serve.is at asks in
+    c.work-in-Serve.ensures.leaves.unasked none.0 none.1
+
+pub returns-in-Demo-clause-err : goal.returns-in-Demo-clause-err
+returns-in-Demo-clause-err g c =
+    rw c.in-Demo.is (also_fails c.demo.result _ _ _ c.demo.ensures.err
+    (λ fault blames. streams_blame most_lines fault _ _ _ _ _ _ _ _ blames
+    (λ sound. record { exports = refl; services = refl; reader = sound.0 ∙ sym c.requires.ready.readable; writer = sound.1 ∙ sym c.requires.ready.writable })))
+
+pub returns-in-Repair-clause-ok : goal.returns-in-Repair-clause-ok
+returns-in-Repair-clause-ok g c = rw c.in-Repair.is (rw (c.as_slice-in-Repair.ensures, c.as_slice-in-Repair-2.ensures) at c.repair.ensures.ok)
+
+pub returns-in-Repair-clause-err : goal.returns-in-Repair-clause-err
+returns-in-Repair-clause-err g c =
+    rw c.in-Repair.is (also_fails c.repair.result _ _ _ (rw (c.as_slice-in-Repair.ensures, c.as_slice-in-Repair-2.ensures) at c.repair.ensures.err)
+    (λ fault blames. blames_as fault _ _ _ _ _ _ _ _ _ _ _ _ blames (λ k. k) (λ none. absurd none) (λ w. w) (λ e. e) (λ none. absurd none)
+    (λ sound. record { exports = sound.1; services = refl; reader = refl; writer = sound.0 })))
+
+pub returns-in-Repair-clause-unput : goal.returns-in-Repair-clause-unput
+returns-in-Repair-clause-unput g c = λ none. c.repair.ensures.unput (rw c.in-Repair.is at none)
+
+pub returns-in-Repair-clause-unasked : goal.returns-in-Repair-clause-unasked
+returns-in-Repair-clause-unasked g c = λ asks.
+    let none = rw c.in-Repair.is at asks in
+    c.repair.ensures.unasked none.0 none.1
