@@ -1,37 +1,61 @@
 #!/usr/bin/env python3
 """Prints how long a hub takes to start, to restore a program that dies, and to export, behind many changes, without and with checkpoints.
 
-usage: bench/hub.py [CHANGES [PROGRAM]]     (1,000,000 changes; the proved program)
+usage: bench/hub.py [CHANGES [CELLS [PROGRAM]]]     (20,000 changes of 10,000 cells, for a try; the proved program)
 
-The design is that of `front.py`: 16 teams of 100 cells. One client of each team has 64 changes in flight, until all are answered; what the
-hub then takes is printed, with the bytes that stand behind its last state. Changes are not synced: the disk is the same for both.
+The design is that of `generate.py packed`: CELLS cells, half of them in 16 fences, with 60 percent of the sites taken. One client of each
+fence turns its cells about one by one, with 64 changes in flight, until all are answered. What the hub then takes is printed, with the
+bytes that stand behind its last state, and how much memory hub and program had at most. Changes are not synced: the disk is the same
+for both. A million changes of 100,000 cells take some five minutes on an idle machine.
 """
 
 from __future__ import annotations
 
 import os
+import re
 import selectors
 import signal
 import socket
+import subprocess
 import sys
 import tempfile
 import time
 from collections.abc import Callable
 from pathlib import Path
 
-from front import FENCES, LEF, TOP, Hub, clear, design, place
+from front import FENCES, TOP, Hub, clear
 
 FLIGHT = 64
+CELL = re.compile(r"^- (\S+) \S+ \+ PLACED \( (\d+) (\d+) \) (N|FS) ;", re.M)
+GROUP = re.compile(r"^- g\d+ (.*) \+ REGION f(\d+) ;", re.M)
+TURNED = {"N": ("FN", "N"), "FS": ("S", "FS")}
 
 
-def fill(hub: Hub, count: int) -> float:
+class Turns:
+    """The changes of each fence: its cells are turned about, one after the other, and then back."""
+
+    def __init__(self, text: str) -> None:
+        cells = {name: (f"{name} {x} {y}", TURNED[orient]) for name, x, y, orient in CELL.findall(text)}
+        self.fences = {int(fence): [cells[name] for name in names.split()] for names, fence in GROUP.findall(text)}
+
+    def line(self, fence: int, turn: int) -> bytes:
+        cells = self.fences[fence]
+        spot, orients = cells[turn % len(cells)]
+        return f"place f{fence} 0 {spot} {orients[turn // len(cells) % 2]}\n".encode()
+
+    def look(self) -> bytes:
+        """A line that looks at a cell of the first fence."""
+        return f"where f0 0 {self.fences[0][0][0].split()[0]}\n".encode()
+
+
+def fill(hub: Hub, turns: Turns, count: int) -> float:
     """Has so many changes answered, the same number of each team; the seconds that it took."""
     selector, each, begin = selectors.DefaultSelector(), count // FENCES, time.monotonic()
     sent, answered, ends = [0] * FENCES, 0, [hub.client(team) for team in range(FENCES)]
 
     def send(team: int, more: int) -> None:
         last = min(each, sent[team] + more)
-        ends[team].sendall(b"".join(place(team, turn) for turn in range(sent[team], last)))
+        ends[team].sendall(b"".join(turns.line(team, turn) for turn in range(sent[team], last)))
         sent[team] = last
 
     for team, end in enumerate(ends):
@@ -39,7 +63,10 @@ def fill(hub: Hub, count: int) -> float:
         send(team, FLIGHT)
     while answered < each * FENCES:
         for key, _ in selector.select():
-            got = ends[key.data].recv(1 << 16).count(b"\n")
+            replies = ends[key.data].recv(1 << 16)
+            if b"no " in replies:
+                sys.exit(f"answered {replies!r}")
+            got = replies.count(b"\n")
             answered += got
             send(key.data, got)
     for end in ends:
@@ -47,20 +74,21 @@ def fill(hub: Hub, count: int) -> float:
     return time.monotonic() - begin
 
 
-def ask(hub: Hub, name: str, line: bytes) -> bytes:
-    """One reply."""
+def ask(hub: Hub, name: str, line: bytes) -> float:
+    """The seconds until a line is answered, which is to be accepted."""
+    begin = time.monotonic()
     with socket.socket(socket.AF_UNIX) as end:
         end.connect(str(hub.folder / "s" / f"{name}.sock"))
-        end.sendall(line + b"\n")
-        return end.recv(1000)
-
-
-def seconds_of(step: Callable[[], bytes]) -> float:
-    """How long a step takes whose reply is to be an accepted one."""
-    begin = time.monotonic()
-    reply = step()
+        end.sendall(line)
+        reply = end.recv(1000)
     if not reply.startswith(b"ok"):
         sys.exit(f"answered {reply!r}")
+    return time.monotonic() - begin
+
+
+def seconds_of(step: Callable[[], object]) -> float:
+    begin = time.monotonic()
+    step()
     return time.monotonic() - begin
 
 
@@ -68,40 +96,52 @@ def children(pid: int) -> list[int]:
     return [int(word) for word in Path(f"/proc/{pid}/task/{pid}/children").read_text().split()]
 
 
-def measure(folder: Path, program: str, count: int, words: list[str], name: str) -> None:
+def peaks(hub: Hub) -> str:
+    """How much memory the hub and its program had at most, up to now."""
+    texts = [Path(f"/proc/{pid}/status").read_text() for pid in (hub.process.pid, children(hub.process.pid)[0])]
+    own, program = (int(text.partition("VmHWM:")[2].split()[0]) * 1024 / 1e6 for text in texts)
+    return f"hub {own:.0f} MB, program {program:.0f} MB"
+
+
+def measure(folder: Path, program: str, turns: Turns, count: int, words: list[str]) -> None:
+    """What stands behind so many changes, of a hub with these options."""
     clear(folder)
     hub = Hub(folder, program, "--no-sync", *words)
-    filled = fill(hub, count)
+    print(f"  start of a new journal {hub.seconds:.2f} s, {peaks(hub)}", flush=True)
+    filled = fill(hub, turns, count)
     # (a checkpoint that is at work has its time)
     last = time.monotonic() + 120
     while len(children(hub.process.pid)) > 1 and time.monotonic() < last:
         time.sleep(0.1)
+    tail = (folder / "j").stat().st_size / 1e6
+    print(f"  filled in {filled:.1f} s, {peaks(hub)}; the last segment has {tail:.1f} MB", flush=True)
     os.kill(children(hub.process.pid)[0], signal.SIGKILL)
-    restored = seconds_of(lambda: ask(hub, "f0", b"where f0 0 f0c0"))
-    exported = seconds_of(lambda: ask(hub, "operator", b"export %b" % bytes(folder / "new.def")))
+    print(f"  program restored in {ask(hub, 'f0', turns.look()):.2f} s, {peaks(hub)}", flush=True)
+    exported = ask(hub, "operator", b"export %b\n" % bytes(folder / "new.def"))
+    print(f"  export {exported:.2f} s, {peaks(hub)}", flush=True)
     hub.process.kill()
     hub.process.wait()
-    tail = (folder / "j").stat().st_size / 1e6
-    hub = Hub(folder, program, *words)
-    told = f"{count:,} changes, {name}: filled in {filled:.1f} s, start {hub.seconds:.2f} s, program restored {restored:.2f} s"
-    print(f"{told}, export {exported:.2f} s; the last segment has {tail:.1f} MB", flush=True)
-    begin = time.monotonic()
-    hub.end()
-    ended = time.monotonic() - begin
-    hub = Hub(folder, program, *words)
-    print(f"    its end {ended:.2f} s, and the start behind it {hub.seconds:.2f} s", flush=True)
-    hub.end()
+    for name in ("start", "start behind its end"):
+        hub = Hub(folder, program, *words)
+        print(f"  {name} {hub.seconds:.2f} s, {peaks(hub)}; end {seconds_of(hub.end):.2f} s", flush=True)
+
+
+def generated(*words: str) -> bytes:
+    return subprocess.run([sys.executable, str(TOP / "bench/generate.py"), *words], stdout=subprocess.PIPE, check=True).stdout
 
 
 def main(words: list[str]) -> int:
-    count = int(words[0]) if words else 1_000_000
-    program = words[1] if len(words) > 1 else str(TOP / "crates/lefence/out/lefence")
+    changes, cells = (int(word) for word in [*words[:2], *("20000", "10000")[len(words[:2]) :]])
+    program = words[2] if len(words) > 2 else str(TOP / "crates/lefence/out/lefence")
     with tempfile.TemporaryDirectory(dir=".") as name:
         folder = Path(name).resolve()
-        (folder / "t.def").write_text(design())
-        (folder / "t.lef").write_text(LEF)
-        measure(folder, program, count, ["--tail-bytes", "0"], "no checkpoints")
-        measure(folder, program, count, [], "with checkpoints")
+        text = generated("packed", str(cells), str(FENCES), "60", "0")
+        (folder / "t.def").write_bytes(text)
+        (folder / "t.lef").write_bytes(generated("tall"))
+        turns = Turns(text.decode())
+        for told, options in (("no checkpoints", "--tail-bytes 0"), ("with checkpoints", "")):
+            print(f"{changes:,} changes of {cells:,} cells, {told}:", flush=True)
+            measure(folder, program, turns, changes, options.split())
     return 0
 
 

@@ -1,33 +1,38 @@
 #!/usr/bin/env python3
-"""Repairs designs by `lefence repair`, by `tidy` alone and by a reference program, and prints seconds and how far their cells went.
+"""Repairs designs by `lefence repair`, by `tidy` alone and by a reference program, and prints what that takes and how far cells went.
 
 usage: bench/repair.py [--program PATH] [--reference COMMAND] [COUNT ...]               (100000)
-       bench/repair.py [--program PATH] [--reference COMMAND] --design DEF LEF
+       bench/repair.py [--program PATH] [--reference COMMAND] --design DEF LEF [--shift N]
 
 The program is that of crates/lefence, which is built first (rt run there). The designs of so many cells are `generate.py packed` with
 10 fences, and cells that take 60 or 90 percent of the sites. In `half` each cell stands half a site beside its place; in `sites` up to
 three sites; in `free` up to three sites and a part of one, a third of them in another row; in `placer` it is off by a Gaussian of one row's
-height in x and in y, in any part of a site, as a global placer leaves it. Or the design is that of a DEF text over a LEF text.
+height in x and in y, in any part of a site, as a global placer leaves it. Or the design is that of a DEF text over a LEF text, and with
+--shift then also with each cell that is placed N database units to the right.
 
-Seconds are those of a processor, with reading the texts and the export. Ways are in database units, of all cells: their sum, the mean
-of those that moved, and the largest. A team whose `tidy` is refused moves no cell. The reference is a command with its
-options; DEF and LEF are put behind its first word, and --export FILE behind its last.
+Seconds are those of a processor, with reading the texts and the export. The peak of memory, which is also in times the DEF text, is never
+below that of this script, some 17 MB. Ways are in database units, of all cells: their sum, the mean of those that moved, and the largest.
+Of a repair the cells are told that broke a rule or had no place, and what the largest way is at least in any repair. A team whose `tidy`
+is refused moves no cell. The reference is a command with its options; DEF and LEF are put behind its first word, and --export FILE behind
+its last.
 """
 
 from __future__ import annotations
 
 import argparse
+import json
+import multiprocessing
 import os
 import random
 import re
-import resource
 import shlex
 import subprocess
 import sys
 import tempfile
-from collections.abc import Iterator
+from collections.abc import Callable, Iterator
 from dataclasses import dataclass
 from pathlib import Path
+from typing import TypeVar
 
 TOP = Path(__file__).resolve().parents[1]
 SITE, ROW = 200, 2000
@@ -36,6 +41,7 @@ PLACED = re.compile(r"PLACED \( (-?\d+) (-?\d+) \)")
 STANDS = re.compile(r"^\s*- (\S+) [^;]*?\+ (?:PLACED|FIXED) \( (-?\d+) (-?\d+) \)", re.M)
 FENCE = re.compile(r"^\s*- (\S+) [^;]*\+ TYPE FENCE", re.M)
 GROUP = re.compile(r"^\s*- \S+ [^;]*\+ REGION (\S+)", re.M)
+Value = TypeVar("Value")
 
 
 def moved(kind: str, found: re.Match[str], rng: random.Random) -> str:
@@ -63,14 +69,25 @@ def ways(before: Path, after: Path) -> str:
     return f"{sum(gone):>14,} {sum(gone) / max(1, len(gone)):8.0f} {max(gone, default=0):8}"
 
 
-def seconds_of(words: list[str], statuses: tuple[int, ...], lines: str = "") -> tuple[float, bytes]:
-    """Seconds of the processor that the program takes, and what it writes."""
-    begin = resource.getrusage(resource.RUSAGE_CHILDREN)
-    done = subprocess.run(words, input=lines.encode(), stdout=subprocess.PIPE, stderr=subprocess.PIPE)
-    if done.returncode not in statuses:
-        sys.exit(f"{words[0]}: status {done.returncode}: {done.stderr.decode()}")
-    end = resource.getrusage(resource.RUSAGE_CHILDREN)
-    return end.ru_utime + end.ru_stime - begin.ru_utime - begin.ru_stime, done.stdout
+def apart(work: Callable[..., Value], *given: object) -> Value:
+    """What work returns in a process of its own: the peak memory of a program counts that of the process that starts it."""
+    with multiprocessing.Pool(1) as pool:
+        return pool.apply(work, given)
+
+
+def figures_of(words: list[str], lines: str) -> tuple[float, int, bytes]:
+    """Seconds of the processor and peak memory in bytes that a program takes over these lines, and what it writes."""
+    with tempfile.TemporaryFile() as asked, tempfile.TemporaryFile() as told, tempfile.TemporaryFile() as said:
+        asked.write(lines.encode())
+        asked.seek(0)
+        child = subprocess.Popen(words, stdin=asked, stdout=told, stderr=said)
+        _, ended, usage = os.wait4(child.pid, 0)
+        child.returncode = status = os.waitstatus_to_exitcode(ended)
+        told.seek(0)
+        said.seek(0)
+        if status not in (0, 4):
+            sys.exit(f"{words[0]}: status {status}: {said.read().decode()}")
+        return usage.ru_utime + usage.ru_stime, usage.ru_maxrss * 1024, told.read()
 
 
 @dataclass(frozen=True)
@@ -81,37 +98,68 @@ class Design:
     text: Path
     lef: Path
 
-    def teams(self) -> list[str]:
-        text = self.text.read_text()
-        return [*(name for name in FENCE.findall(text) if name in set(GROUP.findall(text))), "-"]
+
+def teams_of(design: Path) -> list[str]:
+    text = design.read_text()
+    return [*(name for name in FENCE.findall(text) if name in set(GROUP.findall(text))), "-"]
+
+
+def generate(target: Path, *words: str) -> None:
+    with target.open("wb") as file:
+        subprocess.run([sys.executable, str(TOP / "bench/generate.py"), *words], stdout=file, check=True)
+
+
+def displace(legal: Path, text: Path, kind: str) -> None:
+    """Writes the text with its cells put beside their places."""
+    rng = random.Random(1)
+    text.write_text(PLACED.sub(lambda found: moved(kind, found, rng), legal.read_text()))
+
+
+def shift(old: Path, new: Path, by: int) -> None:
+    """Writes the text with its placed cells so far to the right."""
+    new.write_text(PLACED.sub(lambda found: f"PLACED ( {int(found[1]) + by} {found[2]} )", old.read_text()))
 
 
 def designs(folder: Path, counts: list[int]) -> Iterator[Design]:
-    generate = [sys.executable, str(TOP / "bench/generate.py")]
-    lef, text = folder / "x.lef", folder / "x.def"
-    lef.write_bytes(subprocess.run([*generate, "tall"], stdout=subprocess.PIPE, check=True).stdout)
+    lef, legal, text = folder / "x.lef", folder / "legal.def", folder / "x.def"
+    generate(lef, "tall")
     for count in counts:
         for percent in (60, 90):
-            words = [*generate, "packed", str(count), "10", str(percent)]
-            legal = subprocess.run(words, stdout=subprocess.PIPE, check=True).stdout.decode()
+            generate(legal, "packed", str(count), "10", str(percent))
             for kind in ("half", "sites", "free", "placer"):
-                rng = random.Random(1)
-                text.write_text(PLACED.sub(lambda found: moved(kind, found, rng), legal))
+                apart(displace, legal, text, kind)
                 yield Design(f"{count} {percent} {kind}", text, lef)
+
+
+def given_designs(folder: Path, given: list[Path], by: int) -> Iterator[Design]:
+    text, lef = given
+    yield Design(text.stem, text, lef)
+    if by:
+        beside = folder / "beside.def"
+        apart(shift, text, beside, by)
+        yield Design(f"{text.stem} + {by}", beside, lef)
+
+
+def result(name: str, told: bytes) -> str:
+    """What a repair or a tidy of all teams tells of itself."""
+    if name == "repair":
+        every = json.loads(told.splitlines()[-1])
+        return f"  {every['cells']} cells, {every['left_cells']} left, {every['least_largest']} or more in any repair"
+    return f"  {told.count(b'no 8 ')} teams refused" if name == "tidy" else ""
 
 
 def measure(design: Design, folder: Path, program: str, reference: str | None) -> None:
     """A line for each way to repair the design."""
-    texts, out = [str(design.text), str(design.lef)], str(folder / "out.def")
-    lines = "".join(f"open {team}\ntidy {team} 0\ncommit {team} 0\n" for team in design.teams())
-    runs = [("tidy", [program, "replay", *texts, "--export", out], lines), ("repair", [program, "repair", *texts, "--export", out], "")]
+    texts, out, size = [str(design.text), str(design.lef)], folder / "out.def", design.text.stat().st_size
+    lines = "".join(f"open {team}\ntidy {team} 0\ncommit {team} 0\n" for team in apart(teams_of, design.text))
+    runs = [("tidy", [program, "replay", *texts], lines), ("repair", [program, "repair", *texts], "")]
     if reference is not None:
         command, *options = shlex.split(reference)
-        runs.append(("reference", [command, *texts, *options, "--export", out], ""))
-    for name, words, given in runs:
-        seconds, told = seconds_of(words, (0, 4), given)
-        left = f"  {told.count(b'no 8 ')} teams refused" if name == "tidy" else ""
-        print(f"{design.name:>24} {name:>9} | {seconds:8.2f} s {ways(design.text, Path(out))}{left}", flush=True)
+        runs.append(("reference", [command, *texts, *options], ""))
+    for name, words, asked in runs:
+        seconds, peak, told = figures_of([*words, "--export", str(out)], asked)
+        memory = f"{peak / 1e6:8.1f} MB {peak / size:5.2f} x"
+        print(f"{design.name:>24} {name:>9} | {seconds:8.2f} s {memory} {apart(ways, design.text, out)}{result(name, told)}", flush=True)
 
 
 def main() -> int:
@@ -119,13 +167,13 @@ def main() -> int:
     words.add_argument("--program", default=os.environ.get("LEFENCE", str(TOP / "crates/lefence/out/lefence")))
     words.add_argument("--reference")
     words.add_argument("--design", type=Path, nargs=2)
+    words.add_argument("--shift", type=int, default=0)
     words.add_argument("counts", type=int, nargs="*", default=[100_000])
     given = words.parse_args()
-    print(f"{'':>34} | {'time':>10} {'all ways':>14} {'mean':>8} {'largest':>8}")
+    print(f"{'':>34} | {'time':>10} {'peak':>11} {'by DEF':>7} {'all ways':>14} {'mean':>8} {'largest':>8}")
     with tempfile.TemporaryDirectory() as name:
         folder = Path(name)
-        own = [Design(given.design[0].stem, *given.design)] if given.design else designs(folder, given.counts)
-        for design in own:
+        for design in given_designs(folder, given.design, given.shift) if given.design else designs(folder, given.counts):
             measure(design, folder, given.program, given.reference)
     return 0
 

@@ -200,6 +200,22 @@ class Large(unittest.TestCase):
 
         self.exported_by(ask, "connection.def")
 
+    def test_a_tidied_floor_is_saved_and_gone_on_from(self) -> None:
+        state = str(Path(self.folder.name) / "x.state")
+        each = [f"f{fence}" for fence in range(FENCES)] + ["-"]
+        first = [line for team in each for line in (f"open {team}", f"tidy {team} 0", f"pad {team} 0 1")]
+        later = [f"{verb} {team} 0" for team in each for verb in ("def", "undo", "check", "def")]
+
+        def ask(words: list[str], lines: list[str]) -> list[str]:
+            session = Session(["replay", *self.design, *words])
+            replies = self.all_ok(session, lines)
+            self.assertEqual(session.end(), (0, ""))
+            return replies
+
+        whole = ask([], first + later)
+        cut = ask(["--save", state], first) + ask(["--state", state], later)
+        self.assertEqual([line for line, old, new in zip(first + later, whole, cut, strict=True) if old != new], [])
+
     def test_a_report_of_all_cells_at_fault(self) -> None:
         status, written, said = run(["check", *self.design])
         self.assertEqual((status, said), (4, ""))

@@ -18,6 +18,7 @@ from dataclasses import dataclass
 from pathlib import Path
 
 from program import DEF, LEF, PROGRAM, TESTS, Session
+from test_states import PLACED
 
 ALL = 2**63
 SHORT = "no 12 OutOfMemory"
@@ -370,6 +371,33 @@ class StartsRefused(WithRefusals):
                     self.assertIn(written, ("", usual[1]))
                     # (the lines are written last)
                     self.assertIn(left, (["old", "old"], [repaired[0], "old"]))
+        self.assertLessEqual(len(spared), SPARED, spared)
+
+    def test_restoring_and_saving(self) -> None:
+        state, target = (Path(self.folder.name) / name for name in ("old.state", "new.state"))
+        state.write_text(PLACED)
+        words = [str(PROGRAM), "replay", str(DEF), str(LEF), "--state", str(state), "--save", str(target)]
+        lines = "undo A 0\nlegalize A 0 a2 400 0\n"
+        saved = []
+        for asked, replies in ((lines, "ok 4\nok 5 400 0 N\n"), (lines[:9], "ok 4\n")):
+            self.assertEqual(self.run_with(words, asked, 0, 0)[:3], (0, replies, ""))
+            saved.append(target.read_text())
+        moved, unmoved = saved
+        spared = []
+        for first, last in self.numbers(words, lines):
+            target.write_text("old")
+            status, written, said, refused = self.run_with(words, lines, first, last)
+            self.assertGreater(refused, 0)
+            with self.subTest(growth=first, last=last):
+                if (status, written, said) == (0, "ok 4\nok 5 400 0 N\n", ""):
+                    spared.append(first)
+                    self.assertEqual(target.read_text(), moved)
+                elif status == 0:
+                    self.assertEqual((written, said), (f"ok 4\n{SHORT}\n", ""))
+                    self.assertEqual(target.read_text(), unmoved)
+                else:
+                    self.assertIn((status, said), NOT_DONE)
+                    self.assertEqual(target.read_text(), "old")
         self.assertLessEqual(len(spared), SPARED, spared)
 
 

@@ -48,6 +48,8 @@ class Mistakes(unittest.TestCase):
                 ["serve", *DESIGN, "--port", "99999", "--connections", "1"],
                 ["invalid value '99999' for '--port <port>': 99999 is not in 1..=65535"],
             ),
+            (["replay", *DESIGN, "--sessions", "65"], ["invalid value '65' for '--sessions <sessions>': 65 is not in 1..=64"]),
+            (["serve", *DESIGN, "--sessions", "0"], ["invalid value '0' for '--sessions <sessions>': 0 is not in 1..=64"]),
             (["check", W_DEF], ["the following required arguments were not provided:", "<lef>..."]),
             (["repair", *DESIGN, "--keep", "--all"], ["the argument '--keep' cannot be used with '--all'"]),
             (["replay", *DESIGN, "--save", "a", "--save", "b"], ["the argument '--save <save>' cannot be used multiple times"]),

@@ -12,8 +12,8 @@ from pathlib import Path
 from program import DEF, LEF, InFolder, run
 
 # The keys of the line of a team, and of the line of all teams, in their order.
-TEAM_KEYS = ["cells", "gaps", "kept", "largest", "left", "mean", "moved", "placed", "pushed", "team", "total", "turned"]
-ALL_KEYS = ["cells", "kept", "largest", "left_cells", "legal", "mean", "moved", "placed", "pushed", "teams", "total", "turned"]
+TEAM_KEYS = ["cells", "gaps", "kept", "largest", "least_largest", "left", "mean", "moved", "placed", "pushed", "team", "total", "turned"]
+ALL_KEYS = ["cells", "kept", "largest", "least_largest", "left_cells", "legal", "mean", "moved", "placed", "pushed", "teams", "total", "turned"]
 # The cells of team A, a2 one site right of a1 and over it, and those of the others at legal places.
 STANDING = {
     "- a1 INV + SOURCE DIST ;": "- a1 INV + SOURCE DIST + PLACED ( 0 0 ) N ;",
@@ -158,6 +158,27 @@ class Repairs(InFolder):
         self.assertEqual(self.repair(STANDING, "--export", str(self.text))[0], 0)
         self.assertEqual(self.check(self.text), 0)
         self.assertEqual(self.names(), ["old.def"])
+
+    def test_the_least_largest_way_is_that_of_a_cell_alone(self) -> None:
+        # a1 is 50 + 30 from its site; a2 goes left into A's ground; g1 out of B's ground; b1 into B's ground and to a row.
+        changes = {
+            **STANDING,
+            "- a1 INV + SOURCE DIST ;": "- a1 INV + SOURCE DIST + PLACED ( 150 30 ) N ;",
+            "- a2 INV + UNPLACED ;": "- a2 INV + PLACED ( 4000 0 ) N ;",
+            "- b1 INV ;": "- b1 INV + PLACED ( 5000 1000 ) N ;",
+            "- g1 INV ;": "- g1 INV + PLACED ( 6100 0 ) N ;",
+        }
+        soft = {"BLOCKAGES 1 ;": "BLOCKAGES 2 ;\n- PLACEMENT + SOFT RECT ( 6000 0 ) ( 6400 4000 ) ;"}
+        for text, ways in ((changes, [400, 2000, 500, 2000]), ({**changes, **soft}, [400, 2400, 500, 2400])):
+            with self.subTest(ways):
+                status, report = self.repair(text)
+                self.assertEqual((status, [line["least_largest"] for line in report], [line["largest"] for line in report]), (0, ways, ways))
+
+    def test_the_least_largest_way_counts_no_cell_in_the_way(self) -> None:
+        # a1 and a2 stand on one place, where either may stand alone; b1 has no place, and counts for nothing.
+        changes = {**STANDING, "- a2 INV + UNPLACED ;": "- a2 INV + PLACED ( 0 0 ) N ;", "- b1 INV ;": "- b1 INV ;"}
+        status, report = self.repair(changes)
+        self.assertEqual((status, [line["least_largest"] for line in report], report[0]["largest"]), (0, [0, 0, 0, 0], 400))
 
     def test_a_legal_design_stays(self) -> None:
         legal = {**STANDING, "- a2 INV + UNPLACED ;": "- a2 INV + PLACED ( 400 0 ) N ;"}

@@ -6,12 +6,14 @@ No contract knows what files hold.
 from __future__ import annotations
 
 import os
+import random
 import re
 import signal
 import unittest
+from collections.abc import Iterator
 from pathlib import Path
 
-from program import DEF, DESIGN, LEF, InFolder, Service, Session, Start, free_port, run, small_files
+from program import DEF, DESIGN, LEF, TESTS, InFolder, Service, Session, Start, free_port, run, small_files
 
 # A session that makes changes, undoes and commits, opens a second session and gives a padding, and its replies.
 LINES = [
@@ -86,9 +88,24 @@ PLACED = (
     .replace("a3 - -\n", "a3 - -\nundo 1\n0 0,0,N\nundo 1\n0 -\n")
 )
 
+# Worked rows, each request with its reply below it (tools/rows.py tells their form).
+ROWS = TESTS.parent / "crates/lefence_rows/rows"
+# At how many places a row is cut at most; the longest ones only look for places.
+CUTS = 40
+
 
 def joined(lines: list[str]) -> str:
     return "".join(f"{line}\n" for line in lines)
+
+
+def row_texts() -> Iterator[tuple[str, list[str]]]:
+    """The rows that only exchange lines of the small design and ask: where each stands, and its lines."""
+    for path in sorted(ROWS.glob("*.rows")):
+        for row in re.split(r"(?m)^# ", path.read_bytes().decode())[1:]:
+            heading, *lines = [line for line in row.split("\n") if line]
+            settings = [line for line in lines if line.startswith("= ")]
+            if "loaded" in lines and "> " in row and all(line.startswith(("= def ", "= lef ")) for line in settings):
+                yield f"{path.stem}: {heading}", lines
 
 
 class States(InFolder):
@@ -103,6 +120,43 @@ class States(InFolder):
 
     def resume(self, lines: str, words: list[str] | None = None) -> tuple[int, str, str]:
         return run(["replay", *DESIGN, "--state", str(self.state), *(words or [])], lines)
+
+
+class Slots(States):
+    """Teams with another number of session slots than 8."""
+
+    def test_a_team_has_as_many_sessions_as_are_asked_for(self) -> None:
+        for most in (8, 1, 9, 64):
+            words = ["--sessions", str(most)] if most != 8 else []
+            with self.subTest(most):
+                replies = [f"ok {number} 0" for number in range(most)] + ["no 10 SessionsFull"]
+                self.assertEqual(run(["replay", *DESIGN, *words], "open A\n" * (most + 1)), (0, joined(replies), ""))
+
+    def test_of_a_service(self) -> None:
+        with Service(1, [*DESIGN, "--sessions", "9"]) as service:
+            with service.client() as client:
+                self.assertEqual(client.ask_all(["open A"] * 10)[7:], ["ok 7 0", "ok 8 0", "no 10 SessionsFull"])
+
+    def test_a_state_is_one_of_so_many_slots(self) -> None:
+        nine = ["--sessions", "9"]
+        self.assertEqual(self.save("open A\n" * 9, nine)[0], 0)
+        self.assertEqual(self.resume("sync A 8\nopen A\n", nine), (0, "ok 0\nno 10 SessionsFull\n", ""))
+        told = f"lefence: 26 OtherDesign line 3\nlefence: state file {self.state}, line 3: team A 0 0 9 3 0\n"
+        self.assertEqual(self.resume("open A\n"), (1, "", told))
+        self.assertEqual(self.resume("open A\n", ["--sessions", "10"]), (1, "", told))
+        for verb in ("check", "describe"):
+            with self.subTest(verb):
+                looked = [verb, *DESIGN, "--state", str(self.state)]
+                self.assertEqual(run(looked), (1, "", told))
+                self.assertEqual(run([*looked, *nine]), run([verb, *DESIGN]))
+
+    def test_a_number_that_is_none(self) -> None:
+        for number in ("0", "65", "-1", "x", "", "4294967304"):
+            for verb in ("check", "describe", "replay"):
+                with self.subTest((verb, number)):
+                    status, written, said = run([verb, *DESIGN, f"--sessions={number}"], "open A\n")
+                    self.assertEqual((status, written, said.split("\n")[0]), (2, "", "lefence: usage"))
+        self.assertEqual(run(["repair", *DESIGN, "--sessions", "9"])[0], 2)
 
 
 class Saved(States):
@@ -125,6 +179,35 @@ class Saved(States):
                 self.assertEqual((status, said), (0, ""))
                 status, after, said = self.resume(joined(LINES[cut:]))
                 self.assertEqual((status, before + after, said), (0, whole, ""))
+
+    def row_design(self, lines: list[str]) -> list[str]:
+        """The paths of the texts of a row: those of the small design with the lines that it exchanges."""
+        texts = {"def": DEF.read_text(), "lef": LEF.read_text()}
+        for line in lines:
+            if line.startswith("= "):
+                _, kind, number, new = line.split(" ", 3)
+                each = texts[kind].split("\n")
+                each[int(number) - 1] = new.replace("~", "\n")
+                texts[kind] = "\n".join(each)
+        for kind, text in texts.items():
+            (self.folder / f"row.{kind}").write_text(text)
+        return [str(self.folder / f"row.{kind}") for kind in texts]
+
+    def test_each_worked_row_may_be_cut(self) -> None:
+        rows = list(row_texts())
+        self.assertGreater(len(rows), 50)
+        for name, lines in rows:
+            replay = ["replay", *self.row_design(lines)]
+            asked = [line.removeprefix("> ") for line in lines if line.startswith("> ")]
+            whole = joined([line for line in lines if not line.startswith(("= ", "> "))][1:])
+            # (a session ends at its `bye`, and what follows is not answered)
+            ends = [at for at, line in enumerate(asked) if line.split() == ["bye"]]
+            for cut in range(1, min([len(asked), *ends]), 1 + len(asked) // CUTS):
+                with self.subTest(name, cut=cut):
+                    status, before, said = run([*replay, "--save", str(self.state)], joined(asked[:cut]))
+                    self.assertEqual((status, said), (0, ""))
+                    status, after, said = run([*replay, "--state", str(self.state)], joined(asked[cut:]))
+                    self.assertEqual((status, before + after, said), (0, whole, ""))
 
     def test_a_state_is_gone_on_from_and_saved_over_itself(self) -> None:
         self.assertEqual(self.save("")[0], 0)
@@ -217,6 +300,15 @@ class NotSaved(States):
         self.assertEqual(self.names(), [])
 
 
+def edited(text: str, source: random.Random) -> str:
+    """The text with some bytes, a word or a line taken out, doubled or exchanged for others of the text."""
+    parts = re.findall(source.choice((r"(?s).", r"\S+|\s", r".*\n")), text)
+    for _ in range(source.randint(1, 3)):
+        at = source.randrange(len(parts))
+        parts[at] = source.choice(("", 2 * parts[at], source.choice(parts)))
+    return "".join(parts)
+
+
 class Refused(States):
     """Texts that are no state of the design: nothing is answered, written or put."""
 
@@ -256,6 +348,10 @@ class Refused(States):
             ("a2 - -", "a2 - 2147483648,0,N", "4 BadNumber", 13, "a2 - 2147483648,0,N"),
             ("undo 1\n0 0,0,N", "undo 1\n3 0,0,N", "27 OutOfRange", 16, "3 0,0,N"),
             ("undo 1\n0 0,0,N", "undo 1\n0 0,0,Q", "4 BadNumber", 16, "0 0,0,Q"),
+            ("a2 - -", "a2 - - -", "4 BadNumber", 13, "a2 - - -"),
+            ("a2 - -\n", "a2 - -\na2 - -\n", "26 OtherDesign", 14, "a2 - -"),
+            ("a2 - -\n", "", "26 OtherDesign", 13, "a3 - -"),
+            ("undo 1\n0 0,0,N\n", "", "3 Unexpected", 17, "team B 0 0 8 1 0"),
         ]
         for old, new, fault, line, shown in cases:
             with self.subTest(new):
@@ -265,6 +361,26 @@ class Refused(States):
 
     def test_any_bytes(self) -> None:
         self.refuse(b"\x1f\x8b\x00" + b"x" * 100, "25 OtherVersion", 1, "\\x1f\\x8b\\x00" + "x" * 77)
+
+    def test_edits_of_a_state(self) -> None:
+        export, again = self.folder / "new.def", self.folder / "again.state"
+        source = random.Random(1)
+        accepted = 0
+        for number in range(200):
+            text = edited(PLACED, source)
+            with self.subTest(number, text=text):
+                self.state.write_text(text)
+                status, written, said = self.resume("open A\n", ["--export", str(export), "--save", str(again)])
+                if status == 0:
+                    accepted += 1
+                    self.assertRegex(written, r"^(ok \d|no 10 SessionsFull)")
+                    export.unlink()
+                    again.unlink()
+                else:
+                    self.assertEqual((status, written), (1, ""))
+                    self.assertRegex(said, r"^lefence: (2 UnexpectedEnd|3 Unexpected|4 BadNumber|2[567] \w+) line \d+\n")
+                self.assertEqual(self.names(), ["w.state"])
+        self.assertIn(accepted, range(1, 100))
 
     def test_a_state_of_another_design(self) -> None:
         other = self.folder / "other.def"

@@ -10,9 +10,8 @@ from .hub_client import Client, Entry
 
 # Clients of one socket.
 MOST_CLIENTS = 256
-# What of a socket's connections and of a team's sessions one user may have, who is not the hub's own, and how many sessions there are.
+# What of a socket's connections and of a team's sessions one user may have, who is not the hub's own.
 _SHARE = 3 / 4
-_SESSIONS = 8
 # Bytes of replies that are left unread by all clients, above which nobody is asked for more than a short reply; how many clients
 # of a socket may leave more unread than a client may have while it is asked on.
 _MOST_UNREAD = 256 << 20
@@ -30,7 +29,9 @@ class Holder:
 class Crowd:
     """Those that are connected, those of them that leave much unread, and who opened which session of a team."""
 
-    def __init__(self) -> None:
+    def __init__(self, slots: int) -> None:
+        """Nobody yet, where a team has so many session slots."""
+        self._slots = slots
         self.most_clients = MOST_CLIENTS
         self.clients: set[Client] = set()
         self.clogged: set[Client] = set()
@@ -88,13 +89,13 @@ class Crowd:
                 continue
             key = entry.fields[1], client.uid
             asked[key] = asked.get(key, self._held(*key)) + 1
-            if asked[key] > _SESSIONS * _SHARE:
+            if asked[key] > max(1, self._slots * _SHARE):
                 found.append(entry)
         return found
 
     def _held(self, team: bytes, uid: int) -> int:
         """How many sessions of a team the clients of a user have."""
-        held = [self.holders.get((team, number)) for number in range(_SESSIONS)]
+        held = [self.holders.get((team, number)) for number in range(self._slots)]
         return sum(each is not None and each.client is not None and each.client.uid == uid for each in held)
 
 

@@ -28,6 +28,7 @@ from .faults import DONE, FAILED, REFUSED, Fault, log
 from .frames import sum_of
 from .merge import merge
 from .program import Program
+from .progress import Progress
 from .protocol import GROUND, socket_name
 from .push import Record, is_as_told, records_of
 from .slice import slices_of
@@ -129,7 +130,7 @@ def refuse_another_slice(own: Path, plan: Plan) -> None:
 def _repair(plan: Plan, own: Path, team: str) -> None:
     """Repairs the team on its slice; a fault where a cell is left."""
     program = Program(plan.program, [own / "slice.def", *map(Path, plan.libraries)])
-    every = program.repair([f"--team={team}"], own / "lines", own / "new.def")[-1]
+    every = program.repair([f"--team={team}"], own / "lines", own / "new.def", Progress(TOOL, "the program repairs"))[-1]
     print(json.dumps(every), flush=True)
     if every["left_cells"]:
         raise Fault(LACKING, f"the repair left {every['left_cells']} cells")

@@ -74,6 +74,7 @@ _METRICS = {
     "changes_total": ("counter", "Changes in the journal."),
     "states_total": ("counter", "States that were made since this start."),
     "journal_bytes": ("gauge", "Bytes of the journal's last segment."),
+    "past_bytes": ("gauge", "Bytes of the segments before it, and of the states."),
     "journal_age_seconds": ("gauge", "Seconds since the last change."),
     "sync_seconds_p50": ("gauge", "Seconds of a sync of the journal, median of the last ones."),
     "sync_seconds_p99": ("gauge", "The same, 99 of 100."),

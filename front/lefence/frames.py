@@ -1,7 +1,7 @@
 """The form of a segment of a journal: a header that names the texts of a design, and frames with changes or notes; how they are read.
 
 The header has a title, for each text a line `text SHA256 PATH` (the DEF text first; the path as it was given, quoted as in a
-URL), a line `segment NUMBER CHANGES BYTES` (from 1; how many changes stand in the segments before it, and how many bytes has the
+URL), a line `sessions N` where a team has another number of session slots than 8, a line `segment NUMBER CHANGES BYTES` (from 1; how many changes stand in the segments before it, and how many bytes has the
 last of these), and a line `changes`. Version 2 had one segment alone, and no line for it. Then come frames, each
 `batch TIME LENGTH SUM` with a line feed and LENGTH bytes of lines. A line is a change, `LINE <tab> REPLY <tab> UID PID` (`-` where
 the hub itself asked), or a note, which has no tab. TIME is in seconds since 1970. SUM is the CRC-32 of the frame's offset and time,
@@ -21,12 +21,14 @@ from typing import NamedTuple
 from urllib.parse import quote_from_bytes, unquote_to_bytes
 
 from .faults import FAILED, REFUSED, Fault
+from .protocol import SLOTS
 
 TITLE = b"lefence-hub journal 3\n"
 # That of a journal which a hub began that knew no segments.
 _OLD_TITLE = b"lefence-hub journal 2\n"
 END_OF_HEADER = b"changes\n"
 _TEXT = re.compile(rb"text ([0-9a-f]{64}) ([!-~]+)\n")
+_SLOTS = re.compile(rb"sessions ([1-9]\d?)\n")
 _SEGMENT = re.compile(rb"segment (\d{1,9}) (\d{1,15}) (\d{1,15})\n")
 _FRAME = re.compile(rb"batch (\d{1,12}\.\d{3}) (\d{1,9}) ([0-9a-f]{8})\n")
 MOST_HEADER = 1 << 20
@@ -44,7 +46,7 @@ class Text(NamedTuple):
 
 
 class Header(NamedTuple):
-    """The header of a segment, which has `length` bytes: its texts, its number, and what stands before it."""
+    """The header of a segment, which has `length` bytes: its texts, its number, what stands before it, and a team's session slots."""
 
     texts: list[Text]
     number: int
@@ -52,6 +54,7 @@ class Header(NamedTuple):
     changes: int
     bytes: int
     length: int
+    slots: int
 
 
 class Record(NamedTuple):
@@ -98,9 +101,11 @@ def sums_of(paths: Iterable[Path]) -> list[str]:
     return [sum_of(path) for path in paths]
 
 
-def header_of(texts: Iterable[Text], number: int = 1, changes: int = 0, size: int = 0) -> bytes:
-    """The header of a segment of a journal of these texts, behind one of so many bytes."""
+def header_of(texts: Iterable[Text], number: int = 1, changes: int = 0, size: int = 0, slots: int = SLOTS) -> bytes:
+    """The header of a segment of a journal of these texts, behind one of so many bytes, where a team has so many session slots."""
     lines = [f"text {text.sum} {quote_from_bytes(os.fsencode(text.path))}\n" for text in texts]
+    # (without the line it is one that an earlier front reads, which knows no other number)
+    lines += [f"sessions {slots}\n"] if slots != SLOTS else []
     return TITLE + "".join([*lines, f"segment {number} {changes} {size}\n"]).encode() + END_OF_HEADER
 
 
@@ -112,12 +117,14 @@ def header_in(found: bytes) -> Header | None:
     while match := _TEXT.match(found, at):
         texts.append(Text(match[1].decode(), Path(os.fsdecode(unquote_to_bytes(match[2])))))
         at = match.end()
-    number, changes, size = 1, 0, 0
+    number, changes, size, slots = 1, 0, 0, SLOTS
     if found.startswith(TITLE):
+        if named := _SLOTS.match(found, at):
+            slots, at = int(named[1]), named.end()
         if not (place := _SEGMENT.match(found, at)):
             return None
         (number, changes, size), at = map(int, place.groups()), place.end()
-    return Header(texts, number, changes, size, at + len(END_OF_HEADER)) if found.startswith(END_OF_HEADER, at) else None
+    return Header(texts, number, changes, size, at + len(END_OF_HEADER), slots) if found.startswith(END_OF_HEADER, at) else None
 
 
 def other_title(found: bytes) -> str:
@@ -136,7 +143,7 @@ def is_begun(found: bytes) -> bool:
     if not lines:
         return TITLE.startswith(last) or _OLD_TITLE.startswith(last)
     return lines[0] + b"\n" in (TITLE, _OLD_TITLE) and all(
-        _TEXT.fullmatch(line + b"\n") or _SEGMENT.fullmatch(line + b"\n") for line in lines[1:]
+        any(form.fullmatch(line + b"\n") for form in (_TEXT, _SLOTS, _SEGMENT)) for line in lines[1:]
     )
 
 

@@ -71,7 +71,7 @@ class Hub:
         self.say = say
         self.calm = Calm(say)
         self.figures = Figures()
-        self.crowd = Crowd()
+        self.crowd = Crowd(journal.header.slots)
         self.second = Second(server, journal)
         self.exporter = Exporter(server, journal, self.second, say)
         self.checkpoints = Checkpoints(self.second, journal, bounds.tail, self.calm)

@@ -25,7 +25,7 @@ from .journal import Journal
 from .notify import notify
 from .owner import own
 from .program import Program, find_program
-from .protocol import socket_name
+from .protocol import MOST_SLOTS, socket_name
 from .server import Server
 from .sockets import bound_socket, groups_of, take_folder
 from .status import ask_status, uncommitted_text
@@ -151,9 +151,9 @@ async def run(options: argparse.Namespace) -> None:
     program = find_program(options.program)
     take_folder(options.sockets)
     texts, kept = settle_texts(options.journal, paths, say)
-    journal = Journal(options.journal, texts, say, not options.no_sync, own(program), options.takeover)
+    journal = Journal(options.journal, texts, say, not options.no_sync, own(program), options.takeover, options.sessions)
     bounds = Bounds(options.patience, options.idle, options.deadline, Limits(options.tail_bytes, options.tail_seconds, options.keep))
-    hub = Hub(Server(Program(program, kept), [text.sum for text in texts]), journal, bounds, say)
+    hub = Hub(Server(Program(program, kept, journal.header.slots), [text.sum for text in texts]), journal, bounds, say)
     hub.exporter.given = paths
     if journal.former and journal.former.program != journal.owner.program:
         which = f"{journal.former.program} of front {journal.former.front}"
@@ -213,6 +213,7 @@ def parser() -> Parser:
     add("--tail-bytes", metavar="B", type=int, default=16 << 20, help="bytes of changes behind which a state is made (16777216; 0: none)")
     add("--tail-seconds", metavar="S", type=float, default=20.0, help="seconds of the program's work behind which one is made (20)")
     add("--keep", metavar="N", type=state_count, default=2, help="how many states are kept, with the journal from the first on (2; 0: all)")
+    add("--sessions", metavar="N", type=slot_count, help="session slots of each team, 1 to 64 (those of the journal; 8 in a new one)")
     add("--roll", action="store_true", help="make a state of the journal, serve nobody, and end")
     add("--takeover", action="store_true", help="take the journal from a hub of another host, which is gone for certain")
     add("--no-sync", action="store_true", help="do not wait for the disk: a crash of the machine may lose changes")
@@ -227,6 +228,14 @@ def state_count(word: str) -> int:
     """The value of --keep: one state is too few, since a program may be on its way from it while the next is made."""
     number = int(word)
     if number < 0 or number == 1:
+        raise ValueError
+    return number
+
+
+def slot_count(word: str) -> int:
+    """The value of --sessions, as the program takes it."""
+    number = int(word)
+    if not 1 <= number <= MOST_SLOTS:
         raise ValueError
     return number
 

@@ -18,6 +18,7 @@ from .faults import FAILED, REFUSED, Fault
 from .frames import MOST_HEADER, Frame, Header, Reader, Record, Text, body_of, frame_of, header_in, header_of
 from .frames import is_begun, other_title, refuse_damage
 from .owner import ENDED, Owner, Succession, own
+from .protocol import SLOTS
 from .segments import Past, Place, Segment, State, Tail
 from .whole_file import sync_folder
 
@@ -78,11 +79,14 @@ class Journal:
         is_synced: bool = True,
         owner: Owner | None = None,
         takes_over: bool = False,
+        slots: int | None = None,
     ) -> None:
         """Opens or makes the journal of these texts, cuts a torn end off and says so; `owner` is whose it is to be.
 
-        Raises a fault where another hub holds the file, where it is a journal of another design or none, where damage has whole
-        frames behind it, and, unless `takes_over`, where a hub of another host did not end it; then the file stays as it was.
+        With `slots` each team is to have so many session slots, else as many as it has in the journal, or 8 in a new one. Raises a
+        fault where another hub holds the file, where it is a journal of another design or none, where its teams have another number
+        of session slots, where damage has whole frames behind it, and, unless `takes_over`, where a hub of another host did not end
+        it; then the file stays as it was.
         """
         self.path = path
         self.is_synced = is_synced
@@ -100,12 +104,12 @@ class Journal:
         self._closed: list[Segment] = []
         self._fd = os.open(path, os.O_RDWR | os.O_CREAT | os.O_CLOEXEC, 0o600)
         try:
-            self._take(texts, takes_over)
+            self._take(texts, takes_over, slots)
         except BaseException:
             self._close_all()
             raise
 
-    def _take(self, texts: list[Text], takes_over: bool) -> None:
+    def _take(self, texts: list[Text], takes_over: bool, slots: int | None) -> None:
         """Makes it this hub's."""
         lock(self._fd, self.path)
         if not os.path.samestat(os.stat(self.path), os.fstat(self._fd)):
@@ -118,12 +122,12 @@ class Journal:
         self._notes: list[bytes] = []
         self.end = self.changes = 0
         last = self._find_end(takes_over)
-        if self._is_of(texts):
+        if self._is_of(texts, slots):
             spoilt = self._find_state()
         else:
             if self.past.numbers("journal"):
                 raise Fault(REFUSED, f"{self.path} holds no change, and {self.past.folder} does; who means to begin anew moves that away")
-            self._begin(texts)
+            self._begin(texts, slots or SLOTS)
             last, spoilt = None, []
         self._cut(last)
         self.past.settle(self.header.number, self._fd, spoilt)
@@ -183,11 +187,15 @@ class Journal:
             succession.refuse_claim(self.owner, self.path)
         return last
 
-    def _is_of(self, texts: list[Text]) -> bool:
-        """Whether it is the journal of these texts; False where it is to be begun. A fault where it is that of others, or none."""
+    def _is_of(self, texts: list[Text], slots: int | None) -> bool:
+        """Whether it is the journal of these texts, with so many slots; False where it is to be begun. A fault where it is of others."""
         if self._header and [text.sum for text in self._header.texts] == [text.sum for text in texts]:
             refuse_damage(self._reader, self.end)
-            return True
+            if slots in (None, self._header.slots):
+                return True
+            if _has_changes(self._reader, self._header):
+                ways = f"start without --sessions or with --sessions {self._header.slots}, or begin a new journal"
+                raise Fault(REFUSED, f"{self.path}: begun with {self._header.slots} session slots of each team, not {slots}: {ways}")
         found = os.pread(self._fd, MOST_HEADER, 0)
         if is_begun(found) or self._header and not _has_changes(self._reader, self._header):
             return False
@@ -212,9 +220,9 @@ class Journal:
                 return useless
             self._closed.insert(0, self.past.open_before(first))
 
-    def _begin(self, texts: list[Text]) -> None:
+    def _begin(self, texts: list[Text], slots: int) -> None:
         """Writes the header."""
-        header = header_of(texts)
+        header = header_of(texts, slots=slots)
         os.ftruncate(self._fd, 0)
         os.pwrite(self._fd, header, 0)
         os.fsync(self._fd)
@@ -257,7 +265,7 @@ class Journal:
         self.refuse_loss()
         path, number = Path(os.path.realpath(self.path)), self.header.number
         beside = path.with_name(f"{path.name}.next")
-        header = header_of(self.header.texts, number + 1, self.changes, self.end)
+        header = header_of(self.header.texts, number + 1, self.changes, self.end, self.header.slots)
         frame = frame_of(len(header), b"".join(b"%b\n" % note for note in [*notes, self.owner.note()]))
         self.past.make()
         descriptor = os.open(beside, os.O_RDWR | os.O_CREAT | os.O_TRUNC | os.O_CLOEXEC, 0o600)

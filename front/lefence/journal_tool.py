@@ -18,6 +18,7 @@ from .frames import Frame, Reader, Record, body_of, frame_of, header_of
 from .journal import lock
 from .owner import Succession, own
 from .program import Program, find_program
+from .protocol import SLOTS
 from .segments import Past, opened, records_in, way_to_end
 from .server import Server, ServerLost
 from .texts import kept_text
@@ -62,6 +63,8 @@ def check(path: Path, readers: list[Reader]) -> int:
         kept = kept_text(path, text)
         status = status if kept else REFUSED
         print(f"text {text.sum} of {text.path}: {'kept' if kept else 'not kept'}")
+    if first.slots != SLOTS:
+        print(f"each team has {first.slots} session slots")
     if first.number > 1:
         print(f"the first {first.changes} changes are in a state alone")
     for reader, behind in zip(readers, [*readers[1:], None]):
@@ -168,13 +171,15 @@ def export(path: Path, readers: list[Reader], team: str | None, start: int, outp
     if first.number > 1:
         way = "" if start else f"; its lines are for a replay with --state {Past(path).state(first.number)}"
         log(TOOL, f"{path}: the first {first.changes} changes are not in it{way}")
+    if first.slots != SLOTS:
+        log(TOOL, f"{path}: its lines are for a program with --sessions {first.slots}")
     if output is None:
         for frame in frames:
             sys.stdout.write("".join(f"{record.line.decode()}\n" for record in frame.records() if is_of(record, team)))
         return DONE
     refuse_inputs(output, [reader.path for reader in readers])
     with whole_file(output) as file:
-        at = file.write(header_of(first.texts, first.number, first.changes))
+        at = file.write(header_of(first.texts, first.number, first.changes, slots=first.slots))
         for frame in frames:
             if records := [record for record in frame.records() if is_of(record, team)]:
                 at += file.write(frame_of(at, body_of(records), frame.time))
@@ -184,12 +189,13 @@ def export(path: Path, readers: list[Reader], team: str | None, start: int, outp
 def verify(path: Path, given: list[Path], wanted: str | None, is_all: bool) -> int:
     """Has the program answer the changes behind the last state, over the kept texts or those given, and compares each reply."""
     with opened(path) as readers:
-        texts = readers[0].header().texts
+        header = readers[0].header()
+        texts = header.texts
         kept = [kept_text(path, text) for text in texts]
         paths = given or [found for found in kept if found]
         if len(paths) != len(texts):
             raise Fault(REFUSED, f"{path}: {len(texts)} texts, of which {len(paths)} are {'given' if given else 'kept beside it'}")
-        server = Server(Program(find_program(wanted), paths), [text.sum for text in texts])
+        server = Server(Program(find_program(wanted), paths, header.slots), [text.sum for text in texts])
         state, behind = way_to_end(path, readers, is_all)
         before = behind[0].header().changes
 

@@ -16,6 +16,7 @@ from .design import mapped, units_in
 from .drawing import number
 from .faults import FAILED, Fault, log
 from .program import Program
+from .progress import Progress
 from .protocol import VERBS, is_accepted
 from .splice import Spot, with_spots
 
@@ -84,7 +85,8 @@ class Mended:
         """Has the program repair teams, as its options ask for, for a tool; its files are put into a folder."""
         self._tool, self._program = tool, program
         self._lines, self._exported = folder / "lines", folder / "new.def"
-        *self.teams, self.every = program.repair(options, self._lines, self._exported if is_exported else None)
+        export = self._exported if is_exported else None
+        *self.teams, self.every = program.repair(options, self._lines, export, Progress(tool, "the program repairs"))
         with ExitStack() as stack:
             # (of a text that the program has loaded)
             self._units = int(units_in(mapped(program.texts[0], stack)))
@@ -129,8 +131,9 @@ class Mended:
         told = f"{moved} moved, {counts['turned']} turned, {counts['placed']} newly placed, {counts['kept']} stay, {left} left"
         if counts["pushed"]:
             told += f"; {number(counts['pushed'], 'legal cell')} pushed"
-        mean, largest = counts["total"] / max(1, moved) / self._units, counts["largest"] / self._units
-        log(self._tool, f"team {name}: {told}" + (f"; moved by {mean:.3f} microns on average, {largest:.3f} at most" if moved else ""))
+        mean, largest, least = (way / self._units for way in (counts["total"] / max(1, moved), counts["largest"], counts["least_largest"]))
+        ways = f"; moved by {mean:.3f} microns on average, {largest:.3f} at most, which is {least:.3f} or more in any repair" if moved else ""
+        log(self._tool, f"team {name}: {told}{ways}")
 
 
 def tell_moves(moves: list[Move], left: Mapping[str, list[str]]) -> None:

@@ -15,10 +15,11 @@ from pathlib import Path
 from typing import IO, TYPE_CHECKING, Any
 
 from .faults import FAILED, USAGE, Fault
-from .protocol import MOST_LINES
+from .protocol import MOST_LINES, SLOTS
 
 if TYPE_CHECKING:
     from .async_run import AsyncRun
+    from .progress import Progress
 
 # Bytes that are read of the program at a time, and seconds in which they come together: it writes line by line, and whoever wakes
 # for each of a million lines is slow.
@@ -46,10 +47,15 @@ class Program:
     A run is waited for (`Run`), or by asyncio, which is imported for it alone (`AsyncRun`).
     """
 
-    def __init__(self, path: str, texts: list[Path]) -> None:
-        """The program at a path over a DEF text and LEF texts; a fault where the path of one is not UTF-8."""
+    def __init__(self, path: str, texts: list[Path], slots: int = SLOTS) -> None:
+        """The program at a path over a DEF text and LEF texts, with so many session slots of each team.
+
+        A fault where the path of a text is not UTF-8.
+        """
         self.path = path
         self.texts = texts
+        # (without the option an earlier program answers too)
+        self._slots = [] if slots == SLOTS else ["--sessions", str(slots)]
         self._words = path_words(texts)
 
     def answer(self, lines: Iterable[bytes], replies: IO[bytes], export: Path | None = None) -> None:
@@ -69,21 +75,26 @@ class Program:
             if status:
                 raise fault_of(status, said, lost(status))
 
-    def repair(self, options: Iterable[str], lines: Path, export: Path | None = None) -> list[dict[str, Any]]:
+    def repair(self, options: Iterable[str], lines: Path, export: Path | None, progress: Progress) -> list[dict[str, Any]]:
         """Has the program repair teams, as its options ask for: its report, an object for each team and one for all.
 
-        The lines of the commands go to a file, and the committed places to a text; a fault where the program fails.
+        The lines of the commands go to a file, and the committed places to a text, if one is given; a fault where the program fails.
         """
         words = [self.path, "repair", *self._words, *options, "--lines", os.path.abspath(lines)]
         words += ["--export", os.path.abspath(export)] if export else []
         with tempfile.TemporaryFile() as said:
-            done = subprocess.run(words, stdin=subprocess.DEVNULL, stdout=subprocess.PIPE, stderr=said)
-            if done.returncode in REPAIRED:
+            with subprocess.Popen(words, stdin=subprocess.DEVNULL, stdout=subprocess.PIPE, stderr=said) as process:
+                try:
+                    told = progress.output_of(process)
+                except BaseException:
+                    process.kill()
+                    raise
+            if process.returncode in REPAIRED:
                 with contextlib.suppress(ValueError):
-                    report = [json.loads(line) for line in done.stdout.splitlines()]
+                    report = [json.loads(line) for line in told.splitlines()]
                     if report and "legal" in report[-1]:
                         return report
-            raise fault_of(done.returncode, said, lost(done.returncode))
+            raise fault_of(process.returncode, said, lost(process.returncode))
 
     def replay_on(self, end: socket.socket) -> subprocess.Popen[bytes]:
         """A run that answers lines of a socket; the terminal's Ctrl-C is not for it, and what it says is on standard error."""
@@ -112,7 +123,7 @@ class Program:
         return await start_run(self._describe_words(), is_asked=False)
 
     def _replay_words(self, export: str | Path | None = None) -> list[str]:
-        words = [self.path, "replay", *self._words, "--lines", str(MOST_LINES)]
+        words = [self.path, "replay", *self._words, "--lines", str(MOST_LINES), *self._slots]
         return words if export is None else [*words, "--export", os.path.abspath(export)]
 
     def _describe_words(self) -> list[str]:

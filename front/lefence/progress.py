@@ -2,6 +2,7 @@
 
 from __future__ import annotations
 
+import subprocess
 import time
 from collections.abc import Iterable, Iterator
 from typing import TypeVar
@@ -16,10 +17,10 @@ _T = TypeVar("_T")
 
 
 class Progress:
-    """Says how many of something are done: nothing in the first two seconds, then a line a second at most."""
+    """Says how long a tool is at work, and how much is done: nothing in the first two seconds, then a line a second at most."""
 
     def __init__(self, tool: str, what: str) -> None:
-        """Of a tool that goes through things, which `what` names, as `cells`."""
+        """Of a tool that goes through things, which `what` names, as `cells`; or what is said while it waits."""
         self._tool, self._what = tool, what
         self._start = time.monotonic()
         self._next = self._start + FIRST
@@ -27,8 +28,19 @@ class Progress:
     def over(self, things: Iterable[_T]) -> Iterator[_T]:
         """The things themselves, each counted as done when the next one is asked for."""
         for done, thing in enumerate(things):
-            now = time.monotonic()
-            if now >= self._next:
-                self._next = now + max(BETWEEN, (now - self._start) / 10)
-                log(self._tool, f"{done} {self._what}, {now - self._start:.0f} s")
+            if time.monotonic() >= self._next:
+                self._say(f"{done} {self._what}")
             yield thing
+
+    def output_of(self, process: subprocess.Popen[bytes]) -> bytes:
+        """What a process writes on its standard output, once it has ended."""
+        while True:
+            try:
+                return process.communicate(timeout=max(0, self._next - time.monotonic()))[0]
+            except subprocess.TimeoutExpired:
+                self._say(self._what)
+
+    def _say(self, text: str) -> None:
+        now = time.monotonic()
+        self._next = now + max(BETWEEN, (now - self._start) / 10)
+        log(self._tool, f"{text}, {now - self._start:.0f} s")

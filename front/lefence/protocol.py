@@ -14,6 +14,8 @@ from . import tables
 MOST_LINE = 4096
 # The most lines that one run of `lefence replay` answers; the hub asks for as many.
 MOST_LINES = 4_294_967_295
+# How many session slots a team has where no other number is asked for, and the most.
+SLOTS, MOST_SLOTS = 8, 64
 # The greatest number of a session and of a revision.
 MOST_NUMBER = 4_294_967_295
 ORIENTS = tables.ORIENTS

@@ -119,6 +119,14 @@ class Past:
         """All that is there."""
         return [self.folder / name for name in self._names()]
 
+    def size(self) -> int:
+        """How many bytes all of it has."""
+        found = 0
+        for path in self.files():
+            with contextlib.suppress(FileNotFoundError):
+                found += path.stat().st_size
+        return found
+
     def _names(self) -> list[str]:
         with contextlib.suppress(FileNotFoundError):
             return os.listdir(self.folder)
@@ -135,7 +143,7 @@ class Past:
         try:
             reader = Reader(descriptor, path)
             header, notes, end = reader.header(), reader.notes(), reader.end_of_frames()
-            if (header.number, header.texts) != (number, behind.header.texts):
+            if (header.number, header.texts, header.slots) != (number, behind.header.texts, behind.header.slots):
                 raise Fault(REFUSED, f"{path}: not the segment before {behind.path}")
             refuse_shortness(reader, end, behind.header.bytes)
             return Segment(descriptor, path, header, end, notes)
@@ -194,7 +202,7 @@ def opened(path: Path) -> Iterator[list[Reader]]:
                 break
             readers.append(Reader(file.fileno(), before))
             found = readers[-1].header()
-            if found.number != number or found.texts != header.texts:
+            if (found.number, found.texts, found.slots) != (number, header.texts, header.slots):
                 raise Fault(REFUSED, f"{before}: not segment {number} of {path}")
         yield readers[::-1]
 

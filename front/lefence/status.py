@@ -37,6 +37,7 @@ def _status(hub: Hub) -> dict[str, Any]:
         "changes_total": journal.changes,
         "states_total": hub.checkpoints.count,
         "journal_bytes": journal.end,
+        "past_bytes": journal.past.size(),
         "journal_age_seconds": round(now - (journal.last or now), 1),
         **{f"sync_seconds_p{part}": round(share(figures.syncs, part / 100), 6) for part in (50, 99)},
         **{f"batch_lines_p{part}": share(figures.batches, part / 100) for part in (50, 99)},

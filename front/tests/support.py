@@ -9,6 +9,7 @@ import contextlib
 import itertools
 import os
 import random
+import shutil
 import socket
 import subprocess
 import sys
@@ -37,6 +38,9 @@ MACRO INV CLASS CORE ; ORIGIN 0 0 ; SIZE 0.4 BY 2.0 ; SYMMETRY X Y ; SITE core ;
 MACRO BUF CLASS CORE ; ORIGIN 0 0 ; SIZE 0.6 BY 2.0 ; SYMMETRY X Y ; SITE core ; END BUF
 END LIBRARY
 """
+
+KLAYOUT = shutil.which("klayout")
+with_klayout = unittest.skipIf(KLAYOUT is None, "klayout is not here; Debian has it as the package klayout")
 
 
 def tool_words(name: str) -> list[str]:
@@ -213,6 +217,18 @@ class FrontCase(unittest.TestCase):
                 yield port
             finally:
                 process.kill()
+
+
+def klayout(folder: Path, script: str, *words: str | Path) -> list[str]:
+    """What KLayout prints for a script behind these words, in a folder."""
+    path = folder / "script.py"
+    path.write_text(script)
+    command = [KLAYOUT or "", *map(str, words), "-r", str(path)]
+    environment = {**os.environ, "QT_QPA_PLATFORM": "offscreen"}
+    # KLayout takes seconds to start, and far longer beside proofs.
+    patience = 10 * PATIENCE
+    done = subprocess.run(command, stdout=subprocess.PIPE, cwd=folder, env=environment, timeout=patience, check=True)
+    return done.stdout.decode().splitlines()
 
 
 def wait_gone(processes: list[int]) -> None:

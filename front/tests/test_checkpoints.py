@@ -293,8 +293,10 @@ class Checkpoints(HubCase):
         lines = ["open f0", "undo f0 0", "where f0 0 f0c2", "where f0 0 f0c1"]
         self.assertEqual(talker.ask(*lines), ["ok 0 3", "ok 4", "no 6 Unplaced f0c2", "ok 0 0 N"])
         self.assertEqual(talker.ask("place f0 0 f0c4 400 0 N")[0][:12], "no 7 Illegal")
-        team = next(team for team in ask_status(self.folder / "s")["teams"] if team["team"] == "f0")
+        status = ask_status(self.folder / "s")
+        team = next(team for team in status["teams"] if team["team"] == "f0")
         self.assertEqual((team["revision"], team["uncommitted"], len(team["sessions"])), (4, 4, 1))
+        self.assertEqual(status["past_bytes"], sum(path.stat().st_size for path in Path(f"{self.journal}.past").iterdir()))
 
     def test_an_export_is_that_of_all_changes(self) -> None:
         self.start(*self.OFTEN, "--export", str(self.folder / "end.def"))

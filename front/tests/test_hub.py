@@ -399,6 +399,40 @@ class Ends(HubCase):
         self.assertIn("torn frame", self.hub.told())
         self.assertIn("ready", self.hub.told())
 
+    def test_the_number_of_sessions_is_that_of_the_journal(self) -> None:
+        for number in ("0", "65", "x"):
+            self.start("--sessions", number)
+            self.assertEqual(self.hub.process.wait(PATIENCE), 2, number)
+        self.assertFalse(self.journal.exists())
+        full = [f"ok {number} 0" for number in range(9)] + ["no 10 SessionsFull"]
+        # (one that has no change yet is begun anew)
+        self.start()
+        self.hub.end()
+        self.start("--sessions", "9")
+        self.assertEqual(self.talk("operator").ask(*["open f0"] * 10), full)
+        self.hub.kill()
+        kept = self.journal.read_bytes()
+        self.assertIn(b"\nsessions 9\nsegment 1 ", kept)
+        for number in ("8", "10"):
+            told = self.start("--sessions", number)
+            self.assertEqual(self.hub.process.wait(PATIENCE), 1)
+            self.assertIn("begun with 9 session slots of each team", told)
+            self.assertEqual(self.journal.read_bytes(), kept)
+        exported = self.folder / "new.def"
+        for words in ((), ("--sessions", "9")):
+            self.start(*words, "--tail-bytes", "1", "--export", str(exported))
+            self.assertIn("ready", self.hub.told())
+            talker = self.talk("operator")
+            self.assertEqual(talker.ask("place f0 0 f0c1 0 0 N"), ["no 3 NoSession"])
+            self.assertEqual(talker.ask(*["open f0"] * 10), full)
+            self.assertEqual(self.hub.end(), 0)
+        self.assertTrue(exported.exists())
+        self.assertRegex(self.journal.read_bytes(), rb"\nsessions 9\nsegment [2-9] ")
+        self.assertEqual(self.tool("lefence-journal", "verify", self.journal, "--program", PROGRAM).returncode, 0)
+        self.assertEqual(self.tool("lefence-journal", "verify", self.journal, "--all", "--program", PROGRAM).returncode, 0)
+        self.assertIn(b"each team has 9 session slots", self.tool("lefence-journal", "check", self.journal).stdout)
+        self.assertIn(b"with --sessions 9", self.tool("lefence-journal", "export", self.journal).stderr)
+
 
 if __name__ == "__main__":
     unittest.main()

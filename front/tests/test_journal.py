@@ -129,6 +129,26 @@ class Journals(unittest.TestCase):
             self.assertEqual(self.found(), [])
             self.assertTrue(self.path.read_bytes().startswith(whole[: whole.index(b"batch")]))
 
+    def test_the_number_of_sessions_stays_once_there_is_a_change(self) -> None:
+        for slots in (9, None, 10, 8, 9):
+            Journal(self.path, TEXTS, self.said.append, slots=slots).close()
+        header = self.path.read_bytes().partition(b"batch")[0]
+        self.assertEqual(header.count(b"sessions 9\n"), 1)
+        for cut in range(header.index(b"sessions"), len(header)):
+            self.path.write_bytes(header[:cut])
+            journal = Journal(self.path, TEXTS, self.said.append, slots=9)
+            journal.append(RECORDS[:1])
+            journal.roll([])
+            self.assertEqual(journal.header.slots, 9)
+            journal.close()
+            for file in journal.past.files():
+                file.unlink()
+        before = self.path.read_bytes()
+        for slots in (8, 10):
+            with self.assertRaisesRegex(Fault, "begun with 9 session slots of each team"):
+                Journal(self.path, TEXTS, self.said.append, slots=slots)
+        self.assertEqual(self.path.read_bytes(), before)
+
     def test_the_example_of_the_page_is_a_journal(self) -> None:
         page = (FRONT.parent / "docs/FRONT.md").read_text()
         self.path.write_text(next(block for block in page.split("```\n") if block.startswith("lefence-hub journal")))

@@ -3,21 +3,17 @@
 from __future__ import annotations
 
 import json
-import os
-import shutil
-import subprocess
 import unittest
 from pathlib import Path
 from xml.etree import ElementTree
 
-from support import PATIENCE, PROGRAM, FrontCase
+from support import PROGRAM, FrontCase, klayout, with_klayout
 
 from lefence.description import Box, Cell
 from lefence.faults import Fault
 from lefence.markers import Violation, violations_of
 from lefence.protocol import ORIENTS
 
-KLAYOUT = shutil.which("klayout")
 # Each item of the database with its tagged values, and the box of the instance of that name by KLayout's own reading.
 ITEMS = """
 import json, pya
@@ -101,17 +97,6 @@ class Markers(FrontCase):
         told = b"lefence-markers: 11 of 13 cells break a rule; 1 without a place have no marker\n"
         self.assertEqual((done.returncode, done.stdout, done.stderr), (0, b"", told))
 
-    def klayout(self, script: str, *words: str | Path) -> list[str]:
-        """What KLayout prints for a script behind these words."""
-        path = self.folder / "script.py"
-        path.write_text(script)
-        command = [KLAYOUT or "", *map(str, words), "-r", str(path)]
-        environment = {**os.environ, "QT_QPA_PLATFORM": "offscreen"}
-        # KLayout takes seconds to start, and far longer beside proofs.
-        patience = 10 * PATIENCE
-        done = subprocess.run(command, stdout=subprocess.PIPE, cwd=self.folder, env=environment, timeout=patience, check=True)
-        return done.stdout.decode().splitlines()
-
     def test_a_marker_for_each_violation(self) -> None:
         self.write()
         tree = ElementTree.parse(self.markers)
@@ -127,11 +112,11 @@ class Markers(FrontCase):
         text = [r"[#cell] text: 'u<1>/b[3]&\'c\''", "[#team] text: 'A'", "box: (10,0;10.6,2)"]
         self.assertEqual(values, [*text, "[#other] text: 'over'", "[#other] box: (10.2,0;10.8,2)"])
 
-    @unittest.skipIf(KLAYOUT is None, "klayout is not here; Debian has it as the package klayout")
+    @with_klayout
     def test_each_marker_lies_where_klayout_has_the_cell(self) -> None:
         self.write()
         words = ("-rd", f"design={self.design}", "-rd", f"lef={self.lef}", "-rd", f"markers={self.markers}")
-        *lines, last = map(json.loads, self.klayout(ITEMS, "-b", *words))
+        *lines, last = map(json.loads, klayout(self.folder, ITEMS, "-b", *words))
         self.assertEqual([line["cell"] for line in lines], [*(f"o{each}" for each in ORIENTS), "u<1>/b[3]&'c'", "over", "ground"])
         self.assertEqual([line["rule"][0] for line in lines], [*"21212121882"])
         for line in lines:
@@ -141,10 +126,10 @@ class Markers(FrontCase):
         self.assertEqual([line.get("other") for line in lines[8:]], ["over", "u<1>/b[3]&'c'", None])
         self.assertEqual(last[:2], ["11 of 13 cells break a rule; 1 without a place have no marker", last[2]])
 
-    @unittest.skipIf(KLAYOUT is None, "klayout is not here; Debian has it as the package klayout")
+    @with_klayout
     def test_klayout_opens_them_over_the_design_by_the_technology(self) -> None:
         self.write()
-        lines = self.klayout(SHOWN, *"-z -nc -rx -nn t.lyt t.def -m t.lyrdb".split())
+        lines = klayout(self.folder, SHOWN, *"-z -nc -rx -nn t.lyt t.def -m t.lyrdb".split())
         self.assertEqual(lines, ["1 11 0.0005 12"])
 
     def test_the_other_cell_may_come_before_or_behind(self) -> None:

@@ -8,7 +8,7 @@ import subprocess
 from pathlib import Path
 from unittest import main
 
-from support import LEF, PROGRAM, WIDTH, FrontCase
+from support import CELLS, LEF, PROGRAM, TEAMS, WIDTH, FrontCase, klayout, with_klayout
 
 from lefence.description import Cell, Description
 from lefence.splice import Spot, with_spots
@@ -25,6 +25,19 @@ COMPONENTS 2 ;
 END COMPONENTS
 GROUPS 1 ; - g two three + REGION A ; END GROUPS
 END DESIGN
+"""
+# How many cells KLayout reads of a design, the sum of the areas of their boxes, and the area that these cover together.
+AREAS = """
+import pya
+options = pya.LoadLayoutOptions()
+config = options.lefdef_config
+config.lef_files, config.read_lef_with_def, config.macro_resolution_mode = [lef], False, 1
+config.produce_cell_outlines, config.cell_outline_layer = True, "outline (99/0)"
+layout = pya.Layout()
+layout.read(design, options)
+outline = layout.find_layer(99, 0)
+boxes = [each.bbox_per_layer(outline) for each in layout.top_cell().each_inst()]
+print(len(boxes), sum(box.area() for box in boxes), pya.Region(boxes).merged().area())
 """
 # Ways to write where a cell is, and none.
 CLAUSES = (
@@ -89,6 +102,14 @@ class Repairs(FrontCase):
                 assert box
                 self.assertLess(abs(box.left - cell.box.left) + abs(box.bottom - cell.box.bottom), 6000, name)
         self.assertEqual([path.name for path in sorted(self.folder.iterdir())], ["new.def", "t.def", "t.lef"])
+
+    @with_klayout
+    def test_klayout_finds_no_overlap_behind_it(self) -> None:
+        self.assertEqual(self.repair("--out", self.target).returncode, 0)
+        for design, is_repaired in ((self.design, False), (self.target, True)):
+            [line] = klayout(self.folder, AREAS, "-b", "-rd", f"design={design}", "-rd", f"lef={self.lef}")
+            count, area, covered = map(float, line.split())
+            self.assertEqual((count == CELLS * (TEAMS + 1), area == covered), (is_repaired, is_repaired), line)
 
     def test_what_is_spliced_is_what_the_program_exports(self) -> None:
         self.assertEqual(self.repair("--out", self.target).returncode, 0)
@@ -170,6 +191,14 @@ class Repairs(FrontCase):
         self.assertTrue(done.stderr.endswith(b"not fully legal: other teams have cells that break a rule or have no place\n"))
         done = self.repair("--out", self.target, "--team", "Z")
         self.assertEqual((done.returncode, done.stderr), (1, b"lefence-repair: NoTeam; team Z is not in the design\n"))
+
+    def test_a_program_that_takes_its_time_is_waited_for_with_a_line_a_second(self) -> None:
+        slow = self.folder / "slow"
+        slow.write_text(f"#!/bin/sh\n[ $1 = repair ] && sleep 2.5\nexec '{PROGRAM}' \"$@\"\n")
+        slow.chmod(0o755)
+        done = self.repair("--out", self.target, program=str(slow))
+        self.assertEqual(done.returncode, 0)
+        self.assertRegex(done.stderr, rb"^(lefence-repair: the program repairs, \d+ s\n)+lefence-repair: team ")
 
     def test_what_is_refused_is_told_and_no_file_is_left(self) -> None:
         text = self.design.read_text()

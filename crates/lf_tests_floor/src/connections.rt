@@ -69,15 +69,15 @@ fn serve_safely<K: Seeker + Drop, S: Source, W: Sink>(
     requires countable { S.reads source.old + limits.reads ≤ 18446744073709551615 }
     ensures legal { (l : Legalizer) → IsCommittedLegal floor.old
         → (served : Serves l limits.lines floor.old (S.remaining source.old) (S.remaining source.new)
-            (writer (W.contents sink.old) (W.is_flushed sink.old) (W.has_failed sink.old))
-            (writer (W.contents sink.new) (W.is_flushed sink.new) (W.has_failed sink.new)) result floor.new)
+        (writer (W.contents sink.old) (W.is_flushed sink.old) (W.has_failed sink.old))
+        (writer (W.contents sink.new) (W.is_flushed sink.new) (W.has_failed sink.new)) result floor.new)
         × LegalRun l floor.old (commands served.done) (replies served.done) floor.new }
     ensures backed_up { (l : Legalizer)
         → (served : Serves l limits.lines floor.old (S.remaining source.old) (S.remaining source.new)
-            (writer (W.contents sink.old) (W.is_flushed sink.old) (W.has_failed sink.old))
-            (writer (W.contents sink.new) (W.is_flushed sink.new) (W.has_failed sink.new)) result floor.new)
+        (writer (W.contents sink.old) (W.is_flushed sink.old) (W.has_failed sink.old))
+        (writer (W.contents sink.new) (W.is_flushed sink.new) (W.has_failed sink.new)) result floor.new)
         × IsBackup l floor.old (lasting (commands served.done) (replies served.done))
-            (lasting_replies (commands served.done) (replies served.done)) floor.new }
+        (lasting_replies (commands served.done) (replies served.done)) floor.new }
 {
     floor.teams_are_of_the_frame();
     serving_runs();
