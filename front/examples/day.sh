@@ -76,9 +76,9 @@ kill $!; wait $!; tail -n 1 second.log
 
 # A repair does the rest, and KLayout reads the result.
 lefence-repair new.def day.lef --out done.def
-#> lefence-repair: team B: 2 moved, 0 turned, 0 newly placed, 2 stay, 0 left; moved by 0.225 microns on average, 0.400 at most
+#> lefence-repair: team B: 2 moved, 0 turned, 0 newly placed, 2 stay, 0 left; moved by 0.225 microns on average, 0.400 at most, which is 0.400 or more in any repair
 #> lefence-repair: team -: 0 moved, 0 turned, 1 newly placed, 1 stay, 0 left
-#> lefence-repair: team all: 2 moved, 0 turned, 1 newly placed, 7 stay, 0 left; moved by 0.225 microns on average, 0.400 at most
+#> lefence-repair: team all: 2 moved, 0 turned, 1 newly placed, 7 stay, 0 left; moved by 0.225 microns on average, 0.400 at most, which is 0.400 or more in any repair
 #> lefence-repair: every cell is legal
 lefence check done.def day.lef
 #> {"cells":10,"unplaced":0,"violations":[]}
