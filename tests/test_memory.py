@@ -311,17 +311,25 @@ class GrowthsRefused(WithRefusals):
 class StartsRefused(WithRefusals):
     """Each growth from the start of the program on: it ends or answers a command so; an older exported file stays whole."""
 
+    def runs(self, words: list[str], lines: str, *targets: Path) -> Iterator[tuple[str, tuple[int, str, str]]]:
+        """A run for each growth that is refused, over older files, by its name: its status, replies and what it says."""
+        for first, last in self.numbers(words, lines):
+            for target in targets:
+                target.write_text("old")
+            status, written, said, refused = self.run_with(words, lines, first, last)
+            self.assertGreater(refused, 0)
+            yield f"growth {first} to {last}", (status, written, said)
+
     def test_check(self) -> None:
         words = [str(PROGRAM), "check", str(DEF), str(LEF)]
         usual = self.run_with(words, "", 0, 0)[:3]
         spared = []
-        for first, last in self.numbers(words, ""):
-            status, written, said, refused = self.run_with(words, "", first, last)
-            self.assertGreater(refused, 0)
-            if (status, written, said) == usual:
-                spared.append(first)
+        for growth, ended in self.runs(words, ""):
+            if ended == usual:
+                spared.append(growth)
             else:
-                self.assertEqual((written, (status, said)), ("", NOT_DONE[0]), f"growth {first}")
+                status, written, said = ended
+                self.assertEqual((written, (status, said)), ("", NOT_DONE[0]), growth)
         self.assertLessEqual(len(spared), SPARED, spared)
 
     def test_replay_and_export(self) -> None:
@@ -333,13 +341,10 @@ class StartsRefused(WithRefusals):
         self.assertEqual(usual, (0, "ok 0 0\nok 1 3\nok 2\n", ""))
         moved, unmoved = target.read_text(), DEF.read_text()
         spared = []
-        for first, last in self.numbers(words, lines):
-            target.write_text("old")
-            status, written, said, refused = self.run_with(words, lines, first, last)
-            self.assertGreater(refused, 0)
-            with self.subTest(growth=first, last=last):
+        for growth, (status, written, said) in self.runs(words, lines, target):
+            with self.subTest(growth):
                 if (status, written, said) == usual:
-                    spared.append(first)
+                    spared.append(growth)
                     self.assertEqual(target.read_text(), moved)
                 elif status == 0:
                     self.assertIn(SHORT, written)
@@ -356,15 +361,11 @@ class StartsRefused(WithRefusals):
         self.assertEqual((usual[0], usual[2]), (0, ""))
         repaired = [target.read_text() for target in targets]
         spared = []
-        for first, last in self.numbers(words, ""):
-            for target in targets:
-                target.write_text("old")
-            status, written, said, refused = self.run_with(words, "", first, last)
-            self.assertGreater(refused, 0)
-            with self.subTest(growth=first, last=last):
+        for growth, (status, written, said) in self.runs(words, "", *targets):
+            with self.subTest(growth):
                 left = [target.read_text() for target in targets]
                 if (status, written, said) == usual:
-                    spared.append(first)
+                    spared.append(growth)
                     self.assertEqual(left, repaired)
                 else:
                     self.assertEqual((status, said), NOT_DONE[0])
@@ -384,13 +385,10 @@ class StartsRefused(WithRefusals):
             saved.append(target.read_text())
         moved, unmoved = saved
         spared = []
-        for first, last in self.numbers(words, lines):
-            target.write_text("old")
-            status, written, said, refused = self.run_with(words, lines, first, last)
-            self.assertGreater(refused, 0)
-            with self.subTest(growth=first, last=last):
+        for growth, (status, written, said) in self.runs(words, lines, target):
+            with self.subTest(growth):
                 if (status, written, said) == (0, "ok 4\nok 5 400 0 N\n", ""):
-                    spared.append(first)
+                    spared.append(growth)
                     self.assertEqual(target.read_text(), moved)
                 elif status == 0:
                     self.assertEqual((written, said), (f"ok 4\n{SHORT}\n", ""))
