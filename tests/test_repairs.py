@@ -25,6 +25,19 @@ STANDING = {
 # A fence of A that has room for one of its cells.
 NARROW = {"- A ( 0 0 ) ( 4000 4000 ) + TYPE FENCE ;": "- A ( 0 0 ) ( 400 2000 ) + TYPE FENCE ;"}
 
+# A row with free runs of 3, 15 and 4 sites between cells that stand, and three cells of 8, 5 and 3 sites that stand in the widest run, and
+# overlap there: the narrowest has to go, and fits into the run of 3 sites alone.
+GAPS = {"w8": (8, 11), "s4": (4, 28), "w5": (5, 12), "s5": (5, 3), "w3": (3, 12), "t5": (5, 23)}
+
+
+def of_gaps(site: dict[str, int]) -> tuple[str, str]:
+    """The LEF and DEF texts of that row, its cells at these sites."""
+    macros = "".join(f"MACRO W{it} CLASS CORE ; SIZE {0.2 * it:.1f} BY 2.0 ; SYMMETRY X Y ; SITE core ; END W{it}\n" for it in (3, 4, 5, 8))
+    cells = "".join(f"- {name} W{width} + PLACED ( {200 * site[name]} 0 ) N ;\n" for name, (width, _) in GAPS.items())
+    lef = f"SITE core CLASS CORE ; SYMMETRY Y ; SIZE 0.2 BY 2.0 ; END core\n{macros}END LIBRARY\n"
+    rows = "DESIGN w ;\nUNITS DISTANCE MICRONS 1000 ;\nROW r0 core 0 0 N DO 36 BY 1 STEP 200 0 ;\n"
+    return lef, f"VERSION 5.8 ;\n{rows}COMPONENTS {len(GAPS)} ;\n{cells}END COMPONENTS\nEND DESIGN\n"
+
 
 def tight(sites: int, a1: int) -> dict[str, str]:
     """A fence of A around a3 and so many sites of a row to its left, on which a1 stands at that site."""
@@ -122,6 +135,17 @@ class Repairs(InFolder):
         self.assertEqual((status, report[0]["left"], report[0]["kept"], report[0]["pushed"]), (4, ["a1"], 2, 0))
         last = [line for line in self.lines.read_text().splitlines() if " a2 " in line][-1]
         self.assertEqual(last, "place A 0 a2 0 0 N")
+
+    def test_the_widest_goes_first_where_another_order_leaves_it(self) -> None:
+        # In another order w8 and w3 stay in the widest run, and w5 finds no room beside cells that stand.
+        begin = {name: site for name, (_, site) in GAPS.items()}
+        lef, (widths, stands) = self.folder / "gaps.lef", of_gaps(begin)
+        lef.write_text(widths)
+        self.text.write_text(stands)
+        status, written, said = run(["repair", str(self.text), str(lef), "--keep", "--export", str(self.new)])
+        self.assertEqual((status, said), (0, ""))
+        self.assertEqual(self.new.read_text(), of_gaps({**begin, "w8": 15, "w5": 10, "w3": 0})[1])
+        self.assertEqual([json.loads(line)["total"] for line in written.splitlines()], [3600, 3600])
 
     def test_all_cells_may_move(self) -> None:
         status, report = self.repair(STANDING, "--all", "--export", str(self.new))

@@ -4,12 +4,13 @@
 usage: tools/build.py
 
 It runs the gate's own command, `rt ci`, on a copy of the program's crates without their must-fail edits: crates that do not stand on each
-other are proved side by side, and what is proved is kept on the machine, by checksums, for the next build and for ./test. An interrupted
-build goes on where it was when it is started again. The log is crates/lefence/out/build.log; the status is 0 if the program was built.
+other are proved side by side. A kit from rattle-kit-13f on keeps what is proved on the machine, by checksums, for the next build and for
+./test, and an interrupted build goes on where it was; an older one begins anew. The log is crates/lefence/out/build.log; the status is 0 if the program was built.
 """
 
 from __future__ import annotations
 
+import os
 import re
 import shutil
 import subprocess
@@ -19,6 +20,7 @@ import time
 from collections.abc import Iterator
 from pathlib import Path
 
+from lanes import lanes
 from libraries import below, lines_of
 
 TOP = Path(__file__).resolve().parent.parent
@@ -44,7 +46,14 @@ def lines_of_build(copy: Path) -> Iterator[str]:
     """The lines that rt prints, each written to the log too; the last is its status."""
     with open(LOG, "w", encoding="utf-8") as log:
         build = subprocess.Popen(
-            ["rt", "ci"], cwd=copy, stdin=subprocess.DEVNULL, stdout=subprocess.PIPE, stderr=subprocess.STDOUT, text=True, errors="replace"
+            ["rt", "ci"],
+            cwd=copy,
+            env={"RT_JOBS": str(lanes()), **os.environ},
+            stdin=subprocess.DEVNULL,
+            stdout=subprocess.PIPE,
+            stderr=subprocess.STDOUT,
+            text=True,
+            errors="replace",
         )
         try:
             for line in build.stdout or ():
@@ -96,5 +105,5 @@ if __name__ == "__main__":
     try:
         sys.exit(main())
     except KeyboardInterrupt:
-        print("lefence: interrupted; the build goes on from here when it is started again", file=sys.stderr)
+        print("lefence: interrupted; what the kit keeps of what is proved the next build takes over", file=sys.stderr)
         sys.exit(130)

@@ -4,9 +4,10 @@ use Rattle.std.proofs.lemmas.Bool.{false≢true}
 use Rattle.std.specs.Prelude.{◌↔◌, unwrap_or}
 use Rattle.lf_server.specs.declared.serving.Ending.{Ending}
 use Rattle.lf_server.specs.declared.serving.Ending.TheVariants as ending
-use Rattle.lf_app.specs.declared.faults.Fault.{Fault}
-use Rattle.lf_app.specs.declared.faults.Fault.TheVariants.{ReadFault, WriteFault, TooManyLines, OutOfMemory}
-use Rattle.lf_app.specs.Faults.{Blames, BlamesStreams, IsOfWriter, ending_fault}
+use Rattle.lf_designs.specs.declared.faults.Fault.{Fault}
+use Rattle.lf_designs.specs.declared.faults.Fault.TheVariants.{ReadFault, WriteFault, TooManyLines, OutOfMemory}
+use Rattle.lf_designs.specs.Faults.{Blames, IsOfWriter}
+use Rattle.lf_app.specs.Faults.{BlamesStreams, ending_fault}
 use Rattle.lf_app.specs.Lines.{ReadsFail}
 
 abbrev IsMany : Fault → Type 0

@@ -1,12 +1,9 @@
 mod Answering
 mod Copying
-mod DesignSteps
 mod Judging
 mod Looking
-mod Opening
 mod Performing
 mod Repairing
-mod Reporting
-mod Shown
 mod TaskSteps
+mod Telling
 mod WorkSteps

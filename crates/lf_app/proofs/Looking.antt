@@ -22,9 +22,9 @@ use Rattle.lf_teams.specs.Designs.{opening, opening_teams}
 use Rattle.lf_teams.specs.States.{FloorState, TeamState}
 use Rattle.lf_teams.proofs.Openings.{opening_whole}
 use Rattle.lf_restore.specs.Saved.{AreOfOneDesign, fixed_cells, map_two, named, named_team, restored, restored_team}
-use Rattle.lf_app.specs.declared.faults.Fault.{Fault}
-use Rattle.lf_app.specs.declared.faults.Fault.TheVariants.{NoMemory}
-use Rattle.lf_app.specs.Designs.{Gives}
+use Rattle.lf_designs.specs.declared.faults.Fault.{Fault}
+use Rattle.lf_designs.specs.declared.faults.Fault.TheVariants.{NoMemory}
+use Rattle.lf_designs.specs.Designs.{Gives}
 use Rattle.lf_app.specs.Standing.{place_named, place_on, stood}
 use Rattle.lf_app.specs.States.{IsFileState, IsStateFileFault}
 use Rattle.lf_app.specs.Twins.{IsTwin, moved_by}

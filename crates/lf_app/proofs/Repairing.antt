@@ -29,10 +29,11 @@ use Rattle.lf_mend.specs.Mending.{IsLegalIn, LegalStay, place_in}
 use Rattle.lf_mend.specs.Runs.{IsWrittenRun, line_of, lines_of}
 use Rattle.lf_files.specs.Shelf.{Put}
 use Rattle.lf_floorplan.specs.declared.frame.Frame.{Frame}
-use Rattle.lf_app.specs.declared.faults.Fault.{Fault}
-use Rattle.lf_app.specs.declared.faults.Fault.TheVariants.{Refused, File, NoState, NoTeam, ReadFault, WriteFault, TooManyLines, OutOfMemory, Output, Bind, Accept, Unwritten, Unsaved, Unlisted, NoMemory, NoRoom}
+use Rattle.lf_designs.specs.declared.faults.Fault.{Fault}
+use Rattle.lf_designs.specs.declared.faults.Fault.TheVariants.{Refused, File, NoState, NoTeam, ReadFault, WriteFault, TooManyLines, OutOfMemory, Output, Bind, Accept, Unwritten, Unsaved, Unlisted, NoMemory, NoRoom}
+use Rattle.lf_designs.specs.Faults.{Blames, IsEarly, IsOfWriter}
 use Rattle.lf_app.specs.Exits.{IsNotPut, IsUnrepaired}
-use Rattle.lf_app.specs.Faults.{Blames, IsEarly, IsExportFault, IsLinesFileFault, IsOfWriter}
+use Rattle.lf_app.specs.Faults.{IsExportFault, IsLinesFileFault}
 use Rattle.lf_app.specs.Repairs.{AllLegalStay, IsAcceptedRun, IsKeptRun, IsRepairFault, IsUnknown, OnlyAsked, is_asked}
 
 -- ---- runs

@@ -6,11 +6,12 @@ use Rattle.lf_floorplan.specs.declared.loaded.Loaded.{Loaded}
 use Rattle.lf_command.specs.declared.command.Task.{Task}
 use Rattle.lf_command.specs.declared.command.Task.TheVariants.{Demo, Replay, Serve, Check, Describe, Repair}
 use Rattle.lf_command.specs.Command.{Job, ReadsNone, as_job, check, demo, describe, repair, replay, serve}
-use Rattle.lf_app.specs.declared.faults.Fault.{Fault}
-use Rattle.lf_app.specs.declared.faults.Fault.TheVariants.{Refused, File, NoState, NoTeam, ReadFault, WriteFault, TooManyLines, OutOfMemory, Output, Bind, Accept, Unwritten, Unsaved, Unlisted, NoMemory, NoRoom}
-use Rattle.lf_app.specs.Designs.{Gives}
+use Rattle.lf_designs.specs.declared.faults.Fault.{Fault}
+use Rattle.lf_designs.specs.declared.faults.Fault.TheVariants.{Refused, File, NoState, NoTeam, ReadFault, WriteFault, TooManyLines, OutOfMemory, Output, Bind, Accept, Unwritten, Unsaved, Unlisted, NoMemory, NoRoom}
+use Rattle.lf_designs.specs.Designs.{Gives}
+use Rattle.lf_designs.specs.Faults.{status_of}
 use Rattle.lf_app.specs.Exits.{IsOutcome, Streams}
-use Rattle.lf_app.specs.Faults.{IsDone, IsFailure, status_of}
+use Rattle.lf_app.specs.Faults.{IsDone, IsFailure}
 
 -- what follows loading is the outcome of a task over a design
 module _ (IsDesign : Loaded → Type 0) (loaded : Loaded) (design : IsDesign loaded) (r : Result ℕ Fault) where

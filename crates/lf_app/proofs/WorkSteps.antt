@@ -2,28 +2,28 @@
 use Rattle.std.proofs.Common.{◌≡◌, ◌⊎◌, ap, inl, inr, refl, subst, sym, true, Bool, ℕ, List, [], ◌∷◌, None, Ok, Option, Some}
 use Rattle.std.specs.Prelude.{Err, IfErr, IfOk, OnErr, Result}
 use Rattle.std.proofs.lemmas.Result.{IfErr-weaker, IfOk-weaker}
-use Rattle.lf_lex.specs.declared.fault.LoadFault.{LoadFault}
 use Rattle.lf_lef.specs.Contents.{Contents}
 use Rattle.lf_def.specs.Document.{Document, document_of}
 use Rattle.lf_files.specs.Shelf.{Put}
 use Rattle.lf_server.specs.Connections.{Accepted}
 use Rattle.lf_floorplan.specs.declared.limits.Limits.{Limits}
 use Rattle.lf_floorplan.specs.declared.loaded.Loaded.{Loaded}
-use Rattle.lf_app.specs.declared.faults.Fault.{Fault}
-use Rattle.lf_app.specs.declared.faults.Fault.TheVariants.{Refused, File, NoState, NoTeam, ReadFault, WriteFault, TooManyLines, OutOfMemory, Output, Bind, Accept, Unwritten, Unsaved, Unlisted, NoMemory, NoRoom}
-use Rattle.lf_app.specs.declared.faults.TextKind.{TextKind}
-use Rattle.lf_app.specs.declared.faults.TextKind.TheVariants.{Lef, Def, State}
-use Rattle.lf_refusals.specs.Meetings.{Met}
-use Rattle.lf_app.specs.Designs.{Cause, Gives, IsDefRefusal, IsDesignFault, IsDesignOf, IsFileFault, IsLefRefusal, IsLibraryFault, IsLibraryOf}
-use Rattle.lf_app.specs.Designs.{IsLoadRefusal, IsLoadedIn, IsRefused, IsUnread, MeetsIn, no_library}
-use Rattle.lf_app.specs.Exits.{IsExported, IsOpenUndescribed, IsOpened, IsUndone, IsUnshown, Streams, streams}
-use Rattle.lf_app.specs.Faults.{Blames, BlamesWriter, ExportFails, IsEarly, IsExportFault, IsSaveFault}
+use Rattle.lf_designs.specs.declared.faults.Fault.{Fault}
+use Rattle.lf_designs.specs.declared.faults.Fault.TheVariants.{Refused, File, NoState, NoTeam, ReadFault, WriteFault, TooManyLines, OutOfMemory, Output, Bind, Accept, Unwritten, Unsaved, Unlisted, NoMemory, NoRoom}
+use Rattle.lf_designs.specs.declared.faults.TextKind.{TextKind}
+use Rattle.lf_designs.specs.declared.faults.TextKind.TheVariants.{Lef, Def, State}
+use Rattle.lf_designs.specs.Designs.{Cause, Gives, IsDefRefusal, IsDesignFault, IsDesignOf, IsFileFault, IsLefRefusal, IsLibraryFault, IsLibraryOf}
+use Rattle.lf_designs.specs.Designs.{IsLoadRefusal, IsLoadedIn, IsOpened, IsRefused, IsUnread, no_library}
+use Rattle.lf_designs.proofs.DesignSteps.{text_refused}
+use Rattle.lf_designs.specs.Faults.{Blames, BlamesWriter, IsEarly}
+use Rattle.lf_app.specs.Exits.{IsExported, IsOpenUndescribed, IsUndone, IsUnshown, Streams, streams}
+use Rattle.lf_app.specs.Faults.{ExportFails, IsExportFault, IsSaveFault}
 use Rattle.lf_app.specs.Surroundings.{IsSound}
 use Rattle.lf_app.specs.States.{IsBegun, IsFloorFault, IsStateFault, IsStateRefused, IsStateTextFault, IsUnbegun}
 use Rattle.lf_app.specs.Work.{IsDone, IsFault, IsUnfinished, IsUnworked}
 use Rattle.lf_app.specs.declared.surroundings.Surroundings.{Surroundings}
-use Rattle.lf_app.specs.declared.work.Lines.{Lines}
-use Rattle.lf_app.specs.declared.work.Lines.TheVariants.{Stream, Port}
+use Rattle.lf_app.specs.declared.sources.Lines.{Lines}
+use Rattle.lf_app.specs.declared.sources.Lines.TheVariants.{Stream, Port}
 use Rattle.lf_state.specs.declared.fault.StateFault.{StateFault}
 use Rattle.lf_teams.specs.States.{FloorState}
 use Rattle.lf_teams.specs.Designs.{opening}
@@ -184,38 +184,6 @@ pub first_fails : (why all : Fault → Type 0) (kept reader writer export servic
     → all fault × Blames fault kept reader writer export service sound
 first_fails why all kept reader writer export service sound fault keeps sounds is early gives =
     (gives fault is, early_blames kept reader writer export service sound fault keeps sounds (early fault is))
-
--- a refusal of one kind is one of another that takes them all in
-pub refused_as : (kind : TextKind) (path text : List ℕ) (P Q : Cause) (fault : Fault) → IsRefused kind path text P fault
-    → ((refusal : LoadFault) (met : Met) → P refusal met → Q refusal met) → IsRefused kind path text Q fault
-refused_as kind path text P Q (Refused file its) is gives = (is.0, (is.1.0, is.1.1, gives is.1.0 is.1.1 is.1.2, is.1.3))
-refused_as kind path text P Q (File file why) is gives = absurd is
-refused_as kind path text P Q (NoState its_path its) is gives = absurd is
-refused_as kind path text P Q (NoTeam name) is gives = absurd is
-refused_as kind path text P Q ReadFault is gives = absurd is
-refused_as kind path text P Q WriteFault is gives = absurd is
-refused_as kind path text P Q TooManyLines is gives = absurd is
-refused_as kind path text P Q OutOfMemory is gives = absurd is
-refused_as kind path text P Q Output is gives = absurd is
-refused_as kind path text P Q (Bind port why) is gives = absurd is
-refused_as kind path text P Q Accept is gives = absurd is
-refused_as kind path text P Q (Unwritten its_path) is gives = absurd is
-refused_as kind path text P Q (Unsaved its_path) is gives = absurd is
-refused_as kind path text P Q (Unlisted its_path) is gives = absurd is
-refused_as kind path text P Q NoMemory is gives = absurd is
-refused_as kind path text P Q NoRoom is gives = absurd is
-
-load_refused : (limits : Limits) (library : Contents) (text : List ℕ) (document : Document) (refusal : LoadFault) (met : Met) → document_of text ≡ Ok document
-    → IsLoadRefusal limits library document refusal met → IsDefRefusal limits library text refusal met
-load_refused limits library text document refusal met is (inl memory, meets) = inl (inl memory, subst (λ (found : LoadFault). MeetsIn document found met) memory meets)
-load_refused limits library text document refusal met is (inr found, meets) = inr (document, is, found, meets)
-
--- a refusal of loading a document is one of its text
-pub text_refused : (limits : Limits) (library : Contents) (path text : List ℕ) (document : Document) (fault : Fault) → document_of text ≡ Ok document
-    → IsRefused Def path text (IsLoadRefusal limits library document) fault → IsRefused Def path text (IsDefRefusal limits library text) fault
-text_refused limits library path text document fault is refused =
-    refused_as Def path text (IsLoadRefusal limits library document) (IsDefRefusal limits library text) fault refused
-    (λ refusal met why. load_refused limits library text document refusal met is why)
 
 -- why the design of a text is not described is why that of a file with this text is not
 pub file_fails : (limits : Limits) (gives : Gives) (path : List ℕ) (library : Contents) (text : List ℕ) (why : Document → Loaded → Type 0) (fault : Fault) → gives path (Some text)

@@ -1,15 +1,14 @@
 -- How tasks end.
-use Rattle.std.specs.Prelude.{◌≡◌, ◌<◌, ◌⊎◌, ◌*◌, ◌++◌, ℕ, Bool, true, false, List, [], ◌∷◌, Option, Some, None, IsTrue, Ok, codes, map, take}
+use Rattle.std.specs.Prelude.{◌≡◌, ◌<◌, ◌⊎◌, ◌*◌, ◌++◌, ℕ, Bool, List, [], ◌∷◌, Option, Some, None, codes, take}
 use Rattle.std.specs.Io.KnownBytes.{Appends}
 use Rattle.lf_floorplan.specs.declared.limits.Limits.{Limits}
 use Rattle.lf_floorplan.specs.declared.loaded.Loaded.{Loaded}
 use Rattle.lf_floorplan.specs.declared.place.Place.{Place}
 use Rattle.lf_rules.specs.Legalizer.{Legalizer}
-use Rattle.lf_lef.specs.Contents.{Contents}
 use Rattle.lf_lef.specs.declared.sample.TheConstants.{W_LEF}
 use Rattle.lf_def.specs.declared.sample.TheConstants.{W_DEF}
-use Rattle.lf_def.specs.Document.{Document, document_of}
-use Rattle.lf_write.specs.Export.{clause_of, exported}
+use Rattle.lf_def.specs.Document.{Document}
+use Rattle.lf_write.specs.Export.{exported}
 use Rattle.lf_files.specs.Shelf.{Put, Puts}
 use Rattle.lf_describe.specs.Description.{description}
 use Rattle.lf_teams.specs.States.{FloorState}
@@ -20,22 +19,17 @@ use Rattle.lf_server.specs.declared.serving.Ending.{Ending}
 use Rattle.lf_command.specs.declared.command.LegalCells.{LegalCells}
 use Rattle.lf_command.specs.declared.command.LegalCells.TheVariants.{Stay}
 use Rattle.lf_command.specs.Command.{Job, demo, replay, serve, check, describe, repair}
-use Rattle.lf_app.specs.declared.opened.Opened.{Opened}
-use Rattle.lf_app.specs.declared.faults.Fault.{Fault}
-use Rattle.lf_app.specs.declared.faults.Fault.TheVariants.{Accept, Bind, NoMemory, Output}
-use Rattle.lf_app.specs.declared.faults.Exit.{Exit}
-use Rattle.lf_app.specs.Checks.{IsLegalDesign, report_line}
-use Rattle.lf_app.specs.Designs.{AreWithSlots, Gives, IsDesignFault, IsLibraryOf, IsLoadedIn, IsTextDesign, IsTextFault, no_library}
-use Rattle.lf_app.specs.Faults.{IsDescriptionFault, IsDone, IsExportFault, IsLinesFileFault, IsReportFault, IsSaveFault, ending_fault, status_of, told_text}
+use Rattle.lf_designs.specs.declared.faults.Fault.{Fault}
+use Rattle.lf_designs.specs.declared.faults.Fault.TheVariants.{Accept, Bind, NoMemory, Output}
+use Rattle.lf_designs.specs.declared.faults.Exit.{Exit}
+use Rattle.lf_designs.specs.Checks.{IsLegalDesign, IsUnreported, report_line}
+use Rattle.lf_designs.specs.Designs.{AreWithSlots, Gives, IsDesignFault, IsOpened, IsTextDesign, IsTextFault}
+use Rattle.lf_designs.specs.Faults.{EndsWith}
+use Rattle.lf_app.specs.Faults.{IsDescriptionFault, IsDone, IsExportFault, IsLinesFileFault, IsSaveFault, ending_fault}
 use Rattle.lf_app.specs.Lines.{IsServed, most_lines}
 use Rattle.lf_app.specs.Repairs.{AllLegalStay, AreKnown, IsJudged, IsKeptRun, IsListed, IsRepairFault, OnlyAsked, begun_lines}
+use Rattle.lf_app.specs.Telling.{AreBounds, IsReport}
 use Rattle.lf_app.specs.States.{IsBegun, IsFloorFault, IsFloorOf, IsSaved, IsSeen, IsSeenOf, IsUnbegun}
-
--- a task ends with the fault: with its status, and what is told of it is appended to the faults, unless these have failed
-pub record EndsWith (fault : Fault) (old new : Option (List ℕ)) (failed : Bool) (exit : Exit) : Type 0 where
-  pub status : exit.status ≡ status_of fault
-  pub told : IsTrue exit.is_told → Appends old new (told_text fault)
-  pub untold : exit.is_told ≡ false → failed ≡ true
 
 -- a task ends with a fault of this kind
 abbrev pub Ends : (Fault → Type 0) → Option (List ℕ) → Option (List ℕ) → Bool → Exit → Type 0
@@ -101,21 +95,6 @@ abbrev pub IsExported : Option (List ℕ) → List ℕ → Document → FloorSta
 IsExported None text document floor old new = new ≡ old
 IsExported (Some path) text document floor old new =
     (places : List (ℕ × Option Place)) × AreCommittedPlaces floor places × Puts old new path (exported text document.components places)
-
--- the design of a DEF file over LEF files, with the DEF text and what it says
-pub record IsOpened (limits : Limits) (gives : Gives) (def : List ℕ) (lefs : List (List ℕ)) (text : List ℕ) (document : Document)
-    (loaded : Loaded) : Type 0 where
-  pub library : Contents
-  pub lefs_are : IsLibraryOf gives no_library lefs library
-  pub given : gives def (Some text)
-  pub read : document_of text ≡ Ok document
-  pub loads : IsLoadedIn limits library document loaded
-
--- the design of a DEF file over LEF files is opened, and its text is kept with the clauses of its components
-abbrev pub IsOpenedOf : Limits → Gives → List ℕ → List (List ℕ) → Opened → Type 0
-IsOpenedOf limits gives def lefs opened =
-    (document : Document) × IsOpened limits gives def lefs opened.original.text.items document opened.loaded
-    × (opened.original.clauses ≡ map (clause_of opened.original.text.items) document.components)
 
 -- this work led to the state of the floor; then the exported text of the document was put where one was asked for, and then the state
 pub record IsFinished (Work : FloorState → Streams → Type 0) (save export : Option (List ℕ)) (text : List ℕ) (document : Document) (io : Streams) : Type 0 where
@@ -184,10 +163,9 @@ pub record IsOpenDescribed (limits : Limits) (gives : Gives) (def : List ℕ) (l
   pub opened : IsOpened limits gives def lefs text document loaded
   pub shown : IsShown gives state document loaded before after status
 
--- a report was written; the exported text was put where one was asked for, and then the lines
-pub record IsPut (export lines : Option (List ℕ)) (text : List ℕ) (document : Document) (floor : FloorState) (kept before after : Option (List ℕ))
-    (old_puts new_puts : Option (List Put)) : Type 0 where
-  pub report : List ℕ
+-- the report was written; the exported text was put where one was asked for, and then the lines
+pub record IsPut (export lines : Option (List ℕ)) (text : List ℕ) (document : Document) (floor : FloorState) (kept : Option (List ℕ)) (report : List ℕ)
+    (before after : Option (List ℕ)) (old_puts new_puts : Option (List Put)) : Type 0 where
   pub told : Appends before after report
   pub between : Option (List Put)
   pub exports : IsExported export text document floor old_puts between
@@ -195,27 +173,31 @@ pub record IsPut (export lines : Option (List ℕ)) (text : List ℕ) (document 
 
 -- each name that was asked for is a team's; the floor went from the one that was begun with to this one by commands that were each
 -- accepted, which are the lines that are kept; only teams that were asked for changed, and no cell that stood legally if these are to
--- stay; a report was written; the exported text was put where one was asked for, and then the lines; and the status says whether the
--- committed design is then fully legal
-pub record IsRepaired (teams : List (List ℕ)) (legal : LegalCells) (export lines : Option (List ℕ)) (text : List ℕ) (document : Document) (begin : FloorState)
-    (before after : Option (List ℕ)) (old_puts new_puts : Option (List Put)) (status : ℕ) : Type 0 where
+-- stay; a report was written, which tells of teams that were asked for with these bounds, and whether the committed design is then
+-- fully legal; the exported text was put where one was asked for, and then the lines; and the status says the same of the design
+pub record IsRepaired (teams : List (List ℕ)) (legal : LegalCells) (export lines : Option (List ℕ)) (text : List ℕ) (document : Document)
+    (bounds : List ℕ) (begin : FloorState) (before after : Option (List ℕ)) (old_puts new_puts : Option (List Put)) (status : ℕ) : Type 0 where
   pub floor : FloorState
   pub kept : Option (List ℕ)
   pub known : AreKnown begin.frame teams
   pub run : (l : Legalizer) → IsKeptRun l begin (begun_lines lines) kept floor
   pub only : OnlyAsked teams begin floor
   pub stay : legal ≡ Stay → AllLegalStay begin floor
-  pub put : IsPut export lines text document floor kept before after old_puts new_puts
+  pub report : List ℕ
+  pub tells : IsReport begin.frame teams bounds floor report
+  pub put : IsPut export lines text document floor kept report before after old_puts new_puts
   pub judged : IsJudged floor status
 
--- the design was opened, and its teams were repaired
+-- the design was opened, and its teams were repaired, and told of with the largest of the least ways of their cells
 pub record IsOpenRepaired (limits : Limits) (gives : Gives) (def : List ℕ) (lefs teams : List (List ℕ)) (legal : LegalCells) (export lines : Option (List ℕ))
     (before after : Option (List ℕ)) (old_puts new_puts : Option (List Put)) (status : ℕ) : Type 0 where
   pub text : List ℕ
   pub document : Document
   pub loaded : Loaded
   pub opened : IsOpened limits gives def lefs text document loaded
-  pub repaired : IsRepaired teams legal export lines text document (opening loaded) before after old_puts new_puts status
+  pub bounds : List ℕ
+  pub least : AreBounds loaded bounds
+  pub repaired : IsRepaired teams legal export lines text document bounds (opening loaded) before after old_puts new_puts status
 
 -- the outcome of a job that is done on a design within these limits, with this status
 abbrev pub IsOutcomeWithin : Limits → Gives → Job → Streams → ℕ → Type 0
@@ -261,11 +243,6 @@ IsServiceFault port connections begin Output before after old_accepted new_accep
 IsServiceFault port connections begin Accept before after old_accepted new_accepted =
     (floor : FloorState) × ((count : ℕ) × (count < connections) × IsOffered begin floor count before after old_accepted new_accepted)
 IsServiceFault port connections begin _ before after old_accepted new_accepted = ⊥
-
--- a report of the design is not written, or only a front of it
-pub record IsUnreported (loaded : Loaded) (before after : Option (List ℕ)) (fault : Fault) : Type 0 where
-  pub why : IsReportFault fault
-  pub front : (l : Legalizer) → ((n : ℕ) × Appends before after (take n (report_line l loaded)))
 
 -- the description of the design is not written, or only a front of it
 pub record IsUndescribed (document : Document) (loaded : Loaded) (before after : Option (List ℕ)) (fault : Fault) : Type 0 where

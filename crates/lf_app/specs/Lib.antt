@@ -1,16 +1,11 @@
-pub mod Checks
-pub mod Designs
 pub mod Exits
 pub mod Faults
-pub mod Hints
 pub mod Lines
-pub mod Refusals
 pub mod Repairs
-pub mod Reporting
 pub mod Services
 pub mod Standing
 pub mod States
 pub mod Surroundings
-pub mod Texts
+pub mod Telling
 pub mod Twins
 pub mod Work

@@ -16,8 +16,8 @@ use Rattle.lf_teams.specs.VerbLaws.{is_granted}
 use Rattle.lf_teams.specs.Committed.{IsCommittedLegal}
 use Rattle.lf_mend.specs.Runs.{lines_of}
 use Rattle.lf_mend.specs.Mending.{LegalStay}
-use Rattle.lf_app.specs.declared.faults.Fault.{Fault}
-use Rattle.lf_app.specs.declared.faults.Fault.TheVariants.{NoMemory, NoTeam, Output}
+use Rattle.lf_designs.specs.declared.faults.Fault.{Fault}
+use Rattle.lf_designs.specs.declared.faults.Fault.TheVariants.{NoMemory, NoTeam, Output}
 use Rattle.lf_app.specs.declared.kept_lines.KeptLines.{KeptLines}
 use Rattle.lf_app.specs.Faults.{IsDone, IsExportFault, IsLinesFileFault}
 

@@ -8,11 +8,11 @@ use Rattle.lf_floorplan.specs.declared.loaded.Loaded.{Loaded}
 use Rattle.lf_teams.specs.States.{FloorState}
 use Rattle.lf_teams.specs.Designs.{opening}
 use Rattle.lf_restore.specs.Saved.{IsRestoredFrom, IsStateText, named}
-use Rattle.lf_app.specs.declared.faults.Fault.{Fault}
-use Rattle.lf_app.specs.declared.faults.Fault.TheVariants.{NoMemory, NoState}
-use Rattle.lf_app.specs.declared.faults.TextKind.TheVariants.{State}
-use Rattle.lf_app.specs.Designs.{Gives, IsDesignFault, IsDesignOf, IsUnread}
-use Rattle.lf_app.specs.Refusals.{TellsState}
+use Rattle.lf_designs.specs.declared.faults.Fault.{Fault}
+use Rattle.lf_designs.specs.declared.faults.Fault.TheVariants.{NoMemory, NoState}
+use Rattle.lf_designs.specs.declared.faults.TextKind.TheVariants.{State}
+use Rattle.lf_designs.specs.Designs.{Gives, IsDesignFault, IsDesignOf, IsUnread}
+use Rattle.lf_designs.specs.Refusals.{TellsState}
 use Rattle.lf_app.specs.Standing.{StandsOn}
 
 -- ---- the state that work begins with

@@ -2,10 +2,10 @@
 use Rattle.std.specs.Prelude.{◌≡◌, ℕ, Bool, false, true, List, Option}
 use Rattle.lf_files.specs.Shelf.{Put}
 use Rattle.lf_server.specs.Connections.{Accepted}
-use Rattle.lf_app.specs.declared.faults.Fault.{Fault}
+use Rattle.lf_designs.specs.declared.faults.Fault.{Fault}
+use Rattle.lf_designs.specs.Faults.{Blames}
 use Rattle.lf_app.specs.declared.surroundings.Surroundings.{Surroundings}
 use Rattle.lf_app.specs.Exits.{Streams, streams}
-use Rattle.lf_app.specs.Faults.{Blames}
 use Rattle.lf_app.specs.Lines.{ReadsFail}
 
 -- what was read, written, put and accepted

@@ -7,13 +7,14 @@ use Rattle.lf_floorplan.specs.declared.loaded.Loaded.{Loaded}
 use Rattle.lf_server.specs.declared.accepting.Offer.{Offer}
 use Rattle.lf_teams.specs.States.{FloorState}
 use Rattle.lf_teams.specs.Designs.{opening}
-use Rattle.lf_app.specs.declared.faults.Fault.{Fault}
+use Rattle.lf_designs.specs.declared.faults.Fault.{Fault}
+use Rattle.lf_designs.specs.Designs.{Gives}
+use Rattle.lf_designs.specs.Faults.{Blames}
 use Rattle.lf_app.specs.declared.surroundings.Surroundings.{Surroundings}
-use Rattle.lf_app.specs.declared.work.Lines.{Lines}
-use Rattle.lf_app.specs.declared.work.Lines.TheVariants.{Stream, Port}
-use Rattle.lf_app.specs.Designs.{Gives}
+use Rattle.lf_app.specs.declared.sources.Lines.{Lines}
+use Rattle.lf_app.specs.declared.sources.Lines.TheVariants.{Stream, Port}
 use Rattle.lf_app.specs.Exits.{IsAnswered, IsBrokenOff, IsFinished, IsOffered, IsServiceFault, IsWorkFault, Streams}
-use Rattle.lf_app.specs.Faults.{Blames, IsSaveFault}
+use Rattle.lf_app.specs.Faults.{IsSaveFault}
 use Rattle.lf_app.specs.Lines.{ReadsFail}
 use Rattle.lf_app.specs.Services.{OffersLocal}
 use Rattle.lf_app.specs.States.{IsBegun, IsUnbegun}

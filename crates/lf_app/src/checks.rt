@@ -2,18 +2,16 @@
 
 ghost use Rattle.std.specs.Prelude.{◌≡◌, ◌⊎◌, map, IfErr, IfOk};
 ghost use Rattle.lf_floorplan.specs.declared.loaded.Loaded.{Loaded};
-ghost use Rattle.lf_app.specs.Exits.{IsReported, IsUnreported};
-ghost use Rattle.lf_app.specs.Faults.{BlamesWriter};
+ghost use Rattle.lf_designs.specs.Checks.{IsUnreported};
+ghost use Rattle.lf_designs.specs.Faults.{BlamesWriter};
+ghost use Rattle.lf_app.specs.Exits.{IsReported};
 ghost use Rattle.lf_app.specs.States.{IsFloorFault, IsSeenOf};
 ghost use Rattle.lf_app.specs.Work.{path_of};
 
-use crate::designs::design_of_files;
-use crate::faults::Fault;
-use crate::reports::report_design;
 use crate::seen::seen;
 use crate::tasks::{DONE, ILLEGAL};
-use crate::texts::Texts;
 use crate::work::Inputs;
+use lf_designs::{Fault, Texts, design_of_files, report_design};
 use lf_devices::Sink;
 use lf_frame::Loaded;
 use std::alloc::Global;

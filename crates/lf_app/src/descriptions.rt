@@ -4,21 +4,19 @@ ghost use Rattle.std.specs.Prelude.{◌≡◌, ◌⊎◌, List, ℕ, Ok, Some, I
 ghost use Rattle.lf_def.specs.Contents.{contents};
 ghost use Rattle.lf_def.specs.Document.{Document, document_of};
 ghost use Rattle.lf_floorplan.specs.declared.loaded.Loaded.{Loaded};
-ghost use Rattle.lf_app.specs.declared.faults.TextKind.TheVariants.{Def};
-ghost use Rattle.lf_app.specs.Designs.{IsDefRefusal, IsDesignFault, IsFileFault, IsLoadRefusal, IsLoadedIn, IsRefused};
+ghost use Rattle.lf_designs.specs.declared.faults.TextKind.TheVariants.{Def};
+ghost use Rattle.lf_designs.specs.Designs.{IsDefRefusal, IsDesignFault, IsFileFault, IsLoadRefusal, IsLoadedIn, IsRefused};
+ghost use Rattle.lf_designs.specs.Faults.{BlamesWriter};
 ghost use Rattle.lf_app.specs.Exits.{IsDescribed, IsOpenDescribed, IsOpenUndescribed, IsShown, IsUndescribed, IsUnshown};
-ghost use Rattle.lf_app.specs.Faults.{BlamesWriter};
 ghost use Rattle.lf_app.specs.States.{IsSeen, IsUnbegun};
 ghost use Rattle.lf_app.specs.Work.{path_of};
 
-use crate::designs::{def_file, library_of, load_document, read_document, read_text};
-use crate::faults::Fault;
 use crate::seen::seen;
 use crate::tasks::{DONE, ILLEGAL};
-use crate::texts::Texts;
 use crate::work::Inputs;
 use lf_def::DefDoc;
 use lf_describe::{Undescribed, describe};
+use lf_designs::{Fault, Texts, def_file, library_of, load_document, read_document, read_text};
 use lf_devices::Sink;
 use lf_frame::Loaded;
 use lf_lef::Library;

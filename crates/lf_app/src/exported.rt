@@ -9,8 +9,7 @@ ghost use Rattle.lf_write.specs.Export.{CanBeRenewed, clause_of, renewed};
 ghost use Rattle.lf_app.specs.Exits.{IsExported};
 ghost use Rattle.lf_app.specs.Faults.{ExportFails, IsExportFault};
 
-use crate::faults::Fault;
-use crate::opened::Original;
+use lf_designs::{Fault, Original};
 use lf_files::{Exports, Pieces, Unwritten};
 use lf_floor::{CommittedPlaces, Floor};
 use lf_floorplan::Place;

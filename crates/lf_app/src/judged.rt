@@ -9,8 +9,8 @@ ghost use Rattle.lf_teams.specs.Committed.{AreCommittedLegal, IsCommittedLegal};
 ghost use Rattle.lf_teams.specs.States.{TeamState};
 ghost use Rattle.lf_app.specs.Repairs.{committed_listed};
 
-use crate::reports::illegal_in;
 use lf_cells::{CellId, CellTable};
+use lf_designs::illegal_in;
 use lf_floor::Floor;
 use lf_legalize::IndexSeeker;
 use lf_reports::{Listed, verdicts_on};

@@ -7,7 +7,7 @@ ghost use Rattle.lf_app.specs.Faults.{ExportFails, IsLinesFileFault};
 ghost use Rattle.lf_app.specs.Repairs.{IsListed, begun_lines, kept_bytes, kept_text};
 ghost use Rattle.lf_app.specs.Work.{path_of};
 
-use crate::faults::Fault;
+use lf_designs::Fault;
 use lf_devices::{DeviceFault, Sink};
 use lf_files::{Exports, Pieces, Unwritten};
 use std::alloc::{AllocError, Global};

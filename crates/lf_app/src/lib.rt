@@ -1,8 +1,9 @@
-//! The program: its commands, its messages of faults, and the loop that answers lines.
+//! The program: what it does for each command, and the loop that answers lines.
 //!
 //! `perform` does a `Task` over the files and the network of a runtime. `perform_over` does it over any
 //! files that are read (`Texts`) and written (`Exports`), services (`Services`) and devices, and its contract says of each what was
-//! done. `Task`, `UsageFault`, `command_of`, `Help` and `help_of` are those of `lf_command`.
+//! done. `Task`, `UsageFault`, `command_of`, `Help` and `help_of` are those of `lf_command`; `Texts`, `Fault` and `Exit` are those of
+//! `lf_designs`, which reads and loads designs and tells faults.
 //!
 //! Status 0 or 4: the task is done, and no fault is written. The design is that of the LEF texts, in the order of the words, and of
 //! the DEF text, within the standard limits but for the number of session slots, where one is asked for; a demo has the built-in
@@ -29,41 +30,33 @@
 
 mod checks;
 mod descriptions;
-mod designs;
 mod exported;
-mod faults;
-mod hints;
 mod judged;
 mod kept_lines;
 mod lines;
-mod opened;
-mod origins;
 mod outputs;
-mod refusals;
-mod repair_reports;
 mod repairs;
-mod reports;
 mod saved;
 mod seen;
 mod services;
+mod sources;
 mod states;
 mod surroundings;
 mod tasks;
-mod texts;
 mod twins;
 mod work;
 
-pub use faults::{Exit, Fault, TextFile, TextKind, status_of, write_fault};
-pub use hints::Hint;
 pub use lf_command::{
     Help, LegalCells, Slots, Subcommand, Task, UsageFault, command_of, complaint_of, help_of,
+};
+pub use lf_designs::{
+    Exit, Fault, FenceLine, FileTexts, Hint, Refusal, StateRefusal, TextFile, TextKind, Texts,
+    Unbound, Unread, Unreadable, status_of, write_fault,
 };
 pub use lf_devices::{FromRead, ToWrite};
 pub use lf_files::FileExports;
 pub use lf_server::{Acceptor, ClientReader, ClientWriter, Connection, Offer};
 pub use lines::answer_lines;
-pub use refusals::{FenceLine, Refusal, StateRefusal};
-pub use services::{NetServices, Services, Unbound};
+pub use services::{NetServices, Services};
 pub use surroundings::Surroundings;
 pub use tasks::{perform, perform_over};
-pub use texts::{FileTexts, Texts, Unread, Unreadable};

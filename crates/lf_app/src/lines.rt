@@ -2,8 +2,10 @@
 
 ghost use Rattle.std.specs.Prelude.{◌≡◌, ◌≢◌, ◌*◌, false, true};
 ghost use Rattle.lf_rules.specs.Legalizer.{Legalizer};
+ghost use Rattle.lf_app.specs.Faults.{ending_fault};
 ghost use Rattle.lf_app.specs.Lines.{IsServed, ReadsFail};
 
+use lf_designs::Fault;
 use lf_devices::{Sink, Source};
 use lf_floor::Floor;
 use lf_legalize::Seeker;
@@ -51,4 +53,18 @@ pub fn answer_lines<S: Seeker + Drop, I: Source, O: Sink>(
 {
     let served = serve(alloc, floor, source, sink, limits_of(lines));
     served.ending
+}
+
+/// The fault of lines that ended neither with the input nor with a bye; none if they did.
+pub(crate) fn ending_fault<'a>(ending: Ending) -> Option<Fault<'a>>
+    ensures { result ≡ ending_fault ending }
+{
+    match ending {
+        Ending::Done => None,
+        Ending::Bye => None,
+        Ending::ReadFault => Some(Fault::ReadFault),
+        Ending::WriteFault => Some(Fault::WriteFault),
+        Ending::TooManyLines => Some(Fault::TooManyLines),
+        Ending::OutOfMemory => Some(Fault::OutOfMemory),
+    }
 }

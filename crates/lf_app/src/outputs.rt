@@ -12,9 +12,8 @@ ghost use Rattle.lf_app.specs.States.{IsSaved};
 ghost use Rattle.lf_app.specs.Work.{path_of};
 
 use crate::exported::{export_to, try_export};
-use crate::faults::Fault;
-use crate::opened::Original;
 use crate::saved::{save_to, try_save};
+use lf_designs::{Fault, Original};
 use lf_files::Exports;
 use lf_floor::Floor;
 use lf_legalize::IndexSeeker;

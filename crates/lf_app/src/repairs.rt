@@ -17,24 +17,24 @@ ghost use Rattle.lf_teams.specs.Teams.{state_of, team_number};
 ghost use Rattle.lf_write.specs.Export.{CanBeRenewed, clause_of};
 ghost use Rattle.lf_mend.specs.Mending.{ChangesOnly, LegalStay};
 ghost use Rattle.lf_mend.specs.declared.start.How.TheVariants.{Keep};
-ghost use Rattle.lf_app.specs.declared.faults.Fault.TheVariants.{NoMemory, Output};
-ghost use Rattle.lf_app.specs.Designs.{IsKept};
+ghost use Rattle.lf_mend.specs.declared.told.Repaired.{Repaired};
+ghost use Rattle.lf_told.specs.Told.{IsOneMore};
+ghost use Rattle.lf_designs.specs.declared.faults.Fault.TheVariants.{NoMemory, Output};
+ghost use Rattle.lf_designs.specs.Designs.{IsKept};
 ghost use Rattle.lf_app.specs.Exits.{IsExported, IsNotPut, IsNotRepaired, IsOpenRepaired, IsPut, IsRepaired, IsUnrepaired};
 ghost use Rattle.lf_app.specs.Faults.{BlamesOutputs, ExportFails, IsDone, IsExportFault, IsLinesFileFault};
 ghost use Rattle.lf_app.specs.Repairs.{AllLegalStay, AreKnown, IsJudged, IsKeptRun, IsListed, IsUnknown, OnlyAsked, begun_lines, is_asked, kept_text};
+ghost use Rattle.lf_app.specs.Telling.{AreBounds, AreToldMore, IsReport, IsToldLast};
 ghost use Rattle.lf_app.specs.Work.{path_of};
 
 use crate::exported::{export_to, try_export};
-use crate::faults::Fault;
 use crate::judged::is_committed_legal;
 use crate::kept_lines::{KeptLines, lines_to, try_lines};
-use crate::opened::{Opened, Original, open_files};
-use crate::repair_reports::RepairReport;
 use crate::tasks::{DONE, ILLEGAL};
-use crate::texts::Texts;
 use crate::work::floor_of;
 use lf_alone::least_largest;
 use lf_command::LegalCells;
+use lf_designs::{Fault, Opened, Original, Texts, open_files};
 use lf_devices::{Sink, send};
 use lf_files::Exports;
 use lf_floor::Floor;
@@ -44,6 +44,7 @@ use lf_mend::{How, repair_team};
 use lf_reread::loaded_cells_can_be_given;
 use lf_rules::legalizer_is_there;
 use lf_teams::places_follow_design;
+use lf_told::RepairReport;
 use lf_write::clauses_serve;
 use std::alloc::Global;
 
@@ -125,6 +126,7 @@ fn repair_named<'f>(
     ensures run { (l : Legalizer) → OnOk result (IsKeptRun l floor.old (kept_text lines.old) (kept_text lines.new) floor.new) }
     ensures only { ChangesOnly name.now floor.old floor.new }
     ensures kept { how ≡ Keep → LegalStay name.now floor.old floor.new }
+    ensures told { OnOk result ((repaired : Repaired) × IsOneMore floor.new name.now repaired report.old report.new) }
     ensures err { IfErr result (λ fault. fault ≡ NoMemory) }
 {
     match repair_team(alloc, floor, name, how, lines) {
@@ -155,7 +157,7 @@ fn is_numbered(floor: &Floor<IndexSeeker>, name: &[u8], number: usize) -> bool
 }
 
 /// Repairs the team of that number, if it is asked for.
-#[tactic(auto, using(crate::proofs::Repairing::nothing_asked, crate::proofs::Repairing::none_changes))]
+#[tactic(auto, using(crate::proofs::Repairing::nothing_asked, crate::proofs::Repairing::none_changes, crate::proofs::Telling::none_told))]
 fn repair_numbered<'a>(
     alloc: Global,
     floor: &mut Floor<IndexSeeker>,
@@ -166,6 +168,7 @@ fn repair_numbered<'a>(
 ) -> Result<(), Fault<'a>>
     ensures run { (l : Legalizer) → OnOk result (IsKeptRun l floor.old (kept_text lines.old) (kept_text lines.new) floor.new) }
     ensures only { OnOk result (OnlyAsked (map (λ team. team.now) asked.now.teams.now) floor.old floor.new) }
+    ensures told { OnOk result (AreToldMore floor.old.frame (map (λ team. team.now) asked.now.teams.now) report.old report.new) }
     ensures err { IfErr result (λ fault. fault ≡ NoMemory) }
     ensures kept { asked.now.legal ≡ Stay → (team : List ℕ) → team_number floor.old.frame team ≡ Some number → LegalStay team floor.old floor.new }
     ensures others { (team : List ℕ) → team_number floor.old.frame team ≢ Some number → state_of floor.new team ≡ state_of floor.old team }
@@ -192,6 +195,7 @@ fn repair_teams<'a>(
     ensures run { (l : Legalizer) → OnOk result (IsKeptRun l floor.old (kept_text lines.old) (kept_text lines.new) floor.new) }
     ensures only { OnOk result (OnlyAsked (map (λ team. team.now) asked.now.teams.now) floor.old floor.new) }
     ensures kept { asked.now.legal ≡ Stay → OnOk result (AllLegalStay floor.old floor.new) }
+    ensures told { OnOk result (AreToldMore floor.old.frame (map (λ team. team.now) asked.now.teams.now) report.old report.new) }
     ensures err { IfErr result (λ fault. fault ≡ NoMemory) }
 {
     let teams = floor.placement().frame().teams.len() + 1;
@@ -218,6 +222,7 @@ fn judge<'f>(
 ) -> Result<u8, Fault<'f>>
     requires { length floor.now.teams ≡ length floor.now.frame.teams + 1 }
     ensures ok { IfOk result (IsJudged floor.now) }
+    ensures told { OnOk result (IsToldLast floor.now report.old report.new) }
     ensures err { IfErr result (λ fault. fault ≡ NoMemory) }
 {
     let legal = is_committed_legal(alloc, floor)?;
@@ -246,6 +251,7 @@ fn repaired<'a>(
     ensures only { OnOk result (OnlyAsked (map (λ team. team.now) asked.now.teams.now) floor.old floor.new) }
     ensures kept { asked.now.legal ≡ Stay → OnOk result (AllLegalStay floor.old floor.new) }
     ensures judged { IfOk result (λ done. IsJudged floor.new done.status) }
+    ensures told { IfOk result (λ done. IsReport floor.old.frame (map (λ team. team.now) asked.now.teams.now) least.now floor.new done.report.text.items) }
     ensures err { IfErr result (λ fault. fault ≡ NoMemory) }
 {
     legalizer_is_there();
@@ -262,14 +268,14 @@ fn repaired<'a>(
 
 /// Writes the report.
 fn put_report<'f, W: Sink>(writer: &mut W, report: &RepairReport) -> Result<(), Fault<'f>>
-    ensures ok { OnOk result ((bytes : List ℕ) × Appends (W.contents writer.old) (W.contents writer.new) bytes) }
+    ensures ok { OnOk result (Appends (W.contents writer.old) (W.contents writer.new) report.now.text.items) }
     ensures healthy { OnOk result (W.has_failed writer.new ≡ W.has_failed writer.old) }
     ensures front { OnErr result ((bytes : List ℕ) × Appends (W.contents writer.old) (W.contents writer.new) bytes) }
     ensures err { IfErr result (λ fault. fault ≡ Output) }
     ensures failed { OnErr result (W.has_failed writer.new ≡ true) }
     ensures held { W.holds writer.new ≡ W.holds writer.old }
 {
-    match send(writer, report.as_bytes()) {
+    match send(writer, report.text.as_slice()) {
         Ok(()) => Ok(()),
         Err(_) => Err(Fault::Output),
     }
@@ -326,7 +332,7 @@ fn put_all<'a, E: Exports, W: Sink>(
     ensures status { IfOk result (λ status. status ≡ done.now.status) }
     ensures ok { (document : Document) → original.now.clauses ≡ map (clause_of original.now.text.items) document.components
         → OnOk result (IsPut (path_of asked.now.export) (path_of asked.now.lines) original.now.text.items document floor.now (kept_text done.now.lines)
-        (W.contents writer.old) (W.contents writer.new) (E.puts exports.old) (E.puts exports.new)) }
+        done.now.report.text.items (W.contents writer.old) (W.contents writer.new) (E.puts exports.old) (E.puts exports.new)) }
     ensures err { IfErr result (λ fault. IsNotPut (path_of asked.now.export) (path_of asked.now.lines)
         (W.contents writer.old) (W.contents writer.new) (E.puts exports.old) (E.puts exports.new) fault
         × BlamesOutputs fault (writer.new ≡ writer.old) (W.has_failed writer.old) (W.has_failed writer.new)
@@ -363,7 +369,8 @@ fn repair_on_floor<'a, E: Exports, W: Sink>(
         → CanBeRenewed before.now.original.text.items before.now.original.clauses places }
     ensures ok { (document : Document) → before.now.original.clauses ≡ map (clause_of before.now.original.text.items) document.components
         → IfOk result (IsRepaired (map (λ team. team.now) asked.now.teams.now) asked.now.legal (path_of asked.now.export) (path_of asked.now.lines)
-        before.now.original.text.items document floor.old (W.contents writer.old) (W.contents writer.new) (E.puts exports.old) (E.puts exports.new)) }
+        before.now.original.text.items document before.now.least.items floor.old
+        (W.contents writer.old) (W.contents writer.new) (E.puts exports.old) (E.puts exports.new)) }
     ensures err { IfErr result (λ fault. IsUnrepaired (map (λ team. team.now) asked.now.teams.now) (path_of asked.now.export) (path_of asked.now.lines)
         floor.old (W.contents writer.old) (W.contents writer.new) (E.puts exports.old) (E.puts exports.new) fault
         × BlamesOutputs fault (writer.new ≡ writer.old) (W.has_failed writer.old) (W.has_failed writer.new)
@@ -389,8 +396,10 @@ fn repair_opened<'a, E: Exports, W: Sink>(
     requires loads { (limits : TheLimits) × (library : Contents) × (document : Document)
         × IsKept limits opened.original.text.items library document opened.original.clauses opened.loaded }
     ensures ok { (document : Document) → opened.original.clauses ≡ map (clause_of opened.original.text.items) document.components
-        → IfOk result (IsRepaired (map (λ team. team.now) asked.now.teams.now) asked.now.legal (path_of asked.now.export) (path_of asked.now.lines)
-        opened.original.text.items document (opening opened.loaded) (W.contents writer.old) (W.contents writer.new) (E.puts exports.old) (E.puts exports.new)) }
+        → IfOk result (λ status. (bounds : List ℕ) × AreBounds opened.loaded bounds
+        × IsRepaired (map (λ team. team.now) asked.now.teams.now) asked.now.legal (path_of asked.now.export) (path_of asked.now.lines)
+        opened.original.text.items document bounds (opening opened.loaded)
+        (W.contents writer.old) (W.contents writer.new) (E.puts exports.old) (E.puts exports.new) status) }
     ensures err { IfErr result (λ fault. (((fault ≡ NoMemory) × (E.puts exports.new ≡ E.puts exports.old))
         ⊎ IsUnrepaired (map (λ team. team.now) asked.now.teams.now) (path_of asked.now.export) (path_of asked.now.lines)
         (opening opened.loaded) (W.contents writer.old) (W.contents writer.new) (E.puts exports.old) (E.puts exports.new) fault)

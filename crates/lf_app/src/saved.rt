@@ -8,7 +8,7 @@ ghost use Rattle.lf_app.specs.Faults.{ExportFails, IsSaveFault};
 ghost use Rattle.lf_app.specs.States.{IsSaved};
 ghost use Rattle.lf_app.specs.Work.{path_of};
 
-use crate::faults::Fault;
+use lf_designs::Fault;
 use lf_files::{Exports, Pieces, Unwritten};
 use lf_floor::{Floor, SavedState};
 use lf_legalize::IndexSeeker;

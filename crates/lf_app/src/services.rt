@@ -5,22 +5,12 @@ ghost use Rattle.lf_server.specs.Connections.{IsUnused};
 ghost use Rattle.lf_app.specs.Services.{IsLocal, Offers};
 
 use crate::lines::{MOST_LINES, limits_of};
+use lf_designs::Unbound;
 use lf_devices::DeviceFault;
 use lf_server::{Acceptor, ClientReader, ClientWriter, Connection, Offer, accept_from};
 use std::io;
 use std::io::ErrorKind;
 use std::net::{Ipv4Addr, Net, SocketAddr};
-
-/// Why a port cannot be listened on, where the system says it.
-#[derive(Clone, Copy, Debug, PartialEq, Eq)]
-pub enum Unbound {
-    /// Another program listens on it.
-    InUse,
-    /// This user may not listen on it.
-    Denied,
-    /// Another reason.
-    Other,
-}
 
 /// Where services are offered: ports are listened on, and connections accepted there.
 pub trait Services: Acceptor {

@@ -2,14 +2,11 @@
 
 ghost use Rattle.std.specs.Prelude.{◌≡◌, IfErr, IfOk};
 ghost use Rattle.lf_restore.specs.Saved.{AreOfOneDesign, IsRestoredFrom};
-ghost use Rattle.lf_app.specs.declared.faults.TextKind.TheVariants.{State};
+ghost use Rattle.lf_designs.specs.declared.faults.TextKind.TheVariants.{State};
 ghost use Rattle.lf_app.specs.States.{IsBegun, IsFileState, IsStateFault, IsStateFileFault, IsStateRefused, IsStateTextFault};
 ghost use Rattle.lf_app.specs.Work.{path_of};
 
-use crate::designs::read_text;
-use crate::faults::{Fault, TextFile, TextKind};
-use crate::refusals::StateRefusal;
-use crate::texts::Texts;
+use lf_designs::{Fault, StateRefusal, TextFile, TextKind, Texts, read_text};
 use lf_floor::Floor;
 use lf_legalize::IndexSeeker;
 use lf_state::{StateError, StateFault};

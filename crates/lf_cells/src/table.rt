@@ -16,9 +16,15 @@ use std::marker::Model;
 ///
 /// Contracts see for each team the list of its cells in loading order, and the positions of their entries among all
 /// COMPONENTS of the DEF text. Only `build` allocates.
-#[derive(Drop)]
 pub struct CellTable {
     parts: Parts,
+}
+
+/// (Written out: the proof of a function that lets one go does not take it apart.)
+impl Drop for CellTable {
+    fn drop(self) {
+        let CellTable { parts: _ } = self;
+    }
 }
 
 impl Model for CellTable {

@@ -14,7 +14,7 @@ use lf_segments::{Ground, Plan};
 use std::alloc::{AllocError, Global};
 
 /// How many cells there are, and what is to tell of them.
-#[derive(Clone, Copy, Debug, PartialEq, Eq)]
+#[derive(Clone, Copy)]
 pub(crate) struct Counts {
     /// How many there are.
     pub(crate) cells: usize,

@@ -26,8 +26,8 @@ use Rattle.lf_teams.specs.Verbs.{outcome_by_slot}
 use Rattle.lf_teams.proofs.Answering.{some_answers}
 use Rattle.lf_teams.proofs.Serving.{gives}
 use Rattle.lf_floor.specs.Responses.{def_text, text_at, text_by}
-use Rattle.lf_floor.specs.Tables.{cells_in, floor_in, frame_of, own_team, teams_in}
-use Rattle.lf_floor.specs.declared.tables.Tables.{Tables}
+use Rattle.lf_tables.specs.Tables.{cells_in, floor_in, frame_of, own_team, teams_in}
+use Rattle.lf_tables.specs.declared.tables.Tables.{Tables}
 use Rattle.lf_floor.proofs.Rows.{team_there}
 
 -- the order of that session for the DEF text

@@ -1,25 +1,18 @@
--- The teams of a floor seen by their numbers, and which of their cells stand legally.
-use Rattle.std.proofs.Common.{◌≡◌, ◌∙◌, ◌<◌, ℕ, zero, suc, List, [], ◌∷◌, length, map, true, false, Option, Some, None, refl, sym, ap, subst, arith}
-use Rattle.std.specs.Prelude.{All, MatchOption, is_none, slice_get, option_map, option_and_then}
-use Rattle.std.proofs.lemmas.Option.{slice_get-map, slice_get_within}
-use Rattle.lf_floorplan.specs.declared.place.Place.{Place}
-use Rattle.lf_rules.specs.declared.rule.Broken.{Broken}
-use Rattle.lf_rules.specs.Choice.{IsLegalAt, spot_of}
-use Rattle.lf_rules.specs.Legalizer.{VerdictIsOne}
+-- The teams of a floor seen by their numbers.
+use Rattle.std.proofs.Common.{◌≡◌, ◌∙◌, ◌<◌, ℕ, List, length, map, Option, Some, None, sym, ap, subst}
+use Rattle.std.specs.Prelude.{slice_get, option_map}
+use Rattle.std.proofs.lemmas.Option.{slice_get_within}
 use Rattle.lf_rules.specs.Team.{StandsLegal}
 use Rattle.lf_cells.specs.declared.cell.Cell.{Cell}
 use Rattle.lf_cells.specs.declared.cell.CellId.{CellId}
-use Rattle.lf_cells.specs.Cells.{id_in, id_of, working_at}
-use Rattle.lf_legalize.specs.Members.{IsSizedCell, member_of}
+use Rattle.lf_cells.specs.Cells.{id_in, id_of}
+use Rattle.lf_legalize.specs.Members.{member_of}
 use Rattle.lf_teams.specs.States.{TeamState, FloorState}
-use Rattle.lf_teams.specs.Teams.{Setting}
-use Rattle.lf_teams.specs.Looks.{lifted_cell}
-use Rattle.lf_teams.specs.Changes.{broken_where}
 use Rattle.lf_teams.proofs.Standing.{some_one}
-use Rattle.lf_floor.specs.declared.tables.Tables.{Tables}
+use Rattle.lf_tables.specs.declared.tables.Tables.{Tables}
 use Rattle.lf_placement.proofs.Moves.{id_there}
-use Rattle.lf_floor.specs.Tables.{cells_in, floor_in, frame_of, own_team, padding_of, teams_in}
-use Rattle.lf_floor.proofs.Marking.{legal_breaks_none}
+use Rattle.lf_tables.specs.Tables.{cells_in, floor_in, frame_of, own_team, padding_of, teams_in}
+use Rattle.lf_tables.proofs.Standing.{cell_there}
 use Rattle.lf_floor.proofs.Rows.{count_teams, team_there}
 
 -- what is seen of the team of that number
@@ -29,35 +22,6 @@ seen_is tables view number s is there =
     let here : slice_get (teams_in tables) number ≡ Some s = ap (λ (v : FloorState). slice_get v.teams number) is ∙ there in
     let within : number < length (teams_in tables) = slice_get_within (teams_in tables) number s here in
     some_one (sym here ∙ team_there tables number (rw (sym (count_teams tables)) within))
-
-cell_there : (cells : List Cell) (own : ℕ) → own < length cells → (c : Cell) × (slice_get cells own ≡ Some c)
-cell_there [] own within = absurd (omega arith)
-cell_there (c ∷ cs) zero within = (c, refl)
-cell_there (c ∷ cs) (suc own) within = cell_there cs own (omega arith)
-
--- an unplaced cell does not stand legally
-pub unplaced_is_not : (t : Setting) (cells : List Cell) (own : ℕ) → own < length cells → StandsLegal t.frame t.number t.padding (map member_of cells) own
-    → true ≡ is_none (working_at cells own) → ⊥
-unplaced_is_not t cells own within stands none = by found.0.working refl where
-  found : (c : Cell) × (slice_get cells own ≡ Some c)
-  found = cell_there cells own within
-
-  placed : MatchOption (option_map spot_of found.0.working) ⊥ (λ p. IsLegalAt (lifted_cell t cells own found.0) p)
-  placed = stands (member_of found.0) (slice_get-map member_of cells own ∙ ap (option_map member_of) found.1)
-
-  by : (o : Option Place) → found.0.working ≡ o → ⊥
-  by None is = subst (λ (o : Option Place). MatchOption (option_map spot_of o) ⊥ (λ p. IsLegalAt (lifted_cell t cells own found.0) p)) is placed
-  by (Some place) is = false_true (sym (none ∙ ap (λ (o : Option Cell). is_none (option_and_then (λ (c : Cell). c.working) o)) found.1
-      ∙ ap (λ (o : Option Place). is_none o) is)) where
-        false_true : false ≡ true → ⊥
-        false_true e = cc
-
--- nor does one that breaks a rule where it stands
-pub broken_is_not : (t : Setting) (cells : List Cell) (own : ℕ) (broken : Broken) → VerdictIsOne → All (IsSizedCell t.frame) cells
-    → StandsLegal t.frame t.number t.padding (map member_of cells) own → Some broken ≡ broken_where t cells own → ⊥
-broken_is_not t cells own broken one all stands is = none_some (legal_breaks_none t cells own one all stands ∙ sym is) where
-  none_some : None ≡ Some broken → ⊥
-  none_some e = cc
 
 -- a position without an id has no cell
 pub no_cell_at : (cells : List Cell) (number own : ℕ) → id_in cells number own ≡ None → own < length cells → ⊥

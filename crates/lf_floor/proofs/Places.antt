@@ -12,9 +12,9 @@ use Rattle.lf_cells.proofs.Owners.{one_some, some_is}
 use Rattle.lf_teams.specs.States.{TeamState}
 use Rattle.lf_teams.specs.Places.{AreCommittedPlaces, IsCommittedAt, cell_in, entry_in}
 use Rattle.lf_teams.proofs.Openings.{map_at, pairs_map}
-use Rattle.lf_floor.specs.declared.tables.Tables.{Tables}
+use Rattle.lf_tables.specs.declared.tables.Tables.{Tables}
 use Rattle.lf_floor.specs.Entries.{committed_entry}
-use Rattle.lf_floor.specs.Tables.{AreTables, floor_in, teams_in}
+use Rattle.lf_tables.specs.Tables.{AreTables, floor_in, teams_in}
 use Rattle.lf_floor.proofs.Rows.{count_teams, team_there}
 
 -- an element of a list, mapped, is an element of the mapped list

@@ -19,9 +19,9 @@ use Rattle.lf_state.specs.Saved.{SavedTeam, saved_at, IsTeamOf as IsSavedTeamOf}
 use Rattle.lf_restore.specs.Saved.{AreDue, map_two, named_team, restored, restored_cell, restored_team}
 use Rattle.lf_restore.specs.Stands.{AreAsMany}
 use Rattle.lf_restore.proofs.Framing.{cells_names, due_at, due_each, due_many, restored_each, restored_twice, team_placed, working_restored}
-use Rattle.lf_floor.specs.declared.tables.Tables.{Tables}
+use Rattle.lf_tables.specs.declared.tables.Tables.{Tables}
 use Rattle.lf_floor.specs.Saving.{AwaitsEntries, EachAwaits, PlacesTeams}
-use Rattle.lf_floor.specs.Tables.{AreTables, EntriesFit, cells_in, floor_in, frame_of, own_team, padding_of, revision_of, team_with, teams_in}
+use Rattle.lf_tables.specs.Tables.{AreTables, EntriesFit, cells_in, floor_in, frame_of, own_team, padding_of, revision_of, team_with, teams_in}
 use Rattle.lf_floor.proofs.Rows.{count_teams, each_team, replicate_each, team_at}
 
 -- ---- all teams' cells are placed

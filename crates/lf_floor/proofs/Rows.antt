@@ -25,9 +25,9 @@ use Rattle.lf_teams.specs.Committed.{IsCommittedLegal, StandAsLoaded, loaded_des
 use Rattle.lf_teams.specs.Designs.{opening, opening_team, opening_teams}
 use Rattle.lf_teams.proofs.Loading.{loaded_committed, loaded_places}
 use Rattle.lf_teams.proofs.Openings.{opened_at, opening_whole}
-use Rattle.lf_floor.specs.declared.tables.Tables.{Tables}
-use Rattle.lf_floor.specs.Tables.{AreOpening, AreTables, EntriesFit, IsServed, OthersStay, cells_in, floor_in, frame_of, own_team, padding_of, revision_of, sites_in, team_with, teams_in}
-use Rattle.lf_floor.proofs.Fitting.{entries_stay}
+use Rattle.lf_tables.specs.declared.tables.Tables.{Tables}
+use Rattle.lf_tables.specs.Tables.{AreOpening, AreTables, EntriesFit, IsServed, OthersStay, cells_in, floor_in, frame_of, own_team, padding_of, revision_of, sites_in, team_with, teams_in}
+use Rattle.lf_tables.proofs.Fitting.{entries_stay}
 
 -- ---- one team among all
 

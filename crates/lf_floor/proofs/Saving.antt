@@ -31,9 +31,9 @@ use Rattle.lf_restore.specs.Saved.{AreDue, AreOfOneDesign, IsRestoredFrom, IsSta
 use Rattle.lf_restore.specs.Stands.{entries_in, EntriesFit as StackFits, OthersStay as CellsStay}
 use Rattle.lf_restore.proofs.Telling.{floor_told}
 use Rattle.lf_restore.proofs.Framing.{all_due, last_due, last_restored, still_of_design, team_restored}
-use Rattle.lf_floor.specs.declared.tables.Tables.{Tables}
+use Rattle.lf_tables.specs.declared.tables.Tables.{Tables}
 use Rattle.lf_floor.specs.Saving.{HasNumbers, told, told_team}
-use Rattle.lf_floor.specs.Tables.{AreTables, EntriesFit, HasRows, IsServed, KeepsRooms, OthersStay, cells_in, floor_in, frame_of, own_team, padding_of, revision_of, sites_in, teams_in}
+use Rattle.lf_tables.specs.Tables.{AreTables, EntriesFit, HasRows, IsServed, KeepsRooms, OthersStay, cells_in, floor_in, frame_of, own_team, padding_of, revision_of, sites_in, teams_in}
 use Rattle.lf_floor.proofs.Rows.{count_teams, one_changed, served, tables_still, team_at}
 
 -- ---- the design

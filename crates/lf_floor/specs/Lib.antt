@@ -1,9 +1,3 @@
-pub mod Tables
 pub mod Entries
-pub mod Reverting
-pub mod Swapping
-pub mod Tidying
-pub mod Marking
-pub mod Reporting
 pub mod Responses
 pub mod Saving

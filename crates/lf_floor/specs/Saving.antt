@@ -7,8 +7,8 @@ use Rattle.lf_placement.specs.Placings.{BoundsAt, places_of}
 use Rattle.lf_state.specs.Saved.{SavedTeam, moves_within, saved_at, state_text}
 use Rattle.lf_restore.specs.Saved.{map_two, restored_cell, saved_cell}
 use Rattle.lf_restore.specs.Stands.{ArePlaced}
-use Rattle.lf_floor.specs.declared.tables.Tables.{Tables}
-use Rattle.lf_floor.specs.Tables.{cells_in, frame_of, padding_of, revision_of, sites_in}
+use Rattle.lf_tables.specs.declared.tables.Tables.{Tables}
+use Rattle.lf_tables.specs.Tables.{cells_in, frame_of, padding_of, revision_of, sites_in}
 use Rattle.lf_sessions.specs.Slots.{slots_of}
 
 -- what is told of the team of that number: of its undo entries the moves of its cells

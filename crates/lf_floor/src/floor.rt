@@ -9,7 +9,7 @@ ghost use Rattle.lf_rules.specs.FullyLegal.{IsFullyLegal};
 ghost use Rattle.lf_proto.specs.Commands.{command_of, order_of};
 ghost use Rattle.lf_teams.specs.States.{TeamState};
 ghost use Rattle.lf_teams.specs.Places.{AreCommittedPlaces};
-ghost use Rattle.lf_floor.specs.Tables.{AreTables, floor_in, frame_of};
+ghost use Rattle.lf_tables.specs.Tables.{AreTables, floor_in, frame_of};
 ghost use Rattle.lf_teams.specs.Teams.{IsTeamOf, team_number, state_of};
 ghost use Rattle.lf_teams.specs.Outcomes.{name_at};
 ghost use Rattle.lf_cells.specs.Cells.{working_at};
@@ -23,12 +23,11 @@ ghost use Rattle.lf_teams.specs.Steps.{Answers, CommitsLegally, Gives, KeepsIfRe
 ghost use Rattle.lf_teams.specs.Steps.{StaysShort, RunsShort, Step, IsTo, answer_at};
 
 use crate::committed::{CommittedPlaces, all_committed, committed_of};
-use crate::surroundings::Surroundings;
-use crate::tables::Tables;
 use lf_floorplan::{Frame, Loaded, Place};
 use lf_legalize::Seeker;
 use lf_proto::{Command, Order, Refusal, Reply, Request, RequestList};
 use lf_rules::{legal_in_range, legalizer_is_there};
+use lf_tables::{Surroundings, Tables};
 use std::alloc::{AllocError, Global};
 use std::marker::Model;
 
@@ -50,7 +49,7 @@ pub struct Floor<S: Seeker> {
 
 impl<S: Seeker> Model for Floor<S> {
     ghost use Rattle.lf_teams.specs.States.{FloorState};
-    ghost use Rattle.lf_floor.specs.Tables.{AreTables, floor_in};
+    ghost use Rattle.lf_tables.specs.Tables.{AreTables, floor_in};
 
     ghost Value = { FloorState };
 

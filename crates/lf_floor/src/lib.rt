@@ -18,27 +18,13 @@
 /// Requests and replies, which the floor's calls take and return.
 pub use lf_proto as proto;
 
-mod cell;
-mod changes;
 mod committed;
 mod floor;
-mod keeping;
-mod legal;
 mod looking;
-mod looks;
-mod order;
-mod report;
 mod response;
 mod restored;
 mod saved;
-mod sessions;
 mod state_text;
-mod surroundings;
-mod swap;
-mod tables;
-mod tidy;
-mod verbs;
-mod wholes;
 
 pub use committed::CommittedPlaces;
 pub use floor::Floor;

@@ -7,30 +7,11 @@ ghost use Rattle.lf_legalize.specs.Members.{member_of};
 ghost use Rattle.lf_teams.specs.States.{TeamState};
 ghost use Rattle.lf_teams.specs.Teams.{team_number};
 
-use crate::cell::{broken_where, is_unplaced};
 use crate::floor::{Floor, team_named};
-use lf_cells::CellId;
 use lf_legalize::Seeker;
 use lf_placement::Placement;
-use lf_rules::{Padding, legalizer_is_there, verdict_is_one};
-
-/// Whether the cell is placed, and breaks no rule where it stands.
-fn stands_legal(placement: &Placement, id: CellId, padding: Padding) -> bool
-    ensures legal { IsTrue result → StandsLegal placement.now.frame id.team padding.sites (map member_of (cells_of placement.now.cells id.team)) id.own }
-    ensures told { id.own < length (cells_of placement.now.cells id.team)
-        → StandsLegal placement.now.frame id.team padding.sites (map member_of (cells_of placement.now.cells id.team)) id.own → IsTrue result }
-{
-    legalizer_is_there();
-    verdict_is_one();
-    placement.cells_are_sized();
-    if is_unplaced(placement.cells(), id) {
-        return false;
-    }
-    match broken_where(placement, id, padding) {
-        Some(_) => false,
-        None => true,
-    }
-}
+use lf_rules::Padding;
+use lf_tables::stands_legal;
 
 impl<S: Seeker + Drop> Floor<S> {
     /// The number of the team of that name: the fence teams in the frame's order, then `-`. None if no team has the name.

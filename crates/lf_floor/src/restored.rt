@@ -10,11 +10,10 @@ ghost use Rattle.lf_state.specs.Reading.{FailsAt, GivesAt, state_of};
 ghost use Rattle.lf_state.specs.Saved.{SavedTeam, team_view, team_views, IsTeamOf as IsSavedTeamOf};
 ghost use Rattle.lf_restore.specs.Saved.{AreDue, AreOfOneDesign, IsRestoredFrom, IsStateText, named, named_team, restored, restored_team, saved_design};
 ghost use Rattle.lf_floor.specs.Saving.{AwaitsEntries, EachAwaits, HasNumbers, PlacesTeams};
-ghost use Rattle.lf_floor.specs.Tables.{AreTables, EntriesFit, HasRows, IsServed, OthersStay, floor_in, frame_of, own_team, teams_in};
+ghost use Rattle.lf_tables.specs.Tables.{AreTables, EntriesFit, HasRows, IsServed, OthersStay, floor_in, frame_of, own_team, teams_in};
 
 use crate::floor::Floor;
 use crate::saved::Told;
-use crate::tables::Tables;
 use lf_floorplan::Frame;
 use lf_legalize::Seeker;
 use lf_occupancy::Tally;
@@ -23,6 +22,7 @@ use lf_restore::{
 };
 use lf_rules::Padding;
 use lf_state::{StateError, TeamRow, read_state};
+use lf_tables::Tables;
 use lf_undo::UndoStore;
 use std::alloc::{AllocError, Global};
 

@@ -8,15 +8,15 @@ ghost use Rattle.lf_restore.specs.Saved.{IsStateText, named, saved_cell};
 ghost use Rattle.lf_state.specs.Designs.{team_of};
 ghost use Rattle.lf_state.specs.Saved.{moves_within, saved_at};
 ghost use Rattle.lf_floor.specs.Saving.{told};
-ghost use Rattle.lf_floor.specs.Tables.{AreTables, floor_in};
+ghost use Rattle.lf_tables.specs.Tables.{AreTables, floor_in};
 
 use crate::floor::Floor;
-use crate::tables::Tables;
 use lf_cells::CellTable;
 use lf_floorplan::{Frame, Limits, PackedPlace};
 use lf_legalize::Seeker;
 use lf_rules::Padding;
 use lf_state::{Design, SavedCell, Teams, put_state};
+use lf_tables::Tables;
 use lf_texts::Output;
 use lf_undo::Moves;
 use std::marker::Model;
@@ -167,8 +167,8 @@ pub(crate) struct Told<'a> {
 }
 
 impl<'a> Model for Told<'a> {
-    ghost use Rattle.lf_floor.specs.declared.tables.Tables.{Tables as Kept};
-    ghost use Rattle.lf_floor.specs.Tables.{AreTables};
+    ghost use Rattle.lf_tables.specs.declared.tables.Tables.{Tables as Kept};
+    ghost use Rattle.lf_tables.specs.Tables.{AreTables};
 
     ghost Value = { Kept };
 
@@ -178,7 +178,7 @@ impl<'a> Model for Told<'a> {
 }
 
 impl<'a> Design for Told<'a> {
-    ghost use Rattle.lf_floor.specs.Tables.{floor_in};
+    ghost use Rattle.lf_tables.specs.Tables.{floor_in};
     ghost use Rattle.lf_restore.specs.Saved.{named};
 
     ghost named = { λ t. named (floor_in t) };

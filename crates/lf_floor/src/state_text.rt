@@ -5,13 +5,13 @@ ghost use Rattle.lf_texts.specs.Output.{Puts};
 ghost use Rattle.lf_state.specs.Saved.{IsInRange, state_text};
 ghost use Rattle.lf_restore.specs.Saved.{IsStateText, named};
 ghost use Rattle.lf_floor.specs.Saving.{text_of, told};
-ghost use Rattle.lf_floor.specs.Tables.{AreTables, floor_in};
+ghost use Rattle.lf_tables.specs.Tables.{AreTables, floor_in};
 
 use crate::floor::Floor;
 use crate::saved::{Told, fences_are_few};
-use crate::tables::Tables;
 use lf_legalize::Seeker;
 use lf_state::put_state;
+use lf_tables::Tables;
 use lf_texts::Output;
 use std::marker::Model;
 
@@ -39,7 +39,7 @@ impl<'a> Model for SavedState<'a> {
     ghost use Rattle.lf_state.specs.Saved.{SavedTeam};
     ghost use Rattle.lf_restore.specs.Saved.{named};
     ghost use Rattle.lf_floor.specs.Saving.{told};
-    ghost use Rattle.lf_floor.specs.Tables.{AreTables, floor_in};
+    ghost use Rattle.lf_tables.specs.Tables.{AreTables, floor_in};
 
     ghost Value = { NamedDesign × List SavedTeam };
 

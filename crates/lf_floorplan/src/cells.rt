@@ -46,9 +46,15 @@ pub struct CellParts {
 
 /// The movable cells of a design, in loading order: each name stands once, in a table that `into_parts` hands on. Contracts see
 /// the list of cells with their names.
-#[derive(Drop)]
 pub struct LoadedCells {
     parts: CellParts,
+}
+
+/// (Written out: the proof of a function that lets one go does not take it apart.)
+impl Drop for LoadedCells {
+    fn drop(self) {
+        let LoadedCells { parts: _ } = self;
+    }
 }
 
 impl Model for LoadedCells {

@@ -23,7 +23,6 @@ use lf_units::{Point, Rect, Sequence};
 /// - Fences up to the limit, none named `-`, names different, each of one rectangle or more; no two share a point.
 /// - Obstacles are rectangles in the range of DEF, or boxes of the frame's macros with their lower left corner in it.
 /// - Macros have sizes and origins in the range of LEF.
-#[derive(Drop)]
 pub struct Frame {
     /// The core site: that of the first ROW whose site has CLASS CORE and a size above 0.
     pub site: Site,
@@ -57,4 +56,21 @@ pub struct Frame {
     pub ghost obstacles_in_range: { All (IsObstacle header.units macros) obstacles },
     pub ghost soft_in_def: { All IsDefRect soft },
     pub ghost macros_in_lef: { All (λ m. IsLefSize m.size × IsLefSize m.origin) macros },
+}
+
+/// (Written out: the proof of a function that lets one go does not take it apart.)
+impl Drop for Frame {
+    fn drop(self) {
+        let Frame {
+            site: _,
+            pitch: _,
+            rows: _,
+            teams: _,
+            obstacles: _,
+            soft: _,
+            macros: _,
+            header: _,
+            limits: _,
+        } = self;
+    }
 }

@@ -13,11 +13,14 @@ use lf_repair::{Kinds, Land, RowKind, Spot, Steps, Wish, plan_cells};
 use lf_units::Point;
 use std::alloc::{AllocError, Global};
 
-/// How often a plan is improved.
-const STEPS: Steps = Steps {
-    passes: 1,
-    rounds: 2,
-};
+/// How a plan for so many cells of a team is improved: where most of the team's cells are held fast, in two orders.
+fn steps_of(placement: &Placement, team: usize, loose: usize) -> Steps {
+    Steps {
+        passes: 1,
+        rounds: 2,
+        two_orders: loose <= placement.cells().cells_of(team).len() / 2,
+    }
+}
 
 /// The rounds in which deeds are asked.
 #[derive(Clone, Copy)]
@@ -365,7 +368,8 @@ fn all_stops(
     land: &Land,
 ) -> Result<Vec<Stop>, AllocError> {
     let Wishes { owns, wishes } = wishes_of(alloc, placement, owner, go)?;
-    let spots = plan_cells(alloc, land, wishes.as_slice(), &STEPS)?;
+    let steps = steps_of(placement, owner.team, owns.as_slice().len());
+    let spots = plan_cells(alloc, land, wishes.as_slice(), &steps)?;
     stops_of(alloc, owns.as_slice(), spots.as_slice())
 }
 

@@ -5,7 +5,7 @@
 //! least; those beside it make room. No contract says how good a plan is: a floor tests each place that it is asked for.
 //!
 //! ```
-//! let plan = plan_cells(Global, &land, &wishes, &Steps { passes: 2, rounds: 2 })?; // for each wish a spot or none
+//! let plan = plan_cells(Global, &land, &wishes, &Steps { passes: 2, rounds: 2, two_orders: false })?;
 //! ```
 #![tactic(auto)]
 
@@ -16,6 +16,7 @@ mod order;
 mod passes;
 mod plan;
 mod search;
+mod trial;
 
 pub use land::{Kinds, Land, Row, RowKind, Sites};
 pub use plan::{Spot, Steps, Wish, plan_cells};

@@ -87,3 +87,32 @@ pub(crate) fn order_of(
     }
     Ok(order)
 }
+
+/// What the order by widths is by.
+#[derive(Clone, Copy, PartialEq, Eq, PartialOrd, Ord)]
+struct Width {
+    /// The wider, the less.
+    narrowness: u32,
+    /// Its number, scattered.
+    scattered: u32,
+    number: u32,
+}
+
+/// The numbers of the cells, the widest first.
+pub(crate) fn widest_first(alloc: Global, wishes: &[Wish]) -> Result<Vec<u32>, AllocError> {
+    let mut widths = Vec::with_capacity(alloc, wishes.len())?;
+    for (number, wish) in wishes.iter().enumerate() {
+        let number = number_of(number);
+        widths.push(Width {
+            narrowness: u32::MAX - wish.width,
+            scattered: number.wrapping_mul(2_654_435_761),
+            number,
+        })?;
+    }
+    widths.sort_unstable();
+    let mut order = Vec::with_capacity(alloc, widths.len())?;
+    for width in &widths {
+        order.push(width.number)?;
+    }
+    Ok(order)
+}

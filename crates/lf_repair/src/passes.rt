@@ -188,3 +188,33 @@ pub(crate) fn long_way(alloc: Global, given: &Given, board: &Board) -> Result<i6
         None => Ok(0),
     }
 }
+
+/// What a plan is worth: the less, the better; what stands first counts first.
+#[derive(Clone, Copy, PartialEq, Eq, PartialOrd, Ord)]
+pub(crate) struct Worth {
+    /// How many cells have no place.
+    pub(crate) left: u64,
+    /// The longest way, and the sum of all.
+    pub(crate) longest: i64,
+    pub(crate) sum: i64,
+}
+
+/// What the places on the board are worth.
+pub(crate) fn worth_of(given: &Given, board: &Board) -> Worth {
+    let mut worth = Worth {
+        left: 0,
+        longest: 0,
+        sum: 0,
+    };
+    for (number, wish) in given.wishes.iter().enumerate() {
+        match board.place_of(number_of(number)) {
+            Some(gap) => {
+                let way = way_at(given, wish, &gap);
+                worth.longest = worth.longest.max(way);
+                worth.sum = worth.sum.saturating_add(way);
+            }
+            None => worth.left = worth.left.saturating_add(1),
+        }
+    }
+    worth
+}

@@ -1,13 +1,13 @@
 //! A plan: for each cell a place or none.
 
-ghost use Rattle.std.specs.Prelude.{◌≡◌, ◌+◌, ◌-◌, ◌*◌, ◌<◌, ◌^◌, IfOk, IsTrue, None, Some, length, set, slice_get, vec_len};
+ghost use Rattle.std.specs.Prelude.{◌≡◌, ◌⊎◌, ◌+◌, ◌-◌, ◌*◌, ◌<◌, ◌^◌, IfOk, IsTrue, None, Some, length, set, slice_get, vec_len};
 ghost use Rattle.lf_repair.specs.Plans.{IsFilledTo, IsPlan};
 
 use crate::board::Board;
-use crate::costs::How;
 use crate::land::{Kinds, Land};
-use crate::order::order_of;
-use crate::passes::{Given, long_way, nearest_alone, pass, place_all};
+use crate::order::{order_of, widest_first};
+use crate::passes::{Given, Worth, nearest_alone};
+use crate::trial::{Trial, how_in, try_order};
 use lf_packing::{Cell, Curve, Segment};
 use std::alloc::{AllocError, Global};
 
@@ -27,11 +27,13 @@ pub struct Spot {
     pub at: u32,
 }
 
-/// How many passes go over all cells, and how many rounds over those that are farthest off.
+/// How many passes go over all cells, how many rounds over those that are farthest off, and whether a second order of the cells is
+/// tried where the first leaves one without a place or sends it far.
 #[derive(Clone, Copy)]
 pub struct Steps {
     pub passes: usize,
     pub rounds: usize,
+    pub two_orders: bool,
 }
 
 /// How far so many sites reach.
@@ -111,7 +113,11 @@ fn note_spans(spots: &mut Vec<Option<Spot>>, given: &Given, segments: &[Segment]
 }
 
 /// Where each of the cells stands.
-fn spots_of(alloc: Global, given: &Given, board: &Board) -> Result<Vec<Option<Spot>>, AllocError>
+pub(crate) fn spots_of(
+    alloc: Global,
+    given: &Given,
+    board: &Board,
+) -> Result<Vec<Option<Spot>>, AllocError>
     ensures plan { IfOk result (λ spots. IsPlan given.now.land.now.spans.items given.now.wishes.now spots.items) }
     ensures count { IfOk result (λ spots. vec_len spots ≡ length given.now.wishes.now) }
 {
@@ -136,45 +142,35 @@ fn row_height(land: &Land) -> u32 {
     if height == u32::MAX { 1 } else { height }
 }
 
-/// Passes over all cells, and then rounds over those whose ways are the longest.
-fn improve(
-    alloc: Global,
-    given: &Given,
-    order: &[u32],
-    steps: &Steps,
-    how: &How,
-    board: &mut Board,
-) -> Result<(), AllocError> {
-    let mut curve = Curve::new(alloc);
-    for _ in 0..steps.passes {
-        pass(given, order, 0, how, board, &mut curve)?;
-    }
-    let long = long_way(alloc, given, board)?;
-    let last = How {
-        gaps: 12,
-        most: 160,
-        near: long,
-        weight: 10,
-    };
-    for _ in 0..steps.rounds {
-        pass(given, order, long, &last, board, &mut curve)?;
-    }
-    Ok(())
-}
-
 /// The order of the cells: those that are far from any place first.
-fn first_order(
-    alloc: Global,
-    given: &Given,
-    how: &How,
-    curve: &mut Curve,
-) -> Result<Vec<u32>, AllocError> {
-    let away = nearest_alone(alloc, given, how, curve)?;
+fn first_order(alloc: Global, given: &Given) -> Result<Vec<u32>, AllocError> {
+    let mut curve = Curve::new(alloc);
+    let away = nearest_alone(alloc, given, &how_in(given.height), &mut curve)?;
     order_of(alloc, given.wishes, away.as_slice(), given.height)
 }
 
-/// Plans a place for each cell: all in turn, then passes, then rounds over those farthest off. A cell with no spot found no room.
-/// Each cell that has one lies within its span there, and two cells of one span lie apart.
+/// A plan goes far if a cell of it has no spot or goes farther than so many rows.
+const FAR: i64 = 8;
+
+/// Whether a plan leaves a cell without a spot, or sends one far.
+fn goes_far(worth: &Worth, height: u32) -> bool {
+    0 < worth.left || FAR * (height as i64) < worth.longest
+}
+
+/// The spots of the better of two plans; of the first if they are worth the same.
+fn better(first: Trial, second: Trial) -> Vec<Option<Spot>>
+    ensures { (result ≡ first.spots) ⊎ (result ≡ second.spots) }
+{
+    if second.worth < first.worth {
+        second.spots
+    } else {
+        first.spots
+    }
+}
+
+/// Plans a place for each cell: all in turn, then passes, then rounds over those farthest off. Where that leaves a cell or sends one
+/// far, and two orders are asked for, it is done once more with the widest cells first, and the better plan taken. A cell with no
+/// spot found no room. Each cell that has one lies within its span there, and two cells of one span lie apart.
 ///
 /// `Err` if an allocation fails.
 pub fn plan_cells(
@@ -192,16 +188,12 @@ pub fn plan_cells(
         wishes,
         height,
     };
-    let mut curve = Curve::new(alloc);
-    let how = How {
-        gaps: 1,
-        most: 10,
-        near: 2 * height as i64,
-        weight: 3,
-    };
-    let order = first_order(alloc, &given, &how, &mut curve)?;
-    let mut board = Board::new(alloc, land, wishes.len())?;
-    place_all(&given, order.as_slice(), &how, &mut board, &mut curve)?;
-    improve(alloc, &given, order.as_slice(), steps, &how, &mut board)?;
-    spots_of(alloc, &given, &board)
+    let order = first_order(alloc, &given)?;
+    let first = try_order(alloc, &given, order.as_slice(), steps)?;
+    if !steps.two_orders || !goes_far(&first.worth, height) {
+        return Ok(first.spots);
+    }
+    let order = widest_first(alloc, wishes)?;
+    let second = try_order(alloc, &given, order.as_slice(), steps)?;
+    Ok(better(first, second))
 }

@@ -20,7 +20,6 @@ use std::marker::Model;
 ///
 /// A contract sees these lists, a rectangle that holds all rows, and the height of a row. Only `build` allocates; each look-up
 /// is by bisection.
-#[derive(Drop)]
 pub struct Ground {
     rows: RowsByY,
     segments: Segments,
@@ -29,6 +28,21 @@ pub struct Ground {
     soft: SoftSpans,
     extent: Rect,
     height: i64,
+}
+
+/// (Written out: the proof of a function that lets one go does not take it apart.)
+impl Drop for Ground {
+    fn drop(self) {
+        let Ground {
+            rows: _,
+            segments: _,
+            land: _,
+            strips: _,
+            soft: _,
+            extent: _,
+            height: _,
+        } = self;
+    }
 }
 
 impl Model for Ground {

@@ -1,4 +1,4 @@
-//! Tests of the command line and of tasks over files: what no clause says of them.
+//! Tests of tasks over files: what no clause says of them.
 #![tactic(auto)]
 
 #[cfg(test)]
@@ -7,5 +7,3 @@ mod shelf;
 mod states;
 #[cfg(test)]
 mod tasks;
-#[cfg(test)]
-mod words;

@@ -1,7 +1,8 @@
 use Rattle.std.proofs.Common.{◌≡◌, ◌⊎◌, inl, map, refl}
 use Rattle.std.proofs.lemmas.Result.{err_from_is_err_and}
 use Rattle.lf_floorplan.specs.declared.loaded.Loaded.{Loaded}
-use Rattle.lf_app.specs.Exits.{IsReported, IsUnreported}
+use Rattle.lf_designs.specs.Checks.{IsUnreported}
+use Rattle.lf_app.specs.Exits.{IsReported}
 use Rattle.lf_app.specs.States.{IsFloorFault, IsSeenOf}
 use Rattle.lf_app.specs.Work.{path_of}
 use Rattle.lf_app.proofs.TaskSteps.{comes_of, fails}

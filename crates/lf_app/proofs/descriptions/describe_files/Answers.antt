@@ -1,7 +1,7 @@
 use Rattle.std.proofs.Common.{◌≡◌, ◌⊎◌, inl, map, refl}
 use Rattle.std.proofs.lemmas.Result.{err_from_is_err_and}
+use Rattle.lf_designs.specs.Designs.{IsDesignFault, IsLibraryFault, no_library}
 use Rattle.lf_app.specs.Exits.{IsOpenUndescribed}
-use Rattle.lf_app.specs.Designs.{IsDesignFault, IsLibraryFault, no_library}
 use Rattle.lf_app.specs.Work.{path_of}
 use Rattle.lf_app.proofs.WorkSteps.{files_fail, first_fails, library_early, step_fails, weaker_ok}
 use Rattle.lf_app.proofs.descriptions.describe_files.Goals as goal

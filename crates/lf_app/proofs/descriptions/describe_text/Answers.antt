@@ -4,8 +4,8 @@ use Rattle.std.proofs.lemmas.Result.{err_from_is_err_and}
 use Rattle.lf_def.specs.Contents.{contents}
 use Rattle.lf_def.specs.Document.{Document, document_of}
 use Rattle.lf_floorplan.specs.declared.loaded.Loaded.{Loaded}
-use Rattle.lf_app.specs.declared.faults.TextKind.TheVariants.{Def}
-use Rattle.lf_app.specs.Designs.{IsDefRefusal, IsLoadRefusal, IsLoadedIn, IsRefused}
+use Rattle.lf_designs.specs.declared.faults.TextKind.TheVariants.{Def}
+use Rattle.lf_designs.specs.Designs.{IsDefRefusal, IsLoadRefusal, IsLoadedIn, IsRefused}
 use Rattle.lf_app.specs.Exits.{IsUnshown}
 use Rattle.lf_app.specs.States.{IsUnbegun}
 use Rattle.lf_app.specs.Work.{path_of}

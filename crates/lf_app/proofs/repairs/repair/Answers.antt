@@ -13,7 +13,7 @@ returns-clause-ok g c =
     let opened = c.in_ok-opened.opened in
     let of = c.in_ok-opened.ensures.ok in
     IfOk-weaker c.repair_opened.result _ _
-    (λ status is. record { text = opened.original.text.items; document = of.0; loaded = opened.loaded; opened = of.1; repaired = is })
+    (λ status is. record { text = opened.original.text.items; document = of.0; loaded = opened.loaded; opened = of.1; bounds = is.0; least = is.1; repaired = is.2 })
     (c.repair_opened.ensures.ok of.0 of.2)
 
 pub returns-clause-err : goal.returns-clause-err

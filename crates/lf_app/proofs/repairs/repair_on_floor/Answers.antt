@@ -3,6 +3,7 @@ use Rattle.std.proofs.lemmas.Result.{IfErr-weaker, err_from_is_err_and}
 use Rattle.lf_files.specs.Shelf.{Put}
 use Rattle.lf_app.specs.Exits.{IsNotPut, IsPut}
 use Rattle.lf_app.specs.Repairs.{IsJudged, kept_text}
+use Rattle.lf_app.specs.Telling.{IsReport}
 use Rattle.lf_app.specs.Work.{path_of}
 use Rattle.lf_app.proofs.Repairing.{memory_early, ok_and, unknown_early, unrepaired_as, untouched}
 use Rattle.lf_app.proofs.WorkSteps.{blames_as, early_blames, export_blames}
@@ -24,8 +25,11 @@ returns-clause-ok g c = λ document kept.
       run = λ l. c.in_ok-done.ensures.run l;
       only = c.in_ok-done.ensures.only;
       stay = λ to_stay. c.in_ok-done.ensures.kept to_stay;
+      report = c.in_ok-done.done.report.text.items;
+      tells = subst (λ (bounds : List ℕ). IsReport c.args.floor.now.frame (map (λ team. team.now) asked.teams.now) bounds floor c.in_ok-done.done.report.text.items)
+          c.deref.ensures.value c.in_ok-done.ensures.told;
       put = subst (λ (puts : Option (List Put)). IsPut (path_of asked.export) (path_of asked.lines) c.args.before.now.original.text.items document floor lines
-          (g.W.Sink.contents c.args.writer.now) (g.W.Sink.contents c.put_all.new.writer) puts (g.E.Exports.puts c.put_all.new.exports)) c.try_files.ensures.unput put;
+          c.in_ok-done.done.report.text.items (g.W.Sink.contents c.args.writer.now) (g.W.Sink.contents c.put_all.new.writer) puts (g.E.Exports.puts c.put_all.new.exports)) c.try_files.ensures.unput put;
       judged = subst (λ (n : ℕ). IsJudged floor n) (sym is) c.in_ok-done.ensures.judged;
     })
 

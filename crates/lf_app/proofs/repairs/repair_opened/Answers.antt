@@ -1,5 +1,5 @@
 use Rattle.std.proofs.Common.{◌≡◌, ◌∙◌, ◌+◌, ap, inl, inr, refl, subst, sym, List, length}
-use Rattle.std.proofs.lemmas.Result.{IfErr-weaker, err_from_is_err_and}
+use Rattle.std.proofs.lemmas.Result.{IfErr-weaker, IfOk-weaker, err_from_is_err_and}
 use Rattle.lf_teams.specs.Designs.{opening}
 use Rattle.lf_teams.specs.States.{FloorState}
 use Rattle.lf_teams.proofs.Openings.{opening_whole}
@@ -23,7 +23,10 @@ repair_on_floor-requires g c =
     }
 
 pub returns-clause-ok : goal.returns-clause-ok
-returns-clause-ok g c = λ document kept. rw c.in_ok-floor.ensures at (c.repair_on_floor.ensures.ok document kept)
+returns-clause-ok g c = λ document kept.
+    IfOk-weaker c.repair_on_floor.result _ _
+    (λ status is. (c.in_ok-least.least.items, record { many = c.in_ok-least.ensures.many; each = c.in_ok-least.ensures.each }, is))
+    (rw c.in_ok-floor.ensures at (c.repair_on_floor.ensures.ok document kept))
 
 pub returns-clause-err : goal.returns-clause-err
 returns-clause-err g c = IfErr-weaker c.repair_on_floor.result _ _ (λ fault both. (inr (rw c.in_ok-floor.ensures at both.0), both.1)) c.repair_on_floor.ensures.err

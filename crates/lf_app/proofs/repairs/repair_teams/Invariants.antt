@@ -2,6 +2,7 @@ use Rattle.std.proofs.Common.{◌≡◌, map}
 use Rattle.lf_rules.specs.Legalizer.{Legalizer}
 use Rattle.lf_command.specs.declared.command.LegalCells.TheVariants.{Stay}
 use Rattle.lf_app.specs.Repairs.{IsKeptRun, OnlyAsked, kept_text}
+use Rattle.lf_app.specs.Telling.{AreToldMore}
 use Rattle.lf_app.proofs.Repairing.{HaveStayed}
 use Rattle.lf_app.proofs.repairs.repair_teams.Given as goal
 
@@ -9,5 +10,6 @@ abbrev pub invariant-loop-number : goal.invariant-loop-number
 invariant-loop-number l = record {
   run : (lz : Legalizer) → IsKeptRun lz l.fn.floor (kept_text l.fn.lines) (kept_text l.lines) l.floor;
   only : OnlyAsked (map (λ team. team.now) l.asked.teams.now) l.fn.floor l.floor;
+  told : AreToldMore l.fn.floor.frame (map (λ team. team.now) l.asked.teams.now) l.fn.report l.report;
   stayed : l.asked.legal ≡ Stay → HaveStayed l.fn.floor l.floor l.number;
 }

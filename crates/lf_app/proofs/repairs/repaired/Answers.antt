@@ -1,5 +1,6 @@
 use Rattle.std.proofs.Common.{map}
 use Rattle.lf_app.proofs.Repairing.{as_many}
+use Rattle.lf_app.proofs.Telling.{all_told}
 use Rattle.lf_app.proofs.repairs.repaired.Goals as goal
 
 pub judge-requires : goal.judge-requires
@@ -13,3 +14,9 @@ returns-clause-run c = λ l. rw c.new-lines.ensures at (c.in_ok-repair_teams.ens
 
 pub returns-clause-kept : goal.returns-clause-kept
 returns-clause-kept c = λ to_stay. c.in_ok-repair_teams.ensures.kept to_stay
+
+pub returns-clause-told : goal.returns-clause-told
+returns-clause-told c =
+    all_told c.args.floor.now.frame (map (λ team. team.now) c.args.asked.now.teams.now) c.args.least.now c.repair_teams.new.floor
+    c.in_ok-report.report c.repair_teams.new.report c.judge.new.report c.in_ok-report.ensures.text c.in_ok-report.ensures.sums c.in_ok-report.ensures.least
+    c.in_ok-repair_teams.ensures.told c.in_ok-status.ensures.told

@@ -1,7 +1,7 @@
 use Rattle.lf_def.specs.declared.sample.TheConstants.{W_DEF}
 use Rattle.lf_teams.specs.Designs.{opening}
 use Rattle.lf_lef.specs.declared.sample.TheConstants.{W_LEF}
-use Rattle.lf_app.specs.Designs.{IsTextDesign, IsTextFault}
+use Rattle.lf_designs.specs.Designs.{IsTextDesign, IsTextFault}
 use Rattle.lf_app.specs.Exits.{IsLinesFault}
 use Rattle.lf_app.specs.Lines.{most_lines}
 use Rattle.lf_app.proofs.TaskSteps.{fails}

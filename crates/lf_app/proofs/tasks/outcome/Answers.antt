@@ -1,6 +1,6 @@
 use Rattle.std.proofs.lemmas.Result.{IfErr-weaker, IfOk-weaker}
 use Rattle.lf_command.specs.Command.{as_job}
-use Rattle.lf_app.specs.Designs.{AreWithSlots}
+use Rattle.lf_designs.specs.Designs.{AreWithSlots}
 use Rattle.lf_app.specs.Exits.{slots_of}
 use Rattle.lf_app.proofs.tasks.outcome.Goals as goal
 

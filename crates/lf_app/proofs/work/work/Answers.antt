@@ -1,6 +1,6 @@
 use Rattle.std.proofs.Common.{◌≡◌, inl, map, refl}
 use Rattle.std.proofs.lemmas.Result.{err_from_is_err_and}
-use Rattle.lf_app.specs.Designs.{IsDesignFault}
+use Rattle.lf_designs.specs.Designs.{IsDesignFault}
 use Rattle.lf_app.specs.Exits.{IsUndone}
 use Rattle.lf_app.specs.Surroundings.{io_of}
 use Rattle.lf_app.specs.Work.{IsDone, IsFault, path_of}

@@ -9,7 +9,7 @@ use Rattle.lf_teams.specs.Steps.{Gives, StaysShort, answer_at}
 use Rattle.lf_teams.specs.Teams.{IsTeamOf, setting}
 use Rattle.lf_teams.proofs.Kept.{verb_keeps}
 use Rattle.lf_teams.proofs.Serving.{kept_by, gives, stays_short, stays_untested}
-use Rattle.lf_floor.specs.Tables.{floor_in, frame_of, own_team, teams_in}
+use Rattle.lf_tables.specs.Tables.{floor_in, frame_of, own_team, teams_in}
 use Rattle.lf_floor.proofs.Rows.{each_team, floor_changed, served, tables_still, team_there}
 use Rattle.lf_floor.proofs.floor.serve_at.Goals as goal
 

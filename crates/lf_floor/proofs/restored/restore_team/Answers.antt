@@ -9,8 +9,8 @@ use Rattle.lf_placement.specs.Placings.{BoundsAt, places_of}
 use Rattle.lf_state.specs.declared.rows.SavedCell.{SavedCell}
 use Rattle.lf_state.specs.Saved.{team_view}
 use Rattle.lf_restore.specs.Saved.{map_two, restored_cell}
-use Rattle.lf_floor.specs.Tables.{cells_in}
-use Rattle.lf_floor.specs.declared.tables.Tables.{Tables}
+use Rattle.lf_tables.specs.Tables.{cells_in}
+use Rattle.lf_tables.specs.declared.tables.Tables.{Tables}
 use Rattle.lf_floor.proofs.Placing.{stands_there, still_awaits}
 use Rattle.lf_floor.proofs.Saving.{fit_is, others_are, own_cells, team_is}
 use Rattle.lf_floor.proofs.restored.restore_team.Goals as goal

@@ -1,7 +1,7 @@
 use Rattle.std.proofs.Common.{length, sym, ap, ◌∙◌, rules}
 use Rattle.lf_state.specs.Saved.{team_view, team_views}
 use Rattle.lf_restore.proofs.Framing.{due_many}
-use Rattle.lf_floor.specs.Tables.{frame_of, teams_in}
+use Rattle.lf_tables.specs.Tables.{frame_of, teams_in}
 use Rattle.lf_floor.proofs.Placing.{last_awaits, rest_awaits}
 use Rattle.lf_floor.proofs.Saving.{all_left, first_left, no_views, number_due, number_less, number_served, views_many, views_more}
 use Rattle.lf_floor.proofs.restored.restore_teams.Goals as goal

@@ -2,7 +2,7 @@ use Rattle.std.proofs.Common.{List, subst}
 use Rattle.lf_state.specs.declared.rows.TeamRow.{TeamRow}
 use Rattle.lf_state.specs.Saved.{team_views}
 use Rattle.lf_floor.specs.Saving.{PlacesTeams}
-use Rattle.lf_floor.specs.Tables.{floor_in}
+use Rattle.lf_tables.specs.Tables.{floor_in}
 use Rattle.lf_floor.proofs.Placing.{due_placed, each_awaits, floor_placed, tables_placed}
 use Rattle.lf_floor.proofs.restored.restored_by.Goals as goal
 

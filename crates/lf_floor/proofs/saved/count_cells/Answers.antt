@@ -4,7 +4,7 @@ use Rattle.lf_floorplan.specs.declared.frame.Frame.{Frame}
 use Rattle.lf_cells.specs.declared.cell.Cell.{Cell}
 use Rattle.lf_cells.specs.Cells.{Cells, cells_of}
 use Rattle.lf_cells.proofs.TeamIds.{ids_long}
-use Rattle.lf_floor.specs.Tables.{cells_in}
+use Rattle.lf_tables.specs.Tables.{cells_in}
 use Rattle.lf_floor.proofs.Saving.{cells_named, none_named}
 use Rattle.lf_floor.proofs.saved.count_cells.Goals as goal
 

@@ -3,7 +3,7 @@ use Rattle.lf_floorplan.specs.declared.frame.Frame.{Frame}
 use Rattle.lf_state.specs.Saved.{state_text}
 use Rattle.lf_restore.specs.Saved.{named}
 use Rattle.lf_floor.specs.Saving.{told}
-use Rattle.lf_floor.specs.Tables.{floor_in}
+use Rattle.lf_tables.specs.Tables.{floor_in}
 use Rattle.lf_floor.proofs.Saving.{named_many, tables_told, told_many}
 use Rattle.lf_floor.proofs.saved.put_tables.Goals as goal
 

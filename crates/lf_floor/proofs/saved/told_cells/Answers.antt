@@ -4,7 +4,7 @@ use Rattle.lf_cells.specs.Cells.{Cells, cells_of}
 use Rattle.lf_cells.proofs.TeamIds.{ids_long}
 use Rattle.lf_state.specs.Saved.{SavedTeam}
 use Rattle.lf_restore.specs.Saved.{saved_cell}
-use Rattle.lf_floor.specs.Tables.{cells_in}
+use Rattle.lf_tables.specs.Tables.{cells_in}
 use Rattle.lf_floor.proofs.Saving.{one_told}
 use Rattle.lf_floor.proofs.saved.told_cells.Goals as goal
 

@@ -2,7 +2,7 @@ use Rattle.std.proofs.Common.{length, ap, sym, ◌∙◌}
 use Rattle.std.proofs.lemmas.List.{length-map}
 use Rattle.lf_undo.specs.Stacks.{stack_of}
 use Rattle.lf_state.specs.Saved.{SavedTeam, moves_within}
-use Rattle.lf_floor.specs.Tables.{cells_in}
+use Rattle.lf_tables.specs.Tables.{cells_in}
 use Rattle.lf_floor.proofs.Saving.{one_told, there_told}
 use Rattle.lf_floor.proofs.saved.told_entries.Goals as goal
 

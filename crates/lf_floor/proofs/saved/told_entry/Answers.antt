@@ -5,7 +5,7 @@ use Rattle.lf_undo.specs.declared.moves.Move.{Move}
 use Rattle.lf_undo.specs.Stacks.{stack_of}
 use Rattle.lf_state.specs.Saved.{SavedTeam, moves_within}
 use Rattle.lf_restore.specs.Saved.{saved_cell}
-use Rattle.lf_floor.specs.Tables.{cells_in}
+use Rattle.lf_tables.specs.Tables.{cells_in}
 use Rattle.lf_floor.proofs.Saving.{get_mapped, one_told, option_twice, there_told}
 use Rattle.lf_floor.proofs.saved.told_entry.Goals as goal
 

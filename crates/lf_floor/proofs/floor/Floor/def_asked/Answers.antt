@@ -8,7 +8,7 @@ use Rattle.lf_proto.specs.Commands.{order_of}
 use Rattle.lf_teams.specs.Steps.{Answers}
 use Rattle.lf_teams.specs.Teams.{team_number}
 use Rattle.lf_floor.specs.Responses.{def_text}
-use Rattle.lf_floor.specs.Tables.{floor_in}
+use Rattle.lf_tables.specs.Tables.{floor_in}
 use Rattle.lf_floor.proofs.Asked.{def_answers, given_none, none_without_session, none_without_team}
 use Rattle.lf_floor.proofs.floor.Floor.def_asked.Goals as goal
 

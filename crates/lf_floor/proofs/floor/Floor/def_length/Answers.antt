@@ -6,7 +6,7 @@ use Rattle.lf_texts.specs.TeamText.{team_text}
 use Rattle.lf_teams.specs.States.{FloorState}
 use Rattle.lf_teams.specs.Teams.{team_number}
 use Rattle.lf_floor.specs.Responses.{def_text}
-use Rattle.lf_floor.specs.Tables.{frame_of}
+use Rattle.lf_tables.specs.Tables.{frame_of}
 use Rattle.lf_floor.proofs.Asked.{text_there}
 use Rattle.lf_floor.proofs.floor.Floor.def_length.Goals as goal
 

@@ -5,7 +5,7 @@ use Rattle.lf_teams.specs.Committed.{IsCommittedLegal}
 use Rattle.lf_teams.specs.States.{FloorState}
 use Rattle.lf_state.specs.Reading.{state_of}
 use Rattle.lf_restore.specs.Saved.{AreOfOneDesign, named, saved_design}
-use Rattle.lf_floor.specs.Tables.{floor_in}
+use Rattle.lf_tables.specs.Tables.{floor_in}
 use Rattle.lf_floor.proofs.Saving.{back_again, legal_told, only_memory}
 use Rattle.lf_floor.proofs.floor.Floor.restore.Goals as goal
 

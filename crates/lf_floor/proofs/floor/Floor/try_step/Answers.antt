@@ -5,7 +5,7 @@ use Rattle.lf_proto.specs.Commands.{order_of}
 use Rattle.lf_teams.specs.Steps.{StaysShort, answer_at}
 use Rattle.lf_teams.specs.Teams.{team_number}
 use Rattle.lf_teams.specs.Verbs.{is_tested}
-use Rattle.lf_floor.specs.Tables.{floor_in}
+use Rattle.lf_tables.specs.Tables.{floor_in}
 use Rattle.lf_teams.proofs.Answering.{bye_answers, none_answers, some_answers, some_short}
 use Rattle.lf_teams.proofs.Serving.{on_err_both}
 use Rattle.lf_floor.proofs.floor.Floor.try_step.Goals as goal

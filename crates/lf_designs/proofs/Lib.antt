@@ -1,0 +1,4 @@
+pub mod DesignSteps
+mod Opening
+mod Reporting
+mod Shown

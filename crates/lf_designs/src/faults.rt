@@ -1,0 +1,290 @@
+//! The message and the exit status of a task that was not done.
+
+ghost use Rattle.std.specs.Prelude.{◌≡◌, true, IsTrue, OnErr, OnOk, option_map};
+ghost use Rattle.std.specs.Io.KnownBytes.{Appends};
+ghost use Rattle.lf_designs.specs.Faults.{EndsWith, fault_line, fault_text, line_words, name_words, numbered, refusal_text, state_numbered};
+ghost use Rattle.lf_designs.specs.Faults.{state_refusal_text, status_of, told_text, unread_fault};
+ghost use Rattle.lf_designs.specs.declared.faults.Fault.TheVariants.{NoMemory};
+
+use crate::origins::put_second;
+use crate::refusals::{Refusal, StateRefusal};
+use crate::texts::{Unread, Unreadable};
+use itoa::Buffer;
+use lf_devices::{DeviceFault, Sink, send};
+use lf_lex::FaultNumber;
+use lf_state::FaultNumber as StateNumber;
+use std::alloc::AllocError;
+
+/// What a file is read as.
+#[derive(Clone, Copy, Debug, PartialEq, Eq)]
+pub enum TextKind {
+    /// A LEF text.
+    Lef,
+    /// The DEF text.
+    Def,
+    /// The text of a saved state.
+    State,
+}
+
+/// A file of the command line whose text is read.
+#[derive(Clone, Copy, Debug, PartialEq, Eq)]
+pub struct TextFile<'a> {
+    pub kind: TextKind,
+    /// The path, as it was given.
+    pub path: &'a str,
+}
+
+/// Why a port cannot be listened on, where the system says it.
+#[derive(Clone, Copy, Debug, PartialEq, Eq)]
+pub enum Unbound {
+    /// Another program listens on it.
+    InUse,
+    /// This user may not listen on it.
+    Denied,
+    /// Another reason.
+    Other,
+}
+
+/// Why a task was not done, with all that is printed of it.
+#[derive(Drop)]
+pub enum Fault<'a> {
+    /// The text of this file, or the design that it makes with the LEF texts, was refused, or an allocation for it failed.
+    Refused {
+        file: TextFile<'a>,
+        refusal: Refusal,
+    },
+    /// A file could not be read.
+    File(TextFile<'a>, Unreadable),
+    /// The text of the file of that path was refused: it tells no state of the design.
+    NoState(&'a str, StateRefusal),
+    /// No team of the design has this name.
+    NoTeam(&'a str),
+    /// Standard input could not be read.
+    ReadFault,
+    /// A reply could not be written.
+    WriteFault,
+    /// A line followed the last one that is answered.
+    TooManyLines,
+    /// An allocation for the lines failed.
+    OutOfMemory,
+    /// A report, or the line that the port is listened on, could not be written.
+    Output,
+    /// This port could not be listened on.
+    Bind(u16, Unbound),
+    /// A connection could not be accepted.
+    Accept,
+    /// The file of that path could not be written; it was to get the exported text.
+    Unwritten(&'a str),
+    /// The file of that path could not be written; it was to get the state.
+    Unsaved(&'a str),
+    /// The file of that path could not be written; it was to get the lines of a repair.
+    Unlisted(&'a str),
+    /// An allocation failed before the first line, or for a report.
+    NoMemory,
+    /// An allocation for the exported text, for the state, for a line of a description, or for a repair, failed.
+    NoRoom,
+}
+
+impl<'a> From<AllocError> for Fault<'a> {
+    ghost from_gives = { λ _ fault. fault ≡ NoMemory };
+
+    fn from(_error: AllocError) -> Fault<'a> {
+        Fault::NoMemory
+    }
+}
+
+/// How a task ended.
+#[derive(Clone, Copy, Debug, PartialEq, Eq)]
+pub struct Exit {
+    /// The exit status.
+    pub status: u8,
+    /// Whether all that is to be printed of the fault was written; true if there was no fault.
+    pub is_told: bool,
+}
+
+/// The number and the name of a refusal of reading or loading.
+fn numbered(number: FaultNumber) -> &'static [u8]
+    ensures { result.now ≡ numbered number }
+{
+    match number {
+        FaultNumber::BadToken => b"1 BadToken",
+        FaultNumber::UnexpectedEnd => b"2 UnexpectedEnd",
+        FaultNumber::Unexpected => b"3 Unexpected",
+        FaultNumber::BadNumber => b"4 BadNumber",
+        FaultNumber::WrongEnd => b"5 WrongEnd",
+        FaultNumber::UnknownStatement => b"6 UnknownStatement",
+        FaultNumber::NoUnits => b"7 NoUnits",
+        FaultNumber::NoSite => b"8 NoSite",
+        FaultNumber::NoRows => b"9 NoRows",
+        FaultNumber::VerticalRow => b"10 VerticalRow",
+        FaultNumber::BadStep => b"11 BadStep",
+        FaultNumber::RowOrient => b"12 RowOrient",
+        FaultNumber::RowsOverlap => b"13 RowsOverlap",
+        FaultNumber::NoMacro => b"14 NoMacro",
+        FaultNumber::NoSize => b"15 NoSize",
+        FaultNumber::NotWhole => b"16 NotWhole",
+        FaultNumber::SecondName => b"17 SecondName",
+        FaultNumber::SecondRegion => b"18 SecondRegion",
+        FaultNumber::NoRegion => b"19 NoRegion",
+        FaultNumber::TeamName => b"20 TeamName",
+        FaultNumber::FencesOverlap => b"21 FencesOverlap",
+        FaultNumber::TwoFences => b"22 TwoFences",
+        FaultNumber::TooMany => b"23 TooMany",
+        FaultNumber::OutOfMemory => b"24 OutOfMemory",
+    }
+}
+
+/// The number and the name of a refusal of a state text.
+fn state_numbered(number: StateNumber) -> &'static [u8]
+    ensures { result.now ≡ state_numbered number }
+{
+    match number {
+        StateNumber::UnexpectedEnd => b"2 UnexpectedEnd",
+        StateNumber::Unexpected => b"3 Unexpected",
+        StateNumber::BadNumber => b"4 BadNumber",
+        StateNumber::OtherVersion => b"25 OtherVersion",
+        StateNumber::OtherDesign => b"26 OtherDesign",
+        StateNumber::OutOfRange => b"27 OutOfRange",
+    }
+}
+
+/// Writes the number of the line that a refusal is about.
+fn put_line<W: Sink>(sink: &mut W, line: Option<usize>) -> Result<(), DeviceFault>
+    ensures ok { OnOk result (Appends (W.contents sink.old) (W.contents sink.new) (line_words line)) }
+    ensures failed { OnErr result (W.has_failed sink.new ≡ true) }
+    ensures held { W.holds sink.new ≡ W.holds sink.old }
+{
+    let Some(line) = line else {
+        return Ok(());
+    };
+    send(sink, b" line ")?;
+    send(sink, Buffer::new().format(line).as_bytes())
+}
+
+/// Writes the name that a refusal is about.
+fn put_name<W: Sink>(sink: &mut W, name: &Option<Vec<u8>>) -> Result<(), DeviceFault>
+    ensures ok { OnOk result (Appends (W.contents sink.old) (W.contents sink.new) (name_words (option_map (λ bytes. bytes.items) name.now))) }
+    ensures failed { OnErr result (W.has_failed sink.new ≡ true) }
+    ensures held { W.holds sink.new ≡ W.holds sink.old }
+{
+    let Some(name) = name else {
+        return Ok(());
+    };
+    send(sink, b" ")?;
+    send(sink, name)
+}
+
+/// Writes the text of a refusal.
+fn put_refusal<W: Sink>(sink: &mut W, refusal: &Refusal) -> Result<(), DeviceFault>
+    ensures ok { OnOk result (Appends (W.contents sink.old) (W.contents sink.new) (refusal_text refusal.now)) }
+    ensures failed { OnErr result (W.has_failed sink.new ≡ true) }
+    ensures held { W.holds sink.new ≡ W.holds sink.old }
+{
+    send(sink, numbered(refusal.number))?;
+    put_line(sink, refusal.line)?;
+    put_name(sink, &refusal.name)
+}
+
+/// Writes the text of a refusal of a state text.
+fn put_state_refusal<W: Sink>(sink: &mut W, refusal: &StateRefusal) -> Result<(), DeviceFault>
+    ensures ok { OnOk result (Appends (W.contents sink.old) (W.contents sink.new) (state_refusal_text refusal.now)) }
+    ensures failed { OnErr result (W.has_failed sink.new ≡ true) }
+    ensures held { W.holds sink.new ≡ W.holds sink.old }
+{
+    send(sink, state_numbered(refusal.number))?;
+    put_line(sink, Some(refusal.line))
+}
+
+/// Writes the text of a fault.
+fn put_fault<W: Sink>(sink: &mut W, fault: &Fault<'_>) -> Result<(), DeviceFault>
+    ensures ok { OnOk result (Appends (W.contents sink.old) (W.contents sink.new) (fault_text fault.now)) }
+    ensures failed { OnErr result (W.has_failed sink.new ≡ true) }
+    ensures held { W.holds sink.new ≡ W.holds sink.old }
+{
+    match fault {
+        Fault::Refused { refusal, .. } => put_refusal(sink, refusal),
+        Fault::File(_, _) => send(sink, b"File"),
+        Fault::NoState(_, refusal) => put_state_refusal(sink, refusal),
+        Fault::NoTeam(_) => send(sink, b"NoTeam"),
+        Fault::ReadFault => send(sink, b"ReadFault"),
+        Fault::WriteFault => send(sink, b"WriteFault"),
+        Fault::TooManyLines => send(sink, b"TooManyLines"),
+        Fault::OutOfMemory => send(sink, b"OutOfMemory"),
+        Fault::Output => send(sink, b"Output"),
+        Fault::Bind(_, _) => send(sink, b"Bind"),
+        Fault::Accept => send(sink, b"Accept"),
+        Fault::Unwritten(_) => send(sink, b"File"),
+        Fault::Unsaved(_) => send(sink, b"File"),
+        Fault::Unlisted(_) => send(sink, b"File"),
+        Fault::NoMemory => send(sink, b"24 OutOfMemory"),
+        Fault::NoRoom => send(sink, b"24 OutOfMemory"),
+    }
+}
+
+/// Writes the line of a fault, without allocating.
+pub fn write_fault<W: Sink>(sink: &mut W, fault: &Fault<'_>) -> Result<(), DeviceFault>
+    ensures ok { OnOk result (Appends (W.contents sink.old) (W.contents sink.new) (fault_line fault.now)) }
+    ensures failed { OnErr result (W.has_failed sink.new ≡ true) }
+    ensures held { W.holds sink.new ≡ W.holds sink.old }
+{
+    send(sink, b"lefence: ")?;
+    put_fault(sink, fault)?;
+    send(sink, b"\n")
+}
+
+/// The exit status of a fault: 1 for `Refused`, `NoState`, `NoTeam`, `NoMemory` and `NoRoom`, else 3.
+pub fn status_of(fault: &Fault<'_>) -> u8
+    ensures { result ≡ status_of fault.now }
+{
+    match fault {
+        Fault::Refused { .. } => 1,
+        Fault::NoState(_, _) => 1,
+        Fault::NoTeam(_) => 1,
+        Fault::NoMemory => 1,
+        Fault::NoRoom => 1,
+        _ => 3,
+    }
+}
+
+/// The end of a task that is done, with this status.
+pub fn done(status: u8) -> Exit
+    ensures status { result.status ≡ status }
+    ensures told { IsTrue result.is_told }
+{
+    Exit {
+        status,
+        is_told: true,
+    }
+}
+
+/// Writes all that is printed of a fault: its line, and a second one where a file, a line of it, a port or a team is at fault.
+fn put_told<W: Sink>(sink: &mut W, fault: &Fault<'_>) -> Result<(), DeviceFault>
+    ensures ok { OnOk result (Appends (W.contents sink.old) (W.contents sink.new) (told_text fault.now)) }
+    ensures failed { OnErr result (W.has_failed sink.new ≡ true) }
+    ensures held { W.holds sink.new ≡ W.holds sink.old }
+{
+    write_fault(sink, fault)?;
+    put_second(sink, fault)
+}
+
+/// Tells a fault, and returns how the task ends; a failure to tell it is no further fault.
+pub fn tell<F: Sink>(faults: &mut F, fault: &Fault<'_>) -> Exit
+    ensures ends { EndsWith fault.now (F.contents faults.old) (F.contents faults.new) (F.has_failed faults.new) result }
+    ensures faults_held { F.holds faults.new ≡ F.holds faults.old }
+{
+    let told = put_told(faults, fault);
+    Exit {
+        status: status_of(fault),
+        is_told: told.is_ok(),
+    }
+}
+
+/// The fault of a file whose text was not read.
+pub(crate) fn unread_fault<'a>(file: TextFile<'a>, unread: Unread) -> Fault<'a>
+    ensures { result ≡ unread_fault file.entry unread }
+{
+    match unread {
+        Unread::File(why) => Fault::File(file, why),
+        Unread::OutOfMemory => Fault::NoMemory,
+    }
+}

@@ -1,0 +1,17 @@
+pub mod Reporting
+pub mod FirstIllegal
+pub mod Seeking
+pub mod Moves
+pub mod Fitting
+pub mod Judging
+pub mod Swaps
+pub mod Undoing
+pub mod Unplaced
+pub mod Padding
+pub mod Unpadded
+pub mod Reverting
+pub mod Committing
+pub mod Sending
+pub mod Marking
+pub mod Standing
+pub mod Ends
