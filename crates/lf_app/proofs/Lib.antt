@@ -1,9 +1,2 @@
-mod Answering
-mod Copying
-mod Judging
-mod Looking
 mod Performing
-mod Repairing
 mod TaskSteps
-mod Telling
-mod WorkSteps

@@ -1,9 +1,9 @@
-//! The program: what it does for each command, and the loop that answers lines.
+//! The program: what it does for each command.
 //!
 //! `perform` does a `Task` over the files and the network of a runtime. `perform_over` does it over any
 //! files that are read (`Texts`) and written (`Exports`), services (`Services`) and devices, and its contract says of each what was
 //! done. `Task`, `UsageFault`, `command_of`, `Help` and `help_of` are those of `lf_command`; `Texts`, `Fault` and `Exit` are those of
-//! `lf_designs`, which reads and loads designs and tells faults.
+//! `lf_designs`, which reads and loads designs and tells faults; `Services` and `answer_lines` are those of `lf_work`.
 //!
 //! Status 0 or 4: the task is done, and no fault is written. The design is that of the LEF texts, in the order of the words, and of
 //! the DEF text, within the standard limits but for the number of session slots, where one is asked for; a demo has the built-in
@@ -28,23 +28,7 @@
 //! ```
 #![tactic(auto)]
 
-mod checks;
-mod descriptions;
-mod exported;
-mod judged;
-mod kept_lines;
-mod lines;
-mod outputs;
-mod repairs;
-mod saved;
-mod seen;
-mod services;
-mod sources;
-mod states;
-mod surroundings;
 mod tasks;
-mod twins;
-mod work;
 
 pub use lf_command::{
     Help, LegalCells, Slots, Subcommand, Task, UsageFault, command_of, complaint_of, help_of,
@@ -56,7 +40,5 @@ pub use lf_designs::{
 pub use lf_devices::{FromRead, ToWrite};
 pub use lf_files::FileExports;
 pub use lf_server::{Acceptor, ClientReader, ClientWriter, Connection, Offer};
-pub use lines::answer_lines;
-pub use services::{NetServices, Services};
-pub use surroundings::Surroundings;
+pub use lf_work::{NetServices, Services, Surroundings, answer_lines};
 pub use tasks::{perform, perform_over};

@@ -7,21 +7,13 @@ ghost use Rattle.lf_teams.specs.Designs.{opening};
 ghost use Rattle.lf_teams.specs.States.{FloorState};
 ghost use Rattle.lf_designs.specs.Designs.{IsTextDesign, IsTextFault};
 ghost use Rattle.lf_designs.specs.Faults.{IsEarly};
-ghost use Rattle.lf_app.specs.Exits.{AsksForNoFile, AsksForNoState, Ends, IsAnswered, IsJobFault, IsJobFaultWithin, IsJobStop, IsLinesFault};
-ghost use Rattle.lf_app.specs.Exits.{IsOutcome, IsOutcomeWithin, alone, reads_of, slots_of};
-ghost use Rattle.lf_app.specs.Faults.{BlamesStreams, IsDone, IsFailure};
-ghost use Rattle.lf_app.specs.Lines.{most_lines};
-ghost use Rattle.lf_app.specs.Services.{IsOfferOf};
-ghost use Rattle.lf_app.specs.Surroundings.{BlamesOver, IsReady, Keeps, io_of};
+ghost use Rattle.lf_work.specs.Exits.{IsAnswered, IsJobStop, IsLinesFault, alone};
+ghost use Rattle.lf_work.specs.Faults.{BlamesStreams, IsDone, IsFailure};
+ghost use Rattle.lf_work.specs.Lines.{most_lines};
+ghost use Rattle.lf_work.specs.Surroundings.{BlamesOver, IsReady, Keeps, io_of};
+ghost use Rattle.lf_app.specs.Exits.{AsksForNoFile, AsksForNoState, Ends, IsJobFault, IsJobFaultWithin, IsOutcome, IsOutcomeWithin, reads_of, slots_of};
+ghost use Rattle.lf_app.specs.Offers.{IsOfferOf};
 
-use crate::checks::check;
-use crate::descriptions::describe_files;
-use crate::outputs::Outputs;
-use crate::repairs::{RepairAsked, repair};
-use crate::services::{NetServices, Services};
-use crate::sources::Lines;
-use crate::surroundings::Surroundings;
-use crate::work::{Inputs, answer_over, work};
 use lf_command::{Slots, Task};
 use lf_def::W_DEF;
 use lf_designs::{Exit, Fault, FileTexts, Texts, design_of_texts, done, limits_with, tell};
@@ -29,16 +21,14 @@ use lf_devices::{FromRead, Sink, Source, ToWrite};
 use lf_files::{Exports, FileExports};
 use lf_frame::Limits;
 use lf_lef::W_LEF;
+use lf_work::{
+    Inputs, Lines, NetServices, Outputs, RepairAsked, Services, Surroundings, answer_over, check,
+    describe_files, repair, work_on_files,
+};
 use std::alloc::Global;
 use std::io::{Read, Write};
 use std::net::Net;
 use std::rt::Files;
-
-/// The exit status of a task that was done.
-pub(crate) const DONE: u8 = 0;
-
-/// The exit status of a check, a description or a repair that was done where the design is not fully legal.
-pub(crate) const ILLEGAL: u8 = 4;
 
 /// Answers the lines of the reader over the design that the program holds.
 fn demo<'a, R: Source, W: Sink>(
@@ -107,7 +97,7 @@ fn outcome_within<'a, T: Texts, E: Exports, V: Services, R: Source, W: Sink, F>(
                 export: *export,
                 save: *save,
             };
-            work(alloc, around, inputs, lines, outputs)
+            work_on_files(alloc, around, inputs, lines, outputs)
         }
         Task::Serve {
             def,
@@ -133,7 +123,7 @@ fn outcome_within<'a, T: Texts, E: Exports, V: Services, R: Source, W: Sink, F>(
                 export: *export,
                 save: *save,
             };
-            work(alloc, around, inputs, lines, outputs)
+            work_on_files(alloc, around, inputs, lines, outputs)
         }
         Task::Check {
             def,

@@ -1,0 +1,10 @@
+-- Services that jobs offer.
+use Rattle.std.specs.Prelude.{◌≡◌, List, Option}
+use Rattle.lf_command.specs.Command.{Job, serve}
+use Rattle.lf_server.specs.declared.accepting.Offer.{Offer}
+use Rattle.lf_work.specs.Services.{OffersLocal}
+
+-- what a job offers: the service that it is, and nothing if it is none
+abbrev pub IsOfferOf : Job → Option (List Offer) → Option (List Offer) → Type 0
+IsOfferOf (serve def lefs state slots port connections save export) old new = OffersLocal port connections old new
+IsOfferOf _ old new = new ≡ old

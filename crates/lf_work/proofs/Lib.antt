@@ -1,0 +1,9 @@
+pub mod Answering
+mod Copying
+pub mod DesignSteps
+mod Judging
+mod Looking
+mod Named
+mod Repairing
+mod Telling
+pub mod WorkSteps

@@ -1,0 +1,139 @@
+//! The text that is exported: that of the design, with the committed places of a floor in it.
+
+ghost use Rattle.std.specs.Prelude.{◌≡◌, ◌||◌, ℕ, Bool, List, None, Option, Some, IfErr, OnErr, OnOk, map, option_map};
+ghost use Rattle.lf_files.specs.Shelf.{is_file};
+ghost use Rattle.lf_def.specs.Document.{Document};
+ghost use Rattle.lf_floorplan.specs.declared.place.Place.{Place};
+ghost use Rattle.lf_teams.specs.Places.{AreCommittedPlaces};
+ghost use Rattle.lf_write.specs.Export.{CanBeRenewed, clause_of, renewed};
+ghost use Rattle.lf_work.specs.Exits.{IsExported};
+ghost use Rattle.lf_work.specs.Faults.{ExportFails, IsExportFault};
+
+use lf_designs::{Fault, Original};
+use lf_files::{Exports, Pieces, Unwritten};
+use lf_floor::{CommittedPlaces, Floor};
+use lf_floorplan::Place;
+use lf_legalize::IndexSeeker;
+use lf_write::{Clauses, Given, clauses_serve, write_export};
+use std::io;
+use std::io::Write;
+use std::marker::Model;
+
+/// The text, which is written from what it was read from; places are looked up one by one.
+///
+/// Contracts see what it was read from, its clauses and the places.
+#[derive(Drop)]
+struct ExportedText<'a> {
+    text: &'a [u8],
+    clauses: &'a Clauses,
+    places: CommittedPlaces<'a>,
+}
+
+impl<'a> Model for ExportedText<'a> {
+    ghost use Rattle.std.specs.Prelude.{ℕ, List, Option};
+    ghost use Rattle.lf_floorplan.specs.declared.place.Place.{Place};
+    ghost use Rattle.lf_write.specs.Export.{CanBeRenewed, ClauseFacts};
+
+    ghost Value = { List ℕ × List ClauseFacts × List (ℕ × Option Place) };
+
+    ghost view = { λ e. (e.text.now, e.clauses.now, e.places) };
+
+    ghost invariant = { λ e. CanBeRenewed e.text.now e.clauses.now e.places };
+}
+
+impl<'a> Given for ExportedText<'a> {
+    ghost places = { λ e. e.2 };
+
+    fn count(&self) -> usize {
+        self.places.len()
+    }
+
+    fn place(&self, at: usize) -> Option<(usize, Option<Place>)> {
+        self.places.at(at)
+    }
+}
+
+impl<'a> Pieces for ExportedText<'a> {
+    ghost text = { λ e. renewed e.0 e.1 e.2 };
+
+    fn write_to<W: Write>(&self, writer: &mut W) -> io::Result<()> {
+        write_export(writer, self.text, self.clauses, self)
+    }
+}
+
+/// The text with these clauses, and the committed places of the floor in it.
+fn exported_text<'a>(
+    floor: &'a Floor<IndexSeeker>,
+    text: &'a [u8],
+    clauses: &'a Clauses,
+) -> ExportedText<'a>
+    requires fits { (places : List (ℕ × Option Place)) → AreCommittedPlaces floor.now places → CanBeRenewed text.now clauses.now places }
+    ensures { (places : List (ℕ × Option Place)) × AreCommittedPlaces floor.now places
+        × (result ≡ (text.now, clauses.now, places)) }
+{
+    ExportedText {
+        text,
+        clauses,
+        places: floor.committed(),
+    }
+}
+
+/// The fault of a text that is not put into its file.
+fn export_fault<'f>(path: &'f str, unwritten: Unwritten) -> Fault<'f>
+    ensures fault { IsExportFault (Some path.now) result }
+    ensures fails { (before now : Bool) → now ≡ (is_file unwritten || before) → ExportFails result before now }
+{
+    match unwritten {
+        Unwritten::File => Fault::Unwritten(path),
+        Unwritten::OutOfMemory => Fault::NoRoom,
+    }
+}
+
+/// Makes sure, as far as that shows beforehand, that a text can be written to the file of that path, if one is given.
+pub(crate) fn try_export<'a, E: Exports>(
+    path: Option<&'a str>,
+    exports: &mut E,
+) -> Result<(), Fault<'a>>
+    ensures err { IfErr result (IsExportFault (option_map (λ path. path.now) path.entry)) }
+    ensures fails { IfErr result (λ fault. ExportFails fault (E.has_failed exports.old) (E.has_failed exports.new)) }
+    ensures sound { OnOk result (E.has_failed exports.new ≡ E.has_failed exports.old) }
+    ensures unput { E.puts exports.new ≡ E.puts exports.old }
+    ensures unasked { option_map (λ path. path.now) path.entry ≡ None → exports.new ≡ exports.old }
+{
+    match path {
+        None => Ok(()),
+        Some(path) => match exports.try_path(path) {
+            Ok(()) => Ok(()),
+            Err(unwritten) => Err(export_fault(path, unwritten)),
+        },
+    }
+}
+
+/// Writes the exported text to the file of that path, if one is given.
+pub(crate) fn export_to<'a, E: Exports>(
+    floor: &Floor<IndexSeeker>,
+    original: &Original,
+    path: Option<&'a str>,
+    exports: &mut E,
+) -> Result<(), Fault<'a>>
+    requires fits { (places : List (ℕ × Option Place)) → AreCommittedPlaces floor.now places
+        → CanBeRenewed original.now.text.items original.now.clauses places }
+    ensures ok { (document : Document) → original.now.clauses ≡ map (clause_of original.now.text.items) document.components
+        → OnOk result (IsExported (option_map (λ path. path.now) path.entry) original.now.text.items document floor.now
+        (E.puts exports.old) (E.puts exports.new)) }
+    ensures err { IfErr result (IsExportFault (option_map (λ path. path.now) path.entry)) }
+    ensures fails { IfErr result (λ fault. ExportFails fault (E.has_failed exports.old) (E.has_failed exports.new)) }
+    ensures sound { OnOk result (E.has_failed exports.new ≡ E.has_failed exports.old) }
+    ensures unput { OnErr result (E.puts exports.new ≡ E.puts exports.old) }
+    ensures unasked { option_map (λ path. path.now) path.entry ≡ None → exports.new ≡ exports.old }
+{
+    clauses_serve();
+    let Some(path) = path else {
+        return Ok(());
+    };
+    let exported = exported_text(floor, &original.text, &original.clauses);
+    match exports.put(path, &exported) {
+        Ok(()) => Ok(()),
+        Err(unwritten) => Err(export_fault(path, unwritten)),
+    }
+}

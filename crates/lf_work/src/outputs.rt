@@ -1,0 +1,69 @@
+//! The files that work on a design writes once its lines are answered: the exported text, and then the state.
+
+ghost use Rattle.std.specs.Prelude.{◌≡◌, ◌⊎◌, ℕ, List, None, Option, IfErr, OnErr, OnOk, map};
+ghost use Rattle.lf_def.specs.Document.{Document};
+ghost use Rattle.lf_files.specs.Shelf.{Put};
+ghost use Rattle.lf_floorplan.specs.declared.place.Place.{Place};
+ghost use Rattle.lf_teams.specs.Places.{AreCommittedPlaces};
+ghost use Rattle.lf_write.specs.Export.{CanBeRenewed, clause_of};
+ghost use Rattle.lf_work.specs.Exits.{IsExported};
+ghost use Rattle.lf_work.specs.Faults.{ExportFails, IsExportFault, IsSaveFault};
+ghost use Rattle.lf_work.specs.States.{IsSaved};
+ghost use Rattle.lf_work.specs.Work.{path_of};
+
+use crate::exported::{export_to, try_export};
+use crate::saved::{save_to, try_save};
+use lf_designs::{Fault, Original};
+use lf_files::Exports;
+use lf_floor::Floor;
+use lf_legalize::IndexSeeker;
+
+/// The paths of what is written, each if it is asked for.
+#[derive(Clone, Copy)]
+pub struct Outputs<'a> {
+    /// That of the exported text.
+    pub export: Option<&'a str>,
+    /// That of the state.
+    pub save: Option<&'a str>,
+}
+
+/// Makes sure, as far as that shows beforehand, that what is asked for can be written.
+pub(crate) fn try_outputs<'a, E: Exports>(
+    outputs: Outputs<'a>,
+    exports: &mut E,
+) -> Result<(), Fault<'a>>
+    ensures err { IfErr result (λ fault. IsExportFault (path_of outputs.entry.export) fault ⊎ IsSaveFault (path_of outputs.entry.save) fault) }
+    ensures fails { IfErr result (λ fault. ExportFails fault (E.has_failed exports.old) (E.has_failed exports.new)) }
+    ensures sound { OnOk result (E.has_failed exports.new ≡ E.has_failed exports.old) }
+    ensures unput { E.puts exports.new ≡ E.puts exports.old }
+    ensures unasked { path_of outputs.entry.save ≡ None → path_of outputs.entry.export ≡ None → exports.new ≡ exports.old }
+{
+    try_export(outputs.export, exports)?;
+    try_save(outputs.save, exports)
+}
+
+/// Writes what is asked for: the exported text and then the state of the floor.
+pub(crate) fn put_outputs<'a, E: Exports>(
+    floor: &Floor<IndexSeeker>,
+    original: &Original,
+    outputs: Outputs<'a>,
+    exports: &mut E,
+) -> Result<(), Fault<'a>>
+    requires fits { (places : List (ℕ × Option Place)) → AreCommittedPlaces floor.now places
+        → CanBeRenewed original.now.text.items original.now.clauses places }
+    ensures ok { (document : Document) → original.now.clauses ≡ map (clause_of original.now.text.items) document.components
+        → OnOk result ((between : Option (List Put))
+        × IsExported (path_of outputs.entry.export) original.now.text.items document floor.now (E.puts exports.old) between
+        × IsSaved (path_of outputs.entry.save) floor.now between (E.puts exports.new)) }
+    ensures err { (document : Document) → original.now.clauses ≡ map (clause_of original.now.text.items) document.components
+        → IfErr result (λ fault. (IsExportFault (path_of outputs.entry.export) fault × (E.puts exports.new ≡ E.puts exports.old))
+        ⊎ (IsSaveFault (path_of outputs.entry.save) fault
+        × IsExported (path_of outputs.entry.export) original.now.text.items document floor.now (E.puts exports.old) (E.puts exports.new))) }
+    ensures fails { IfErr result (λ fault. ExportFails fault (E.has_failed exports.old) (E.has_failed exports.new)) }
+    ensures sound { OnOk result (E.has_failed exports.new ≡ E.has_failed exports.old) }
+    ensures unput { path_of outputs.entry.save ≡ None → OnErr result (E.puts exports.new ≡ E.puts exports.old) }
+    ensures unasked { path_of outputs.entry.save ≡ None → path_of outputs.entry.export ≡ None → exports.new ≡ exports.old }
+{
+    export_to(floor, original, outputs.export, exports)?;
+    save_to(floor, outputs.save, exports)
+}

@@ -1,0 +1,91 @@
+//! The design that is looked at: as it was loaded, or as its cells stand in a saved state.
+//!
+//! A floor keeps the design that it began with, so it begins with a copy of this one; its cells are then looked up by their names.
+
+ghost use Rattle.std.specs.Prelude.{◌≡◌, ◌⊎◌, ◌+◌, IfErr, IfOk, length, map};
+ghost use Rattle.lf_floorplan.specs.declared.loaded.Loaded.{Loaded};
+ghost use Rattle.lf_floorplan.specs.Design.{MakeDesign};
+ghost use Rattle.lf_teams.specs.Designs.{opening};
+ghost use Rattle.lf_teams.specs.States.{FloorState};
+ghost use Rattle.lf_designs.specs.declared.faults.Fault.TheVariants.{NoMemory};
+ghost use Rattle.lf_work.specs.Standing.{stood};
+ghost use Rattle.lf_work.specs.States.{IsFileState, IsSeen, IsStateFileFault, IsStood, IsUnbegun};
+ghost use Rattle.lf_work.specs.Twins.{cells_in};
+ghost use Rattle.lf_work.specs.Work.{path_of};
+
+use crate::states::restore_file;
+use crate::twins::{copy_cells, design_of, twin_of};
+use crate::work::floor_of;
+use lf_designs::{Fault, Texts};
+use lf_floor::Floor;
+use lf_floorplan::{CellParts, Frame, Loaded, LoadedCells};
+use lf_legalize::IndexSeeker;
+use std::alloc::Global;
+
+/// The floor of the design in the state that the file of that path tells.
+fn floor_in_state<'a, T: Texts>(
+    alloc: Global,
+    texts: &T,
+    design: Loaded,
+    path: &'a str,
+) -> Result<Floor<IndexSeeker>, Fault<'a>>
+    ensures ok { IfOk result (IsFileState (T.gives texts.now) path.now (opening design)) }
+    ensures many { IfOk result (λ floor. length floor.teams ≡ length design.frame.teams + 1) }
+    ensures err { IfErr result (λ fault. (fault ≡ NoMemory) ⊎ IsStateFileFault (T.gives texts.now) path.now (opening design) fault) }
+{
+    let floor = floor_of(alloc, design)?;
+    restore_file(alloc, texts, floor, path)
+}
+
+/// The cells of a design of this frame, each where it stands in the state that the file of that path tells.
+fn cells_in_state<'a, T: Texts>(
+    alloc: Global,
+    texts: &T,
+    frame: &Frame,
+    parts: &CellParts,
+    path: &'a str,
+) -> Result<LoadedCells, Fault<'a>>
+    requires whole { length parts.now.names ≡ length parts.now.cells.items }
+    requires design { MakeDesign frame.now (cells_in parts.now) }
+    ensures ok { (design : Loaded) → design.frame ≡ frame.now → design.cells ≡ cells_in parts.now → IfOk result (λ cells. (floor : FloorState)
+        × IsFileState (T.gives texts.now) path.now (opening design) floor × (cells ≡ map (stood floor) design.cells)) }
+    ensures err { (design : Loaded) → design.frame ≡ frame.now → design.cells ≡ cells_in parts.now → IfErr result (λ fault. (fault ≡ NoMemory)
+        ⊎ IsStateFileFault (T.gives texts.now) path.now (opening design) fault) }
+{
+    let twin = twin_of(alloc, frame, parts)?;
+    let floor = floor_in_state(alloc, texts, twin, path)?;
+    let cells = copy_cells(alloc, parts, Some(floor.placement().cells()))?;
+    Ok(cells)
+}
+
+/// The design as it stands in the state that the file of that path tells.
+fn stood_in_state<'a, T: Texts>(
+    alloc: Global,
+    texts: &T,
+    design: Loaded,
+    path: &'a str,
+) -> Result<Loaded, Fault<'a>>
+    ensures ok { IfOk result (IsStood (T.gives texts.now) path.now design) }
+    ensures err { IfErr result (λ fault. (fault ≡ NoMemory) ⊎ IsStateFileFault (T.gives texts.now) path.now (opening design) fault) }
+{
+    let Loaded { frame, cells } = design;
+    let parts = cells.into_parts();
+    let stood = cells_in_state(alloc, texts, &frame, &parts, path)?;
+    Ok(design_of(frame, stood))
+}
+
+/// The design as it is looked at: as it was loaded, or in the state that the file of that path tells, if one is given.
+pub(crate) fn seen<'a, T: Texts>(
+    alloc: Global,
+    texts: &T,
+    design: Loaded,
+    state: Option<&'a str>,
+) -> Result<Loaded, Fault<'a>>
+    ensures ok { IfOk result (IsSeen (T.gives texts.now) (path_of state.entry) design) }
+    ensures err { IfErr result (IsUnbegun (T.gives texts.now) (path_of state.entry) design) }
+{
+    match state {
+        None => Ok(design),
+        Some(path) => stood_in_state(alloc, texts, design, path),
+    }
+}

@@ -1,0 +1,52 @@
+#!/usr/bin/env python3
+"""Prints the folder in which ./test is to have the provers put their temporary files.
+
+usage: tools/room.py
+
+It is the one in memory, where that may hold programs and has room for all of them beside the checks themselves; else the usual one. Each
+check writes up to 400 MB of small files there, and what is proved fills 6 GB of disk beside them.
+"""
+
+from __future__ import annotations
+
+import os
+import subprocess
+import tempfile
+from pathlib import Path
+
+from lanes import CHECK, lanes, memory
+
+IN_MEMORY = Path("/dev/shm")
+# What a check, and the folder that its must-fail edits share, take of it at most, in bytes.
+FILES = 1_000_000_000
+
+
+def holds_programs(folder: Path) -> bool:
+    """Whether programs may be run there."""
+    try:
+        with tempfile.TemporaryDirectory(dir=folder) as name:
+            program = Path(name) / "program"
+            program.write_text("#!/bin/sh\n", encoding="ascii")
+            program.chmod(0o755)
+            return subprocess.run([program], check=False).returncode == 0
+    except OSError:
+        return False
+
+
+def has_room(folder: Path, checks: int) -> bool:
+    """Whether the files of that many checks fit into it, and into memory beside the checks."""
+    try:
+        found = os.statvfs(folder)
+    except OSError:
+        return False
+    return found.f_bavail * found.f_frsize >= checks * FILES and memory() >= checks * (CHECK + FILES)
+
+
+def room() -> str:
+    if has_room(IN_MEMORY, lanes()) and holds_programs(IN_MEMORY):
+        return str(IN_MEMORY)
+    return tempfile.gettempdir()
+
+
+if __name__ == "__main__":
+    print(room())
