@@ -36,19 +36,20 @@ ENDED = re.compile(r"^rt: ([a-z_]+) (proved$|is kept)")
 
 def lay_out(copy: Path, crates: list[str], listed: dict[str, list[str]]) -> None:
     """Makes a repository of these crates alone."""
+    copy.mkdir()
     for crate in crates:
         shutil.copytree(TOP / "crates" / crate, copy / "crates" / crate, ignore=UNREAD)
     (copy / "crates.txt").write_text("".join(f"{crate}: {' '.join(listed[crate])}\n" for crate in crates), encoding="utf-8")
     shutil.copy(TOP / "HANDLES", copy)
 
 
-def lines_of_build(copy: Path) -> Iterator[str]:
-    """The lines that rt prints, each written to the log too; the last is its status."""
+def lines_of_build(copy: Path, files: Path) -> Iterator[str]:
+    """The lines that rt prints, each written to the log too; the last is its status. Temporary files are put into that folder."""
     with open(LOG, "w", encoding="utf-8") as log:
         build = subprocess.Popen(
             ["rt", "ci"],
             cwd=copy,
-            env={"RT_JOBS": str(lanes()), **os.environ},
+            env={"RT_JOBS": str(lanes()), **os.environ, "TMPDIR": str(files)},
             stdin=subprocess.DEVNULL,
             stdout=subprocess.PIPE,
             stderr=subprocess.STDOUT,
@@ -66,11 +67,11 @@ def lines_of_build(copy: Path) -> Iterator[str]:
             build.wait()
 
 
-def is_proved(copy: Path, crates: list[str]) -> bool:
+def is_proved(copy: Path, files: Path, crates: list[str]) -> bool:
     """Proves the crates in the copy, and says what is left as each ends; whether all are proved and the program ran."""
     minutes = {name: float(told) for name, told in ROW.findall((TOP / "docs/GATE.md").read_text(encoding="utf-8"))}
     left, done, since, status = list(crates), 0.0, time.monotonic(), ""
-    for status in lines_of_build(copy):
+    for status in lines_of_build(copy, files):
         ended = ENDED.match(status)
         if ended and ended[1] in left:
             left.remove(ended[1])
@@ -88,9 +89,12 @@ def main() -> int:
     LOG.parent.mkdir(parents=True, exist_ok=True)
     print(f"lefence: proving and building {len(crates)} crates, the log is {LOG}", file=sys.stderr)
     with tempfile.TemporaryDirectory(prefix="lefence-build-") as folder:
-        copy = Path(folder)
+        # (what provers leave that are killed goes with the folder; rt runs programs as nobody, who must come to it)
+        copy, files = Path(folder) / "tree", Path(folder) / "files"
+        Path(folder).chmod(0o711)
+        files.mkdir(mode=0o711)
         lay_out(copy, crates, lines_of(listing))
-        if is_proved(copy, crates) and (copy / PROGRAM).is_file():
+        if is_proved(copy, files, crates) and (copy / PROGRAM).is_file():
             # (whole or not at all, also if the build is interrupted here)
             made = TOP / f"{PROGRAM}.made"
             shutil.copy(copy / PROGRAM, made)

@@ -12,7 +12,7 @@ from __future__ import annotations
 import os
 from pathlib import Path
 
-# What a check of ours takes at most, in bytes (docs/GATE.md).
+# What a check of ours takes, in bytes: most take less, the largest 4.1 GB (docs/GATE.md).
 CHECK = 3_200_000_000
 GROUP = Path("/sys/fs/cgroup")
 
