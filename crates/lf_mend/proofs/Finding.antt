@@ -85,7 +85,7 @@ elsewhere team floor number homes changed named all s there =
     (λ own apart e. apart (sym (place_of_state floor team own s there) ∙ e)) changed (all s (state_there floor team number s named there))
 
 -- a team that has the same cells is there before and after
-team_was : (team : List ℕ) (old new : FloorState) (t : TeamState) → names_in new team ≡ names_in old team → state_of new team ≡ Some t
+pub team_was : (team : List ℕ) (old new : FloorState) (t : TeamState) → names_in new team ≡ names_in old team → state_of new team ≡ Some t
     → (s : TeamState) × (state_of old team ≡ Some s)
 team_was team old new t same there = go (state_of old team) refl where
   by_names : Option TeamState → Option (List (List ℕ))

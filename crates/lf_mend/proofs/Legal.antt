@@ -166,7 +166,7 @@ none_left l team floor (own ∷ others) all committed =
     }))
 
 pub legal_stay : (team : List ℕ) (marks : List Bool) (old new : FloorState) → AreMarked team old marks → MarkedStay team marks old new → LegalStay team old new
-legal_stay team marks old new marked stay own legal = stay own (marked own legal)
+legal_stay team marks old new marked stay own legal = stay own (marked.legal own legal)
 
 -- a cell of which the floor says so stands legally
 pub told_legal : (team : List ℕ) (floor : FloorState) (number own : ℕ) (s : TeamState) → team_number floor.frame team ≡ Some number → state_of floor team ≡ Some s

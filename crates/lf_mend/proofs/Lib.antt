@@ -6,5 +6,6 @@ mod Lists
 mod Legal
 mod Ids
 mod Marking
+mod Telling
 mod Finding
 mod Results

@@ -31,10 +31,10 @@ AreNamedTo So count named = (own : ℕ) → own < count → So own ⊎ Contains 
 pub none_named : (So : ℕ → Type 0) (named : List ℕ) → AreNamedTo So 0 named
 none_named So named own within = absurd (omega (arith, within))
 
-at_last : (xs : List ℕ) (x : ℕ) → Contains (xs ++ x ∷ []) x
+pub at_last : (xs : List ℕ) (x : ℕ) → Contains (xs ++ x ∷ []) x
 at_last xs x = (length xs, omega (arith, one_longer xs x), get_or_from_slice_get (xs ++ x ∷ []) (length xs) x x (last_is xs x))
 
-still_in : (xs : List ℕ) (x y : ℕ) → Contains xs y → Contains (xs ++ x ∷ []) y
+pub still_in : (xs : List ℕ) (x y : ℕ) → Contains xs y → Contains (xs ++ x ∷ []) y
 still_in xs x y (k, within, is) = (
   k,
   omega (arith, within, one_longer xs x),

@@ -1,8 +1,8 @@
 -- The cells of a team before its repair: marks of those that stand legally, and where all stand.
 use Rattle.std.proofs.Common.{◌≡◌, ◌≢◌, ◌⊎◌, inl, inr, ⊎_elim, ℕ, ◌+◌, ◌<◌, List, [], ◌∷◌, ◌++◌, length, map, get_or, Bool, true, Option, Some, None, ap, sym, ◌∙◌, subst, arith}
 use Rattle.std.specs.Prelude.{◌≤◌, slice_get, option_and_then}
-use Rattle.std.proofs.lemmas.Bool.{cases_eq}
-use Rattle.std.proofs.lemmas.Option.{slice_get_cases}
+use Rattle.std.proofs.lemmas.Bool.{cases_eq, cases_lt}
+use Rattle.std.proofs.lemmas.Option.{slice_get_cases, slice_get_past}
 use Rattle.lf_floorplan.specs.declared.place.Place.{Place}
 use Rattle.lf_rules.specs.Team.{StandsLegal}
 use Rattle.lf_cells.specs.declared.cell.Cell.{Cell}
@@ -10,11 +10,11 @@ use Rattle.lf_cells.specs.declared.cell.CellId.{CellId}
 use Rattle.lf_cells.specs.Cells.{id_of, working_at}
 use Rattle.lf_legalize.specs.Members.{member_of}
 use Rattle.lf_teams.specs.States.{FloorState, TeamState}
-use Rattle.lf_teams.specs.Teams.{team_number}
+use Rattle.lf_teams.specs.Teams.{state_of, team_number}
 use Rattle.lf_teams.proofs.Standing.{some_one}
 use Rattle.lf_mend.specs.Deeds.{AreHomes, AreMarked, IsMarkedMore, home_at}
 use Rattle.lf_mend.specs.Mending.{IsLegalIn}
-use Rattle.lf_mend.proofs.Legal.{state_there}
+use Rattle.lf_mend.proofs.Legal.{state_there, told_legal}
 use Rattle.lf_mend.proofs.Lists.{before_last, last_is, one_longer}
 
 -- ---- marks
@@ -23,16 +23,48 @@ use Rattle.lf_mend.proofs.Lists.{before_last, last_is, one_longer}
 pub record AreMarkedTo (team : List ℕ) (floor : FloorState) (count : ℕ) (marks : List Bool) : Type 0 where
   pub many : length marks ≡ count
   pub are : (own : ℕ) → own < count → IsLegalIn floor team own → slice_get marks own ≡ Some true
+  pub only : (s : TeamState) → state_of floor team ≡ Some s → (own : ℕ) → slice_get marks own ≡ Some true → IsLegalIn floor team own
+
+no_mark : None ≡ Some true → ⊥
+no_mark e = cc
 
 pub none_marked : (team : List ℕ) (floor : FloorState) (marks : List Bool) → marks ≡ [] → AreMarkedTo team floor 0 marks
-none_marked team floor marks none = record { many = ap (λ (xs : List Bool). length xs) none; are = λ own within legal. absurd (omega (arith, within)) }
+none_marked team floor marks none = record {
+  many = ap (λ (xs : List Bool). length xs) none;
+  are = λ own within legal. absurd (omega (arith, within));
+  only = λ s there own is. absurd (no_mark (sym (ap (λ (xs : List Bool). slice_get xs own) none) ∙ is));
+}
 
 pub one_more_marked : (team : List ℕ) (floor : FloorState) (number own : ℕ) (old new : List Bool) → team_number floor.frame team ≡ Some number
+    → ((s : TeamState) → state_of floor team ≡ Some s → own < length s.cells)
     → AreMarkedTo team floor own old → IsMarkedMore floor number own old new → AreMarkedTo team floor (own + 1) new
-one_more_marked team floor number own old new named marked more = record {
+one_more_marked team floor number own old new named short marked more = record {
   many = ap (λ (xs : List Bool). length xs) more.more ∙ one_longer old more.mark ∙ ap (λ (n : ℕ). n + 1) marked.many;
   are = λ k within legal. ⊎_elim (λ (same : k ≡ own). here k same legal) (λ (differ : k ≢ own). before k (omega (arith, within, differ)) legal) (cases_eq k own);
+  only = only;
 } where
+  by_more : (k : ℕ) → slice_get new k ≡ slice_get (old ++ more.mark ∷ []) k
+  by_more k = ap (λ (xs : List Bool). slice_get xs k) more.more
+
+  only : (s : TeamState) → state_of floor team ≡ Some s → (k : ℕ) → slice_get new k ≡ Some true → IsLegalIn floor team k
+  only s there k is = ⊎_elim earlier others (cases_lt k own) where
+    earlier : k < own → IsLegalIn floor team k
+    earlier less = marked.only s there k (sym (before_last old more.mark k (omega (arith, less, marked.many))) ∙ sym (by_more k) ∙ is)
+
+    others : own ≤ k → IsLegalIn floor team k
+    others least = ⊎_elim last past (cases_eq k own) where
+      last : k ≡ own → IsLegalIn floor team k
+      last same =
+          let mark : more.mark ≡ true =
+          some_one (sym (last_is old more.mark) ∙ ap (λ (j : ℕ). slice_get (old ++ more.mark ∷ []) j) (marked.many ∙ sym same) ∙ sym (by_more k) ∙ is) in
+          subst (λ (j : ℕ). IsLegalIn floor team j) (sym same)
+          (told_legal team floor number own s named there (short s there) (more.legal s (state_there floor team number s named there) mark))
+
+      past : k ≢ own → IsLegalIn floor team k
+      past differ =
+          let many : length (old ++ more.mark ∷ []) ≡ own + 1 = one_longer old more.mark ∙ ap (λ (n : ℕ). n + 1) marked.many in
+          absurd (no_mark (sym (slice_get_past (old ++ more.mark ∷ []) k (omega (arith, many, least, differ))) ∙ sym (by_more k) ∙ is))
+
   here : (k : ℕ) → k ≡ own → IsLegalIn floor team k → slice_get new k ≡ Some true
   here k same legal =
       let is : legal.number ≡ number = some_one (sym legal.named ∙ named) in
@@ -51,13 +83,16 @@ one_more_marked team floor number own old new named marked more = record {
 pub all_marked : (team : List ℕ) (floor : FloorState) (number count : ℕ) (marks : List Bool) → team_number floor.frame team ≡ Some number
     → ((s : TeamState) → slice_get floor.teams number ≡ Some s → length s.cells ≤ count)
     → AreMarkedTo team floor count marks → AreMarked team floor marks
-all_marked team floor number count marks named many marked own legal =
-    marked.are own (omega (arith, legal.within, many legal.state (state_there floor team number legal.state named legal.there))) legal
+all_marked team floor number count marks named many marked = record {
+  legal = λ own legal. marked.are own (omega (arith, legal.within, many legal.state (state_there floor team number legal.state named legal.there))) legal;
+  only = marked.only;
+}
 
 pub marked_at : (team : List ℕ) (floor : FloorState) (number k : ℕ) (id : CellId) (old new : List Bool) → id ≡ id_of number k → team_number floor.frame team ≡ Some number
+    → ((s : TeamState) → state_of floor team ≡ Some s → k < length s.cells)
     → AreMarkedTo team floor k old → IsMarkedMore floor number id.own old new → AreMarkedTo team floor (k + 1) new
-marked_at team floor number k id old new is named so_far more =
-    one_more_marked team floor number k old new named so_far (subst (λ (i : CellId). IsMarkedMore floor number i.own old new) is more)
+marked_at team floor number k id old new is named short so_far more =
+    one_more_marked team floor number k old new named short so_far (subst (λ (i : CellId). IsMarkedMore floor number i.own old new) is more)
 
 -- ---- homes
 

@@ -1,5 +1,5 @@
 -- Changes of one cell, and what is looked up before and after them; no public clause cites it.
-use Rattle.std.specs.Prelude.{◌≡◌, ◌≢◌, ◌⊎◌, ℕ, ◌<◌, ◌++◌, ◌∷◌, [], List, Bool, true, All, Contains, Option, Some, length, map, slice_get, option_and_then}
+use Rattle.std.specs.Prelude.{◌≡◌, ◌≢◌, ◌⊎◌, ℕ, ◌<◌, ◌≤◌, ◌+◌, ◌++◌, ◌∷◌, [], List, Bool, true, All, Contains, IsSome, None, Option, Some, length, map, max, min, slice_get, option_and_then}
 use Rattle.lf_floorplan.specs.declared.place.Place.{Place}
 use Rattle.lf_rules.specs.Legalizer.{Legalizer}
 use Rattle.lf_rules.specs.Team.{StandsLegal}
@@ -14,7 +14,9 @@ use Rattle.lf_teams.specs.States.{FloorState, TeamState}
 use Rattle.lf_teams.specs.Steps.{Step}
 use Rattle.lf_teams.specs.Teams.{state_of}
 use Rattle.lf_teams.specs.VerbLaws.{KeepsCells}
+use Rattle.lf_mend.specs.declared.told.Repaired.{Repaired}
 use Rattle.lf_mend.specs.Mending.{IsLegalIn, committed_in, names_in, place_in}
+use Rattle.lf_mend.specs.Tallies.{FaceApart, IsTallyOf, way}
 
 -- the floor is as it was, or has answered the command
 abbrev pub IsAsked : Legalizer → FloorState → Command (List ℕ) Place → FloorState → Type 0
@@ -55,9 +57,10 @@ CommittedStay team old new = committed_in new team ≡ committed_in old team
 
 -- ---- before a repair
 
--- the cells that stand legally are marked
-abbrev pub AreMarked : List ℕ → FloorState → List Bool → Type 0
-AreMarked team floor marks = (own : ℕ) → IsLegalIn floor team own → slice_get marks own ≡ Some true
+-- the cells that stand legally are marked, and no others
+pub record AreMarked (team : List ℕ) (floor : FloorState) (marks : List Bool) : Type 0 where
+  pub legal : (own : ℕ) → IsLegalIn floor team own → slice_get marks own ≡ Some true
+  pub only : (s : TeamState) → state_of floor team ≡ Some s → (own : ℕ) → slice_get marks own ≡ Some true → IsLegalIn floor team own
 
 -- one mark more, which is true if the cell of that position stands legally in the team of that number
 pub record IsMarkedMore (floor : FloorState) (number own : ℕ) (old new : List Bool) : Type 0 where
@@ -65,6 +68,8 @@ pub record IsMarkedMore (floor : FloorState) (number own : ℕ) (old new : List 
   pub more : new ≡ old ++ mark ∷ []
   pub told : (s : TeamState) → slice_get floor.teams number ≡ Some s → own < length s.cells
       → StandsLegal floor.frame number s.padding (map member_of s.cells) own → mark ≡ true
+  pub legal : (s : TeamState) → slice_get floor.teams number ≡ Some s → mark ≡ true
+      → StandsLegal floor.frame number s.padding (map member_of s.cells) own
 
 -- the place of that position in a list of places; None also behind its end
 abbrev pub home_at : List (Option Place) → ℕ → Option Place
@@ -102,3 +107,25 @@ HaveLeftHome cells homes changed = All (λ own. working_at cells own ≢ home_at
 abbrev pub StandElsewhere : List ℕ → List (Option Place) → FloorState → List ℕ → Type 0
 StandElsewhere team homes floor changed =
     (s : TeamState) → state_of floor team ≡ Some s → All (λ own. place_in floor team own ≢ home_at homes own) changed
+
+-- ---- what is told of it
+
+-- the count is one more where it is so, unless no greater one can be written, and the same where it is not
+abbrev pub IsCounted : Type 0 → ℕ → ℕ → Type 0
+IsCounted So old new = (So × (new ≡ min (old + 1) 4294967295)) ⊎ ((So → ⊥) × (new ≡ old))
+
+-- a cell more is told of, by where it stood and stands now, and whether it stood legally
+pub record IsOneTold (home now : Option Place) (Stood : Type 0) (old new : Repaired) : Type 0 where
+  pub cells : IsCounted (Stood → ⊥) old.cells new.cells
+  pub kept : IsCounted (Stood × (now ≡ home)) old.kept new.kept
+  pub pushed : IsCounted (Stood × (now ≢ home)) old.pushed new.pushed
+  pub moved : IsCounted (0 < way home now) old.moved new.moved
+  pub placed : IsCounted ((home ≡ None) × IsSome now) old.placed new.placed
+  pub turned : IsCounted (FaceApart home now) old.turned new.turned
+  pub short : way home now ≤ 8589934590
+  pub total : new.total ≡ min (old.total + way home now) 18446744073709551615
+  pub largest : new.largest ≡ max old.largest (way home now)
+
+-- so many cells have been told of, which stood there by these lists
+abbrev pub IsTallyBy : List (Option Place) → List Bool → List Cell → ℕ → Repaired → Type 0
+IsTallyBy homes marks cells all told = IsTallyOf (home_at homes) (working_at cells) (λ own. slice_get marks own ≡ Some true) all told

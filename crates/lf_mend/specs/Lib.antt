@@ -1,4 +1,5 @@
 pub mod Words
 pub mod Runs
 pub mod Mending
+pub mod Tallies
 pub mod Deeds

@@ -22,7 +22,7 @@ pub(crate) struct Found {
 }
 
 /// The place of that position in the list, if it has one there.
-fn home_of(homes: &[Option<Place>], own: usize) -> Option<Place>
+pub(crate) fn home_of(homes: &[Option<Place>], own: usize) -> Option<Place>
     ensures { result ≡ home_at homes.now own }
 {
     *homes.get(own)?

@@ -164,6 +164,7 @@ pub(crate) fn start_of<S: Seeker + Drop>(
 ) -> Result<Start, AllocError>
     ensures marked { (team : List ℕ) → how ≡ Keep → team_number floor.now.frame team ≡ Some number
         → IfOk result (λ start. AreMarked team floor.now start.go.marks.items) }
+    ensures legal { (team : List ℕ) → team_number floor.now.frame team ≡ Some number → IfOk result (λ start. AreMarked team floor.now start.legal.items) }
     ensures homes { (s : TeamState) → slice_get floor.now.teams number ≡ Some s → IfOk result (λ start. AreHomes s.cells start.go.homes.items) }
     ensures how { IfOk result (λ start. start.how ≡ how) }
 {

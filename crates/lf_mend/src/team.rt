@@ -8,6 +8,7 @@ ghost use Rattle.lf_teams.specs.VerbLaws.{is_granted};
 ghost use Rattle.lf_mend.specs.Deeds.{CommittedStay, MarkedStay, PlacesStay, SameCells, StandElsewhere, StandHomeBut};
 ghost use Rattle.lf_mend.specs.Mending.{AllMove, AreLegalBut, ChangesOnly, IsLeftIn, LegalStay, OnlyMove, committed_in};
 ghost use Rattle.lf_mend.specs.Runs.{IsCutRun, IsWrittenRun};
+ghost use Rattle.lf_mend.specs.Tallies.{TellsOf};
 ghost use Rattle.lf_mend.specs.declared.start.How.TheVariants.{Keep};
 
 use crate::advice::{Phase, deeds_of};
@@ -356,7 +357,7 @@ fn work<S: Seeker + Drop, K: Sink>(
 /// line reads as its command. With `Keep` cells that stand legally stay, whatever comes of the repair; those that stand otherwise at
 /// its end are named in any case. The team is then committed if and only if no cell is left; else its cells stand where the repair
 /// left them, those that are left without a place or illegal, and the committed places are as before. No other team changes, and a
-/// committed design that was fully legal stays so.
+/// committed design that was fully legal stays so. The numbers that are told are exact.
 ///
 /// `Err` tells why a repair broke off: the floor is then where the commands so far have led it, and their lines are written, of the
 /// last one perhaps a front alone.
@@ -378,6 +379,7 @@ pub fn repair_team<S: Seeker + Drop, K: Sink>(
     ensures illegal { IfOk result (λ repaired. All (λ own. IsLeftIn floor.new team.now own) repaired.left.items) }
     ensures committed { (l : Legalizer) → IfOk result (λ repaired. repaired.left.items ≡ [] ↔ AllCommittedIn l floor.new team.now) }
     ensures uncommitted { IfOk result (λ repaired. repaired.left.items ≢ [] → committed_in floor.new team.now ≡ committed_in floor.old team.now) }
+    ensures told { IfOk result (λ repaired. TellsOf team.now floor.old floor.new repaired) }
 {
     let Some(number) = floor.number_of(team) else {
         return Err(Fault::NoTeam);

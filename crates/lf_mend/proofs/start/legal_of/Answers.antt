@@ -1,6 +1,6 @@
 use Rattle.std.proofs.Common.{get_or}
 use Rattle.lf_cells.specs.Cells.{cells_of}
-use Rattle.lf_mend.proofs.Ids.{all_looked, id_at, ids_are, no_id}
+use Rattle.lf_mend.proofs.Ids.{all_looked, id_at, ids_are, looked_within, no_id}
 use Rattle.lf_mend.proofs.Marking.{all_marked, marked_at, none_marked}
 use Rattle.lf_mend.proofs.start.legal_of.Goals as goal
 
@@ -16,6 +16,7 @@ loop-id-preserved g c = λ team named.
     let ids = c.cells_of-id-items.result.now in
     let are = ids_are c.placement.result.now.cells c.cells.result.now number ids c.cells.ensures c.cells_of-id-items.ensures in
     marked_at team floor number k (get_or ids k no_id) c.loop-id.legal.items c.mark_cell.new.legal.items (id_at number k cells ids are c.loop-id-test.true) named
+    (looked_within team floor number k cells ids are c.loop-id-test.true named (λ s at. c.placement.ensures.cells number s at))
     (c.loop-id.invariant team named) c.in_ok-mark_cell.ensures
 
 pub returns : goal.returns

@@ -5,4 +5,5 @@ returns g c = record {
   mark = c.stands_legal.result;
   more = c.in_ok-push.ensures.items;
   told = c.stands_legal.ensures.told;
+  legal = c.stands_legal.ensures.legal;
 }

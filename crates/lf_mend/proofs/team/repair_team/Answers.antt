@@ -1,8 +1,10 @@
-use Rattle.std.proofs.Common.{◌≡◌, ◌∙◌, ℕ, List, Vec, Global, ap, subst, sym}
+use Rattle.std.proofs.Common.{◌≡◌, ◌∙◌, ℕ, List, Vec, Global, Some, ap, subst, sym}
+use Rattle.lf_teams.specs.Teams.{team_number}
 use Rattle.lf_mend.specs.Mending.{AllMove, AreLegalBut, OnlyMove}
 use Rattle.lf_mend.proofs.Finding.{all_move, only_move}
 use Rattle.lf_mend.proofs.Legal.{legal_stay, none_left}
 use Rattle.lf_mend.proofs.Runs.{none_cut}
+use Rattle.lf_mend.proofs.Telling.{tells_of}
 use Rattle.lf_mend.proofs.team.repair_team.Goals as goal
 
 items_same : (v w : Vec ℕ Global) → v ≡ w → v.items ≡ w.items
@@ -53,3 +55,10 @@ returns-in_default-clause-err g c = λ l. none_cut l c.args.team.now c.args.floo
 
 pub returns-in_default-start_of-clause-err : goal.returns-in_default-start_of-clause-err
 returns-in_default-start_of-clause-err g c = λ l. none_cut l c.args.team.now c.args.floor.now (g.K.Sink.contents c.args.lines.now)
+
+pub returns-in-Ok-work-clause-told : goal.returns-in-Ok-work-clause-told
+returns-in-Ok-work-clause-told g c =
+    let team = c.args.team.now in
+    let named : team_number c.args.floor.now.frame team ≡ Some c.in-Some.number = sym c.number_of.ensures ∙ c.in-Some.is in
+    tells_of team c.args.floor.now c.work.new.floor c.in-Some.number c.in-Ok.start.go.homes.items c.in-Ok.start.legal.items c.tell.result named
+    c.in-Ok-work.ensures.only c.in-Ok.ensures.homes (c.in-Ok.ensures.legal team named) c.tell.ensures.tally
