@@ -65,7 +65,8 @@ past_end [] k d past = refl
 past_end (x ∷ xs) zero d past = absurd (omega (arith, past))
 past_end (x ∷ xs) (suc k) d past = past_end xs k d (omega (arith, past))
 
-names_many : (f : Frame) → length (team_names f) ≡ length f.teams + 1
+-- one name for each fence, and one for the ground
+pub names_many : (f : Frame) → length (team_names f) ≡ length f.teams + 1
 names_many f = length-append (map (λ (t : Team). t.name) f.teams) (ground_name ∷ []) ∙ ap (λ (n : ℕ). n + 1) (length-map f.teams (λ (t : Team). t.name))
 
 module _ (tables : Tables) (are : AreTables tables) where

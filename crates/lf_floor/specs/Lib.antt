@@ -1,3 +1,4 @@
+pub mod Bare
 pub mod Entries
 pub mod Responses
 pub mod Saving

@@ -8,6 +8,9 @@
 //! DEF text: not how best places are searched for. The *committed design* is the cells of all teams at their committed places. Once
 //! it is fully legal, it stays so whatever is asked.
 //!
+//! `restore` brings a floor into the state of a state text. Where the text is large, `read_state` reads its rows of a floor on which no
+//! cell is placed (`bare`), the text is let go, and `restore_rows` restores them.
+//!
 //! ```
 //! let mut floor = Floor::start(alloc, loaded, seeker)?;
 //! let reply = floor.step(&parse_line(b"open A")?);
@@ -18,6 +21,7 @@
 /// Requests and replies, which the floor's calls take and return.
 pub use lf_proto as proto;
 
+mod bare;
 mod committed;
 mod floor;
 mod looking;
@@ -40,4 +44,5 @@ pub use lf_teams::{
     teams_in_any_order, tidy_makes_legal, undo_brings_back, verb_keeps_team, verb_rows,
 };
 pub use response::Response;
+pub use saved::team_name;
 pub use state_text::SavedState;

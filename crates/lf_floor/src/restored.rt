@@ -1,6 +1,6 @@
 //! A floor that is restored from a state text.
 
-ghost use Rattle.std.specs.Prelude.{◌≡◌, ◌≢◌, ◌↔◌, ◌≤◌, ℕ, [], List, IfErr, IfOk, OnOk, Ok, length};
+ghost use Rattle.std.specs.Prelude.{◌≡◌, ◌≢◌, ◌↔◌, ◌≤◌, ℕ, [], List, IfErr, IfOk, OnOk, Ok, length, map};
 ghost use Rattle.lf_occupancy.specs.Occupied.{NoLess};
 ghost use Rattle.lf_rules.specs.FullyLegal.{IsFullyLegal};
 ghost use Rattle.lf_teams.specs.Committed.{IsCommittedLegal};
@@ -14,14 +14,14 @@ ghost use Rattle.lf_tables.specs.Tables.{AreTables, EntriesFit, HasRows, IsServe
 
 use crate::floor::Floor;
 use crate::saved::Told;
-use lf_floorplan::Frame;
+use lf_floorplan::{Frame, PackedPlace};
 use lf_legalize::Seeker;
 use lf_occupancy::Tally;
 use lf_restore::{
     place_teams, restore_entries, restored_is_committed, saved_restores, working_places,
 };
 use lf_rules::Padding;
-use lf_state::{StateError, TeamRow, read_state};
+use lf_state::{SavedCell, StateError, TeamRow, read_state};
 use lf_tables::Tables;
 use lf_undo::UndoStore;
 use std::alloc::{AllocError, Global};
@@ -48,6 +48,15 @@ fn set_numbers(
     tables.revisions[number] = revision;
     tables.set_padding(number, padding);
     tables.sessions.set_slots(number, slots);
+}
+
+/// The working places of the cells, of which nothing else is kept.
+///
+/// `Err` if an allocation fails.
+fn places_of(alloc: Global, cells: Vec<SavedCell>) -> Result<Vec<PackedPlace>, AllocError>
+    ensures { IfOk result (λ places. places.items ≡ map (λ c. c.working) cells.items) }
+{
+    working_places(alloc, &cells)
 }
 
 /// Restores the team of that number, of which the row tells, where its cells stand already; it has nothing to undo, and the tally
@@ -80,7 +89,7 @@ fn restore_team(
         entries,
     } = row;
     slots_are_few(tables.placement.frame());
-    let places = working_places(alloc, &cells)?;
+    let places = places_of(alloc, cells)?;
     restore_entries(
         &mut tables.placement,
         tally,
@@ -218,5 +227,39 @@ impl<S: Seeker + Drop> Floor<S> {
             }),
             Err(error) => Err(error),
         }
+    }
+
+    /// What a state text tells of the teams of the floor's design: `restore_rows` brings the floor into that state, and the text
+    /// can be let go before.
+    ///
+    /// `Err` with the first fault of a text that tells no state of the design, and its line; or if an allocation fails.
+    pub fn read_state(&self, text: &[u8]) -> Result<Vec<TeamRow>, StateError>
+        ensures exact { GivesAt (λ rows. team_views rows.items) result (state_of (named self.now) text.now) }
+        ensures due { IfOk result (λ rows. AreDue self.now.frame.limits self.now.teams (team_views rows.items)) }
+    {
+        read_rows(self.alloc, &self.tables, text)
+    }
+
+    /// The floor in the state of which the rows tell, as `read_state` reads them of a state text: each cell's working and committed
+    /// place, and each team's revision, padding, session slots and undo entries.
+    ///
+    /// `Err` if an allocation fails; the floor is then dropped.
+    pub fn restore_rows(self, rows: Vec<TeamRow>) -> Result<Floor<S>, AllocError>
+        requires due { AreDue self.frame.limits self.teams (team_views rows.items) }
+        ensures restored { IfOk result (λ floor. floor ≡ restored self (team_views rows.items)) }
+        ensures design { IfOk result (λ floor. AreOfOneDesign self floor) }
+    {
+        let floor = self;
+        let Floor {
+            alloc,
+            seeker,
+            tables,
+        } = floor;
+        let now = restored_by(alloc, tables, rows)?;
+        Ok(Floor {
+            alloc,
+            seeker,
+            tables: now,
+        })
     }
 }

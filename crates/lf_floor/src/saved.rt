@@ -21,8 +21,8 @@ use lf_texts::Output;
 use lf_undo::Moves;
 use std::marker::Model;
 
-/// The name of the team of that number; none iff there is no such team.
-fn team_name(frame: &Frame, team: usize) -> Option<&[u8]>
+/// The name of the team of that number, the ground team's last; none iff there is no such team.
+pub fn team_name(frame: &Frame, team: usize) -> Option<&[u8]>
     ensures { option_map (λ name. name.now) result ≡ slice_get (team_names frame.now) team }
 {
     match frame.teams.as_slice().get(team) {

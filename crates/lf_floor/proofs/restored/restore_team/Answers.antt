@@ -20,8 +20,7 @@ restore_entries-requires c =
     let k = c.args.number in
     let old = c.args.tables.now in
     let t = team_view c.args.row in
-    let working : c.in_ok-places.places.items ≡ map (λ c. c.working) c.args.row.cells.items =
-    c.in_ok-places.ensures ∙ ap (λ (cs : List SavedCell). map (λ c. c.working) cs) c.deref.ensures.value in
+    let working : c.in_ok-places.places.items ≡ map (λ c. c.working) c.args.row.cells.items = c.in_ok-places.ensures in
     let stand : c.in_ok-places.places.items ≡ places_of (cells_in k old) = working ∙ stands_there k t c.args.tally.now old c.requires.due.cells c.requires.awaits in
     let many : length c.in_ok-places.places.items ≡ length c.args.row.cells.items =
     ap (λ (ps : Places). length ps) working ∙ length-map c.args.row.cells.items (λ (s : SavedCell). s.working) in

@@ -1,0 +1,90 @@
+-- What a state tells of a floor, and the floor that it restores, are those of its design: where the cells stood before plays no part.
+use Rattle.std.proofs.Common.{◌≡◌, ℕ, List, [], ◌∷◌, map, refl, ap, ◌∙◌}
+use Rattle.std.specs.Prelude.{drop, slice_index_or}
+use Rattle.lf_floorplan.specs.declared.frame.Frame.{Frame}
+use Rattle.lf_cells.specs.declared.cell.Cell.{Cell}
+use Rattle.lf_undo.specs.Entries.{entries_of}
+use Rattle.lf_teams.specs.States.{FloorState, TeamState}
+use Rattle.lf_teams.specs.Steps.{floor_of}
+use Rattle.lf_teams.specs.Teams.{team_names}
+use Rattle.lf_state.specs.declared.rows.SavedCell.{SavedCell}
+use Rattle.lf_state.specs.Designs.{NamedTeam}
+use Rattle.lf_state.specs.Saved.{SavedTeam}
+use Rattle.lf_restore.specs.Saved.{AreOfOneDesign, fixed_cells, fixed_of, map_two, named, named_team, restored, restored_cell, restored_team}
+
+-- ---- equal lists
+
+pub same_head : {X : Type 0} {x y : X} {xs ys : List X} → ◌≡◌ {A = List X} (x ∷ xs) (y ∷ ys) → x ≡ y
+same_head {X} {x} is = ap (λ (l : List X). slice_index_or l 0 x) is
+
+pub same_tail : {X : Type 0} {x y : X} {xs ys : List X} → ◌≡◌ {A = List X} (x ∷ xs) (y ∷ ys) → xs ≡ ys
+same_tail {X} is = ap (λ (l : List X). drop 1 l) is
+
+-- ---- names
+
+pub names_alike : (cells others : List Cell) → map fixed_of cells ≡ map fixed_of others → map (λ c. c.name) cells ≡ map (λ c. c.name) others
+names_alike [] [] is = refl
+names_alike [] (d ∷ ds) is = absurd cc
+names_alike (c ∷ cs) [] is = absurd cc
+names_alike (c ∷ cs) (d ∷ ds) is =
+    let first : c.name ≡ d.name = ap (λ (f : List ℕ × ℕ). f.0) (same_head is) in
+    ap (λ (n : List ℕ). n ∷ map (λ x. x.name) cs) first ∙ ap (λ (ns : List (List ℕ)). d.name ∷ ns) (names_alike cs ds (same_tail is))
+
+named_each : (names : List (List ℕ)) (teams others : List TeamState) → map fixed_cells teams ≡ map fixed_cells others
+    → map_two named_team names teams ≡ map_two named_team names others
+named_each [] teams others is = refl
+named_each (n ∷ ns) [] [] is = refl
+named_each (n ∷ ns) (t ∷ ts) [] is = absurd cc
+named_each (n ∷ ns) [] (s ∷ ss) is = absurd cc
+named_each (n ∷ ns) (t ∷ ts) (s ∷ ss) is =
+    let cells : map (λ c. c.name) t.cells ≡ map (λ c. c.name) s.cells = names_alike t.cells s.cells (same_head is) in
+    ap (λ (names : List (List ℕ)). record { name = n; cells = names } ∷ map_two named_team ns ts) cells
+    ∙ ap (λ (ms : List NamedTeam). named_team n s ∷ ms) (named_each ns ts ss (same_tail is))
+
+-- floors of one design have the same names
+pub named_alike : (a b : FloorState) → AreOfOneDesign a b → named b ≡ named a
+named_alike a b one =
+    ap (λ (f : Frame). record { teams = map_two named_team (team_names f) b.teams; limits = f.limits }) one.frame
+    ∙ ap (λ (ts : List NamedTeam). record { teams = ts; limits = a.frame.limits }) (named_each (team_names a.frame) b.teams a.teams one.cells)
+
+-- ---- what is restored
+
+one_cell : (c d : Cell) (s : SavedCell) → fixed_of c ≡ fixed_of d → restored_cell c s ≡ restored_cell d s
+one_cell c d s is = ap (λ (f : List ℕ × ℕ). record { name = f.0; mac = f.1; working = s.working; committed = s.committed }) is
+
+cells_alike : (cells others : List Cell) (saved : List SavedCell) → map fixed_of cells ≡ map fixed_of others
+    → map_two restored_cell cells saved ≡ map_two restored_cell others saved
+cells_alike [] [] saved is = refl
+cells_alike [] (d ∷ ds) saved is = absurd cc
+cells_alike (c ∷ cs) [] saved is = absurd cc
+cells_alike (c ∷ cs) (d ∷ ds) [] is = refl
+cells_alike (c ∷ cs) (d ∷ ds) (s ∷ saved) is =
+    ap (λ (x : Cell). x ∷ map_two restored_cell cs saved) (one_cell c d s (same_head is))
+    ∙ ap (λ (xs : List Cell). restored_cell d s ∷ xs) (cells_alike cs ds saved (same_tail is))
+
+one_team : (s u : TeamState) (t : SavedTeam) → fixed_cells s ≡ fixed_cells u → restored_team s t ≡ restored_team u t
+one_team s u t is =
+    ap (λ (cs : List Cell). record { cells = cs; revision = t.revision; entries = entries_of (map (λ c. c.working) t.cells) t.entries; slots = t.slots; padding = t.padding })
+    (cells_alike s.cells u.cells t.cells is)
+
+teams_alike : (teams others : List TeamState) (saved : List SavedTeam) → map fixed_cells teams ≡ map fixed_cells others
+    → map_two restored_team teams saved ≡ map_two restored_team others saved
+teams_alike [] [] saved is = refl
+teams_alike [] (u ∷ us) saved is = absurd cc
+teams_alike (s ∷ ss) [] saved is = absurd cc
+teams_alike (s ∷ ss) (u ∷ us) [] is = refl
+teams_alike (s ∷ ss) (u ∷ us) (t ∷ saved) is =
+    ap (λ (x : TeamState). x ∷ map_two restored_team ss saved) (one_team s u t (same_head is))
+    ∙ ap (λ (xs : List TeamState). restored_team u t ∷ xs) (teams_alike ss us saved (same_tail is))
+
+-- floors of one design are restored alike
+pub restored_alike : (a b : FloorState) (saved : List SavedTeam) → AreOfOneDesign a b → restored b saved ≡ restored a saved
+restored_alike a b saved one =
+    ap (λ (f : Frame). floor_of f b.components (map_two restored_team b.teams saved)) one.frame
+    ∙ ap (λ (cs : List (List ℕ)). floor_of a.frame cs (map_two restored_team b.teams saved)) one.components
+    ∙ ap (floor_of a.frame a.components) (teams_alike b.teams a.teams saved one.cells)
+
+-- a floor of the design of one of the design is one of the design
+pub of_one_design : (a b c : FloorState) → AreOfOneDesign a b → AreOfOneDesign b c → AreOfOneDesign a c
+of_one_design a b c first next =
+    record { frame = next.frame ∙ first.frame; components = next.components ∙ first.components; cells = next.cells ∙ first.cells }
