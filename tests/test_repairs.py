@@ -9,7 +9,7 @@ import json
 import unittest
 from pathlib import Path
 
-from program import DEF, LEF, InFolder, run
+from program import DEF, LEF, InFolder, Start, preloading, run
 
 # The keys of the line of a team, and of the line of all teams, in their order.
 TEAM_KEYS = ["cells", "gaps", "kept", "largest", "least_largest", "left", "mean", "moved", "placed", "pushed", "team", "total", "turned"]
@@ -80,6 +80,13 @@ class Repairs(InFolder):
     def check(self, text: Path) -> int:
         """The status of a check of that text."""
         return run(["check", str(text), str(LEF)])[0]
+
+    def test_one_that_takes_its_time_says_how_far_it_is(self) -> None:
+        self.text.write_text(design({}))
+        words = ["repair", str(self.text), str(LEF)]
+        slowly = run(words, start=Start(environment=preloading("hasten.c", self.folder)))
+        line = 'lefence: repairing "{}", team {} of 3: 0 commands so far\n'.format
+        self.assertEqual(slowly, (0, run(words)[1], line("A", 1) + line("B", 2) + line("-", 3)))
 
     def test_a_cell_that_overlaps_moves(self) -> None:
         status, report = self.repair(STANDING, "--export", str(self.new))

@@ -27,6 +27,8 @@ PIECE, NAP = 1 << 20, 0.002
 
 # What a repair ends with that is done: the design is fully legal, or is not.
 REPAIRED = (0, 4)
+# How a line of it begins that tells how far it is.
+REPAIRING = "lefence: repairing "
 
 # The program of the repository in which this package stands.
 _BUILT = Path(__file__).resolve().parents[2] / "crates/lefence/out/lefence"
@@ -85,7 +87,7 @@ class Program:
         with tempfile.TemporaryFile() as said:
             with subprocess.Popen(words, stdin=subprocess.DEVNULL, stdout=subprocess.PIPE, stderr=said) as process:
                 try:
-                    told = progress.output_of(process)
+                    told = progress.output_of(process, lambda: how_far(said))
                 except BaseException:
                     process.kill()
                     raise
@@ -188,10 +190,20 @@ def lost(status: int) -> str:
     return f"the program was lost: it ended with {status}"
 
 
+def lines_said(said: IO[bytes]) -> list[str]:
+    """The lines that a program has written to this file so far, which it may still write to."""
+    return os.pread(said.fileno(), os.fstat(said.fileno()).st_size, 0).decode(errors="backslashreplace").splitlines()
+
+
+def how_far(said: IO[bytes]) -> str | None:
+    """How far a repair is that tells it in this file, if it has."""
+    told = [line for line in lines_said(said) if line.startswith(REPAIRING)]
+    return told[-1].removeprefix("lefence: ") if told else None
+
+
 def fault_of(status: int, said: IO[bytes], otherwise: str) -> Fault:
     """The fault of a program that ended with this status, and wrote to this file what it had to say, or nothing."""
-    said.seek(0)
-    text = said.read().decode(errors="backslashreplace").strip() or otherwise
+    text = "\n".join(line for line in lines_said(said) if not line.startswith(REPAIRING)).strip() or otherwise
     return Fault(status if status in (1, 2, 3) else FAILED, text.removeprefix("lefence: ").replace("\nlefence: ", "; "))
 
 

@@ -4,7 +4,7 @@ from __future__ import annotations
 
 import subprocess
 import time
-from collections.abc import Iterable, Iterator
+from collections.abc import Callable, Iterable, Iterator
 from typing import TypeVar
 
 from .faults import log
@@ -32,13 +32,13 @@ class Progress:
                 self._say(f"{done} {self._what}")
             yield thing
 
-    def output_of(self, process: subprocess.Popen[bytes]) -> bytes:
-        """What a process writes on its standard output, once it has ended."""
+    def output_of(self, process: subprocess.Popen[bytes], how_far: Callable[[], str | None]) -> bytes:
+        """What a process writes on its standard output, once it has ended; meanwhile how far it is, if it tells."""
         while True:
             try:
                 return process.communicate(timeout=max(0, self._next - time.monotonic()))[0]
             except subprocess.TimeoutExpired:
-                self._say(self._what)
+                self._say(how_far() or self._what)
 
     def _say(self, text: str) -> None:
         now = time.monotonic()

@@ -9,13 +9,14 @@ mod help;
 
 use crate::help::{USAGE, texts_of};
 use lf_app::{
-    Exit, FileExports, FileTexts, FromRead, Help, NetServices, Surroundings, Task, ToWrite,
-    UsageFault, perform_over,
+    Exit, FileExports, FileTexts, FromRead, Help, NetServices, Surroundings, Task, TimedProgress,
+    ToWrite, UsageFault, perform_over,
 };
 use std::alloc::{AllocError, Global};
 use std::io;
 use std::io::Write;
 use std::process::ExitCode;
+use std::time::Duration;
 
 /// The exit status if the words name no task, or an allocation for them failed.
 fn usage_status(fault: &UsageFault) -> u8 {
@@ -99,6 +100,9 @@ fn answer(rt: &HostRuntime, words: &[&str], fault: UsageFault) -> u8 {
     }
 }
 
+/// How many seconds a repair says nothing.
+const PAUSE: u64 = 2;
+
 /// Does the task over the files, the network and the standard streams.
 fn perform(rt: &HostRuntime, task: &Task<'_>) -> Exit {
     let mut reader = rt.reader();
@@ -111,6 +115,7 @@ fn perform(rt: &HostRuntime, task: &Task<'_>) -> Exit {
         reader: FromRead::new(&mut reader),
         writer: ToWrite::new(&mut writer),
         faults: ToWrite::new(&mut faults),
+        progress: TimedProgress::new(rt.alloc(), rt, Duration::from_secs(PAUSE), rt.stderr()),
     };
     perform_over(rt.alloc(), &mut around, task)
 }

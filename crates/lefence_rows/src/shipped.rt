@@ -4,8 +4,8 @@
 ghost use Rattle.std.specs.Prelude.{◌≡◌, false};
 
 use lf_app::{
-    Acceptor, ClientReader, ClientWriter, Connection, Offer, Services, Slots, Surroundings, Task,
-    Texts, Unbound, Unread, perform_over,
+    Acceptor, ClientReader, ClientWriter, Connection, Offer, Services, Silent, Slots, Surroundings,
+    Task, Texts, Unbound, Unread, perform_over,
 };
 use lf_devices::{DeviceFault, FromRead, ToWrite};
 use lf_files::{Exports, Pieces, Unwritten};
@@ -110,6 +110,7 @@ fn performed(texts: &RowTexts<'_>, task: &Task<'_>, lines: &[u8]) -> Result<Ship
         reader: FromRead::new(&mut reader),
         writer: ToWrite::new(&mut written),
         faults: ToWrite::new(&mut faults),
+        progress: Silent,
     };
     perform_over(texts.alloc, &mut around, task);
     let exported = around.exports.text;

@@ -35,6 +35,11 @@ AsksForNoFile (serve def lefs state slots port connections save export) = (save 
 AsksForNoFile (repair def lefs teams legal export lines) = (lines ≡ None) × (export ≡ None)
 AsksForNoFile job = Unit {0}
 
+-- a job that repairs nothing: nobody is told how far it is
+abbrev pub RepairsNothing : Job → Type 0
+RepairsNothing (repair def lefs teams legal export lines) = ⊥
+RepairsNothing job = Unit {0}
+
 -- how many session slots each team of a job's design has
 abbrev pub slots_of : Job → ℕ
 slots_of (check def lefs state slots) = slots

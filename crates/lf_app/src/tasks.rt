@@ -11,7 +11,7 @@ ghost use Rattle.lf_work.specs.Exits.{IsAnswered, IsJobStop, IsLinesFault, alone
 ghost use Rattle.lf_work.specs.Faults.{BlamesStreams, IsDone, IsFailure};
 ghost use Rattle.lf_work.specs.Lines.{most_lines};
 ghost use Rattle.lf_work.specs.Surroundings.{BlamesOver, IsReady, Keeps, io_of};
-ghost use Rattle.lf_app.specs.Exits.{AsksForNoFile, AsksForNoState, Ends, IsJobFault, IsJobFaultWithin, IsOutcome, IsOutcomeWithin, reads_of, slots_of};
+ghost use Rattle.lf_app.specs.Exits.{AsksForNoFile, AsksForNoState, Ends, IsJobFault, IsJobFaultWithin, IsOutcome, IsOutcomeWithin, RepairsNothing, reads_of, slots_of};
 ghost use Rattle.lf_app.specs.Offers.{IsOfferOf};
 
 use lf_command::{Slots, Task};
@@ -22,8 +22,8 @@ use lf_files::{Exports, FileExports};
 use lf_frame::Limits;
 use lf_lef::W_LEF;
 use lf_work::{
-    Inputs, Lines, NetServices, Outputs, RepairAsked, Services, Surroundings, answer_over, check,
-    describe_files, repair, work_on_files,
+    Inputs, Lines, NetServices, Outputs, Progress, RepairAsked, Services, Silent, Surroundings,
+    answer_over, check, describe_files, repair, work_on_files,
 };
 use std::alloc::Global;
 use std::io::{Read, Write};
@@ -55,9 +55,9 @@ fn demo<'a, R: Source, W: Sink>(
 }
 
 /// Does the task on a design within these limits, and returns its exit status.
-fn outcome_within<'a, T: Texts, E: Exports, V: Services, R: Source, W: Sink, F>(
+fn outcome_within<'a, T: Texts, E: Exports, V: Services, R: Source, W: Sink, F, P: Progress>(
     alloc: Global,
-    around: &mut Surroundings<T, E, V, R, W, F>,
+    around: &mut Surroundings<T, E, V, R, W, F, P>,
     task: &'a Task<'_>,
     limits: Limits,
 ) -> Result<u8, Fault<'a>>
@@ -73,6 +73,7 @@ fn outcome_within<'a, T: Texts, E: Exports, V: Services, R: Source, W: Sink, F>(
     ensures offered { OnOk result (IsOfferOf (as_job task.now) (V.offers around.old.services) (V.offers around.new.services)) }
     ensures unoffered { (V.offers around.new.services ≡ V.offers around.old.services)
         ⊎ IsOfferOf (as_job task.now) (V.offers around.old.services) (V.offers around.new.services) }
+    ensures silent { RepairsNothing (as_job task.now) → around.new.progress ≡ around.old.progress }
     ensures keeps { Keeps R.holds W.holds around.old around.new }
 {
     match task {
@@ -168,16 +169,12 @@ fn outcome_within<'a, T: Texts, E: Exports, V: Services, R: Source, W: Sink, F>(
                 legal: *legal,
                 export: *export,
                 lines: *lines,
+                limits,
             };
             let exports = &mut around.exports;
-            repair(
-                alloc,
-                limits,
-                &around.texts,
-                exports,
-                &mut around.writer,
-                &asked,
-            )
+            let writer = &mut around.writer;
+            let progress = &mut around.progress;
+            repair(alloc, &around.texts, exports, writer, progress, &asked)
         }
     }
 }
@@ -197,9 +194,9 @@ fn slots_of(task: &Task<'_>) -> Slots
 }
 
 /// Does the task, and returns its exit status.
-fn outcome<'a, T: Texts, E: Exports, V: Services, R: Source, W: Sink, F>(
+fn outcome<'a, T: Texts, E: Exports, V: Services, R: Source, W: Sink, F, P: Progress>(
     alloc: Global,
-    around: &mut Surroundings<T, E, V, R, W, F>,
+    around: &mut Surroundings<T, E, V, R, W, F, P>,
     task: &'a Task<'_>,
 ) -> Result<u8, Fault<'a>>
     requires ready { IsReady R.has_failed R.reads W.has_failed around.old.reader around.old.writer }
@@ -213,6 +210,7 @@ fn outcome<'a, T: Texts, E: Exports, V: Services, R: Source, W: Sink, F>(
     ensures offered { OnOk result (IsOfferOf (as_job task.now) (V.offers around.old.services) (V.offers around.new.services)) }
     ensures unoffered { (V.offers around.new.services ≡ V.offers around.old.services)
         ⊎ IsOfferOf (as_job task.now) (V.offers around.old.services) (V.offers around.new.services) }
+    ensures silent { RepairsNothing (as_job task.now) → around.new.progress ≡ around.old.progress }
     ensures keeps { Keeps R.holds W.holds around.old around.new }
 {
     let limits = limits_with(slots_of(task));
@@ -231,9 +229,9 @@ fn outcome<'a, T: Texts, E: Exports, V: Services, R: Source, W: Sink, F>(
 /// to the first fault; only then is the first line read, or the report made. A check, a description and a repair read no line. After
 /// all that has ended without a fault the exported text is written, and then the state, or the lines of a repair, to `exports`: no
 /// other text ever is. What is served is the port of this machine that is asked for, and nothing else.
-pub fn perform_over<T: Texts, E: Exports, V: Services, R: Source, W: Sink, F: Sink>(
+pub fn perform_over<T: Texts, E: Exports, V: Services, R: Source, W: Sink, F: Sink, P: Progress>(
     alloc: Global,
-    around: &mut Surroundings<T, E, V, R, W, F>,
+    around: &mut Surroundings<T, E, V, R, W, F, P>,
     task: &Task<'_>,
 ) -> Exit
     requires readable { R.has_failed around.old.reader ≡ false }
@@ -255,6 +253,7 @@ pub fn perform_over<T: Texts, E: Exports, V: Services, R: Source, W: Sink, F: Si
     ensures offered { IsDone result.status → IsOfferOf (as_job task.now) (V.offers around.old.services) (V.offers around.new.services) }
     ensures unoffered { (V.offers around.new.services ≡ V.offers around.old.services)
         ⊎ IsOfferOf (as_job task.now) (V.offers around.old.services) (V.offers around.new.services) }
+    ensures silent { RepairsNothing (as_job task.now) → around.new.progress ≡ around.old.progress }
     ensures texts { around.new.texts ≡ around.old.texts }
     ensures reader_held { R.holds around.new.reader ≡ R.holds around.old.reader }
     ensures writer_held { W.holds around.new.writer ≡ W.holds around.old.writer }
@@ -309,6 +308,7 @@ fn perform_with<T: Files + Net + AllocGlobal, R: Source + Drop, W: Sink + Drop, 
         reader,
         writer,
         faults,
+        progress: Silent,
     };
     let exit = perform_over(rt.alloc(), &mut around, task);
     let Surroundings {

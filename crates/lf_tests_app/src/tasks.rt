@@ -7,7 +7,7 @@ ghost use Rattle.lf_server.specs.Devices.{writer};
 use crate::shelf::Shelf;
 use lf_app::{
     Acceptor, ClientReader, ClientWriter, Connection, Exit, FileTexts, NetServices, Offer,
-    Services, Slots, Surroundings, Task, Unbound, perform, perform_over,
+    Services, Silent, Slots, Surroundings, Task, Unbound, perform, perform_over,
 };
 use lf_def::W_DEF;
 use lf_devices::{DeviceFault, FromRead, ToWrite};
@@ -369,6 +369,7 @@ fn with_devices<V: Services, R: Read, W: Write, F: Write>(
         reader: FromRead::new(reader),
         writer: ToWrite::new(writer),
         faults: ToWrite::new(faults),
+        progress: Silent,
     };
     let exit = perform_over(rt.alloc(), &mut around, task);
     End {

@@ -1,4 +1,5 @@
 pub mod Answering
+mod Beginning
 mod Copying
 pub mod DesignSteps
 mod Judging

@@ -4,7 +4,7 @@ use Rattle.std.specs.Prelude.{◌≤◌, All, bytes_eq, position, slice_get}
 use Rattle.std.specs.List.{position_or_len}
 use Rattle.std.proofs.lemmas.Grind.{common_steps}
 use Rattle.std.proofs.lemmas.Bool.{cases_lt}
-use Rattle.std.proofs.lemmas.List.{get_or-map, get_or_append_left, get_or_push, length-append, length-map}
+use Rattle.std.proofs.lemmas.List.{get_or-map, get_or_append_left, get_or_push, length-map}
 use Rattle.std.proofs.lemmas.List.Elements.{All-from_get_or}
 use Rattle.std.proofs.lemmas.List.Sums.{position_or_len_is}
 use Rattle.std.proofs.lemmas.Option.{get_or_from_slice_get, slice_get-get_or, slice_get_cases}
@@ -13,12 +13,10 @@ use Rattle.lf_floorplan.specs.declared.frame.Frame.{Frame}
 use Rattle.lf_floorplan.specs.declared.parts.Team.{Team}
 use Rattle.lf_floorplan.specs.Fences.{ground_name}
 use Rattle.lf_teams.specs.Teams.{team_names, team_number}
+use Rattle.lf_floor.proofs.Saving.{names_many}
 
 no_team : Team
 no_team = record { name = []; rects = [] }
-
-pub names_many : (f : Frame) → length (team_names f) ≡ length f.teams + 1
-names_many f = length-append (map (λ (t : Team). t.name) f.teams) (ground_name ∷ []) ∙ ap (λ (n : ℕ). n + 1) (length-map f.teams (λ (t : Team). t.name))
 
 at_fence : (f : Frame) (k : ℕ) → k < length f.teams → get_or (team_names f) k [] ≡ (get_or f.teams k no_team).name
 at_fence f k less =

@@ -1,5 +1,5 @@
 -- Lines that are told of repaired teams, one after the other.
-use Rattle.std.proofs.Common.{◌≡◌, ◌≢◌, ◌∙◌, inl, inr, ⊎_elim, ℕ, ◌+◌, ◌<◌, Bool, true, false, cond, List, [], ◌∷◌, ◌++◌, length, map, take, get_or, Option, Some, None, refl, sym, ap, ap₂, subst, append-nil, append_assoc, arith}
+use Rattle.std.proofs.Common.{◌≡◌, ◌≢◌, ◌∙◌, inl, inr, ⊎_elim, ℕ, ◌+◌, ◌<◌, Bool, true, cond, List, [], ◌∷◌, ◌++◌, length, map, take, get_or, Option, Some, refl, sym, ap, ap₂, subst, append-nil, append_assoc, arith}
 use Rattle.std.specs.Prelude.{◌≤◌, All, filter, option_and_then, slice_get}
 use Rattle.std.specs.List.{flat_map}
 use Rattle.std.specs.Option.{option_map_or}
@@ -18,7 +18,8 @@ use Rattle.lf_told.specs.declared.sums.Sums.{Sums}
 use Rattle.lf_told.specs.Told.{IsOneMore, all_line, cell_names, least_for, no_sums, with_team}
 use Rattle.lf_work.specs.Repairs.{is_asked}
 use Rattle.lf_work.specs.Telling.{AreToldMore, IsReport, IsToldLast, IsToldOf, TeamTold, asked_at, asked_names, line_of_team, sums_with}
-use Rattle.lf_work.proofs.Named.{names_many, others_before}
+use Rattle.lf_floor.proofs.Saving.{names_many}
+use Rattle.lf_work.proofs.Named.{others_before}
 use Rattle.lf_work.proofs.Repairing.{legal_same}
 
 -- ---- what is told stays so, where the team stays

@@ -311,7 +311,7 @@ begun_components gives None opened begin is = ap (λ (f : FloorState). f.compone
 begun_components gives (Some path) opened begin is = ap (λ (f : FloorState). f.components) is.2.2
 
 -- nothing fails where nothing is changed
-pub still_sound : {T E V R W F : Type 0} (e : E → Bool) (v : V → Bool) (r : R → Bool) (w : W → Bool) (around : Surroundings T E V R W F)
+pub still_sound : {T E V R W F P : Type 0} (e : E → Bool) (v : V → Bool) (r : R → Bool) (w : W → Bool) (around : Surroundings T E V R W F P)
     → IsSound e v r w around around
 still_sound e v r w around = record { exports = refl; services = refl; reader = refl; writer = refl }
 

@@ -1,8 +1,9 @@
 -- The state of a floor that is read from a file before work on it begins, and written to one at the end.
-use Rattle.std.specs.Prelude.{◌≡◌, ◌⊎◌, ℕ, List, Option, Some, None, Err}
+use Rattle.std.specs.Prelude.{◌≡◌, ◌⊎◌, ℕ, List, Option, Some, None, Ok, Err}
 use Rattle.lf_files.specs.Shelf.{Put, Puts}
 use Rattle.lf_state.specs.declared.fault.StateFault.{StateFault}
 use Rattle.lf_state.specs.Reading.{state_of}
+use Rattle.lf_state.specs.Saved.{SavedTeam}
 use Rattle.lf_floorplan.specs.declared.limits.Limits.{Limits}
 use Rattle.lf_floorplan.specs.declared.loaded.Loaded.{Loaded}
 use Rattle.lf_teams.specs.States.{FloorState}
@@ -16,6 +17,10 @@ use Rattle.lf_designs.specs.Refusals.{TellsState}
 use Rattle.lf_work.specs.Standing.{StandsOn}
 
 -- ---- the state that work begins with
+
+-- the file of the path is read, and its text tells these teams of the design of the floor that was opened
+abbrev pub TellsOf : Gives → List ℕ → FloorState → List SavedTeam → Type 0
+TellsOf gives path opened saved = (text : List ℕ) × gives path (Some text) × (state_of (named opened) text ≡ Ok saved)
 
 -- the file of the path is read, and the floor is in the state that its text tells of the design of the one that was opened
 abbrev pub IsFileState : Gives → List ℕ → FloorState → FloorState → Type 0

@@ -52,8 +52,8 @@ IsReaderSpent (Stream limit) failed old new = ReadsFail limit failed old new
 IsReaderSpent (Port port connections) failed old new = ⊥
 
 -- who is to blame for a fault of the lines
-abbrev pub BlamesIn : {T E V R W F : Type 0} → (E → Bool) → (V → Bool) → (R → Bool) → (R → ℕ) → (W → Bool) → Lines
-    → Surroundings T E V R W F → Surroundings T E V R W F → Fault → Type 0
+abbrev pub BlamesIn : {T E V R W F P : Type 0} → (E → Bool) → (V → Bool) → (R → Bool) → (R → ℕ) → (W → Bool) → Lines
+    → Surroundings T E V R W F P → Surroundings T E V R W F P → Fault → Type 0
 BlamesIn export_failed service_failed read_failed reads write_failed lines old new fault =
     Blames fault (new.writer ≡ old.writer) (IsReaderSpent lines (read_failed new.reader) (reads old.reader) (reads new.reader)) (write_failed new.writer ≡ true)
     (export_failed new.exports ≡ true) (service_failed new.services ≡ true) (IsSound export_failed service_failed read_failed write_failed old new)
@@ -65,8 +65,8 @@ IsOfferFor (Port port connections) old new = OffersLocal port connections old ne
 
 -- what the work on a design leaves beside its lines: texts are put and services offered only as was asked for, and after a fault
 -- no text is put where no state was asked for
-pub record Leaves {T E V R W F : Type 0} (puts : E → Option (List Put)) (offers : V → Option (List Offer)) (lines : Lines) (save export : Option (List ℕ))
-    (result : Result ℕ Fault) (old new : Surroundings T E V R W F) : Type 0 where
+pub record Leaves {T E V R W F P : Type 0} (puts : E → Option (List Put)) (offers : V → Option (List Offer)) (lines : Lines) (save export : Option (List ℕ))
+    (result : Result ℕ Fault) (old new : Surroundings T E V R W F P) : Type 0 where
   pub unput : save ≡ None → OnErr result (puts new.exports ≡ puts old.exports)
   pub unasked : save ≡ None → export ≡ None → new.exports ≡ old.exports
   pub offered : OnOk result (IsOfferFor lines (offers old.services) (offers new.services))

@@ -1,8 +1,7 @@
 //! The repair of the teams of a design: the floor's own commands give their cells legal places.
 
 ghost use Rattle.std.specs.Prelude.{◌≡◌, ◌≢◌, ◌⊎◌, ◌+◌, ℕ, All, Bool, List, None, Option, Some, IfErr, IfOk, IsTrue, OnErr, OnOk};
-ghost use Rattle.std.specs.Prelude.{bytes_eq, false, length, map, position, slice_get, true};
-ghost use Rattle.std.specs.Option.{option_map};
+ghost use Rattle.std.specs.Prelude.{bytes_eq, false, length, map, position, true};
 ghost use Rattle.std.specs.Io.KnownBytes.{Appends};
 ghost use Rattle.lf_command.specs.declared.command.LegalCells.TheVariants.{Stay};
 ghost use Rattle.lf_def.specs.Document.{Document};
@@ -14,7 +13,7 @@ ghost use Rattle.lf_rules.specs.Legalizer.{Legalizer};
 ghost use Rattle.lf_teams.specs.Designs.{opening};
 ghost use Rattle.lf_teams.specs.Places.{AreCommittedPlaces};
 ghost use Rattle.lf_teams.specs.States.{FloorState};
-ghost use Rattle.lf_teams.specs.Teams.{state_of, team_names, team_number};
+ghost use Rattle.lf_teams.specs.Teams.{state_of, team_number};
 ghost use Rattle.lf_write.specs.Export.{CanBeRenewed, clause_of};
 ghost use Rattle.lf_mend.specs.Mending.{AreLegalBut, ChangesOnly, IsLeftIn, LegalStay};
 ghost use Rattle.lf_mend.specs.declared.start.How.TheVariants.{Keep};
@@ -31,6 +30,7 @@ ghost use Rattle.lf_work.specs.Work.{path_of};
 use crate::exported::{export_to, try_export};
 use crate::judged::is_committed_legal;
 use crate::kept_lines::{KeptLines, lines_to, try_lines};
+use crate::progress::{Progress, WatchedLines};
 use crate::statuses::{DONE, ILLEGAL};
 use crate::work::floor_of;
 use lf_alone::least_largest;
@@ -38,7 +38,7 @@ use lf_command::LegalCells;
 use lf_designs::{Fault, Opened, Original, Texts, open_files};
 use lf_devices::{Sink, send};
 use lf_files::Exports;
-use lf_floor::Floor;
+use lf_floor::{Floor, team_name};
 use lf_floorplan::{Frame, Limits};
 use lf_legalize::IndexSeeker;
 use lf_mend::{How, repair_team};
@@ -64,6 +64,7 @@ pub struct RepairAsked<'a> {
     pub export: Option<&'a str>,
     /// The path of the lines, if they are asked for.
     pub lines: Option<&'a str>,
+    pub limits: Limits,
 }
 
 /// Which of a team's cells may be moved.
@@ -119,15 +120,15 @@ fn all_known<'a>(floor: &Floor<IndexSeeker>, teams: &'a [&'a str]) -> Result<(),
 }
 
 /// Repairs the team of that name, and tells of it.
-fn repair_named<'f>(
+fn repair_named<'f, P: Progress>(
     alloc: Global,
     floor: &mut Floor<IndexSeeker>,
     name: &[u8],
     how: How,
-    lines: &mut KeptLines,
+    lines: &mut WatchedLines<'_, P>,
     report: &mut RepairReport,
 ) -> Result<(), Fault<'f>>
-    ensures run { (l : Legalizer) → OnOk result (IsKeptRun l floor.old (kept_text lines.old) (kept_text lines.new) floor.new) }
+    ensures run { (l : Legalizer) → OnOk result (IsKeptRun l floor.old (kept_text lines.old.lines) (kept_text lines.new.lines) floor.new) }
     ensures only { ChangesOnly name.now floor.old floor.new }
     ensures kept { how ≡ Keep → LegalStay name.now floor.old floor.new }
     ensures told { OnOk result ((repaired : Repaired) × IsOneMore floor.new name.now repaired report.old report.new
@@ -143,32 +144,22 @@ fn repair_named<'f>(
     }
 }
 
-/// The name of the team of that number; none if there is no such team.
-fn team_name(frame: &Frame, number: usize) -> Option<&[u8]>
-    ensures { option_map (λ name. name.now) result ≡ slice_get (team_names frame.now) number }
-{
-    match frame.teams.as_slice().get(number) {
-        Some(fence) => Some(fence.name.as_bytes()),
-        None => {
-            if number != frame.teams.len() {
-                return None;
-            }
-            Some(b"-")
-        }
-    }
+/// Tells that the repair of the team of that name and number begins.
+fn tell_begin<P: Progress>(progress: &mut P, frame: &Frame, name: &[u8], number: usize) {
+    progress.begin(name, number.saturating_add(1), frame.teams.len() + 1);
 }
 
 /// Repairs the team of that number, if it is asked for.
 #[tactic(auto, using(crate::proofs::Repairing::nothing_asked, crate::proofs::Repairing::none_changes))]
-fn repair_numbered<'a>(
+fn repair_numbered<'a, P: Progress>(
     alloc: Global,
     floor: &mut Floor<IndexSeeker>,
     number: usize,
     asked: &RepairAsked<'a>,
-    lines: &mut KeptLines,
+    lines: &mut WatchedLines<'_, P>,
     report: &mut RepairReport,
 ) -> Result<(), Fault<'a>>
-    ensures run { (l : Legalizer) → OnOk result (IsKeptRun l floor.old (kept_text lines.old) (kept_text lines.new) floor.new) }
+    ensures run { (l : Legalizer) → OnOk result (IsKeptRun l floor.old (kept_text lines.old.lines) (kept_text lines.new.lines) floor.new) }
     ensures only { OnOk result (OnlyAsked (map (λ team. team.now) asked.now.teams.now) floor.old floor.new) }
     ensures told { OnOk result (AreToldMore (asked_at floor.old.frame (map (λ team. team.now) asked.now.teams.now) number) floor.new report.old report.new) }
     ensures err { IfErr result (λ fault. fault ≡ NoMemory) }
@@ -183,18 +174,19 @@ fn repair_numbered<'a>(
     if !is_asked(asked.teams, name) {
         return Ok(());
     }
+    tell_begin(lines.progress, floor.placement().frame(), name, number);
     repair_named(alloc, floor, name, how_of(asked.legal), lines, report)
 }
 
 /// Repairs the teams that are asked for, in their order.
-fn repair_teams<'a>(
+fn repair_teams<'a, P: Progress>(
     alloc: Global,
     floor: &mut Floor<IndexSeeker>,
     asked: &RepairAsked<'a>,
-    lines: &mut KeptLines,
+    lines: &mut WatchedLines<'_, P>,
     report: &mut RepairReport,
 ) -> Result<(), Fault<'a>>
-    ensures run { (l : Legalizer) → OnOk result (IsKeptRun l floor.old (kept_text lines.old) (kept_text lines.new) floor.new) }
+    ensures run { (l : Legalizer) → OnOk result (IsKeptRun l floor.old (kept_text lines.old.lines) (kept_text lines.new.lines) floor.new) }
     ensures only { OnOk result (OnlyAsked (map (λ team. team.now) asked.now.teams.now) floor.old floor.new) }
     ensures kept { asked.now.legal ≡ Stay → OnOk result (AllLegalStay floor.old floor.new) }
     ensures told { OnOk result (AreToldMore (asked_names floor.old.frame (map (λ team. team.now) asked.now.teams.now)) floor.new report.old report.new) }
@@ -242,11 +234,12 @@ struct RepairDone {
 }
 
 /// Repairs the teams that are asked for, and tells of them; for each team the largest of the least ways of its cells is this.
-fn repaired<'a>(
+fn repaired<'a, P: Progress>(
     alloc: Global,
     floor: &mut Floor<IndexSeeker>,
     asked: &RepairAsked<'a>,
     least: &[u64],
+    progress: &mut P,
 ) -> Result<RepairDone, Fault<'a>>
     requires { length floor.old.teams ≡ length floor.old.frame.teams + 1 }
     ensures run { (l : Legalizer) → IfOk result (λ done. IsKeptRun l floor.old (begun_lines (path_of asked.now.lines)) (kept_text done.lines) floor.new) }
@@ -257,10 +250,12 @@ fn repaired<'a>(
     ensures err { IfErr result (λ fault. fault ≡ NoMemory) }
 {
     legalizer_is_there();
-    let mut lines = KeptLines::new(alloc, asked.lines);
+    let lines = KeptLines::new(alloc, asked.lines);
+    let mut lines = WatchedLines { lines, progress };
     let mut report = RepairReport::new(alloc, least)?;
     repair_teams(alloc, floor, asked, &mut lines, &mut report)?;
     let status = judge(alloc, floor, &mut report)?;
+    let WatchedLines { lines, .. } = lines;
     Ok(RepairDone {
         lines,
         report,
@@ -348,30 +343,32 @@ fn put_all<'a, E: Exports, W: Sink>(
     Ok(done.status)
 }
 
-/// What is known of a design beside its floor, before any team is repaired.
+/// What there is beside the floor of a design, before any team is repaired.
 #[derive(Drop)]
-struct Before {
+struct Before<'p, P> {
     original: Original,
     /// For each team the largest of the least ways of its cells.
     least: Vec<u64>,
+    /// Who is told how far the repair is.
+    progress: &'p mut P,
 }
 
 /// Repairs the teams of a floor of the text's design, and writes what is asked for. Where that cannot be, as far as it shows
 /// beforehand, nothing is asked of the floor.
-fn repair_on_floor<'a, E: Exports, W: Sink>(
+fn repair_on_floor<'a, E: Exports, W: Sink, P: Progress>(
     alloc: Global,
     floor: &mut Floor<IndexSeeker>,
-    before: &Before,
+    before: &mut Before<'_, P>,
     asked: &RepairAsked<'a>,
     exports: &mut E,
     writer: &mut W,
 ) -> Result<u8, Fault<'a>>
     requires teams { length floor.old.teams ≡ length floor.old.frame.teams + 1 }
     requires fits { (s : FloorState) (places : List (ℕ × Option Place)) → s.components ≡ floor.old.components → AreCommittedPlaces s places
-        → CanBeRenewed before.now.original.text.items before.now.original.clauses places }
-    ensures ok { (document : Document) → before.now.original.clauses ≡ map (clause_of before.now.original.text.items) document.components
+        → CanBeRenewed before.old.original.text.items before.old.original.clauses places }
+    ensures ok { (document : Document) → before.old.original.clauses ≡ map (clause_of before.old.original.text.items) document.components
         → IfOk result (IsRepaired (map (λ team. team.now) asked.now.teams.now) asked.now.legal (path_of asked.now.export) (path_of asked.now.lines)
-        before.now.original.text.items document before.now.least.items floor.old
+        before.old.original.text.items document before.old.least.items floor.old
         (W.contents writer.old) (W.contents writer.new) (E.puts exports.old) (E.puts exports.new)) }
     ensures err { IfErr result (λ fault. IsUnrepaired (map (λ team. team.now) asked.now.teams.now) (path_of asked.now.export) (path_of asked.now.lines)
         floor.old (W.contents writer.old) (W.contents writer.new) (E.puts exports.old) (E.puts exports.new) fault
@@ -383,17 +380,18 @@ fn repair_on_floor<'a, E: Exports, W: Sink>(
 {
     all_known(floor, asked.teams)?;
     try_files(asked, exports)?;
-    let done = repaired(alloc, floor, asked, &before.least)?;
+    let done = repaired(alloc, floor, asked, &before.least, before.progress)?;
     put_all(floor, &before.original, &done, asked, exports, writer)
 }
 
 /// Repairs the teams of the design of a text that was opened.
-fn repair_opened<'a, E: Exports, W: Sink>(
+fn repair_opened<'a, E: Exports, W: Sink, P: Progress>(
     alloc: Global,
     opened: Opened,
     asked: &RepairAsked<'a>,
     exports: &mut E,
     writer: &mut W,
+    progress: &mut P,
 ) -> Result<u8, Fault<'a>>
     requires loads { (limits : TheLimits) × (library : Contents) × (document : Document)
         × IsKept limits opened.original.text.items library document opened.original.clauses opened.loaded }
@@ -417,26 +415,30 @@ fn repair_opened<'a, E: Exports, W: Sink>(
     let Opened { loaded, original } = opened;
     let least = least_largest(alloc, &loaded)?;
     let mut floor = floor_of(alloc, loaded)?;
-    let before = Before { original, least };
-    repair_on_floor(alloc, &mut floor, &before, asked, exports, writer)
+    let mut before = Before {
+        original,
+        least,
+        progress,
+    };
+    repair_on_floor(alloc, &mut floor, &mut before, asked, exports, writer)
 }
 
 /// Repairs the teams of the design of a DEF file over LEF files by the floor's own commands, writes what became of each as JSON Lines and
 /// then the files that are asked for, and returns the exit status: 0, or 4 if the committed design is not fully legal. `Err` is the first
 /// fault of: the files, LEF before DEF; the design; a name that is no team's; the paths of the files that are asked for; memory; the
 /// writer; those files, the exported text before the lines. No file is written if another than the lines' is at fault.
-pub fn repair<'a, T: Texts, E: Exports, W: Sink>(
+pub fn repair<'a, T: Texts, E: Exports, W: Sink, P: Progress>(
     alloc: Global,
-    limits: Limits,
     texts: &T,
     exports: &mut E,
     writer: &mut W,
+    progress: &mut P,
     asked: &RepairAsked<'a>,
 ) -> Result<u8, Fault<'a>>
-    ensures ok { IfOk result (IsOpenRepaired limits (T.gives texts.now) asked.now.def.now (map (λ lef. lef.now) asked.now.lefs.now)
+    ensures ok { IfOk result (IsOpenRepaired asked.now.limits (T.gives texts.now) asked.now.def.now (map (λ lef. lef.now) asked.now.lefs.now)
         (map (λ team. team.now) asked.now.teams.now) asked.now.legal (path_of asked.now.export) (path_of asked.now.lines)
         (W.contents writer.old) (W.contents writer.new) (E.puts exports.old) (E.puts exports.new)) }
-    ensures err { IfErr result (λ fault. IsNotRepaired limits (T.gives texts.now) asked.now.def.now (map (λ lef. lef.now) asked.now.lefs.now)
+    ensures err { IfErr result (λ fault. IsNotRepaired asked.now.limits (T.gives texts.now) asked.now.def.now (map (λ lef. lef.now) asked.now.lefs.now)
         (map (λ team. team.now) asked.now.teams.now) (path_of asked.now.export) (path_of asked.now.lines)
         (W.contents writer.old) (W.contents writer.new) (E.puts exports.old) (E.puts exports.new) fault
         × BlamesOutputs fault (writer.new ≡ writer.old) (W.has_failed writer.old) (W.has_failed writer.new)
@@ -445,6 +447,6 @@ pub fn repair<'a, T: Texts, E: Exports, W: Sink>(
     ensures unasked { path_of asked.now.lines ≡ None → path_of asked.now.export ≡ None → exports.new ≡ exports.old }
     ensures held { W.holds writer.new ≡ W.holds writer.old }
 {
-    let opened = open_files(alloc, limits, texts, asked.def, asked.lefs)?;
-    repair_opened(alloc, opened, asked, exports, writer)
+    let opened = open_files(alloc, asked.limits, texts, asked.def, asked.lefs)?;
+    repair_opened(alloc, opened, asked, exports, writer, progress)
 }

@@ -2,7 +2,7 @@
 //!
 //! A floor keeps the design that it began with, so it begins with a copy of this one; its cells are then looked up by their names.
 
-ghost use Rattle.std.specs.Prelude.{◌≡◌, ◌⊎◌, ◌+◌, IfErr, IfOk, length, map};
+ghost use Rattle.std.specs.Prelude.{◌≡◌, ◌⊎◌, IfErr, IfOk, length, map};
 ghost use Rattle.lf_floorplan.specs.declared.loaded.Loaded.{Loaded};
 ghost use Rattle.lf_floorplan.specs.Design.{MakeDesign};
 ghost use Rattle.lf_teams.specs.Designs.{opening};
@@ -13,29 +13,11 @@ ghost use Rattle.lf_work.specs.States.{IsFileState, IsSeen, IsStateFileFault, Is
 ghost use Rattle.lf_work.specs.Twins.{cells_in};
 ghost use Rattle.lf_work.specs.Work.{path_of};
 
-use crate::states::restore_file;
+use crate::states::floor_in_state;
 use crate::twins::{copy_cells, design_of, twin_of};
-use crate::work::floor_of;
 use lf_designs::{Fault, Texts};
-use lf_floor::Floor;
 use lf_floorplan::{CellParts, Frame, Loaded, LoadedCells};
-use lf_legalize::IndexSeeker;
 use std::alloc::Global;
-
-/// The floor of the design in the state that the file of that path tells.
-fn floor_in_state<'a, T: Texts>(
-    alloc: Global,
-    texts: &T,
-    design: Loaded,
-    path: &'a str,
-) -> Result<Floor<IndexSeeker>, Fault<'a>>
-    ensures ok { IfOk result (IsFileState (T.gives texts.now) path.now (opening design)) }
-    ensures many { IfOk result (λ floor. length floor.teams ≡ length design.frame.teams + 1) }
-    ensures err { IfErr result (λ fault. (fault ≡ NoMemory) ⊎ IsStateFileFault (T.gives texts.now) path.now (opening design) fault) }
-{
-    let floor = floor_of(alloc, design)?;
-    restore_file(alloc, texts, floor, path)
-}
 
 /// The cells of a design of this frame, each where it stands in the state that the file of that path tells.
 fn cells_in_state<'a, T: Texts>(

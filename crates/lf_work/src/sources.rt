@@ -89,9 +89,9 @@ fn offer<'a, V: Services, W: Sink>(
 }
 
 /// Answers the lines on the floor, wherever they come from.
-pub(crate) fn answer<'a, T, E: Exports, V: Services, R: Source, W: Sink, F>(
+pub(crate) fn answer<'a, T, E: Exports, V: Services, R: Source, W: Sink, F, P>(
     alloc: Global,
-    around: &mut Surroundings<T, E, V, R, W, F>,
+    around: &mut Surroundings<T, E, V, R, W, F, P>,
     floor: &mut Floor<IndexSeeker>,
     lines: Lines,
 ) -> Result<(), Fault<'a>>
@@ -104,6 +104,7 @@ pub(crate) fn answer<'a, T, E: Exports, V: Services, R: Source, W: Sink, F>(
     ensures sound { OnOk result (IsSound E.has_failed V.has_failed R.has_failed W.has_failed around.old around.new) }
     ensures exports { around.new.exports ≡ around.old.exports }
     ensures offered { IsOfferFor lines (V.offers around.old.services) (V.offers around.new.services) }
+    ensures silent { around.new.progress ≡ around.old.progress }
     ensures keeps { Keeps R.holds W.holds around.old around.new }
 {
     let reader = &mut around.reader;

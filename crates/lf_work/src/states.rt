@@ -1,16 +1,20 @@
 //! The state that a floor is brought into before work on it begins: the one that the text of a file tells.
 
-ghost use Rattle.std.specs.Prelude.{◌≡◌, IfErr, IfOk};
-ghost use Rattle.lf_restore.specs.Saved.{AreOfOneDesign, IsRestoredFrom};
+ghost use Rattle.std.specs.Prelude.{◌≡◌, ◌⊎◌, ◌+◌, IfErr, IfOk, Ok, length};
+ghost use Rattle.lf_teams.specs.Designs.{opening};
+ghost use Rattle.lf_restore.specs.Saved.{AreDue, AreOfOneDesign, named};
+ghost use Rattle.lf_state.specs.Reading.{state_of};
+ghost use Rattle.lf_state.specs.Saved.{team_views};
+ghost use Rattle.lf_designs.specs.declared.faults.Fault.TheVariants.{NoMemory};
 ghost use Rattle.lf_designs.specs.declared.faults.TextKind.TheVariants.{State};
-ghost use Rattle.lf_work.specs.States.{IsBegun, IsFileState, IsStateFault, IsStateFileFault, IsStateRefused, IsStateTextFault};
-ghost use Rattle.lf_work.specs.Work.{path_of};
+ghost use Rattle.lf_work.specs.States.{IsFileState, IsStateFileFault, IsStateRefused, IsStateTextFault, TellsOf};
 
 use lf_designs::{Fault, StateRefusal, TextFile, TextKind, Texts, read_text};
 use lf_floor::Floor;
+use lf_floorplan::Loaded;
 use lf_legalize::IndexSeeker;
-use lf_state::{StateError, StateFault};
-use std::alloc::Global;
+use lf_state::{StateError, StateFault, TeamRow};
+use std::alloc::{AllocError, Global};
 
 /// The file of a saved state.
 fn state_file(path: &str) -> TextFile<'_>
@@ -33,26 +37,41 @@ fn refused_state<'a>(alloc: Global, path: &'a str, text: &[u8], fault: StateFaul
     }
 }
 
-/// The floor in the state that the text of the file of that path tells of its design.
-fn restore<'a>(
+/// What the text of the file of that path tells of the teams of the floor's design.
+fn read_rows<'a>(
     alloc: Global,
-    floor: Floor<IndexSeeker>,
+    floor: &Floor<IndexSeeker>,
     path: &'a str,
     text: &[u8],
-) -> Result<Floor<IndexSeeker>, Fault<'a>>
-    ensures ok { IfOk result (IsRestoredFrom floor text.now) }
-    ensures design { IfOk result (AreOfOneDesign floor) }
-    ensures err { IfErr result (IsStateTextFault floor path.now text.now) }
+) -> Result<Vec<TeamRow>, Fault<'a>>
+    ensures ok { IfOk result (λ rows. state_of (named floor.now) text.now ≡ Ok (team_views rows.items)) }
+    ensures due { IfOk result (λ rows. AreDue floor.now.frame.limits floor.now.teams (team_views rows.items)) }
+    ensures err { IfErr result (IsStateTextFault floor.now path.now text.now) }
 {
-    match floor.restore(text) {
-        Ok(restored) => Ok(restored),
+    match floor.read_state(text) {
+        Ok(rows) => Ok(rows),
         Err(StateError::Memory) => Err(Fault::NoMemory),
         Err(StateError::Fault(fault)) => Err(refused_state(alloc, path, text, fault)),
     }
 }
 
-/// The floor in the state that the file of that path tells of its design.
-pub(crate) fn restore_file<'a, T: Texts>(
+/// The same of the file of that path: its text is let go once it is read.
+fn rows_of_file<'a, T: Texts>(
+    alloc: Global,
+    texts: &T,
+    floor: &Floor<IndexSeeker>,
+    path: &'a str,
+) -> Result<Vec<TeamRow>, Fault<'a>>
+    ensures ok { IfOk result (λ rows. TellsOf (T.gives texts.now) path.now floor.now (team_views rows.items)) }
+    ensures due { IfOk result (λ rows. AreDue floor.now.frame.limits floor.now.teams (team_views rows.items)) }
+    ensures err { IfErr result (IsStateFileFault (T.gives texts.now) path.now floor.now) }
+{
+    let text = read_text(texts, state_file(path))?;
+    read_rows(alloc, floor, path, &text)
+}
+
+/// The floor in the state that the file of that path tells of its design: the text is let go before anything is built of it.
+fn restore_file<'a, T: Texts>(
     alloc: Global,
     texts: &T,
     floor: Floor<IndexSeeker>,
@@ -62,23 +81,33 @@ pub(crate) fn restore_file<'a, T: Texts>(
     ensures design { IfOk result (AreOfOneDesign floor) }
     ensures err { IfErr result (IsStateFileFault (T.gives texts.now) path.now floor) }
 {
-    let text = read_text(texts, state_file(path))?;
-    restore(alloc, floor, path, &text)
+    let rows = rows_of_file(alloc, texts, &floor, path)?;
+    match floor.restore_rows(rows) {
+        Ok(restored) => Ok(restored),
+        Err(_) => Err(Fault::NoMemory),
+    }
 }
 
-/// The floor with which work begins: the one of a design as it is opened, or in the state that the file of that path tells, if one
-/// is given.
-pub(crate) fn begun<'a, T: Texts>(
+/// The floor of the design of which no cell is placed yet, with an index of its rows for the search for best places.
+fn bare_floor_of(alloc: Global, loaded: Loaded) -> Result<Floor<IndexSeeker>, AllocError>
+    ensures { IfOk result (AreOfOneDesign (opening loaded)) }
+{
+    let seeker = IndexSeeker::build(alloc, &loaded.frame)?;
+    Floor::bare(alloc, loaded, seeker)
+}
+
+/// The floor of the design in the state that the file of that path tells. It begins with no cell placed: the places of the DEF text
+/// are not those of the state.
+pub(crate) fn floor_in_state<'a, T: Texts>(
     alloc: Global,
     texts: &T,
-    floor: Floor<IndexSeeker>,
-    path: Option<&'a str>,
+    design: Loaded,
+    path: &'a str,
 ) -> Result<Floor<IndexSeeker>, Fault<'a>>
-    ensures ok { IfOk result (IsBegun (T.gives texts.now) (path_of path.entry) floor) }
-    ensures err { IfErr result (IsStateFault (T.gives texts.now) (path_of path.entry) floor) }
+    ensures ok { IfOk result (IsFileState (T.gives texts.now) path.now (opening design)) }
+    ensures many { IfOk result (λ floor. length floor.teams ≡ length design.frame.teams + 1) }
+    ensures err { IfErr result (λ fault. (fault ≡ NoMemory) ⊎ IsStateFileFault (T.gives texts.now) path.now (opening design) fault) }
 {
-    match path {
-        None => Ok(floor),
-        Some(path) => restore_file(alloc, texts, floor, path),
-    }
+    let floor = bare_floor_of(alloc, design)?;
+    restore_file(alloc, texts, floor, path)
 }

@@ -1,8 +1,8 @@
 //! What a task works on.
 
-/// Where a task's texts are read from and put, where its services are offered, and what it reads, writes and tells faults to.
+/// Where a task's texts are read from and put, where its services are offered, and what it reads, writes and tells.
 #[derive(Drop)]
-pub struct Surroundings<T, E, V, R, W, F> {
+pub struct Surroundings<T, E, V, R, W, F, P> {
     /// Where the texts of files are read from.
     pub texts: T,
     /// Where exported texts go.
@@ -15,4 +15,6 @@ pub struct Surroundings<T, E, V, R, W, F> {
     pub writer: W,
     /// Where a fault is told.
     pub faults: F,
+    /// Who is told how far a repair is.
+    pub progress: P,
 }

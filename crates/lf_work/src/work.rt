@@ -22,7 +22,7 @@ use crate::lines::MOST_LINES;
 use crate::outputs::{Outputs, put_outputs, try_outputs};
 use crate::services::Services;
 use crate::sources::{Lines, answer, answer_on};
-use crate::states::begun;
+use crate::states::floor_in_state;
 use crate::surroundings::Surroundings;
 use lf_designs::{Fault, Opened, Original, Texts, open_files};
 use lf_devices::{Sink, Source};
@@ -45,9 +45,9 @@ pub(crate) fn floor_of(alloc: Global, loaded: Loaded) -> Result<Floor<IndexSeeke
 
 /// Works on a floor of the text's design: its lines are answered, and then what is asked for is written. Where that cannot be,
 /// as far as it shows beforehand, no line is read.
-fn work_on_floor<'a, T, E: Exports, V: Services, R: Source, W: Sink, F>(
+fn work_on_floor<'a, T, E: Exports, V: Services, R: Source, W: Sink, F, P>(
     alloc: Global,
-    around: &mut Surroundings<T, E, V, R, W, F>,
+    around: &mut Surroundings<T, E, V, R, W, F, P>,
     original: &Original,
     floor: &mut Floor<IndexSeeker>,
     lines: Lines,
@@ -64,6 +64,7 @@ fn work_on_floor<'a, T, E: Exports, V: Services, R: Source, W: Sink, F>(
         original.now.text.items document fault (io_of R.remaining W.contents E.puts V.accepted around.old around.new)
         × BlamesIn E.has_failed V.has_failed R.has_failed R.reads W.has_failed lines around.old around.new fault) }
     ensures leaves { Leaves E.puts V.offers lines (path_of outputs.entry.save) (path_of outputs.entry.export) result around.old around.new }
+    ensures silent { around.new.progress ≡ around.old.progress }
     ensures keeps { Keeps R.holds W.holds around.old around.new }
 {
     try_outputs(outputs, &mut around.exports)?;
@@ -82,14 +83,16 @@ fn floor_to_begin<'a, T: Texts>(
     ensures ok { IfOk result (IsBegun (T.gives texts.now) (path_of state.entry) (opening loaded)) }
     ensures err { IfErr result (IsUnbegun (T.gives texts.now) (path_of state.entry) loaded) }
 {
-    let floor = floor_of(alloc, loaded)?;
-    begun(alloc, texts, floor, state)
+    match state {
+        None => Ok(floor_of(alloc, loaded)?),
+        Some(path) => floor_in_state(alloc, texts, loaded, path),
+    }
 }
 
 /// Works on the design of a text that was opened.
-fn work_on_opened<'a, T: Texts, E: Exports, V: Services, R: Source, W: Sink, F>(
+fn work_on_opened<'a, T: Texts, E: Exports, V: Services, R: Source, W: Sink, F, P>(
     alloc: Global,
-    around: &mut Surroundings<T, E, V, R, W, F>,
+    around: &mut Surroundings<T, E, V, R, W, F, P>,
     opened: Opened,
     state: Option<&'a str>,
     lines: Lines,
@@ -107,6 +110,7 @@ fn work_on_opened<'a, T: Texts, E: Exports, V: Services, R: Source, W: Sink, F>(
         opened.loaded opened.original.text.items document fault (io_of R.remaining W.contents E.puts V.accepted around.old around.new)
         × BlamesIn E.has_failed V.has_failed R.has_failed R.reads W.has_failed lines around.old around.new fault) }
     ensures leaves { Leaves E.puts V.offers lines (path_of outputs.entry.save) (path_of outputs.entry.export) result around.old around.new }
+    ensures silent { around.new.progress ≡ around.old.progress }
     ensures keeps { Keeps R.holds W.holds around.old around.new }
 {
     clauses_serve();
@@ -134,9 +138,9 @@ pub struct Inputs<'a> {
 /// connections served, and then the exported text and the state are written, where they are asked for. Returns the exit status 0. `Err` is
 /// the first fault of: the files, LEF before DEF; the design; the state; the paths of what is asked for; the port; the lines; the
 /// exported text; the state. No file is written if another than the state's is at fault.
-pub fn work_on_files<'a, T: Texts, E: Exports, V: Services, R: Source, W: Sink, F>(
+pub fn work_on_files<'a, T: Texts, E: Exports, V: Services, R: Source, W: Sink, F, P>(
     alloc: Global,
-    around: &mut Surroundings<T, E, V, R, W, F>,
+    around: &mut Surroundings<T, E, V, R, W, F, P>,
     inputs: Inputs<'a>,
     lines: Lines,
     outputs: Outputs<'a>,
@@ -152,6 +156,7 @@ pub fn work_on_files<'a, T: Texts, E: Exports, V: Services, R: Source, W: Sink, 
         (io_of R.remaining W.contents E.puts V.accepted around.old around.new)
         × BlamesIn E.has_failed V.has_failed R.has_failed R.reads W.has_failed lines around.old around.new fault) }
     ensures leaves { Leaves E.puts V.offers lines (path_of outputs.entry.save) (path_of outputs.entry.export) result around.old around.new }
+    ensures silent { around.new.progress ≡ around.old.progress }
     ensures keeps { Keeps R.holds W.holds around.old around.new }
 {
     let opened = open_files(alloc, inputs.limits, &around.texts, inputs.def, inputs.lefs)?;

@@ -72,3 +72,6 @@ pub returns-in-Repair-clause-unasked : goal.returns-in-Repair-clause-unasked
 returns-in-Repair-clause-unasked g c = λ asks.
     let none = rw c.in-Repair.is at asks in
     c.repair.ensures.unasked none.0 none.1
+
+pub returns-in-Repair-clause-silent : goal.returns-in-Repair-clause-silent
+returns-in-Repair-clause-silent g c = λ nothing. absurd (rw c.in-Repair.is at nothing)

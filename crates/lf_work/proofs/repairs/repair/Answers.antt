@@ -6,7 +6,7 @@ use Rattle.lf_work.proofs.repairs.repair.Goals as goal
 pub repair_opened-requires : goal.repair_opened-requires
 repair_opened-requires g c =
     let is = c.in_ok-opened.ensures.ok.1 in
-    record { loads = (c.args.limits, is.library, c.in_ok-opened.ensures.ok.0, record { read = is.read; clauses_are = c.in_ok-opened.ensures.ok.2; loads = is.loads }) }
+    record { loads = (c.args.asked.now.limits, is.library, c.in_ok-opened.ensures.ok.0, record { read = is.read; clauses_are = c.in_ok-opened.ensures.ok.2; loads = is.loads }) }
 
 pub returns-clause-ok : goal.returns-clause-ok
 returns-clause-ok g c =
@@ -38,4 +38,4 @@ returns-in_err-opened-clause-err g c =
     let def = c.args.asked.now.def.now in
     let lefs = map (λ lef. lef.now) c.args.asked.now.lefs.now in
     let why = c.in_err-opened.ensures.err in
-    rw (p.1, p.2) (inl (inl why, refl), early_blames _ _ _ _ _ _ _ refl (refl, refl) (design_early c.args.limits gives def lefs _ why))
+    rw (p.1, p.2) (inl (inl why, refl), early_blames _ _ _ _ _ _ _ refl (refl, refl) (design_early c.args.asked.now.limits gives def lefs _ why))

@@ -5,17 +5,17 @@ use Rattle.lf_work.proofs.Telling.{every_told, next_told, none_told}
 use Rattle.lf_work.proofs.repairs.repair_teams.Goals as goal
 
 pub loop-number-init : goal.loop-number-init
-loop-number-init c = record {
-  run = λ lz. nothing_asked lz c.args.floor.now (kept_text c.args.lines.now);
+loop-number-init g c = record {
+  run = λ lz. nothing_asked lz c.args.floor.now (kept_text c.args.lines.now.lines);
   only = none_changes (map (λ team. team.now) c.args.asked.now.teams.now) c.args.floor.now;
   told = none_told c.args.floor.now c.args.report.now;
   stayed = λ to_stay. none_stayed c.args.floor.now;
 }
 
 pub loop-number-preserved : goal.loop-number-preserved
-loop-number-preserved c = record {
-  run = λ lz. then_kept lz c.args.floor.now c.loop-number.floor c.repair_numbered.new.floor (kept_text c.args.lines.now) (kept_text c.loop-number.lines)
-      (kept_text c.repair_numbered.new.lines) (c.loop-number.invariant.run lz) (c.in_ok-repair_numbered.ensures.run lz);
+loop-number-preserved g c = record {
+  run = λ lz. then_kept lz c.args.floor.now c.loop-number.floor c.repair_numbered.new.floor (kept_text c.args.lines.now.lines) (kept_text c.loop-number.lines.lines)
+      (kept_text c.repair_numbered.new.lines.lines) (c.loop-number.invariant.run lz) (c.in_ok-repair_numbered.ensures.run lz);
   only = then_asked (map (λ team. team.now) c.args.asked.now.teams.now) c.args.floor.now c.loop-number.floor c.repair_numbered.new.floor
       c.loop-number.invariant.only c.in_ok-repair_numbered.ensures.only;
   told = next_told c.args.floor.now.frame (map (λ team. team.now) c.args.asked.now.teams.now) c.loop-number.number c.loop-number.floor
@@ -27,9 +27,9 @@ loop-number-preserved c = record {
 }
 
 pub returns-clause-kept : goal.returns-clause-kept
-returns-clause-kept c = λ to_stay. all_stayed c.args.floor.now c.loop-number.floor c.loop-number.number (c.loop-number.invariant.stayed to_stay)
+returns-clause-kept g c = λ to_stay. all_stayed c.args.floor.now c.loop-number.floor c.loop-number.number (c.loop-number.invariant.stayed to_stay)
 
 pub returns-clause-told : goal.returns-clause-told
-returns-clause-told c =
+returns-clause-told g c =
     every_told c.args.floor.now.frame (map (λ team. team.now) c.args.asked.now.teams.now) c.loop-number.number c.loop-number.floor c.args.report.now
     c.loop-number.report (search rules) c.loop-number.invariant.told

@@ -8,8 +8,8 @@ use Rattle.lf_work.proofs.Telling.{first_asked}
 use Rattle.lf_work.proofs.repairs.repair_teams.Given as goal
 
 abbrev pub invariant-loop-number : goal.invariant-loop-number
-invariant-loop-number l = record {
-  run : (lz : Legalizer) → IsKeptRun lz l.fn.floor (kept_text l.fn.lines) (kept_text l.lines) l.floor;
+invariant-loop-number g l = record {
+  run : (lz : Legalizer) → IsKeptRun lz l.fn.floor (kept_text l.fn.lines.lines) (kept_text l.lines.lines) l.floor;
   only : OnlyAsked (map (λ team. team.now) l.asked.teams.now) l.fn.floor l.floor;
   told : AreToldMore (first_asked l.fn.floor.frame (map (λ team. team.now) l.asked.teams.now) l.number) l.floor l.fn.report l.report;
   stayed : l.asked.legal ≡ Stay → HaveStayed l.fn.floor l.floor l.number;
