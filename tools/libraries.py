@@ -66,7 +66,8 @@ def main(words: list[str]) -> int:
     libraries = [*listed, *sorted({it for found in listed.values() for it in found} - set(listed))]
     differing = 0
     for crate, told in listed.items():
-        wanted = [it for it in libraries if it in named_by(crate)]
+        named = named_by(crate)
+        wanted = [it for it in libraries if it in named]
         if set(told) != set(wanted):
             differing += 1
             print(f"crates.txt: {crate} names {' '.join(told)}; its sources name {' '.join(wanted)}")
