@@ -85,14 +85,34 @@ fn count_below(entries: &[RowEntry], y: &i64) -> usize
     entries.partition_point(|entry| entry.y < *y)
 }
 
-/// How many of the entries lie at y or below it.
+/// The same. They are looked at one after another, since few are asked for that lie below.
+fn count_low(entries: &[RowEntry], y: &i64) -> usize
+    requires { AllPairs PrecedesByY entries.now }
+    ensures within { result ≤ length entries.now }
+    ensures below { (k : ℕ) → (d : RowEntry) → k < result → (slice_index_or entries.now k d).y <ℤ y.now }
+    ensures rest { (k : ℕ) → (d : RowEntry) → result ≤ k → k < length entries.now → y.now ≤ℤ (slice_index_or entries.now k d).y }
+{
+    for n in 0..entries.len() {
+        if *y <= entries[n].y {
+            return n;
+        }
+    }
+    entries.len()
+}
+
+/// How many of the entries lie at y or below it. They are looked at one after another.
 fn count_up_to(entries: &[RowEntry], y: &i64) -> usize
     requires { AllPairs PrecedesByY entries.now }
     ensures within { result ≤ length entries.now }
     ensures up_to { (k : ℕ) → (d : RowEntry) → k < result → (slice_index_or entries.now k d).y ≤ℤ y.now }
     ensures rest { (k : ℕ) → (d : RowEntry) → result ≤ k → k < length entries.now → y.now <ℤ (slice_index_or entries.now k d).y }
 {
-    entries.partition_point(|entry| entry.y <= *y)
+    for n in 0..entries.len() {
+        if *y < entries[n].y {
+            return n;
+        }
+    }
+    entries.len()
 }
 
 /// The entries of this y.
@@ -110,7 +130,7 @@ fn run_between<'a>(entries: &'a [RowEntry], from: &i64, to: &i64) -> &'a [RowEnt
     ensures { IsRunBetween entries.now from.now to.now result.now }
 {
     let rest = &entries[count_below(entries, from)..];
-    &rest[..count_below(rest, to)]
+    &rest[..count_low(rest, to)]
 }
 
 /// Whether the row lies below y, or lies at y and does not begin right of x.
