@@ -1,5 +1,5 @@
 -- Rows in order of their y: the order that a sort gives, which entries there are, and runs found by bisection.
-use Rattle.std.proofs.Common.{◌≡◌, ◌≢◌, ◌⊎◌, inl, inr, ℕ, ℤ, pos, ◌+◌, ◌<◌, ◌≤◌, ◌≤ℤ◌, ◌<ℤ◌, zero, suc, true, false, refl, List, [], ◌∷◌, Some, slice_get, map}
+use Rattle.std.proofs.Common.{◌≡◌, ◌≢◌, ◌⊎◌, inl, inr, ℕ, ℤ, pos, ◌+◌, ◌-◌, ◌<◌, ◌≤◌, ◌≤ℤ◌, ◌<ℤ◌, zero, suc, true, false, refl, List, [], ◌∷◌, Some, slice_get, map}
 use Rattle.std.proofs.Common.{◌++◌, length, get_or, take, drop, sym, ap, subst, ◌∙◌, arith, int_le, int_lt, eqb, Ordering}
 use Rattle.std.specs.declared.cmp.Ordering.TheVariants.{Less, Equal, Greater}
 use Rattle.std.specs.Prelude.{All, AllPairs, Any, Contains, IsPermutation}
@@ -177,6 +177,14 @@ pub from_first : (xs : List RowEntry) (y : ℤ) → AllPairs PrecedesByY xs → 
 from_first xs y pairs n e inside here k d from within =
     let there = subst (λ (g : RowEntry). y ≤ℤ g.y) (get_or_default xs n e d inside) here in
     let later = heights_rise xs n k d pairs from within in
+    omega (arith, ints, there, later)
+
+-- where the last of them lies below y, all of them do
+pub below_last : (xs : List RowEntry) (y : ℤ) → AllPairs PrecedesByY xs → (n : ℕ) (e : RowEntry) → n ≤ length xs → (0 < n → (get_or xs (n - 1) e).y <ℤ y) →
+    (k : ℕ) (d : RowEntry) → k < n → (get_or xs k d).y <ℤ y
+below_last xs y pairs n e bound here k d less =
+    let there = subst (λ (g : RowEntry). g.y <ℤ y) (get_or_default xs (n - 1) e d (omega arith)) (here (omega arith)) in
+    let later = heights_rise xs k (n - 1) d pairs (omega arith) (omega arith) in
     omega (arith, ints, there, later)
 
 -- where one lies above y, all behind it do
