@@ -1,4 +1,4 @@
-use Rattle.std.proofs.Common.{List, arith, length, subst, sym, ◌≡◌, ◌∙◌}
+use Rattle.std.proofs.Common.{List, arith, length, subst, ◌≡◌}
 use Rattle.std.specs.Vec.{vec_capacity}
 use Rattle.std.proofs.lemmas.List.{get_or_default, length-map, take_all}
 use Rattle.lf_units.specs.declared.area.Rect.{Rect}
@@ -6,7 +6,7 @@ use Rattle.lf_segments.specs.declared.rows_by_y.RowEntry.{RowEntry}
 use Rattle.lf_segments.specs.Strips.{AreRowsNear}
 use Rattle.lf_occupancy.specs.declared.lane.Lane.{Lane}
 use Rattle.lf_occupancy.specs.Strips.{AreChanged, IsReached, felt_strips}
-use Rattle.lf_occupancy.specs.Tallies.{IsShiftedAt, hull_in}
+use Rattle.lf_occupancy.specs.Tallies.{IsShiftedAt}
 use Rattle.lf_occupancy.proofs.Around.{around, strips_felt}
 use Rattle.lf_occupancy.proofs.Changes.{kept_along, rows_further}
 use Rattle.lf_occupancy.proofs.Reaching.{once_in_run}
