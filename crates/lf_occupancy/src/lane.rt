@@ -419,8 +419,8 @@ pub(crate) fn prune(lane: &mut Lane, own: u32, left: &i64)
     }
 }
 
-/// Makes room for this many more marks, where there is none for a quarter more than there are: lanes are
-/// many, and doubling each would cost too much.
+/// Makes room for this many more marks, where there is none for a quarter more than there are, but for two
+/// at least: lanes are many, and doubling each would cost too much.
 pub(crate) fn make_room(lane: &mut Lane, more: usize) -> Result<(), AllocError>
     ensures kept { IsKept lane.old lane.new }
     ensures ok { OnOk result (HasRoomOf more lane.new) }
@@ -429,7 +429,7 @@ pub(crate) fn make_room(lane: &mut Lane, more: usize) -> Result<(), AllocError>
     if more <= marks.capacity().saturating_sub(marks.len()) {
         return Ok(());
     }
-    marks.reserve_exact(more.max(marks.len() / 4))
+    marks.reserve_exact(more.max(marks.len() / 4).max(2))
 }
 
 /// Inserts the mark at that position. It allocates nothing.
