@@ -1,5 +1,5 @@
 -- How an occupancy is made: the boxes of all cells.
-use Rattle.std.proofs.Common.{◌≡◌, ◌≢◌, ◌⊎◌, inl, inr, ℕ, zero, suc, ◌+◌, ◌<◌, ◌≤◌, List, [], ◌∷◌, ◌++◌, Option, Some, None}
+use Rattle.std.proofs.Common.{◌≡◌, ◌≢◌, ◌⊎◌, inl, inr, ℕ, zero, suc, ◌+◌, ◌%◌, ◌<◌, ◌≤◌, List, [], ◌∷◌, ◌++◌, Option, Some, None}
 use Rattle.std.proofs.Common.{length, get_or, set, take, map, eqb, slice_get, refl, sym, ap, subst, ◌∙◌, arith}
 use Rattle.std.specs.Prelude.{AllPairs, Contains, option_and_then, IsPermutation, ◌↔◌, option_map}
 use Rattle.std.proofs.lemmas.List.Sorted.{IsPermutation-map}
@@ -16,7 +16,6 @@ use Rattle.lf_floorplan.specs.declared.frame.Frame.{Frame}
 use Rattle.lf_cells.specs.declared.cell.Cell.{Cell}
 use Rattle.lf_cells.specs.declared.cell.CellId.{CellId}
 use Rattle.lf_cells.specs.Cells.{Cells, cell_at, cells_of, id_of}
-use Rattle.lf_occupancy.specs.declared.build.Waiting.{Waiting}
 use Rattle.lf_occupancy.specs.declared.lane.Lane.{Lane}
 use Rattle.lf_segments.specs.declared.strip.Strip.{Strip}
 use Rattle.lf_occupancy.specs.Building.{AreBare, AreFilled, AreFilledIn, IsBare, IsBefore, id_at}
@@ -133,10 +132,10 @@ lanes_bare f cells xs lanes bare = record {
 }
 
 -- the cells of the first so many ids, by their positions
-pub waiting_further : (ids : List CellId) (n : ℕ) (list new : List Waiting) (w : Waiting) → n < length ids → w.at ≡ n → new ≡ list ++ w ∷ [] →
+pub waiting_further : (ids : List CellId) (n : ℕ) (list new : List ℕ) (w : ℕ) → n < length ids → w % 65536 ≡ n → new ≡ list ++ w ∷ [] →
     map (id_at ids) list ≡ take n ids → map (id_at ids) new ≡ take (n + 1) ids
 waiting_further ids n list new w inside same is was =
-    ap (λ (ws : List Waiting). map (id_at ids) ws) is ∙ map-append (id_at ids) list (w ∷ [])
+    ap (λ (ws : List ℕ). map (id_at ids) ws) is ∙ map-append (id_at ids) list (w ∷ [])
     ∙ ap (λ (zs : List CellId). zs ++ id_at ids w ∷ []) was
     ∙ ap (λ (k : ℕ). take n ids ++ get_or ids k none ∷ []) same
     ∙ sym (take_more ids n none inside)

@@ -11,7 +11,6 @@ use Rattle.lf_cells.specs.declared.cell.Cell.{Cell}
 use Rattle.lf_cells.specs.declared.cell.CellId.{CellId}
 use Rattle.lf_cells.specs.Cells.{AreAll, Cells, cell_at, cells_of, id_of, ids_of}
 use Rattle.lf_cells.proofs.TeamIds.{ids_many}
-use Rattle.lf_occupancy.specs.declared.build.Waiting.{Waiting}
 use Rattle.lf_occupancy.specs.Building.{IsBefore, id_at}
 use Rattle.lf_occupancy.proofs.Building.{AreAllDone, fresh_id, ids_apart, some_cell}
 
@@ -68,13 +67,13 @@ part_rises most from team cells i j d less within =
 pub record IsPart (most from team : ℕ) (cells : List Cell) (order : List CellId) : Type 0 where
   pub moved : IsPermutation (part most from team cells) order
 
-pub part_put : (most from team : ℕ) (cells : List Cell) (all ids : List CellId) (list order : List Waiting) → all ≡ ids_of team cells →
+pub part_put : (most from team : ℕ) (cells : List Cell) (all ids : List CellId) (list order : List ℕ) → all ≡ ids_of team cells →
     ids ≡ take most (drop from all) → IsPermutation ids (map (id_at ids) list) → order ≡ list → IsPart most from team cells (map (id_at ids) order)
 part_put most from team cells all ids list order whole is moved same =
     let are : ids ≡ part most from team cells = is ∙ ap (λ (xs : List CellId). take most (drop from xs)) whole in
     record {
       moved = subst (λ (xs : List CellId). IsPermutation xs (map (id_at ids) order)) are
-          (subst (λ (ws : List Waiting). IsPermutation ids (map (id_at ids) ws)) (sym same) moved);
+          (subst (λ (ws : List ℕ). IsPermutation ids (map (id_at ids) ws)) (sym same) moved);
     }
 
 pub part_apart : (most from team : ℕ) (cells : List Cell) (order : List CellId) → IsPart most from team cells order → AllPairs (λ a b. a ≢ b) order

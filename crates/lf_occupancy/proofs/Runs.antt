@@ -1,11 +1,11 @@
 -- Entries near a range, found by bisection.
-use Rattle.std.proofs.Common.{◌≡◌, ◌⊎◌, inl, inr, ℕ, ◌+◌, ◌<◌, ◌≤◌, ℤ, ◌-ℤ◌, ◌≤ℤ◌, ◌<ℤ◌, true, false, List, ◌++◌, length, get_or, take}
+use Rattle.std.proofs.Common.{◌≡◌, ◌⊎◌, inl, inr, ℕ, ◌+◌, ◌-◌, ◌<◌, ◌≤◌, ℤ, ◌-ℤ◌, ◌≤ℤ◌, ◌<ℤ◌, true, false, List, ◌++◌, length, get_or, take}
 use Rattle.std.proofs.Common.{drop, map, eqb, sym, ap, subst, ◌∙◌, arith, int_lt}
 use Rattle.std.specs.Prelude.{All, AllPairs, Contains, not}
 use Rattle.std.specs.List.Sorted.{IsPartitionedBy, IsPartitionPoint}
 use Rattle.std.proofs.lemmas.Int.{ints}
 use Rattle.std.proofs.lemmas.Bool.Decides.{nat_tests}
-use Rattle.std.proofs.lemmas.List.{get_or-take, get_or-drop, get_or-map, length-take, length-drop, length-map, take-append-drop}
+use Rattle.std.proofs.lemmas.List.{get_or_default, get_or-take, get_or-drop, get_or-map, length-take, length-drop, length-map, take-append-drop}
 use Rattle.std.proofs.lemmas.List.{length-append, get_or_append_left, get_or-append-add}
 use Rattle.std.proofs.lemmas.List.Elements.{All-contains, All-contains_itself, All-filter, All-map, filter_passes}
 use Rattle.std.proofs.lemmas.List.Elements.{Contains-append_left, Contains-append_right, Contains-append_cases, Contains-get_or}
@@ -48,6 +48,14 @@ below_x xs x n point k d less = less_of (get_or xs k d).left x (point.0 k d (ome
 pub from_x : (xs : List Mark) (x : ℤ) (n : ℕ) → IsPartitionPoint (λ e. int_lt e.left x ≡ true) (λ e. int_lt e.left x ≡ false) xs n →
     (k : ℕ) (d : Mark) → n ≤ k → k < length xs → x ≤ℤ (get_or xs k d).left
 from_x xs x n point k d from within = not_less_of (get_or xs k d).left x (point.1 k d from within)
+
+-- where the last mark is before x, all are
+pub below_last : (xs : List Mark) (x : ℤ) → AreRising xs → (e : Mark) → 0 < length xs → (get_or xs (length xs - 1) e).left <ℤ x →
+    (k : ℕ) (d : Mark) → k < length xs → (get_or xs k d).left <ℤ x
+below_last xs x pairs e some here k d less =
+    let there = subst (λ (m : Mark). m.left <ℤ x) (get_or_default xs (length xs - 1) e d (omega arith)) here in
+    let later = rises xs k (length xs - 1) d pairs (omega arith) (omega arith) in
+    omega (arith, ints, there, later)
 
 -- two bisections cut out what lies near a range
 pub near_run : (xs ys : List Entry) (lo hi widest : ℤ) (f c : ℕ) → f ≤ length xs → ys ≡ drop f xs → All (λ e. (e.area.x2 -ℤ e.area.x1) ≤ℤ widest) xs →

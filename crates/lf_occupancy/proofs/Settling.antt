@@ -1,17 +1,17 @@
 -- Runs of strips, and cells that are settled in them.
-use Rattle.std.proofs.Common.{◌≡◌, ℕ, ◌<◌, ◌≤◌, List, length, get_or, sym, subst, ◌∙◌, arith}
-use Rattle.std.specs.Prelude.{All, Err, Ok, OnErr, Result}
-use Rattle.std.proofs.lemmas.List.{get_or_default}
+use Rattle.std.proofs.Common.{◌≡◌, ◌≢◌, ℕ, ◌+◌, ◌<◌, ◌≤◌, List, length, get_or, take, sym, subst, arith}
+use Rattle.std.specs.Prelude.{All, AllPairs, Err, Ok, OnErr, Result}
+use Rattle.std.proofs.lemmas.List.{take_all}
 use Rattle.lf_units.specs.declared.area.Rect.{Rect}
 use Rattle.lf_segments.specs.declared.rows_by_y.RowEntry.{RowEntry}
 use Rattle.lf_segments.specs.declared.strip.Strip.{Strip}
 use Rattle.lf_segments.specs.declared.strips.NearStrips.{NearStrips}
-use Rattle.lf_segments.specs.Strips.{AreNear, IsNear}
+use Rattle.lf_segments.specs.Strips.{AreNear}
 use Rattle.lf_occupancy.specs.declared.lane.Lane.{Lane}
-use Rattle.lf_occupancy.specs.Lanes.{AreRising}
+use Rattle.lf_occupancy.specs.Lanes.{AreRising, TakesPart}
 use Rattle.lf_occupancy.specs.Settling.{AreSettled, IsOneOf}
-use Rattle.lf_occupancy.specs.Strips.{AreChanged, CanTake, HaveRoom, IsReached, IsReachedIn, PutsIn}
-use Rattle.lf_occupancy.proofs.Changes.{IsBetween, changed_alike}
+use Rattle.lf_occupancy.specs.Strips.{AreChanged, AreKept, CanTake, HaveRoom, IsReached, IsReachedIn, PutsIn}
+use Rattle.lf_occupancy.proofs.Changes.{IsBetween, changed_alike, kept_along, other_row, rows_further}
 use Rattle.lf_occupancy.proofs.Finds.{no_strip}
 
 -- each lane of the run is changed
@@ -41,34 +41,42 @@ pub changed_in_row : {X : Type 0} (xs : List Strip) (row team : ℕ) (rect : Rec
 changed_in_row xs row team rect near Change old new are = changed_alike (IsOneOf near) (IsReachedIn xs row team rect) Change old new
     (λ n within one. run_is_reached xs row team rect near are n one) (λ n within r. reached_in_run xs row team rect near are n r)
 
--- of a single row, what is reached in it is what is reached
-pub one_row : (xs : List Strip) (rows : List RowEntry) (r : RowEntry) (team : ℕ) (rect : Rect) (n : ℕ) → length rows ≡ 1 → r ≡ get_or rows 0 r →
-    IsReachedIn xs r.row team rect n → IsReached xs rows team rect n
-one_row xs rows r team rect n one is (within, near) = (within, (0, r, omega (arith, one), sym is, near))
-
-pub row_alone : (xs : List Strip) (rows : List RowEntry) (r : RowEntry) (team : ℕ) (rect : Rect) (n : ℕ) → length rows ≡ 1 → r ≡ get_or rows 0 r →
-    IsReached xs rows team rect n → IsReachedIn xs r.row team rect n
-row_alone xs rows r team rect n one is (within, (k, e, below, same, near)) =
-    let first : k ≡ 0 = omega (arith, one, below) in
-    let there : get_or rows 0 e ≡ e = subst (λ (m : ℕ). get_or rows m e ≡ e) first same in
-    let alike : e ≡ r = sym there ∙ get_or_default rows 0 e r (omega (arith, one)) ∙ sym is in
-    (within, subst (λ (x : RowEntry). (d : Strip) → IsNear x.row team rect.x1 rect.x2 (get_or xs n d)) alike near)
-
--- what is settled in the single row is settled
-pub settled_in_one : (xs : List Strip) (rows : List RowEntry) (r : RowEntry) (team own : ℕ) (rect : Rect) (old new : List Lane) → length rows ≡ 1 →
-    r ≡ get_or rows 0 r → AreSettled xs own rect (IsReachedIn xs r.row team rect) old new → AreSettled xs own rect (IsReached xs rows team rect) old new
-settled_in_one xs rows r team own rect old new one is s = record {
-  roomy = s.roomy;
-  kept = s.kept;
-  put = changed_alike (IsReachedIn xs r.row team rect) (IsReached xs rows team rect) (PutsIn xs own rect) s.roomy new
-      (λ n within reached. one_row xs rows r team rect n one is reached) (λ n within reached. row_alone xs rows r team rect n one is reached) s.put;
-}
-
 -- lanes with room, whose marks are in order, take a part of the rectangle
 pub takes_room : (xs : List Strip) (rect : Rect) (Chosen : ℕ → Type 0) (lanes : List Lane) → ((n : ℕ) → Chosen n → n < length lanes) →
     All (λ l. AreRising l.marks.items) lanes → HaveRoom Chosen 1 lanes → CanTake xs rect Chosen lanes
 takes_room xs rect Chosen lanes inside rising room n d e chosen =
     record { order = rising n e (inside n chosen); room = λ whole. let h = room n e chosen in omega (arith, h) }
+
+-- lanes of a row that had room still take a part of the rectangle after the cell is settled in the rows before
+pub settled_takes : (xs : List Strip) (rows : List RowEntry) (i : ℕ) (r : RowEntry) (team own : ℕ) (rect : Rect) (near : NearStrips) (mid new : List Lane) →
+    AllPairs (λ a b. a.row ≢ b.row) rows → i < length rows → r ≡ get_or rows i r → AreNear xs r.row team rect.x1 rect.x2 near.start near.end →
+    length mid ≡ length xs → All (λ l. AreRising l.marks.items) mid → HaveRoom (IsOneOf near) 1 mid →
+    AreSettled xs own rect (IsReached xs (take i rows) team rect) mid new → CanTake xs rect (IsOneOf near) new
+settled_takes xs rows i r team own rect near mid new once inside is are many rising room s n d e one =
+    let reached = run_is_reached xs r.row team rect near are n one in
+    let within = reached.0 in
+    let inner : n < length mid = omega (arith, within, many) in
+    let long = s.kept.many in
+    let same = s.put.others n e (omega (arith, inner, long)) (λ before. other_row xs rows i r team rect n once inside is before reached) in
+    let kept = s.kept.each n e inner in
+    subst (TakesPart (get_or xs n d).area rect) (sym same) record {
+      order = subst AreRising (sym kept.marks) (rising n e inner);
+      room = λ whole. let h = room n e one in let k = kept.many in let l = kept.room in omega (arith, h, k, l);
+    }
+
+-- and with its parts put into that row it is settled in one row more
+pub settled_further : (xs : List Strip) (rows : List RowEntry) (i : ℕ) (r : RowEntry) (team own : ℕ) (rect : Rect) (near : NearStrips)
+    (old mid settled new : List Lane) →
+    AllPairs (λ a b. a.row ≢ b.row) rows → i + 1 ≡ length rows → r ≡ get_or rows i r → AreNear xs r.row team rect.x1 rect.x2 near.start near.end →
+    AreKept old mid → AreSettled xs own rect (IsReached xs (take i rows) team rect) mid settled → AreChanged (IsOneOf near) (PutsIn xs own rect) settled new →
+    AreSettled xs own rect (IsReached xs rows team rect) old new
+settled_further xs rows i r team own rect near old mid settled new once long is are kept s put = record {
+  roomy = s.roomy;
+  kept = kept_along old mid s.roomy kept s.kept;
+  put = subst (λ (es : List RowEntry). AreChanged (IsReached xs es team rect) (PutsIn xs own rect) s.roomy new) (take_all (i + 1) rows (omega (arith, long)))
+      (rows_further (PutsIn xs own rect) xs rows i r team rect s.roomy settled new once (omega (arith, long)) is s.put
+      (changed_in_row xs r.row team rect near (PutsIn xs own rect) settled new are put));
+}
 
 -- what holds holds at an error
 pub on_err : {T E P : Type 0} (r : Result T E) → P → OnErr r P

@@ -1,10 +1,13 @@
 -- How the counts of strips change where a cell's box is elsewhere.
-use Rattle.std.proofs.Common.{◌≡◌, ◌≢◌, ◌⊎◌, inl, inr, ℕ, zero, suc, ◌+◌, ◌<◌, ◌≤◌, Bool, true, false, List, [], ◌∷◌, Option, Some, None, length, get_or, set, map, refl, sym, ap, subst, ◌∙◌, arith}
+use Rattle.std.proofs.Common.{◌≡◌, ◌≢◌, ◌⊎◌, inl, inr, ℕ, zero, suc, ◌+◌, ◌<◌, ◌≤◌, ℤ, Bool, true, false, List, [], ◌∷◌, Option, Some, None, length, get_or, set, map, refl, sym, ap, subst, ◌∙◌, arith}
 use Rattle.std.specs.Prelude.{All, slice_get}
 use Rattle.std.specs.Vec.{vec_capacity, vec_len}
+use Rattle.std.specs.Int.{int_max, int_min}
 use Rattle.std.proofs.lemmas.Bool.Decides.{eqb_tells}
 use Rattle.std.proofs.lemmas.List.{get_or-set_same, get_or-set_other, get_or_past, get_or-map, length-map, length-set, map-set}
 use Rattle.std.proofs.lemmas.Option.{get_or_from_slice_get, slice_get_within}
+use Rattle.std.proofs.lemmas.Int.{ints, clamps}
+use Rattle.lf_units.specs.Area.{Covers}
 use Rattle.lf_units.specs.declared.area.Rect.{Rect}
 use Rattle.lf_segments.specs.declared.rows_by_y.RowEntry.{RowEntry}
 use Rattle.lf_segments.specs.declared.strip.Strip.{Strip}
@@ -14,7 +17,8 @@ use Rattle.lf_occupancy.specs.declared.lane.Lane.{Lane}
 use Rattle.lf_occupancy.specs.Lanes.{IsWhole, part_in}
 use Rattle.lf_occupancy.specs.Occupied.{Bounds, NoLess, Occupied, cell_box, count_in, felt, meets, reach}
 use Rattle.lf_occupancy.specs.Strips.{AreChanged, IsReached, rooms_in}
-use Rattle.lf_occupancy.specs.Tallies.{IsHigher, IsLess, IsLessAt, IsLower, IsMore}
+use Rattle.lf_occupancy.specs.declared.tally.Shift.{Shift}
+use Rattle.lf_occupancy.specs.Tallies.{AreShifted, IsHigher, IsLess, IsLessAt, IsLower, IsMore, IsShifted, IsShiftedAt, hull_in}
 use Rattle.lf_occupancy.proofs.Around.{IsFelt}
 use Rattle.lf_occupancy.proofs.Changes.{some_lane}
 use Rattle.lf_occupancy.proofs.Counting.{both_are, meets_shares, of_less, one_if, one_more}
@@ -118,6 +122,93 @@ higher_of_reached s rows team rect old new strips near many changed = record { m
         omega (arith, none, h)
   ]
 
+-- where one box is counted in place of the other
+shift_counts : (g : Strip) (shift : Shift) (old new : ℕ) → IsShifted g.area shift old new →
+    (old + count_in g (Some shift.to ∷ [])) ≤ new + count_in g (Some shift.from ∷ [])
+shift_counts g shift old new s = elim (yes_or_no (meets g (Some shift.to))) [
+  | inl goes ↦
+      let one = counted g (Some shift.to) goes in
+      elim (yes_or_no (meets g (Some shift.from))) [
+        | inl stood ↦ let here = counted g (Some shift.from) stood in let most = s.goes (whole_of g shift.to goes) in omega (arith, one, here, most)
+        | inr none ↦ let more = s.more (not_whole g shift.from none) (whole_of g shift.to goes) in omega (arith, one, more)
+      ]
+  | inr away ↦
+      let zero_there = not_counted g (Some shift.to) away in
+      elim (yes_or_no (meets g (Some shift.from))) [
+        | inl stood ↦ let here = counted g (Some shift.from) stood in let least = s.least in omega (arith, zero_there, here, least)
+        | inr none ↦ let same = s.stays (not_whole g shift.from none) in omega (arith, zero_there, same)
+      ]
+]
+  where
+    whole_of : (g : Strip) (rect : Rect) → meets g (Some rect) ≡ true → IsWhole (part_in g.area rect)
+    whole_of g rect it_does =
+        let shares = meets_shares g rect it_does in
+        let a = shares.in_first in
+        let b = shares.in_second in
+        let l = a.left in
+        let m = b.left in
+        let n = a.right in
+        let o = b.right in
+        let p = a.bottom in
+        let q = b.bottom in
+        let t = a.top in
+        let u = b.top in
+        record { wide = omega (arith, ints, clamps, l, m, n, o); high = omega (arith, ints, clamps, p, q, t, u) }
+
+-- a rectangle of these edges holds both boxes, and no more than it must
+pub hull_same : (shift : Shift) (r : Rect) → r.x1 ≡ int_min shift.from.x1 shift.to.x1 → r.y1 ≡ int_min shift.from.y1 shift.to.y1 →
+    r.x2 ≡ int_max shift.from.x2 shift.to.x2 → r.y2 ≡ int_max shift.from.y2 shift.to.y2 → r ≡ hull_in shift
+hull_same shift r a b c d =
+    ap (λ (v : ℤ). rect_at v r.y1 r.x2 r.y2) a
+    ∙ ap (λ (v : ℤ). rect_at (int_min shift.from.x1 shift.to.x1) v r.x2 r.y2) b
+    ∙ ap (λ (v : ℤ). rect_at (int_min shift.from.x1 shift.to.x1) (int_min shift.from.y1 shift.to.y1) v r.y2) c
+    ∙ ap (λ (v : ℤ). rect_at (int_min shift.from.x1 shift.to.x1) (int_min shift.from.y1 shift.to.y1) (int_max shift.from.x2 shift.to.x2) v) d
+  where
+    rect_at : ℤ → ℤ → ℤ → ℤ → Rect
+    rect_at x1 y1 x2 y2 = record { x1 = x1; y1 = y1; x2 = x2; y2 = y2 }
+
+-- what the new box covers lies in the rectangle that holds both
+in_hull : (shift : Shift) (x y : ℤ) → Covers shift.to x y → Covers (hull_in shift) x y
+in_hull shift x y c =
+    let l = c.left in
+    let r = c.right in
+    let b = c.bottom in
+    let t = c.top in
+    record {
+      left = omega (arith, ints, clamps, l);
+      right = omega (arith, ints, clamps, r);
+      bottom = omega (arith, ints, clamps, b);
+      top = omega (arith, ints, clamps, t);
+    }
+
+pub shifted_of_reached : (s : Lookups) (rows : List RowEntry) (team : ℕ) (shift : Shift) (old new : List ℕ) → All (IsFelt s.rows s.height) s.strips →
+    AreRowsNear s.rows s.height (hull_in shift) rows → length old ≡ length s.strips →
+    AreChanged (IsReached s.strips rows team (hull_in shift)) (IsShiftedAt s.strips shift) old new → AreShifted s.strips team shift old new
+shifted_of_reached s rows team shift old new strips near many changed = record {
+  many = changed.many;
+  own = own;
+  others = λ n d within other. changed.others n 0 (omega (arith, within, many)) (not_of_team s.strips rows team (hull_in shift) n d other);
+}
+  where
+    xs : List Strip
+    xs = s.strips
+
+    own : (n : ℕ) (d : Strip) → n < length xs → (get_or xs n d).team ≡ team →
+        (get_or old n 0 + count_in (get_or xs n d) (Some shift.to ∷ [])) ≤ get_or new n 0 + count_in (get_or xs n d) (Some shift.from ∷ [])
+    own n d within of_team = elim (decide_reached xs rows team (hull_in shift) n within) [
+      | inl reached ↦
+          shift_counts (get_or xs n d) shift (get_or old n 0) (get_or new n 0) (changed.chosen n 0 (omega (arith, within, many)) reached d)
+      | inr never ↦
+          let same = changed.others n 0 (omega (arith, within, many)) never in
+          elim (yes_or_no (meets (get_or xs n d) (Some shift.to))) [
+            | inl goes ↦
+                let shares = meets_shares (get_or xs n d) shift.to goes in
+                absurd (never (point_is_reached s (hull_in shift) rows team n d shares.x shares.y strips near within of_team shares.in_first
+                (in_hull shift shares.x shares.y shares.in_second)))
+            | inr away ↦ let none = not_counted (get_or xs n d) (Some shift.to) away in omega (arith, same, none)
+          ]
+    ]
+
 -- the counts of two strips side by side
 no_less_set : (xs ys : List ℕ) (k x y : ℕ) → k < length xs → x ≤ y → NoLess xs ys → NoLess (set xs k x) (set ys k y)
 no_less_set xs ys k x y within less all = record {
@@ -171,6 +262,33 @@ bounds_other o team other boxes from to old mid new differ lower higher bounds =
     let more = higher.least n in
     let before = bounds n g at of_team in
     omega (arith, same, more, before)
+
+-- a tally where one box is counted in place of another bounds the boxes with the new one
+pub bounds_shifted : (o : Occupied) (team : ℕ) (boxes : List (Option Rect)) (own : ℕ) (shift : Shift) (old new : List ℕ) → cell_box boxes own ≡ Some shift.from →
+    AreShifted (felts o) team shift old new → Bounds o team boxes old → Bounds o team (set boxes own (Some shift.to)) new
+bounds_shifted o team boxes own shift old new is shifted bounds = λ n g at of_team.
+    let around : Strip = felt (reach o) g in
+    let there : slice_get (felts o) n ≡ Some around = made_at (felt (reach o)) o.index.strips n g at in
+    let within : n < length (felts o) = slice_get_within (felts o) n around there in
+    let here : get_or (felts o) n around ≡ around = get_or_from_slice_get (felts o) n around around there in
+    let more = subst (λ (x : Strip). (get_or old n 0 + count_in x (Some shift.to ∷ [])) ≤ get_or new n 0 + count_in x (Some shift.from ∷ [])) here
+    (shifted.own n around within (ap (λ (x : Strip). x.team) here ∙ of_team)) in
+    let moved = subst (λ (b : Option Rect). (count_in around (set boxes own (Some shift.to)) + count_in around (b ∷ [])) ≤
+    count_in around boxes + count_in around (Some shift.to ∷ [])) is (set_counts around boxes own (Some shift.to)) in
+    let before = bounds n g at of_team in
+    omega (arith, more, moved, before)
+
+-- and what it bounds of another team it still does
+pub bounds_beside : (o : Occupied) (team other : ℕ) (boxes : List (Option Rect)) (shift : Shift) (old new : List ℕ) → other ≢ team →
+    AreShifted (felts o) team shift old new → Bounds o other boxes old → Bounds o other boxes new
+bounds_beside o team other boxes shift old new differ shifted bounds = λ n g at of_team.
+    let around : Strip = felt (reach o) g in
+    let there : slice_get (felts o) n ≡ Some around = made_at (felt (reach o)) o.index.strips n g at in
+    let within : n < length (felts o) = slice_get_within (felts o) n around there in
+    let here : get_or (felts o) n around ≡ around = get_or_from_slice_get (felts o) n around around there in
+    let same = shifted.others n around within (λ is. differ (sym of_team ∙ sym (ap (λ (x : Strip). x.team) here) ∙ is)) in
+    let before = bounds n g at of_team in
+    omega (arith, same, before)
 
 -- lanes have room for the marks that they have
 pub marks_fit : (lanes : List Lane) → NoLess (map (λ l. vec_len l.marks) lanes) (rooms_in lanes)

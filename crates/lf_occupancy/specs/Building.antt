@@ -1,11 +1,10 @@
 -- The steps of making an occupancy.
-use Rattle.std.specs.Prelude.{◌≡◌, ◌⊎◌, ◌<◌, ℕ, pos, List, [], All, length, Option, None, Some, slice_index_or}
+use Rattle.std.specs.Prelude.{◌≡◌, ◌⊎◌, ◌<◌, ◌%◌, ℕ, pos, List, [], All, length, Option, None, Some, slice_index_or}
 use Rattle.lf_units.specs.declared.area.Rect.{Rect}
 use Rattle.lf_floorplan.specs.declared.frame.Frame.{Frame}
 use Rattle.lf_cells.specs.declared.cell.Cell.{Cell}
 use Rattle.lf_cells.specs.declared.cell.CellId.{CellId}
 use Rattle.lf_cells.specs.Cells.{Cells, cells_of, cell_at}
-use Rattle.lf_occupancy.specs.declared.build.Waiting.{Waiting}
 use Rattle.lf_occupancy.specs.declared.lane.Lane.{Lane}
 use Rattle.lf_segments.specs.declared.strip.Strip.{Strip}
 use Rattle.lf_occupancy.specs.Floorplans.{box_of}
@@ -22,9 +21,9 @@ pub record AreBare (count : ℕ) (lanes : List Lane) : Type 0 where
   pub many : length lanes ≡ count
   pub each : All IsBare lanes
 
--- the id of a cell by its position among these
-abbrev pub id_at : List CellId → Waiting → CellId
-id_at ids w = slice_index_or ids w.at record { team = 0; own = 0 }
+-- the id of a cell by its position among these, which the last 16 bits of the number tell
+abbrev pub id_at : List CellId → ℕ → CellId
+id_at ids w = slice_index_or ids (w % 65536) record { team = 0; own = 0 }
 
 -- the cell's team comes before that one, or it is that one and the cell's position among its cells is less
 abbrev pub IsBefore : ℕ → ℕ → CellId → Type 0

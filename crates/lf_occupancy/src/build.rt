@@ -1,7 +1,6 @@
 //! How an occupancy is built.
 
-ghost use Rattle.std.specs.Prelude.{◌≡◌, ◌+◌, ◌<◌, ◌≤◌, [], All, IfOk, IsPermutation, List, OnOk, Option, drop, length, map, slice_index_or, take};
-ghost use Rattle.lf_occupancy.specs.declared.build.Waiting.{Waiting};
+ghost use Rattle.std.specs.Prelude.{◌≡◌, ◌+◌, ◌%◌, ◌<◌, ◌≤◌, [], All, IfOk, IsPermutation, List, OnOk, Option, drop, length, map, slice_index_or, take};
 ghost use Rattle.lf_occupancy.specs.Building.{AreBare, AreFilledIn, IsBefore, id_at};
 ghost use Rattle.lf_occupancy.specs.Floorplans.{HaveSize, boxes_in};
 ghost use Rattle.lf_units.specs.declared.area.Rect.{Rect};
@@ -36,60 +35,62 @@ fn bare_lanes(alloc: Global, count: usize) -> Result<Vec<Lane>, AllocError>
     Ok(lanes)
 }
 
-/// The position of a cell among those that are put in order, and its working place, in database units; 0
-/// if it has none.
-#[derive(Clone, Copy)]
-pub(crate) struct Waiting {
-    at: u32,
-    x: i32,
-    y: i32,
+/// The number, which has a sign, from the least one of 32 bits on.
+fn lifted(number: i32) -> u64
+    ensures { result < 4294967296 }
+{
+    (i64::from(number) + 2_147_483_648) as u64
 }
 
-/// The cell with its working place.
-fn waiting_cell(cells: &CellTable, id: &CellId, at: u32) -> Waiting
-    ensures { result.at ≡ at }
+/// A number that rises with the places from band to band of 32,768 units of height, and in each band from
+/// left to right.
+fn rank_of(x: i32, y: i32) -> u64
+    ensures { result < 281474976710656 }
+{
+    lifted(y) / 32_768 * 2_147_483_648 + lifted(x) / 2
+}
+
+/// The rank of the cell's working place; 0 if it has none.
+fn rank_at_work(cells: &CellTable, id: &CellId) -> u64
+    ensures { result < 281474976710656 }
 {
     match cells.working(*id) {
-        Some(place) => Waiting {
-            at,
-            x: place.x,
-            y: place.y,
-        },
-        None => Waiting { at, x: 0, y: 0 },
+        Some(place) => rank_of(place.x, place.y),
+        None => 0,
     }
 }
 
-/// The same position in 32 bits.
-fn short_position(number: usize) -> u32
-    requires { number < 65536 }
-    ensures { result ≡ number }
+/// The rank of the cell's working place, and behind it in 16 bits this position among the cells that are
+/// put in order: one number, so that they are sorted quickly.
+fn waiting_cell(cells: &CellTable, id: &CellId, at: usize) -> u64
+    requires { at < 65536 }
+    ensures { result % 65536 ≡ at }
 {
-    number as u32
+    rank_at_work(cells, id) * 65_536 + at as u64
 }
 
-/// The cells of these ids with their working places.
-fn all_waiting(alloc: Global, cells: &CellTable, ids: &[CellId]) -> Result<Vec<Waiting>, AllocError>
+/// The cells of these ids with the ranks of their working places.
+fn all_waiting(alloc: Global, cells: &CellTable, ids: &[CellId]) -> Result<Vec<u64>, AllocError>
     requires { length ids.now ≤ 65536 }
     ensures { IfOk result (λ list. map (id_at ids.now) list.items ≡ ids.now) }
 {
     let mut list = Vec::with_capacity(alloc, ids.len())?;
     for (number, id) in ids.iter().enumerate() {
-        let at = short_position(number);
-        list.push(waiting_cell(cells, id, at))?;
+        list.push(waiting_cell(cells, id, number))?;
     }
     Ok(list)
 }
 
-/// Sorts the cells by y, and those of one y by x.
-fn sort_by_place(list: &mut Vec<Waiting>)
+/// Sorts the cells by their ranks.
+fn sort_by_place(list: &mut Vec<u64>)
     ensures { IsPermutation list.old.items list.new.items }
 {
-    list.sort_unstable_by_key(|waiting| (waiting.y, waiting.x));
+    list.sort_unstable();
 }
 
-/// The cells of these ids in the order of their working places, from row to row and from left to right: so
-/// strips are filled one after another, each from its left end on.
-fn by_place(alloc: Global, cells: &CellTable, ids: &[CellId]) -> Result<Vec<Waiting>, AllocError>
+/// The cells of these ids in the order of their working places, from band to band and from left to right: so
+/// a few strips at a time are filled, each from its left end on.
+fn by_place(alloc: Global, cells: &CellTable, ids: &[CellId]) -> Result<Vec<u64>, AllocError>
     requires { length ids.now ≤ 65536 }
     ensures { IfOk result (λ list. IsPermutation ids.now (map (id_at ids.now) list.items)) }
 {
@@ -98,11 +99,11 @@ fn by_place(alloc: Global, cells: &CellTable, ids: &[CellId]) -> Result<Vec<Wait
     Ok(list)
 }
 
-/// The id of the cell of that position; of no cell if there is none.
-fn id_waiting(ids: &[CellId], waiting: &Waiting) -> CellId
-    ensures { result ≡ id_at ids.now waiting.now }
+/// The id of the cell that waits so; of no cell if there is none.
+fn id_waiting(ids: &[CellId], waiting: u64) -> CellId
+    ensures { result ≡ id_at ids.now waiting }
 {
-    match ids.get(waiting.at as usize) {
+    match ids.get((waiting % 65_536) as usize) {
         Some(id) => *id,
         None => CellId { team: 0, own: 0 },
     }
@@ -156,7 +157,7 @@ fn fill_in(
     let ids = part_of(cells.cells_of(team), from);
     let order = by_place(alloc, cells, ids)?;
     for waiting in &order {
-        mark_cell(lanes, index, frame, cells, &id_waiting(ids, waiting))?;
+        mark_cell(lanes, index, frame, cells, &id_waiting(ids, *waiting))?;
     }
     Ok(())
 }

@@ -16,6 +16,9 @@ use lf_segments::{Ground, NearStrips, RowEntry};
 use lf_units::Rect;
 use std::alloc::AllocError;
 
+/// A cell is settled in so many rows by a call for each.
+const FEW: usize = 16;
+
 /// Makes room for this many more marks in the strips of a row and the cell's team that the rectangle
 /// reaches. Also on `Err` each strip holds what it held.
 fn make_room_in_row(
@@ -234,33 +237,50 @@ pub(crate) fn reserve_moves(
     Ok(())
 }
 
-/// Marks the parts of the cell's box in the strips of a row and the cell's team that it reaches, after room
-/// was made for them. On `Err` each strip holds what it held.
-fn settle_in_row(
+/// Makes room for one more mark in each strip of a run. Also on `Err` each strip holds what it held.
+fn make_room_in_run(lanes: &mut Vec<Lane>, near: &NearStrips) -> Result<(), AllocError>
+    requires within { near.now.end ≤ length lanes.old.items }
+    ensures kept { AreKept lanes.old.items lanes.new.items }
+    ensures ok { OnOk result (HaveRoom (IsOneOf near.now) 1 lanes.new.items) }
+{
+    for n in near.start..near.end {
+        make_room(&mut lanes[n], 1)?;
+    }
+    Ok(())
+}
+
+/// Marks the parts of the cell's box in the strips of a few rows and the cell's team that it reaches, after
+/// room was made for them. Each row's strips are looked up once: room is made from the last row on, and the
+/// parts are marked from the first on. On `Err` each strip holds what it held.
+fn settle_in_few(
     lanes: &mut Vec<Lane>,
     index: &Ground,
     site: &i64,
-    row: usize,
+    rows: &[RowEntry],
     id: &CellId,
     rect: &Rect,
 ) -> Result<(), AllocError>
     requires site { IsSite site.now }
     requires many { length lanes.old.items ≡ length (felt_strips site.now index.now.strips) }
+    requires once { AllPairs (λ a b. a.row ≢ b.row) rows.now }
     requires edge { IsPlaceX rect.now.x1 }
     requires rising { All (λ l. AreRising l.marks.items) lanes.old.items }
     ensures ok { OnOk result (AreSettled (felt_strips site.now index.now.strips) id.now.own rect.now
-        (IsReachedIn (felt_strips site.now index.now.strips) row id.now.team rect.now) lanes.old.items lanes.new.items) }
+        (IsReached (felt_strips site.now index.now.strips) rows.now id.now.team rect.now) lanes.old.items lanes.new.items) }
     ensures err { OnErr result (AreKept lanes.old.items lanes.new.items) }
 {
-    let near = near_felt(index, site, row, id.team as usize, rect);
-    for n in near.start..near.end {
-        make_room(&mut lanes[n], 1)?;
+    if rows.len() == 0 {
+        return Ok(());
     }
+    let last = rows.len() - 1;
+    let near = near_felt(index, site, rows[last].row, id.team as usize, rect);
+    make_room_in_run(lanes, &near)?;
+    settle_in_few(lanes, index, site, &rows[..last], id, rect)?;
     put_in_run(lanes, index, site, &near, id.own, rect);
     Ok(())
 }
 
-/// The same for all these rows. Of one row, as most cells are in, the strips are looked up once.
+/// The same for all these rows.
 fn settle_in_rows(
     lanes: &mut Vec<Lane>,
     index: &Ground,
@@ -278,8 +298,8 @@ fn settle_in_rows(
         (IsReached (felt_strips site.now index.now.strips) rows.now id.now.team rect.now) lanes.old.items lanes.new.items) }
     ensures err { OnErr result (AreKept lanes.old.items lanes.new.items) }
 {
-    if rows.len() == 1 {
-        return settle_in_row(lanes, index, site, rows[0].row, id, rect);
+    if rows.len() <= FEW {
+        return settle_in_few(lanes, index, site, rows, id, rect);
     }
     make_room_in_rows(lanes, index, site, rows, id, rect, 1)?;
     put_in_rows(lanes, index, site, rows, id, rect);

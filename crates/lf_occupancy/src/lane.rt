@@ -1,6 +1,7 @@
 //! The entries of one strip.
 
-ghost use Rattle.std.specs.Prelude.{[], All, List, Option, ◌≡◌, ◌↔◌, ◌<◌, ◌≤◌, ◌≤ℤ◌, ◌<ℤ◌, ◌+ℤ◌, ◌-ℤ◌, ◌*ℤ◌, ℕ, IfOk, IsTrue, MatchOption, OnOk, insert, length, negsuc, pos, slice_index_or};
+ghost use Rattle.std.specs.Prelude.{[], All, List, Option, ◌≡◌, ◌↔◌, ◌<◌, ◌≤◌, ◌≤ℤ◌, ◌<ℤ◌, ◌+◌, ◌+ℤ◌, ◌-ℤ◌, ◌*ℤ◌, ℕ, IfOk, IsTrue, MatchOption, OnOk, insert, length, negsuc, pos, slice_index_or};
+ghost use Rattle.std.specs.Vec.{vec_capacity, vec_len};
 ghost use Rattle.lf_spans.specs.Spans.{IsFree, IsFreeIn, IsInOrder};
 ghost use Rattle.lf_rules.specs.Padding.{HasRoomAround, IsShort};
 ghost use Rattle.lf_units.specs.declared.area.Rect.{Rect};
@@ -142,13 +143,17 @@ fn is_beyond(mark: &Mark, left: &i64) -> bool
     i64::from(mark.left) > *left
 }
 
-/// How many of the marks are before x.
+/// How many of the marks are before x. They are found at one look where all are, and else by bisection.
 pub(crate) fn count_before(marks: &[Mark], x: &i64) -> usize
     requires { AreRising marks.now }
     ensures within { result ≤ length marks.now }
     ensures below { (k : ℕ) → (d : Mark) → k < result → (slice_index_or marks.now k d).left <ℤ x.now }
     ensures rest { (k : ℕ) → (d : Mark) → result ≤ k → k < length marks.now → x.now ≤ℤ (slice_index_or marks.now k d).left }
 {
+    let many = marks.len();
+    if 0 < many && i64::from(marks[many - 1].left) < *x {
+        return many;
+    }
     marks.partition_point(|mark| i64::from(mark.left) < *x)
 }
 
@@ -414,8 +419,8 @@ pub(crate) fn prune(lane: &mut Lane, own: u32, left: &i64)
     }
 }
 
-/// Makes room for this many more marks, where there is none for a quarter more than there are: lanes are
-/// many, and doubling each would cost too much.
+/// Makes room for this many more marks, where there is none for a quarter more than there are, but for two
+/// at least: lanes are many, and doubling each would cost too much.
 pub(crate) fn make_room(lane: &mut Lane, more: usize) -> Result<(), AllocError>
     ensures kept { IsKept lane.old lane.new }
     ensures ok { OnOk result (HasRoomOf more lane.new) }
@@ -424,7 +429,24 @@ pub(crate) fn make_room(lane: &mut Lane, more: usize) -> Result<(), AllocError>
     if more <= marks.capacity().saturating_sub(marks.len()) {
         return Ok(());
     }
-    marks.reserve_exact(more.max(marks.len() / 4))
+    marks.reserve_exact(more.max(marks.len() / 4).max(2))
+}
+
+/// Inserts the mark at that position. It allocates nothing.
+fn insert_at(marks: &mut Vec<Mark>, at: usize, mark: &Mark)
+    requires bound { at ≤ vec_len marks.old }
+    requires room { vec_len marks.old < vec_capacity marks.old }
+    ensures items { marks.new.items ≡ insert marks.old.items at mark.now }
+    ensures more { vec_len marks.new ≡ vec_len marks.old + 1 }
+    ensures room { vec_capacity marks.new ≡ vec_capacity marks.old }
+{
+    if at == marks.len() {
+        marks.push_reserved(*mark);
+        return;
+    }
+    if marks.insert(at, *mark).is_err() {
+        unreachable!();
+    }
 }
 
 /// Inserts the mark of an entry of that area at its place in the order. It allocates nothing.
@@ -438,9 +460,7 @@ fn join(lane: &mut Lane, mark: &Mark, area: &Rect)
 {
     let at = count_before(lane.marks.as_slice(), &i64::from(mark.left));
     lane.widest = lane.widest.max(area.x2 - area.x1);
-    if lane.marks.insert(at, *mark).is_err() {
-        unreachable!();
-    }
+    insert_at(&mut lane.marks, at, mark);
 }
 
 /// The width of the part as a mark keeps it: one of 2^32 - 1 or more as that number.

@@ -14,7 +14,7 @@ use crate::build::lanes_of;
 use crate::change::{reserve_moves, take_in, take_out};
 use crate::filled::Filled;
 use crate::lane::Lane;
-use crate::tally::{Tally, lower, marks_of, raise};
+use crate::tally::{Tally, lower, marks_of, near_shift, raise, shift_rows};
 use lf_cells::{CellId, CellTable};
 use lf_floorplan::Frame;
 use lf_segments::Ground;
@@ -208,6 +208,16 @@ impl Occupancy {
         ensures site { self.new.site ≡ self.old.site }
         ensures rooms { NoLess (rooms_in self.old.lanes) (rooms_in self.new.lanes) }
     {
+        if let Some(shift) = near_shift(from, to) {
+            return shift_rows(
+                &mut self.lanes,
+                &mut tally.counts,
+                &self.index,
+                &self.site,
+                team,
+                &shift,
+            );
+        }
         lower(&mut tally.counts, &self.index, &self.site, team, from);
         raise(
             &mut self.lanes,

@@ -1,12 +1,12 @@
 //! A count of boxes for each strip, were some cells elsewhere. The strips are felt around here.
 
-ghost use Rattle.std.specs.Prelude.{◌≡◌, ◌+◌, ◌≢◌, ◌≤◌, AllPairs, IfOk, OnOk, Some, length, map};
+ghost use Rattle.std.specs.Prelude.{◌≡◌, ◌+◌, ◌≢◌, ◌≤◌, AllPairs, IfOk, IfSome, OnOk, Some, length, map};
 ghost use Rattle.std.specs.Vec.{vec_capacity, vec_len};
 ghost use Rattle.lf_occupancy.specs.Occupied.{NoLess};
 ghost use Rattle.lf_occupancy.specs.Settling.{IsOneOf};
 ghost use Rattle.lf_occupancy.specs.Strips.{AreChanged, AreKept, IsReached, IsSite, felt_strips, rooms_in};
 ghost use Rattle.lf_occupancy.specs.Lanes.{IsKept};
-ghost use Rattle.lf_occupancy.specs.Tallies.{IsLess, IsLessAt, IsLower, IsMore, IsHigher};
+ghost use Rattle.lf_occupancy.specs.Tallies.{AreShifted, IsHigher, IsLess, IsLessAt, IsLower, IsMore, IsShiftOf, IsShifted, IsShiftedAt, hull_in};
 
 use crate::felt::{felt_area, near_felt};
 use crate::lane::{Lane, is_whole, make_room, part_of};
@@ -182,4 +182,114 @@ pub(crate) fn raise(
         Some(rect) => raise_rows(lanes, counts, index, site, team, rect),
         None => Ok(()),
     }
+}
+
+/// A box of a cell, and the one in its place.
+#[derive(Clone, Copy)]
+pub(crate) struct Shift {
+    from: Rect,
+    to: Rect,
+}
+
+/// The boxes, if there are both and no row lies between them.
+pub(crate) fn near_shift(from: &Option<Rect>, to: &Option<Rect>) -> Option<Shift>
+    ensures { IfSome result (λ shift. IsShiftOf from.now to.now shift) }
+{
+    let first = (*from)?;
+    let second = (*to)?;
+    if first.y2 < second.y1 || second.y2 < first.y1 {
+        return None;
+    }
+    Some(Shift {
+        from: first,
+        to: second,
+    })
+}
+
+/// The rectangle that holds both boxes.
+fn hull_of(shift: &Shift) -> Rect
+    ensures { result ≡ hull_in shift.now }
+{
+    Rect {
+        x1: shift.from.x1.min(shift.to.x1),
+        y1: shift.from.y1.min(shift.to.y1),
+        x2: shift.from.x2.max(shift.to.x2),
+        y2: shift.from.y2.max(shift.to.y2),
+    }
+}
+
+/// Counts in a strip of that area one box in place of the other; it has then room for what is counted.
+///
+/// `Err` if an allocation fails; the strip holds what it held.
+fn count_shift(
+    lane: &mut Lane,
+    count: &mut usize,
+    area: &Rect,
+    shift: &Shift,
+) -> Result<(), AllocError>
+    requires room { count.old ≤ vec_capacity lane.old.marks }
+    ensures kept { IsKept lane.old lane.new }
+    ensures shifted { OnOk result (IsShifted area.now shift.now count.old count.new) }
+    ensures room { OnOk result (count.new ≤ vec_capacity lane.new.marks) }
+{
+    if is_whole(&part_of(area, &shift.to)) {
+        if is_whole(&part_of(area, &shift.from)) {
+            return Ok(());
+        }
+        return count_more(lane, count);
+    }
+    count_less(count, area, &shift.from);
+    Ok(())
+}
+
+/// The same in each strip of a run.
+fn shift_run(
+    lanes: &mut Vec<Lane>,
+    counts: &mut Vec<usize>,
+    index: &Ground,
+    site: &i64,
+    near: &NearStrips,
+    shift: &Shift,
+) -> Result<(), AllocError>
+    requires site { IsSite site.now }
+    requires many { length lanes.old.items ≡ length (felt_strips site.now index.now.strips) }
+    requires room { NoLess counts.old.items (rooms_in lanes.old.items) }
+    requires within { near.now.end ≤ length lanes.old.items }
+    ensures kept { AreKept lanes.old.items lanes.new.items }
+    ensures shifted { OnOk result (AreChanged (IsOneOf near.now) (IsShiftedAt (felt_strips site.now index.now.strips) shift.now)
+        counts.old.items counts.new.items) }
+    ensures room { OnOk result (NoLess counts.new.items (rooms_in lanes.new.items)) }
+{
+    for n in near.start..near.end {
+        let area = felt_area(index, site, n);
+        count_shift(&mut lanes[n], &mut counts[n], &area, shift)?;
+    }
+    Ok(())
+}
+
+/// Counts one box in place of the other in the strips of the team. Each strip is looked up once, and most
+/// cells stay in theirs.
+pub(crate) fn shift_rows(
+    lanes: &mut Vec<Lane>,
+    counts: &mut Vec<usize>,
+    index: &Ground,
+    site: &i64,
+    team: usize,
+    shift: &Shift,
+) -> Result<(), AllocError>
+    requires site { IsSite site.now }
+    requires many { length lanes.old.items ≡ length (felt_strips site.now index.now.strips) }
+    requires room { NoLess counts.old.items (rooms_in lanes.old.items) }
+    ensures kept { AreKept lanes.old.items lanes.new.items }
+    ensures shifted { OnOk result (AreShifted (felt_strips site.now index.now.strips) team shift.now counts.old.items counts.new.items) }
+    ensures room { OnOk result (NoLess counts.new.items (rooms_in lanes.new.items)) }
+{
+    index.strips_are_placed();
+    let hull = hull_of(shift);
+    let rows = index.rows_near(&hull);
+    for entry in rows {
+        let near = near_felt(index, site, entry.row, team, &hull);
+        shift_run(lanes, counts, index, site, &near, shift)?;
+    }
+    Ok(())
 }

@@ -1,5 +1,5 @@
 -- Rows in order of their y: the order that a sort gives, which entries there are, and runs found by bisection.
-use Rattle.std.proofs.Common.{◌≡◌, ◌≢◌, ◌⊎◌, inl, inr, ℕ, ℤ, pos, ◌+◌, ◌<◌, ◌≤◌, ◌≤ℤ◌, ◌<ℤ◌, zero, suc, true, false, refl, List, [], ◌∷◌, Some, slice_get, map}
+use Rattle.std.proofs.Common.{◌≡◌, ◌≢◌, ◌⊎◌, inl, inr, ℕ, ℤ, pos, ◌+◌, ◌-◌, ◌<◌, ◌≤◌, ◌≤ℤ◌, ◌<ℤ◌, zero, suc, true, false, refl, List, [], ◌∷◌, Some, slice_get, map}
 use Rattle.std.proofs.Common.{◌++◌, length, get_or, take, drop, sym, ap, subst, ◌∙◌, arith, int_le, int_lt, eqb, Ordering}
 use Rattle.std.specs.declared.cmp.Ordering.TheVariants.{Less, Equal, Greater}
 use Rattle.std.specs.Prelude.{All, AllPairs, Any, Contains, IsPermutation}
@@ -9,7 +9,7 @@ use Rattle.std.specs.List.Sorted.{IsPartitionedBy, IsPartitionPoint, IsSortedByK
 use Rattle.std.proofs.lemmas.Bool.Decides.{Decides-eqb, eqb_tells}
 use Rattle.std.proofs.lemmas.Cmp.{int_cmp_total, then_total, on_total}
 use Rattle.std.proofs.lemmas.Int.{ints}
-use Rattle.std.proofs.lemmas.List.{get_or-take, get_or-drop, get_or-map, length-take, length-drop, length-map, take-append-drop}
+use Rattle.std.proofs.lemmas.List.{get_or_default, get_or-take, get_or-drop, get_or-map, length-take, length-drop, length-map, take-append-drop}
 use Rattle.std.proofs.lemmas.List.Elements.{All-contains, Contains-get_or, Contains-append_left, Contains-append_right, Contains-append_cases}
 use Rattle.std.proofs.lemmas.List.Sorted.{sorted_far, ranks_by, All-permutation, Contains-permutation, IsPermutation-map}
 use Rattle.std.proofs.lemmas.Map.Keys.{IsDistinct-IsPermutation}
@@ -74,7 +74,7 @@ number_at rows k d within = ap (λ (e : RowEntry). e.row) (entry_first rows k d 
 abbrev number_of : RowEntry → ℕ
 number_of e = e.row
 
-no_entry : RowEntry
+abbrev pub no_entry : RowEntry
 no_entry = record { y = pos 0; x = pos 0; row = 0 }
 
 numbers_at : (rows : List Row) (k d : ℕ) → k < length rows → get_or (map number_of (entries_from 0 rows)) k d ≡ k
@@ -144,9 +144,6 @@ most_of a b e = grind (arith, ints)
 pub of_most : (a b : ℤ) → a ≤ℤ b → int_le a b ≡ true
 of_most a b h = grind (arith, ints)
 
-pub not_most_of : (a b : ℤ) → int_le a b ≡ false → b <ℤ a
-not_most_of a b e = grind (arith, ints)
-
 pub no_lower : (a b : RowEntry) → PrecedesByY a b → a.y ≤ℤ b.y
 no_lower a b (inl less) = omega (arith, ints, less)
 no_lower a b (inr both) = let same = both.0 in omega (arith, ints, same)
@@ -166,12 +163,6 @@ parted_below xs y pairs i j d order within t =
     let low = less_of (get_or xs j d).y y t in
     of_less (get_or xs i d).y y (omega (arith, ints, later, low))
 
-pub parted_up_to : (xs : List RowEntry) (y : ℤ) → AllPairs PrecedesByY xs → IsPartitionedBy (λ e. int_le e.y y) xs
-parted_up_to xs y pairs i j d order within t =
-    let later = heights_rise xs i j d pairs order within in
-    let low = most_of (get_or xs j d).y y t in
-    of_most (get_or xs i d).y y (omega (arith, ints, later, low))
-
 pub below_y : (xs : List RowEntry) (y : ℤ) (n : ℕ) → IsPartitionPoint (λ e. int_lt e.y y ≡ true) (λ e. int_lt e.y y ≡ false) xs n →
     (k : ℕ) (d : RowEntry) → k < n → (get_or xs k d).y <ℤ y
 below_y xs y n point k d less = less_of (get_or xs k d).y y (point.0 k d (omega arith) less)
@@ -180,13 +171,29 @@ pub from_y : (xs : List RowEntry) (y : ℤ) (n : ℕ) → IsPartitionPoint (λ e
     (k : ℕ) (d : RowEntry) → n ≤ k → k < length xs → y ≤ℤ (get_or xs k d).y
 from_y xs y n point k d from within = not_less_of (get_or xs k d).y y (point.1 k d from within)
 
-pub up_to_y : (xs : List RowEntry) (y : ℤ) (n : ℕ) → IsPartitionPoint (λ e. int_le e.y y ≡ true) (λ e. int_le e.y y ≡ false) xs n →
-    (k : ℕ) (d : RowEntry) → k < n → (get_or xs k d).y ≤ℤ y
-up_to_y xs y n point k d less = most_of (get_or xs k d).y y (point.0 k d (omega arith) less)
+-- where one does not lie below y, none behind it does
+pub from_first : (xs : List RowEntry) (y : ℤ) → AllPairs PrecedesByY xs → (n : ℕ) (e : RowEntry) → n < length xs → y ≤ℤ (get_or xs n e).y →
+    (k : ℕ) (d : RowEntry) → n ≤ k → k < length xs → y ≤ℤ (get_or xs k d).y
+from_first xs y pairs n e inside here k d from within =
+    let there = subst (λ (g : RowEntry). y ≤ℤ g.y) (get_or_default xs n e d inside) here in
+    let later = heights_rise xs n k d pairs from within in
+    omega (arith, ints, there, later)
 
-pub beyond_y : (xs : List RowEntry) (y : ℤ) (n : ℕ) → IsPartitionPoint (λ e. int_le e.y y ≡ true) (λ e. int_le e.y y ≡ false) xs n →
+-- where the last of them lies below y, all of them do
+pub below_last : (xs : List RowEntry) (y : ℤ) → AllPairs PrecedesByY xs → (n : ℕ) (e : RowEntry) → n ≤ length xs → (0 < n → (get_or xs (n - 1) e).y <ℤ y) →
+    (k : ℕ) (d : RowEntry) → k < n → (get_or xs k d).y <ℤ y
+below_last xs y pairs n e bound here k d less =
+    let there = subst (λ (g : RowEntry). g.y <ℤ y) (get_or_default xs (n - 1) e d (omega arith)) (here (omega arith)) in
+    let later = heights_rise xs k (n - 1) d pairs (omega arith) (omega arith) in
+    omega (arith, ints, there, later)
+
+-- where one lies above y, all behind it do
+pub above_first : (xs : List RowEntry) (y : ℤ) → AllPairs PrecedesByY xs → (n : ℕ) (e : RowEntry) → n < length xs → y <ℤ (get_or xs n e).y →
     (k : ℕ) (d : RowEntry) → n ≤ k → k < length xs → y <ℤ (get_or xs k d).y
-beyond_y xs y n point k d from within = not_most_of (get_or xs k d).y y (point.1 k d from within)
+above_first xs y pairs n e inside here k d from within =
+    let there = subst (λ (g : RowEntry). y <ℤ g.y) (get_or_default xs n e d inside) here in
+    let later = heights_rise xs n k d pairs from within in
+    omega (arith, ints, there, later)
 
 -- two bisections cut out a run
 pub run_by : (Below Within Above : ℤ → Type 0) (xs ys : List RowEntry) (f c : ℕ) → f ≤ length xs → ys ≡ drop f xs →

@@ -1,6 +1,6 @@
 //! The rows of a frame in order of y, found by bisection.
 
-ghost use Rattle.std.specs.Prelude.{◌≡◌, ◌<◌, ◌≤◌, ◌≤ℤ◌, ◌<ℤ◌, ℕ, All, AllPairs, IfOk, IsPermutation, MatchOption, length, slice_index_or};
+ghost use Rattle.std.specs.Prelude.{◌≡◌, ◌<◌, ◌≤◌, ◌≤ℤ◌, ◌<ℤ◌, ℕ, All, AllPairs, IfOk, IsPermutation, IsTrue, MatchOption, length, slice_index_or};
 ghost use Rattle.lf_segments.specs.declared.rows_by_y.RowEntry.{RowEntry};
 ghost use Rattle.lf_segments.specs.RowsByY.{BeginsBy, ComesBy, comes_by, entry, entries_from, IsLastAt, IsRowsByY, IsRunAt, IsRunBetween, PrecedesByY};
 
@@ -75,24 +75,77 @@ fn rows_in_order(alloc: Global, frame: &Frame) -> Result<Vec<RowEntry>, AllocErr
     Ok(entries)
 }
 
-/// How many of the entries lie below y.
+/// Where an entry of this y would stand if the entries rose evenly: a guess.
+fn even_place(entries: &[RowEntry], y: &i64) -> usize {
+    let Some(first) = entries.first() else {
+        return 0;
+    };
+    let last = &entries[entries.len() - 1];
+    let steps = entries.len() as u64 - 1;
+    let height = last.y.abs_diff(first.y).max(1);
+    let above = y.abs_diff(first.y);
+    above.saturating_mul(steps).div_ceil(height) as usize
+}
+
+/// Whether there are so many entries, those before that position lie below y, and no others.
+fn parts_at(entries: &[RowEntry], y: &i64, at: usize) -> bool
+    requires { AllPairs PrecedesByY entries.now }
+    ensures within { IsTrue result → at ≤ length entries.now }
+    ensures below { IsTrue result → (k : ℕ) → (d : RowEntry) → k < at → (slice_index_or entries.now k d).y <ℤ y.now }
+    ensures rest { IsTrue result → (k : ℕ) → (d : RowEntry) → at ≤ k → k < length entries.now → y.now ≤ℤ (slice_index_or entries.now k d).y }
+{
+    if entries.len() < at {
+        return false;
+    }
+    if 0 < at && *y <= entries[at - 1].y {
+        return false;
+    }
+    at == entries.len() || *y <= entries[at].y
+}
+
+/// How many of the entries lie below y. They are found at one look where the rows rise evenly, and else by
+/// bisection.
 fn count_below(entries: &[RowEntry], y: &i64) -> usize
     requires { AllPairs PrecedesByY entries.now }
     ensures within { result ≤ length entries.now }
     ensures below { (k : ℕ) → (d : RowEntry) → k < result → (slice_index_or entries.now k d).y <ℤ y.now }
     ensures rest { (k : ℕ) → (d : RowEntry) → result ≤ k → k < length entries.now → y.now ≤ℤ (slice_index_or entries.now k d).y }
 {
+    let guess = even_place(entries, y);
+    if parts_at(entries, y, guess) {
+        return guess;
+    }
     entries.partition_point(|entry| entry.y < *y)
 }
 
-/// How many of the entries lie at y or below it.
+/// How many of the entries lie below y. They are looked at one after another, since few do.
+fn count_low(entries: &[RowEntry], y: &i64) -> usize
+    requires { AllPairs PrecedesByY entries.now }
+    ensures within { result ≤ length entries.now }
+    ensures below { (k : ℕ) → (d : RowEntry) → k < result → (slice_index_or entries.now k d).y <ℤ y.now }
+    ensures rest { (k : ℕ) → (d : RowEntry) → result ≤ k → k < length entries.now → y.now ≤ℤ (slice_index_or entries.now k d).y }
+{
+    for n in 0..entries.len() {
+        if *y <= entries[n].y {
+            return n;
+        }
+    }
+    entries.len()
+}
+
+/// How many of the entries lie at y or below it. They are looked at one after another.
 fn count_up_to(entries: &[RowEntry], y: &i64) -> usize
     requires { AllPairs PrecedesByY entries.now }
     ensures within { result ≤ length entries.now }
     ensures up_to { (k : ℕ) → (d : RowEntry) → k < result → (slice_index_or entries.now k d).y ≤ℤ y.now }
     ensures rest { (k : ℕ) → (d : RowEntry) → result ≤ k → k < length entries.now → y.now <ℤ (slice_index_or entries.now k d).y }
 {
-    entries.partition_point(|entry| entry.y <= *y)
+    for n in 0..entries.len() {
+        if *y < entries[n].y {
+            return n;
+        }
+    }
+    entries.len()
 }
 
 /// The entries of this y.
@@ -110,7 +163,7 @@ fn run_between<'a>(entries: &'a [RowEntry], from: &i64, to: &i64) -> &'a [RowEnt
     ensures { IsRunBetween entries.now from.now to.now result.now }
 {
     let rest = &entries[count_below(entries, from)..];
-    &rest[..count_below(rest, to)]
+    &rest[..count_low(rest, to)]
 }
 
 /// Whether the row lies below y, or lies at y and does not begin right of x.

@@ -1,19 +1,8 @@
 use Rattle.std.proofs.Common.{arith, ◌∙◌}
-use Rattle.std.proofs.lemmas.List.{get_or_default}
-use Rattle.std.proofs.lemmas.Result.{on_ok_weaker}
 use Rattle.lf_occupancy.specs.Strips.{IsReached, felt_strips}
-use Rattle.lf_occupancy.proofs.Settling.{settled_in_one, takes_room}
+use Rattle.lf_occupancy.proofs.Settling.{takes_room}
 use Rattle.lf_occupancy.proofs.Reaching.{rising_kept}
 use Rattle.lf_occupancy.proofs.change.settle_in_rows.Goals as goal
-
-pub returns-then-rows-eq1-clause-ok : goal.returns-then-rows-eq1-clause-ok
-returns-then-rows-eq1-clause-ok c =
-    let one = c.if-rows-eq1.true in
-    let rows = c.args.rows.now in
-    on_ok_weaker c.settle_in_row.result
-    (settled_in_one (felt_strips c.args.site.now c.args.index.now.strips) rows _ c.args.id.now.team c.args.id.now.own c.args.rect.now c.args.lanes.now.items
-    c.settle_in_row.new.lanes.items one (get_or_default rows 0 _ _ (omega (arith, one))))
-    c.settle_in_row.ensures.ok
 
 pub put_in_rows-requires-clause-many : goal.put_in_rows-requires-clause-many
 put_in_rows-requires-clause-many c = c.in_ok-make_room_in_rows.ensures.kept.many ∙ c.requires.many

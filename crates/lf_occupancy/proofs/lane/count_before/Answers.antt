@@ -1,7 +1,17 @@
-use Rattle.std.proofs.Common.{int_lt, rules}
+use Rattle.std.proofs.Common.{arith, int_lt, pos, rules}
+use Rattle.std.proofs.lemmas.Int.{ints}
 use Rattle.std.proofs.lemmas.List.Sorted.{IsPartitionPoint-from_clause}
-use Rattle.lf_occupancy.proofs.Runs.{parted, below_x, from_x}
+use Rattle.lf_occupancy.specs.declared.lane.Mark.{Mark}
+use Rattle.lf_occupancy.proofs.Runs.{parted, below_last, below_x, from_x}
 use Rattle.lf_occupancy.proofs.lane.count_before.Goals as goal
+
+abbrev no_mark : Mark
+no_mark = record { own = 0; left = pos 0; width = 0 }
+
+pub returns-then-from-x-clause-below : goal.returns-then-from-x-clause-below
+returns-then-from-x-clause-below c =
+    let left = c.from.ensures in
+    below_last c.args.marks.now c.args.x.now c.requires no_mark c.if-many-gt0.true (omega (arith, ints, left))
 
 pub returns-clause-below : goal.returns-clause-below
 returns-clause-below c =

@@ -1,5 +1,4 @@
-use Rattle.std.proofs.Common.{◌≡◌, List, cond, length, get_or, ap, ◌∙◌, arith, rules}
-use Rattle.std.specs.Prelude.{insert, not}
+use Rattle.std.proofs.Common.{◌≡◌, List, length, get_or, ap, arith, rules}
 use Rattle.std.proofs.lemmas.Int.{ints, clamps}
 use Rattle.lf_occupancy.specs.declared.lane.Mark.{Mark}
 use Rattle.lf_occupancy.proofs.lane.join.Goals as goal
@@ -15,13 +14,11 @@ pub returns : goal.returns
 returns c =
     let old = c.args.lane.now.marks.items in
     let at = c.count_before-at.result in
-    let m = c.args.mark.now in
     let same = c.as_slice.ensures.value in
-    let ok = c.is_err.ensures.negation ∙ ap not c.if-is_err.false in
     record {
       at = at;
       bound = let h = c.count_before-at.ensures.within in let long = ap (λ (xs : List Mark). length xs) same in omega (arith, h, long);
-      marks = c.insert.ensures.items ∙ ap (λ b. cond b (insert old at m) old) ok;
+      marks = c.insert_at.ensures.items;
       before = λ k d less.
           let h = c.count_before-at.ensures.below k d less in
           let there : (get_or c.as_slice.result.now k d).left ≡ (get_or old k d).left = ap (λ (xs : List Mark). (get_or xs k d).left) same in

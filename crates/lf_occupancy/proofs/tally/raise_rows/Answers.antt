@@ -1,4 +1,4 @@
-use Rattle.std.proofs.Common.{List, arith, length, subst, ◌≡◌, ◌∙◌}
+use Rattle.std.proofs.Common.{List, arith, length, subst, ◌≡◌}
 use Rattle.std.specs.Vec.{vec_capacity}
 use Rattle.std.proofs.lemmas.List.{get_or_default, length-map, take_all}
 use Rattle.lf_segments.specs.declared.rows_by_y.RowEntry.{RowEntry}

@@ -11,7 +11,7 @@ returns c =
     let f = c.count_below.result in
     let ys = take (length xs - f) (drop f xs) in
     let same = rest_from xs f in
-    run_by (λ v. v <ℤ from) (λ v. (from ≤ℤ v) × (v <ℤ to)) (λ v. to ≤ℤ v) xs ys f c.count_below-2.result c.count_below.ensures.within same
+    run_by (λ v. v <ℤ from) (λ v. (from ≤ℤ v) × (v <ℤ to)) (λ v. to ≤ℤ v) xs ys f c.count_low.result c.count_below.ensures.within same
     c.count_below.ensures.below
-    (λ k d less within. (rest_holds (λ v. from ≤ℤ v) xs ys f same c.count_below.ensures.rest k d within, c.count_below-2.ensures.below k d less))
-    c.count_below-2.ensures.rest
+    (λ k d less within. (rest_holds (λ v. from ≤ℤ v) xs ys f same c.count_below.ensures.rest k d within, c.count_low.ensures.below k d less))
+    c.count_low.ensures.rest

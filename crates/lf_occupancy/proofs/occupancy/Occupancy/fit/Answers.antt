@@ -1,10 +1,11 @@
-use Rattle.std.proofs.Common.{ℕ, List, [], subst, sym}
+use Rattle.std.proofs.Common.{ℕ, List, Option, [], set, subst, sym, ◌∙◌}
 use Rattle.std.proofs.lemmas.Result.{on_ok_weaker}
+use Rattle.lf_units.specs.declared.area.Rect.{Rect}
 use Rattle.lf_occupancy.specs.Occupied.{Bounds, NoLess, Occupied}
 use Rattle.lf_occupancy.specs.Strips.{Holds, Marked, felt_strips, filled_by, rooms_in}
-use Rattle.lf_occupancy.specs.Tallies.{IsHigher}
+use Rattle.lf_occupancy.specs.Tallies.{AreShifted, IsHigher}
 use Rattle.lf_occupancy.proofs.Reaching.{lanes_kept, rooms_kept}
-use Rattle.lf_occupancy.proofs.Tallying.{bounds_other, bounds_own}
+use Rattle.lf_occupancy.proofs.Tallying.{bounds_beside, bounds_other, bounds_own, bounds_shifted}
 use Rattle.lf_occupancy.proofs.occupancy.Occupancy.fit.Goals as goal
 
 pub returns-clause-own : goal.returns-clause-own
@@ -43,3 +44,42 @@ pub returns-clause-rooms : goal.returns-clause-rooms
 returns-clause-rooms c =
     subst (λ (m : Marked). NoLess (rooms_in m.lanes) (rooms_in c.raise.new.lanes.items)) c.self.view_is
     (rooms_kept c.self.inside.lanes.items c.raise.new.lanes.items c.raise.ensures.kept)
+
+pub returns-in-Some-clause-own : goal.returns-in-Some-clause-own
+returns-in-Some-clause-own c = λ boxes own is bounds.
+    let o = c.self.inside in
+    let team = c.args.team in
+    let shift = c.in-Some.shift in
+    let held : Occupied = filled_by record { index = o.index; site = o.site; lanes = o.lanes.items } [] in
+    let was : Bounds held team boxes c.args.tally.now =
+    subst (λ (m : Marked). Bounds (filled_by m []) team boxes c.args.tally.now) (sym c.self.view_is) bounds in
+    let before : Bounds held team boxes c.tally.inside.counts.items = subst (λ (ns : List ℕ). Bounds held team boxes ns) (sym c.tally.view_is) was in
+    on_ok_weaker c.shift_rows.result
+    (λ (shifted : AreShifted (felt_strips o.site o.index.strips) team shift c.tally.inside.counts.items c.shift_rows.new.counts.items).
+    subst (λ (to : Option Rect). Bounds held team (set boxes own to) c.shift_rows.new.counts.items) (sym c.in-Some.ensures.to_is)
+    (bounds_shifted held team boxes own shift c.tally.inside.counts.items c.shift_rows.new.counts.items (is ∙ c.in-Some.ensures.from_is) shifted before))
+    c.shift_rows.ensures.shifted
+
+pub returns-in-Some-clause-others : goal.returns-in-Some-clause-others
+returns-in-Some-clause-others c = λ boxes other differ bounds.
+    let o = c.self.inside in
+    let team = c.args.team in
+    let shift = c.in-Some.shift in
+    let held : Occupied = filled_by record { index = o.index; site = o.site; lanes = o.lanes.items } [] in
+    let was : Bounds held other boxes c.args.tally.now =
+    subst (λ (m : Marked). Bounds (filled_by m []) other boxes c.args.tally.now) (sym c.self.view_is) bounds in
+    let before : Bounds held other boxes c.tally.inside.counts.items = subst (λ (ns : List ℕ). Bounds held other boxes ns) (sym c.tally.view_is) was in
+    on_ok_weaker c.shift_rows.result
+    (λ (shifted : AreShifted (felt_strips o.site o.index.strips) team shift c.tally.inside.counts.items c.shift_rows.new.counts.items).
+    bounds_beside held team other boxes shift c.tally.inside.counts.items c.shift_rows.new.counts.items differ shifted before) c.shift_rows.ensures.shifted
+
+pub returns-in-Some-clause-holds : goal.returns-in-Some-clause-holds
+returns-in-Some-clause-holds c = λ boxes holds.
+    let o = c.self.inside in
+    lanes_kept (felt_strips o.site o.index.strips) boxes o.lanes.items c.shift_rows.new.lanes.items c.shift_rows.ensures.kept
+    (subst (λ (m : Marked). Holds m boxes) (sym c.self.view_is) holds)
+
+pub returns-in-Some-clause-rooms : goal.returns-in-Some-clause-rooms
+returns-in-Some-clause-rooms c =
+    subst (λ (m : Marked). NoLess (rooms_in m.lanes) (rooms_in c.shift_rows.new.lanes.items)) c.self.view_is
+    (rooms_kept c.self.inside.lanes.items c.shift_rows.new.lanes.items c.shift_rows.ensures.kept)

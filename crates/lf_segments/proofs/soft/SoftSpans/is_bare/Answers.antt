@@ -1,4 +1,4 @@
-use Rattle.std.proofs.Common.{◌≡◌, ℕ, List, [], length, get_or, subst, rules}
+use Rattle.std.proofs.Common.{◌≡◌, List, [], length, get_or, subst, rules}
 use Rattle.lf_spans.specs.declared.span.Span.{Span}
 use Rattle.lf_segments.proofs.SoftLemmas.{no_pieces}
 use Rattle.lf_segments.proofs.soft.SoftSpans.is_bare.Goals as goal

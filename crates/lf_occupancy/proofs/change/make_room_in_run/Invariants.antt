@@ -3,7 +3,7 @@ use Rattle.lf_occupancy.specs.declared.lane.Lane.{Lane}
 use Rattle.lf_occupancy.specs.Lanes.{HasRoomOf}
 use Rattle.lf_occupancy.specs.Strips.{AreKept}
 use Rattle.lf_occupancy.proofs.Changes.{IsBetween}
-use Rattle.lf_occupancy.proofs.change.settle_in_row.Given as goal
+use Rattle.lf_occupancy.proofs.change.make_room_in_run.Given as goal
 
 -- all lanes hold what they held, and those passed have room
 abbrev pub invariant-loop-n : goal.invariant-loop-n
