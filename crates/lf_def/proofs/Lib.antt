@@ -1,3 +1,4 @@
+pub mod ClauseKinds
 pub mod Clauses
 pub mod Following
 pub mod Kept

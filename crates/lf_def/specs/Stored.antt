@@ -32,6 +32,11 @@ abbrev pub placement_from : Option PlacementKind → Option Location → ℕ →
 placement_from None place start stop = None
 placement_from (Some kind) place start stop = Some (record { kind = kind; place = place; start = start; stop = stop })
 
+-- the kind of a placement clause, if there is one
+abbrev pub kind_of : Option Placement → Option PlacementKind
+kind_of None = None
+kind_of (Some clause) = Some clause.kind
+
 -- the offsets that are kept like this
 abbrev pub offsets_of : Kept → Offsets
 offsets_of (Near start stop semicolon) = record { start = start; stop = stop; semicolon = semicolon }

@@ -6,7 +6,7 @@ ghost use Rattle.lf_lex.specs.Reading.{Reads, ReadsOn, block, turn};
 ghost use Rattle.lf_def.specs.Entries.{entry_or_end};
 ghost use Rattle.lf_def.specs.Components as grammar;
 ghost use Rattle.lf_def.specs.Ranges.{IsCoordinate, IsLocation, IsPlacement, IsComponent};
-ghost use Rattle.lf_def.specs.Stored.{placement_from};
+ghost use Rattle.lf_def.specs.Stored.{kind_of, placement_from};
 
 use crate::coordinates::{orient_of, point_rest};
 use crate::entries::Due;
@@ -143,6 +143,13 @@ impl<'a> Component<'a> {
         ensures { result.now ≡ self.now.mac }
     {
         self.words.macro_name()
+    }
+
+    /// The kind of its placement clause, if it has one.
+    pub fn kind(&self) -> Option<PlacementKind>
+        ensures { result ≡ kind_of self.now.placement }
+    {
+        self.words.kind()
     }
 
     /// Its placement clause with the offsets; a component without one is unplaced.

@@ -8,40 +8,43 @@ use crate::components::{Component, PlacementKind};
 use crate::regions::{Region, RegionKind};
 
 /// Whether the component is FIXED (LEF/DEF 5.8, DEF COMPONENTS).
+#[tactic(auto, using(crate::proofs::ClauseKinds::says_by))]
 pub fn is_fixed(component: &Component) -> bool
     ensures { result ≡ is_fixed_component component.now }
 {
-    match component.placement() {
-        Some(placement) => match placement.kind {
-            PlacementKind::Fixed => true,
-            PlacementKind::Cover => false,
-            PlacementKind::Placed => false,
-            PlacementKind::Unplaced => false,
-        },
+    match component.kind() {
+        Some(PlacementKind::Fixed) => true,
+        Some(PlacementKind::Cover) => false,
+        Some(PlacementKind::Placed) => false,
+        Some(PlacementKind::Unplaced) => false,
         None => false,
     }
 }
 
 /// Whether the component is COVER (LEF/DEF 5.8, DEF COMPONENTS).
+#[tactic(auto, using(crate::proofs::ClauseKinds::says_by))]
 pub fn is_cover(component: &Component) -> bool
     ensures { result ≡ is_cover_component component.now }
 {
-    match component.placement() {
-        Some(placement) => match placement.kind {
-            PlacementKind::Fixed => false,
-            PlacementKind::Cover => true,
-            PlacementKind::Placed => false,
-            PlacementKind::Unplaced => false,
-        },
+    match component.kind() {
+        Some(PlacementKind::Fixed) => false,
+        Some(PlacementKind::Cover) => true,
+        Some(PlacementKind::Placed) => false,
+        Some(PlacementKind::Unplaced) => false,
         None => false,
     }
 }
 
 /// Whether teams may move the component: it is neither FIXED nor COVER.
+#[tactic(auto, using(crate::proofs::ClauseKinds::says_by))]
 pub fn is_movable(component: &Component) -> bool
     ensures { result ≡ is_movable_component component.now }
 {
-    !is_fixed(component) && !is_cover(component)
+    match component.kind() {
+        Some(PlacementKind::Fixed | PlacementKind::Cover) => false,
+        Some(PlacementKind::Placed | PlacementKind::Unplaced) => true,
+        None => true,
+    }
 }
 
 /// Whether the region's TYPE is FENCE (LEF/DEF 5.8, DEF REGIONS).

@@ -1,6 +1,6 @@
 //! The movable cells of a loaded design, as they are kept.
 
-ghost use Rattle.std.specs.Prelude.{◌≡◌, ◌≢◌, ◌++◌, ◌∷◌, [], All, OnErr, OnOk, length, slice_get};
+ghost use Rattle.std.specs.Prelude.{◌≡◌, ◌≢◌, ◌++◌, ◌∷◌, [], All, IfOk, OnErr, OnOk, length, slice_get};
 ghost use Rattle.std.specs.Option.{option_map};
 ghost use Rattle.lf_floorplan.specs.LoadedCells.{lent, with_name, with_names};
 
@@ -106,6 +106,18 @@ impl LoadedCells {
                 cells: Vec::new(alloc),
             },
         }
+    }
+
+    /// The empty list, with room for this many cells; longer names take memory of their own. `Err` if an allocation fails.
+    pub fn with_capacity(alloc: Global, cells: usize) -> Result<Self, AllocError>
+        ensures { IfOk result (λ list. list ≡ []) }
+    {
+        Ok(LoadedCells {
+            parts: CellParts {
+                names: NameTable::with_capacity(alloc, cells)?,
+                cells: Vec::with_capacity(alloc, cells)?,
+            },
+        })
     }
 
     /// Appends a cell whose name no other cell has, behind the others.

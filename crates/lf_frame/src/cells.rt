@@ -85,7 +85,7 @@ pub(crate) fn movable_cells(
     requires able { All (λ c. is_movable_component c ≡ true → CanBeCell (inputs library.now document.now limits.now) c) document.now.components }
     ensures { IfOk result (λ cells. AllZip (IsCellOf (inputs library.now document.now limits.now)) (movables document.now.components) cells) }
 {
-    let mut cells = LoadedCells::new(alloc);
+    let mut cells = LoadedCells::with_capacity(alloc, document.components.len())?;
     for (number, component) in document.components.as_slice().iter().enumerate() {
         if is_movable(component) {
             let team = claims.team_at(number);

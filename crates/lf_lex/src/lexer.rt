@@ -56,6 +56,7 @@ impl<'a> Lexer<'a> {
     }
 
     /// The next token, or None at the end of the text. `Err` is the fault after the last token; every later call returns it too.
+    #[inline(always)]
     pub fn next_token(&mut self) -> Result<Option<Token<'a>>, LexFault>
         ensures tokens { Answers result self.old self.new }
         ensures spelled { IfOk result (λ token. IfSome token (λ t. IsSpelled (lexeme t))) }

@@ -67,7 +67,10 @@ pub fn next<'a>(lexer: &mut Lexer<'a>) -> Result<Option<Token<'a>>, ReadError>
 pub fn is(word: &[u8], token: &Token) -> bool
     ensures { result ≡ reading.is word.now (lexeme token.now) }
 {
-    token.text == word
+    if token.text.len() != word.len() {
+        return false;
+    }
+    token.text.starts_with(word)
 }
 
 /// Whether the token is a word; `;` is one.
@@ -102,6 +105,7 @@ pub fn keyword(lexer: &mut Lexer, due: &[u8]) -> Result<(), ReadError>
 }
 
 /// Takes a word other than `;`, of any length; else Unexpected.
+#[inline]
 #[tactic(auto, unfolding(crate::specs::Reading::word))]
 pub fn word<'a>(lexer: &mut Lexer<'a>) -> Result<Token<'a>, ReadError>
     ensures read { Reads lexeme result reading.word lexer.old lexer.new }

@@ -57,6 +57,15 @@ impl<A: Allocator + Copy> NameTable<A> {
         }
     }
 
+    /// The empty table, with room for this many names: it does not grow while they are added. `Err` if an allocation fails.
+    pub fn with_capacity(alloc: A, names: usize) -> Result<Self, AllocError>
+        ensures { IfOk result (λ table. table ≡ []) }
+    {
+        Ok(NameTable {
+            names: IndexSet::with_capacity(alloc, names)?,
+        })
+    }
+
     /// Appends the name unless it is there, and returns where it is. `Err` if an allocation fails, which only a new name
     /// needs; the table is then unchanged.
     pub fn add(&mut self, name: &[u8]) -> Result<Added, AllocError>

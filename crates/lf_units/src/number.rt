@@ -1,6 +1,6 @@
 //! Numbers of LEF and DEF texts: decimal, without exponent.
 
-ghost use Rattle.std.specs.Prelude.{◌≡◌, ◌+◌, ◌*◌, ◌^◌, ◌≤◌, ◌<◌, ◌++◌, length, take, drop, position, true, MatchOption, ℤ, pos, ◌≤ℤ◌, negsuc};
+ghost use Rattle.std.specs.Prelude.{◌≡◌, ◌+◌, ◌*◌, ◌^◌, ◌≤◌, ◌<◌, ◌++◌, length, take, drop, position, true, IfSome, MatchOption, ℤ, pos, ◌≤ℤ◌, negsuc};
 ghost use Rattle.std.specs.Char.{is_ascii_digit};
 ghost use Rattle.std.specs.List.{list_all, list_any, before_first, after_first};
 ghost use Rattle.std.specs.Str.Parse.{starts_with_minus, without_leading_sign, digits_value, digits_value_after};
@@ -83,6 +83,27 @@ fn digits_after(value: u64, digits: &[u8], max: u64) -> Option<u64>
     Some(total)
 }
 
+/// The value of a text of digits alone, if it is at most `max`; none if anything else is in the text. Each byte is looked at once.
+fn plain_value(text: &[u8], max: u64) -> Option<u64>
+    requires max { max ≤ 10 ^ 12 }
+    ensures { IfSome result (λ n. (list_all is_ascii_digit text.now ≡ true) × (0 < length text.now) × (n ≡ digits_value 10 text.now) × (n ≤ max)) }
+{
+    if text.is_empty() {
+        return None;
+    }
+    let mut total = 0;
+    for byte in text {
+        if !byte.is_ascii_digit() {
+            return None;
+        }
+        total = total * 10 + (*byte - b'0') as u64;
+        if total > max {
+            return None;
+        }
+    }
+    Some(total)
+}
+
 /// `value` followed by that many zeros; none if it exceeds `max`.
 fn shifted(value: u64, zeros: usize, max: u64) -> Option<u64>
     requires zeros { zeros ≤ 6 }
@@ -151,6 +172,11 @@ pub fn read_fixed(text: &[u8], decimals: usize, max: u64) -> Result<i64, NumberF
     ensures { result ≡ fixed_of text.now decimals max }
 {
     let (negative, body) = split_sign(text);
+    if decimals == 0
+        && let Some(magnitude) = plain_value(body, max)
+    {
+        return Ok(signed(negative, magnitude));
+    }
     let (whole, fraction) = split_point(body);
     if are_digits(whole) && are_digits(fraction) && whole.len() + fraction.len() > 0 {
         value_of(negative, whole, fraction, decimals, max)
