@@ -35,8 +35,8 @@ fn bare_lanes(alloc: Global, count: usize) -> Result<Vec<Lane>, AllocError>
     Ok(lanes)
 }
 
-/// The number, which has a sign, from the least one of 32 bits on.
-fn lifted(number: i32) -> u64
+/// How far the number is above the least one of 32 bits.
+fn above_least(number: i32) -> u64
     ensures { result < 4294967296 }
 {
     (i64::from(number) + 2_147_483_648) as u64
@@ -47,7 +47,7 @@ fn lifted(number: i32) -> u64
 fn rank_of(x: i32, y: i32) -> u64
     ensures { result < 281474976710656 }
 {
-    lifted(y) / 32_768 * 2_147_483_648 + lifted(x) / 2
+    above_least(y) / 32_768 * 2_147_483_648 + above_least(x) / 2
 }
 
 /// The rank of the cell's working place; 0 if it has none.
