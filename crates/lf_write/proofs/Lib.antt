@@ -1,6 +1,7 @@
 pub mod Apart
 pub mod Before
 pub mod Behind
+pub mod Digits
 pub mod Edits
 pub mod Entries
 pub mod Fronts
