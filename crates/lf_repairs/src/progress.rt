@@ -15,7 +15,7 @@ pub trait Progress {
     /// The repair of the team of that name begins, which is that of this number, from 1, of so many.
     fn begin(&mut self, team: &[u8], number: usize, teams: usize);
 
-    /// One more command of it was accepted.
+    /// One more command was accepted.
     fn step(&mut self);
 }
 
@@ -45,7 +45,7 @@ pub struct TimedProgress<'a, T, W> {
     team: Vec<u8>,
     number: usize,
     teams: usize,
-    /// How many commands of the team were accepted.
+    /// How many commands of all teams were accepted so far.
     commands: u64,
 }
 
@@ -95,7 +95,6 @@ impl<'a, T: Clock, W: Write> Progress for TimedProgress<'a, T, W> {
         let _ = self.team.extend_from_slice(team);
         self.number = number;
         self.teams = teams;
-        self.commands = 0;
         self.tell_in_time();
     }
 
@@ -121,13 +120,13 @@ impl<'p, P: Progress> Sink for WatchedLines<'p, P> {
 
     ghost has_failed = { λ s. s.lines.failed };
 
+    // (the line of a command is written by one call)
     fn write(&mut self, bytes: &[u8]) -> Result<usize, DeviceFault> {
+        self.progress.step();
         self.lines.write(bytes)
     }
 
-    // (each line is flushed when it is whole)
     fn flush(&mut self) -> Result<(), DeviceFault> {
-        self.progress.step();
         self.lines.flush()
     }
 }
