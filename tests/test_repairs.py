@@ -83,10 +83,12 @@ class Repairs(InFolder):
 
     def test_one_that_takes_its_time_says_how_far_it_is(self) -> None:
         self.text.write_text(design({}))
-        words = ["repair", str(self.text), str(LEF)]
+        words = ["repair", str(self.text), str(LEF), "--lines", str(self.lines)]
         slowly = run(words, start=Start(environment=preloading("hasten.c", self.folder)))
-        line = 'lefence: repairing "{}", team {} of 3: 0 commands so far\n'.format
-        self.assertEqual(slowly, (0, run(words)[1], line("A", 1) + line("B", 2) + line("-", 3)))
+        asked = [line.split()[1] for line in self.lines.read_text().splitlines()]
+        told = 'lefence: repairing "{}", team {} of 3: {} commands so far\n'.format
+        begun = told("A", 1, 0) + told("B", 2, asked.count("A")) + told("-", 3, asked.count("A") + asked.count("B"))
+        self.assertEqual(slowly, (0, run(words)[1], begun))
 
     def test_a_cell_that_overlaps_moves(self) -> None:
         status, report = self.repair(STANDING, "--export", str(self.new))

@@ -5,7 +5,7 @@ use Rattle.lf_designs.specs.declared.faults.Exit.{Exit}
 use Rattle.lf_designs.specs.Designs.{Gives}
 use Rattle.lf_designs.specs.Faults.{Blames, IsEarly}
 use Rattle.lf_app.specs.Exits.{Ends, IsJobFault, IsOutcome}
-use Rattle.lf_work.specs.Exits.{alone}
+use Rattle.lf_lines.specs.Exits.{alone}
 
 -- a fault of a job over devices is one over what they hold
 pub std_fault : (gives : Gives) (job : Job) (a a' b b' c c' d d' e e' f f' : Option (List ℕ)) (kept kept' reader writer export service sound : Type 0)

@@ -8,7 +8,7 @@ use Rattle.lf_designs.specs.declared.faults.Fault.TheVariants.{Refused, File, No
 use Rattle.lf_designs.specs.Designs.{Gives}
 use Rattle.lf_designs.specs.Faults.{status_of}
 use Rattle.lf_app.specs.Exits.{IsOutcome}
-use Rattle.lf_work.specs.Exits.{Streams}
+use Rattle.lf_lines.specs.Exits.{Streams}
 use Rattle.lf_work.specs.Faults.{IsDone, IsFailure}
 
 -- the status of a fault is one of a task that was not done

@@ -12,10 +12,13 @@ use Rattle.lf_designs.specs.declared.faults.Exit.{Exit}
 use Rattle.lf_designs.specs.Checks.{IsUnreported}
 use Rattle.lf_designs.specs.Designs.{AreWithSlots, Gives, IsDesignFault, IsTextDesign, IsTextFault}
 use Rattle.lf_designs.specs.Faults.{EndsWith}
-use Rattle.lf_work.specs.Lines.{most_lines}
+use Rattle.lf_lines.specs.Lines.{most_lines}
 use Rattle.lf_work.specs.States.{IsFloorFault, IsSeenOf}
-use Rattle.lf_work.specs.Exits.{IsAnswered, IsBrokenOff, IsJobStop, IsLinesFault, IsNotRepaired, IsOffered, IsOpenDescribed, IsOpenRepaired}
-use Rattle.lf_work.specs.Exits.{IsOpenUndescribed, IsReported, IsServiceFault, IsUndone, IsWorked, Streams}
+use Rattle.lf_work.specs.Exits.{IsOpenDescribed}
+use Rattle.lf_lines.specs.Exits.{IsAnswered, IsBrokenOff, IsJobStop, IsLinesFault, IsOffered}
+use Rattle.lf_repairs.specs.Exits.{IsNotRepaired, IsOpenRepaired}
+use Rattle.lf_work.specs.Exits.{IsOpenUndescribed, IsReported}
+use Rattle.lf_lines.specs.Exits.{IsServiceFault, IsUndone, IsWorked, Streams}
 
 -- a task ends with a fault of this kind
 abbrev pub Ends : (Fault → Type 0) → Option (List ℕ) → Option (List ℕ) → Bool → Exit → Type 0

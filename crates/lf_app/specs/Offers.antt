@@ -2,7 +2,7 @@
 use Rattle.std.specs.Prelude.{◌≡◌, List, Option}
 use Rattle.lf_command.specs.Command.{Job, serve}
 use Rattle.lf_server.specs.declared.accepting.Offer.{Offer}
-use Rattle.lf_work.specs.Services.{OffersLocal}
+use Rattle.lf_lines.specs.Services.{OffersLocal}
 
 -- what a job offers: the service that it is, and nothing if it is none
 abbrev pub IsOfferOf : Job → Option (List Offer) → Option (List Offer) → Type 0

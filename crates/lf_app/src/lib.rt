@@ -3,7 +3,8 @@
 //! `perform` does a `Task` over the files and the network of a runtime. `perform_over` does it over any
 //! files that are read (`Texts`) and written (`Exports`), services (`Services`) and devices, and its contract says of each what was
 //! done. `Task`, `UsageFault`, `command_of`, `Help` and `help_of` are those of `lf_command`; `Texts`, `Fault` and `Exit` are those of
-//! `lf_designs`, which reads and loads designs and tells faults; `Services`, `Progress` and `answer_lines` are those of `lf_work`.
+//! `lf_designs`, which reads and loads designs and tells faults; `Services` and `answer_lines` are those of `lf_lines`, and
+//! `Progress` is that of `lf_repairs`.
 //!
 //! Status 0 or 4: the task is done, and no fault is written. The design is that of the LEF texts, in the order of the words, and of
 //! the DEF text, within the standard limits but for the number of session slots, where one is asked for; a demo has the built-in
@@ -39,8 +40,7 @@ pub use lf_designs::{
 };
 pub use lf_devices::{FromRead, ToWrite};
 pub use lf_files::FileExports;
+pub use lf_lines::{NetServices, Services, Surroundings, answer_lines};
+pub use lf_repairs::{Progress, Silent, TimedProgress};
 pub use lf_server::{Acceptor, ClientReader, ClientWriter, Connection, Offer};
-pub use lf_work::{
-    NetServices, Progress, Services, Silent, Surroundings, TimedProgress, answer_lines,
-};
 pub use tasks::{perform, perform_over};

@@ -7,10 +7,11 @@ ghost use Rattle.lf_teams.specs.Designs.{opening};
 ghost use Rattle.lf_teams.specs.States.{FloorState};
 ghost use Rattle.lf_designs.specs.Designs.{IsTextDesign, IsTextFault};
 ghost use Rattle.lf_designs.specs.Faults.{IsEarly};
-ghost use Rattle.lf_work.specs.Exits.{IsAnswered, IsJobStop, IsLinesFault, alone};
-ghost use Rattle.lf_work.specs.Faults.{BlamesStreams, IsDone, IsFailure};
-ghost use Rattle.lf_work.specs.Lines.{most_lines};
-ghost use Rattle.lf_work.specs.Surroundings.{BlamesOver, IsReady, Keeps, io_of};
+ghost use Rattle.lf_lines.specs.Exits.{IsAnswered, IsJobStop, IsLinesFault, alone};
+ghost use Rattle.lf_work.specs.Faults.{IsDone, IsFailure};
+ghost use Rattle.lf_lines.specs.Faults.{BlamesStreams};
+ghost use Rattle.lf_lines.specs.Lines.{most_lines};
+ghost use Rattle.lf_lines.specs.Surroundings.{BlamesOver, IsReady, Keeps, io_of};
 ghost use Rattle.lf_app.specs.Exits.{AsksForNoFile, AsksForNoState, Ends, IsJobFault, IsJobFaultWithin, IsOutcome, IsOutcomeWithin, RepairsNothing, reads_of, slots_of};
 ghost use Rattle.lf_app.specs.Offers.{IsOfferOf};
 
@@ -21,10 +22,9 @@ use lf_devices::{FromRead, Sink, Source, ToWrite};
 use lf_files::{Exports, FileExports};
 use lf_frame::Limits;
 use lf_lef::W_LEF;
-use lf_work::{
-    Inputs, Lines, NetServices, Outputs, Progress, RepairAsked, Services, Silent, Surroundings,
-    answer_over, check, describe_files, repair, work_on_files,
-};
+use lf_lines::{Lines, NetServices, Services, Surroundings, answer_over, work_on_files};
+use lf_repairs::{Progress, RepairAsked, Silent, repair};
+use lf_work::{Inputs, Outputs, check, describe_files};
 use std::alloc::Global;
 use std::io::{Read, Write};
 use std::net::Net;

@@ -1,6 +1,6 @@
 mod Designs
 mod Names
-mod NoFloat
+pub mod NoFloat
 mod Numbered
 mod Pieces
 mod Totals

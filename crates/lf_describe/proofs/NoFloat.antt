@@ -22,14 +22,14 @@ use Rattle.lf_describe.specs.declared.parts.Part.TheVariants.{Design, Rows, Fenc
 use Rattle.lf_describe.specs.Description.{box_data, cell_data, design_data, facing_data, fence_data, obstacle_data, other_of, rect_data, row_data, rule_data, soft_data, team_name, text_data, text_or_null, whole_data}
 use Rattle.lf_describe.specs.Parts.{cells_in, names_in, part_lines}
 
-neither : (a b : Bool) → a ≡ false → b ≡ false → (a || b) ≡ false
+pub neither : (a b : Bool) → a ≡ false → b ≡ false → (a || b) ≡ false
 neither a b p q = rw p q
 
 whole : (z : ℤ) → has_float (whole_data z) ≡ false
 whole (pos n) = refl
 whole (negsuc n) = refl
 
-text : (name : List ℕ) → has_float (text_data name) ≡ false
+pub text : (name : List ℕ) → has_float (text_data name) ≡ false
 text name = by (is_utf8 name)
   where
     by : (b : Bool) → has_float (if b then string name else null) ≡ false

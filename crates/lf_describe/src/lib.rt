@@ -19,3 +19,4 @@ mod values;
 
 pub use description::{Undescribed, describe};
 pub use laws::names_are_told;
+pub use values::text_value;

@@ -33,8 +33,8 @@ fn string_value(alloc: Global, text: &str) -> Result<Value, AllocError>
     json!(in alloc; text)
 }
 
-/// A name as a text; null if its bytes are no UTF-8 text.
-fn text_value(alloc: Global, name: &[u8]) -> Result<Value, AllocError>
+/// A name as a text; null if its bytes are no UTF-8 text. `Err` if an allocation fails.
+pub fn text_value(alloc: Global, name: &[u8]) -> Result<Value, AllocError>
     ensures { IfOk result (λ v. view v ≡ text_data name.now) }
 {
     match str::from_utf8(name) {

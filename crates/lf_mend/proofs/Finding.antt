@@ -15,7 +15,8 @@ use Rattle.lf_legalize.specs.Members.{member_of}
 use Rattle.lf_teams.specs.States.{FloorState, TeamState}
 use Rattle.lf_teams.specs.Teams.{state_of, team_number}
 use Rattle.lf_teams.proofs.Standing.{some_one}
-use Rattle.lf_mend.specs.Deeds.{AreHomeBut, AreHomes, HaveLeftHome, IsLegalOrNamed, IsNamed, PlacesStay, StandElsewhere, StandHomeBut, home_at}
+use Rattle.lf_plans.specs.Homes.{AreHomes, home_at}
+use Rattle.lf_mend.specs.Deeds.{AreHomeBut, HaveLeftHome, IsLegalOrNamed, IsNamed, PlacesStay, StandElsewhere, StandHomeBut}
 use Rattle.lf_mend.specs.Mending.{AllMove, AreLegalBut, IsLeftIn, IsLegalIn, OnlyMove, names_in, place_in}
 use Rattle.lf_mend.proofs.Legal.{legal_is_told, state_there, told_legal}
 use Rattle.lf_mend.proofs.Lists.{AreNamedTo, one_more_named, one_more_not}

@@ -1,26 +1,13 @@
--- Looks at all cells of a team, by their ids.
-use Rattle.std.proofs.Common.{◌≡◌, ◌<◌, ℕ, List, length, get_or, Option, Some, ap, ◌∙◌, arith}
+-- The cells of a team that are looked at are those of the floor's state.
+use Rattle.std.proofs.Common.{◌≡◌, ◌<◌, ℕ, List, length, Some, ap, arith}
 use Rattle.std.specs.Prelude.{◌≤◌, slice_get}
-use Rattle.std.proofs.lemmas.List.{get_or_default}
-use Rattle.lf_floorplan.specs.declared.place.Place.{Place}
 use Rattle.lf_cells.specs.declared.cell.Cell.{Cell}
 use Rattle.lf_cells.specs.declared.cell.CellId.{CellId}
-use Rattle.lf_cells.specs.Cells.{Cells, cells_of, id_of, ids_of, working_at}
-use Rattle.lf_cells.proofs.TeamIds.{ids_long, ids_read}
+use Rattle.lf_cells.specs.Cells.{ids_of}
+use Rattle.lf_cells.proofs.TeamIds.{ids_long}
 use Rattle.lf_teams.specs.States.{FloorState, TeamState}
 use Rattle.lf_teams.specs.Teams.{state_of, team_number}
 use Rattle.lf_mend.proofs.Legal.{state_there}
-
-abbrev pub no_id : CellId
-no_id = record { team = 0; own = 0 }
-
--- the ids that a table gives which is this one
-pub ids_are : (table read : Cells) (number : ℕ) (ids : List CellId) → read ≡ table → ids ≡ ids_of number (cells_of read number) → ids ≡ ids_of number (cells_of table number)
-ids_are table read number ids same are = are ∙ ap (λ (cs : Cells). ids_of number (cells_of cs number)) same
-
-pub id_at : (number k : ℕ) (cells : List Cell) (ids : List CellId) → ids ≡ ids_of number cells → k < length ids → get_or ids k no_id ≡ id_of number k
-id_at number k cells ids are within =
-    ids_read number k cells ids (get_or ids k no_id) are within (get_or_default ids k no_id (get_or ids k no_id) within)
 
 -- the ids are as many as the team's cells
 pub looked_within : (team : List ℕ) (floor : FloorState) (number k : ℕ) (cells : List Cell) (ids : List CellId) → ids ≡ ids_of number cells → k < length ids
@@ -37,9 +24,3 @@ all_looked floor number k cells ids are past same s at =
     let many : length ids ≡ length cells = ids_long number cells ids are in
     let own : length cells ≡ length s.cells = ap (λ (cs : List Cell). length cs) (same s at) in
     omega (arith, past, many, own)
-
--- the working place of the cell of an id, read in a table that is this one
-pub working_read : (table read : Cells) (number k : ℕ) (id : CellId) (place : Option Place) → read ≡ table → id ≡ id_of number k
-    → place ≡ working_at (cells_of read id.team) id.own → place ≡ working_at (cells_of table number) k
-working_read table read number k id place same is there =
-    there ∙ ap (λ (t : Cells). working_at (cells_of t id.team) id.own) same ∙ ap (λ (i : CellId). working_at (cells_of table i.team) i.own) is

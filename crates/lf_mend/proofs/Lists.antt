@@ -1,28 +1,12 @@
--- Lists that grow by one, and positions that are named in them.
-use Rattle.std.proofs.Common.{◌≡◌, ◌≢◌, ◌⊎◌, inl, inr, ⊎_elim, ℕ, zero, suc, ◌+◌, ◌<◌, List, [], ◌∷◌, ◌++◌, length, Option, Some, refl, ap, sym, ◌∙◌, subst, arith}
-use Rattle.std.specs.Prelude.{All, Contains, slice_get}
+-- Positions that are named in lists that grow by one.
+use Rattle.std.proofs.Common.{◌≡◌, ◌≢◌, ◌⊎◌, inl, inr, ⊎_elim, ℕ, ◌+◌, ◌<◌, List, [], ◌∷◌, ◌++◌, length, Option, ap, sym, ◌∙◌, subst, arith}
+use Rattle.std.specs.Prelude.{All, Contains}
 use Rattle.std.specs.Option.{unwrap_or}
 use Rattle.std.proofs.lemmas.Bool.{cases_eq}
 use Rattle.std.proofs.lemmas.List.Elements.{All-push, All-same}
 use Rattle.std.proofs.lemmas.Option.{get_or_from_slice_get, unwrap_or-slice_get}
+use Rattle.lf_plans.proofs.Lists.{before_last, last_is, one_longer}
 use Rattle.lf_mend.specs.Deeds.{IsNamed}
-
--- ---- one more
-
-pub last_is : {X : Type 0} (xs : List X) (x : X) → slice_get (xs ++ x ∷ []) (length xs) ≡ Some x
-last_is [] x = refl
-last_is (y ∷ ys) x = last_is ys x
-
-pub before_last : {X : Type 0} (xs : List X) (x : X) (i : ℕ) → i < length xs → slice_get (xs ++ x ∷ []) i ≡ slice_get xs i
-before_last [] x i within = absurd (omega (arith, within))
-before_last (y ∷ ys) x zero within = refl
-before_last (y ∷ ys) x (suc i) within = before_last ys x i (omega (arith, within))
-
-pub one_longer : {X : Type 0} (xs : List X) (x : X) → length (xs ++ x ∷ []) ≡ length xs + 1
-one_longer [] x = refl
-one_longer (y ∷ ys) x = omega (arith, one_longer ys x)
-
--- ---- names
 
 -- of the first so many positions it is so, or they are named
 abbrev pub AreNamedTo : (ℕ → Type 0) → ℕ → List ℕ → Type 0

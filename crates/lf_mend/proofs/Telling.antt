@@ -17,13 +17,15 @@ use Rattle.lf_cells.specs.Cells.{id_of, working_at}
 use Rattle.lf_teams.specs.States.{FloorState, TeamState}
 use Rattle.lf_teams.specs.Teams.{state_of, team_number}
 use Rattle.lf_teams.proofs.Standing.{some_one}
-use Rattle.lf_mend.specs.declared.told.Repaired.{Repaired}
-use Rattle.lf_mend.specs.Deeds.{AreHomes, AreMarked, IsCounted, IsOneTold, IsTallyBy, home_at}
+use Rattle.lf_plans.specs.declared.repaired.Repaired.{Repaired}
+use Rattle.lf_plans.specs.Homes.{AreHomes, home_at}
+use Rattle.lf_mend.specs.Deeds.{AreMarked, IsCounted, IsOneTold, IsTallyBy}
 use Rattle.lf_mend.specs.Mending.{ChangesOnly, IsLegalIn, place_in}
 use Rattle.lf_mend.specs.Tallies.{FaceApart, HowMany, IsTallyOf, TellsOf, way, ways}
 use Rattle.lf_mend.proofs.Finding.{team_was}
 use Rattle.lf_mend.proofs.Legal.{state_there}
-use Rattle.lf_mend.proofs.Lists.{at_last, before_last, last_is, one_longer, still_in}
+use Rattle.lf_plans.proofs.Lists.{before_last, last_is, one_longer}
+use Rattle.lf_mend.proofs.Lists.{at_last, still_in}
 use Rattle.lf_mend.proofs.Steps.{place_of_state}
 
 -- ---- counts

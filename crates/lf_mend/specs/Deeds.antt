@@ -1,5 +1,5 @@
 -- Changes of one cell, and what is looked up before and after them; no public clause cites it.
-use Rattle.std.specs.Prelude.{◌≡◌, ◌≢◌, ◌⊎◌, ℕ, ◌<◌, ◌≤◌, ◌+◌, ◌++◌, ◌∷◌, [], List, Bool, true, All, Contains, IsSome, None, Option, Some, length, map, max, min, slice_get, option_and_then}
+use Rattle.std.specs.Prelude.{◌≡◌, ◌≢◌, ◌⊎◌, ℕ, ◌<◌, ◌≤◌, ◌+◌, ◌++◌, ◌∷◌, [], List, Bool, true, All, Contains, IsSome, None, Option, Some, length, map, max, min, slice_get}
 use Rattle.lf_floorplan.specs.declared.place.Place.{Place}
 use Rattle.lf_rules.specs.Legalizer.{Legalizer}
 use Rattle.lf_rules.specs.Team.{StandsLegal}
@@ -14,7 +14,8 @@ use Rattle.lf_teams.specs.States.{FloorState, TeamState}
 use Rattle.lf_teams.specs.Steps.{Step}
 use Rattle.lf_teams.specs.Teams.{state_of}
 use Rattle.lf_teams.specs.VerbLaws.{KeepsCells}
-use Rattle.lf_mend.specs.declared.told.Repaired.{Repaired}
+use Rattle.lf_plans.specs.Homes.{home_at}
+use Rattle.lf_plans.specs.declared.repaired.Repaired.{Repaired}
 use Rattle.lf_mend.specs.Mending.{IsLegalIn, committed_in, names_in, place_in}
 use Rattle.lf_mend.specs.Tallies.{FaceApart, IsTallyOf, way}
 
@@ -70,14 +71,6 @@ pub record IsMarkedMore (floor : FloorState) (number own : ℕ) (old new : List 
       → StandsLegal floor.frame number s.padding (map member_of s.cells) own → mark ≡ true
   pub legal : (s : TeamState) → slice_get floor.teams number ≡ Some s → mark ≡ true
       → StandsLegal floor.frame number s.padding (map member_of s.cells) own
-
--- the place of that position in a list of places; None also behind its end
-abbrev pub home_at : List (Option Place) → ℕ → Option Place
-home_at homes own = option_and_then (λ home. home) (slice_get homes own)
-
--- these are the working places of these cells
-abbrev pub AreHomes : List Cell → List (Option Place) → Type 0
-AreHomes cells homes = (own : ℕ) → home_at homes own ≡ working_at cells own
 
 -- ---- after it
 

@@ -5,7 +5,7 @@ use Rattle.std.specs.List.{range_with_len}
 use Rattle.lf_floorplan.specs.declared.place.Place.{Place}
 use Rattle.lf_teams.specs.States.{FloorState, TeamState}
 use Rattle.lf_teams.specs.Teams.{state_of}
-use Rattle.lf_mend.specs.declared.told.Repaired.{Repaired}
+use Rattle.lf_plans.specs.declared.repaired.Repaired.{Repaired}
 use Rattle.lf_mend.specs.Mending.{IsLegalIn, place_in}
 
 -- |dx| + |dy| between two places; 0 where one of them is none

@@ -19,6 +19,7 @@ use lf_devices::Sink;
 use lf_floor::Floor;
 use lf_floorplan::Place;
 use lf_legalize::Seeker;
+use lf_plans::{Deed, Step};
 use lf_proto::{Action, Change, Command, Order, Refusal, Reply};
 use lf_rules::legalizer_is_there;
 use lf_units::Point;
@@ -30,21 +31,6 @@ pub(crate) struct Seat<'a> {
     pub(crate) team: &'a [u8],
     pub(crate) number: usize,
     pub(crate) session: u32,
-}
-
-/// What is asked for a cell.
-#[derive(Clone, Copy)]
-pub(crate) enum Step {
-    Unplace,
-    Place(Place),
-    Legalize(Point),
-}
-
-/// What is asked for the cell of that position.
-#[derive(Clone, Copy)]
-pub(crate) struct Deed {
-    pub(crate) own: u32,
-    pub(crate) step: Step,
 }
 
 /// The name of a cell, and the line of a command, while it is asked.

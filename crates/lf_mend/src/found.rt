@@ -3,7 +3,8 @@
 ghost use Rattle.std.specs.Prelude.{◌≡◌, All, IfOk, OnOk, Some};
 ghost use Rattle.lf_cells.specs.Cells.{cells_of};
 ghost use Rattle.lf_teams.specs.Teams.{team_number};
-ghost use Rattle.lf_mend.specs.Deeds.{AreHomeBut, HaveLeftHome, IsLegalOrNamed, IsNamed, StandElsewhere, StandHomeBut, home_at};
+ghost use Rattle.lf_plans.specs.Homes.{home_at};
+ghost use Rattle.lf_mend.specs.Deeds.{AreHomeBut, HaveLeftHome, IsLegalOrNamed, IsNamed, StandElsewhere, StandHomeBut};
 ghost use Rattle.lf_mend.specs.Mending.{AreLegalBut, IsLeftIn};
 
 use crate::deeds::Seat;

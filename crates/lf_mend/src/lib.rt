@@ -10,21 +10,16 @@
 //! ```
 #![tactic(auto)]
 
-mod advice;
 mod ask;
 mod deeds;
 mod found;
-mod gaps;
-mod ground;
 mod line;
-mod need;
 mod start;
 mod team;
 mod told;
 
 pub use ask::Fault;
-pub use gaps::gaps_near;
+pub use lf_plans::{How, Repaired};
 pub use line::put_request;
-pub use start::{How, stands_whole};
+pub use start::stands_whole;
 pub use team::repair_team;
-pub use told::Repaired;

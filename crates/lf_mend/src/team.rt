@@ -5,26 +5,25 @@ ghost use Rattle.lf_rules.specs.Legalizer.{Legalizer};
 ghost use Rattle.lf_teams.specs.Steps.{AllCommittedIn};
 ghost use Rattle.lf_teams.specs.Teams.{team_number};
 ghost use Rattle.lf_teams.specs.VerbLaws.{is_granted};
+ghost use Rattle.lf_plans.specs.declared.start.How.TheVariants.{Keep};
 ghost use Rattle.lf_mend.specs.Deeds.{CommittedStay, MarkedStay, PlacesStay, SameCells, StandElsewhere, StandHomeBut};
 ghost use Rattle.lf_mend.specs.Mending.{AllMove, AreLegalBut, ChangesOnly, IsLeftIn, LegalStay, OnlyMove, committed_in};
 ghost use Rattle.lf_mend.specs.Runs.{IsCutRun, IsWrittenRun};
 ghost use Rattle.lf_mend.specs.Tallies.{TellsOf};
-ghost use Rattle.lf_mend.specs.declared.start.How.TheVariants.{Keep};
 
-use crate::advice::{Phase, deeds_of};
 use crate::ask::{Fault, ask_and_write};
 use crate::deeds::{Seat, Texts, send_all, went_on};
 use crate::found::{Found, found_of};
-use crate::need::{Reach, aim_of, back_of};
-use crate::start::{Go, How, Start, start_of};
-use crate::told::{Repaired, tell};
+use crate::start::start_of;
+use crate::told::tell;
 use lf_devices::Sink;
 use lf_floor::{Floor, look_keeps};
 use lf_floorplan::Place;
 use lf_legalize::Seeker;
+use lf_plans::{Deed, Go, How, Owner, Phase, Reach, Repaired, Start, aim_of, back_of, deeds_of};
 use lf_proto::{Action, Change, Command, Order, Refusal, Reply};
 use lf_rules::legalizer_is_there;
-use std::alloc::Global;
+use std::alloc::{AllocError, Global};
 
 /// Opens a session of the team.
 fn open<S: Seeker + Drop, K: Sink>(
@@ -183,6 +182,19 @@ fn finish<S: Seeker + Drop, K: Sink>(
 /// The rounds of a repair.
 const PHASES: [Phase; 4] = [Phase::Lift, Phase::Tall, Phase::Plan, Phase::Rest];
 
+/// What is asked in a round for the cells of the team of that number, as they stand on the floor.
+fn deeds_in<S: Seeker + Drop>(
+    alloc: Global,
+    floor: &Floor<S>,
+    number: usize,
+    go: &Go,
+    phase: Phase,
+) -> Result<Vec<Deed>, AllocError> {
+    let placement = floor.placement();
+    let owner = Owner::new(placement.frame(), number, floor.padding_of(number));
+    deeds_of(alloc, placement, &owner, go, phase)
+}
+
 /// All rounds of a go: what is asked in each is looked up on the floor as the round before left it.
 fn go_round<S: Seeker + Drop, K: Sink>(
     alloc: Global,
@@ -199,7 +211,7 @@ fn go_round<S: Seeker + Drop, K: Sink>(
     ensures committed { CommittedStay seat.now.team.now floor.old floor.new }
 {
     for phase in &PHASES {
-        let Ok(deeds) = deeds_of(alloc, floor, seat.number, go, *phase) else {
+        let Ok(deeds) = deeds_in(alloc, floor, seat.number, go, *phase) else {
             return Err(Fault::OutOfMemory);
         };
         match send_all(

@@ -1,27 +1,16 @@
 -- No line has a number with a fraction.
-use Rattle.std.proofs.Common.{◌≡◌, ℕ, Bool, true, false, List, [], ◌∷◌, map, refl, subst, sym}
-use Rattle.std.specs.Prelude.{◌||◌, if◌then◌else◌}
-use Rattle.std.specs.Str.{is_utf8}
-use Rattle.serde_json.specs.Data.{Data, null, string}
+use Rattle.std.proofs.Common.{◌≡◌, ℕ, false, List, [], ◌∷◌, map, refl, subst, sym}
+use Rattle.serde_json.specs.Data.{Data}
 use Rattle.serde_json.specs.View.{items_of}
 use Rattle.serde_json.specs.Written.{has_float, items_have_float}
+use Rattle.lf_describe.proofs.NoFloat.{neither, text}
 use Rattle.lf_teams.specs.States.{FloorState}
-use Rattle.lf_mend.specs.declared.told.Repaired.{Repaired}
+use Rattle.lf_plans.specs.declared.repaired.Repaired.{Repaired}
 use Rattle.lf_told.specs.Told.{IsTeamData, cell_names, count_data, text_data}
-
-neither : (a b : Bool) → a ≡ false → b ≡ false → (a || b) ≡ false
-neither a b p q = rw p q
-
-name : (bytes : List ℕ) → has_float (text_data bytes) ≡ false
-name bytes = by (is_utf8 bytes)
-  where
-    by : (b : Bool) → has_float (if b then string bytes else null) ≡ false
-    by true = refl
-    by false = refl
 
 names : (list : List (List ℕ)) → items_have_float (items_of (map text_data list)) ≡ false
 names [] = refl
-names (n ∷ ns) = neither _ _ (name n) (names ns)
+names (n ∷ ns) = neither _ _ (text n) (names ns)
 
 counts : (list : List ℕ) → items_have_float (items_of (map count_data list)) ≡ false
 counts [] = refl
@@ -32,4 +21,4 @@ pub team_has_none : (floor : FloorState) (team : List ℕ) (r : Repaired) (least
     → has_float line ≡ false
 team_has_none floor team r least line is =
     subst (λ (d : Data). has_float d ≡ false) (sym is.1)
-    (neither _ _ (counts is.0) (neither _ _ (names (cell_names floor team r.left.items)) (neither _ _ (name team) refl)))
+    (neither _ _ (counts is.0) (neither _ _ (names (cell_names floor team r.left.items)) (neither _ _ (text team) refl)))

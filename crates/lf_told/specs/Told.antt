@@ -8,7 +8,7 @@ use Rattle.lf_floorplan.specs.declared.frame.Frame.{Frame}
 use Rattle.lf_teams.specs.States.{FloorState}
 use Rattle.lf_teams.specs.Teams.{state_of, team_number}
 use Rattle.lf_teams.specs.Outcomes.{name_at}
-use Rattle.lf_mend.specs.declared.told.Repaired.{Repaired}
+use Rattle.lf_plans.specs.declared.repaired.Repaired.{Repaired}
 use Rattle.lf_told.specs.declared.sums.Sums.{Sums}
 use Rattle.lf_told.specs.declared.report.RepairReport.{RepairReport}
 

@@ -11,6 +11,7 @@
 //! ```
 #![tactic(auto)]
 
+mod gaps;
 mod report;
 mod sums;
 mod values;

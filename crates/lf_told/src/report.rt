@@ -3,14 +3,15 @@
 ghost use Rattle.std.specs.Prelude.{◌≡◌, ◌++◌, [], IfOk, OnOk, false};
 ghost use Rattle.serde_json.specs.View.{view};
 ghost use Rattle.serde_json.specs.Written.{has_float};
-ghost use Rattle.lf_teams.specs.Teams.{team_number};
 ghost use Rattle.lf_told.specs.Told.{IsOneMore, IsTeamData, all_line, least_for, line_text, no_sums};
 
+use crate::gaps::gaps_near;
 use crate::sums::{Sums, none, with_one};
-use crate::values::{all_value, array_value, count_values, name_value, name_values, team_value};
+use crate::values::{all_value, array_value, count_values, name_values, team_value};
+use lf_describe::text_value;
 use lf_floor::Floor;
 use lf_legalize::Seeker;
-use lf_mend::{Repaired, gaps_near};
+use lf_plans::Repaired;
 use serde_json::Value;
 use std::alloc::{AllocError, Global};
 
@@ -63,7 +64,7 @@ fn line_of<S: Seeker + Drop>(
     let found = gaps_near(alloc, floor, team, &repaired.left)?;
     let gaps = array_value(count_values(alloc, &found)?);
     let left = array_value(name_values(alloc, floor, team, &repaired.left)?);
-    let name = name_value(alloc, team)?;
+    let name = text_value(alloc, team)?;
     team_value(alloc, name, left, gaps, least, repaired)
 }
 

@@ -3,7 +3,7 @@
 ghost use Rattle.std.specs.Prelude.{◌≡◌};
 ghost use Rattle.lf_told.specs.Told.{mean, no_sums, with_team};
 
-use lf_mend::Repaired;
+use lf_plans::Repaired;
 
 /// What became of the cells of all teams that are told of, lengths in database units; the greatest number stands for a sum past it.
 #[derive(Clone, Copy)]

@@ -1,41 +1,17 @@
 //! The lines as JSON.
 
 ghost use Rattle.std.specs.Prelude.{◌≡◌, ◌++◌, IfOk, OnOk, map};
-ghost use Rattle.serde_json.specs.Data.{array, null, string};
+ghost use Rattle.serde_json.specs.Data.{array};
 ghost use Rattle.serde_json.specs.View.{items_of, view};
 ghost use Rattle.lf_told.specs.Told.{all_data, cell_names, count_data, name_of_cell, text_data, team_data};
 
 use crate::sums::{Sums, mean_way};
+use lf_describe::text_value;
 use lf_floor::Floor;
 use lf_legalize::Seeker;
-use lf_mend::Repaired;
+use lf_plans::Repaired;
 use serde_json::{Value, json};
 use std::alloc::{AllocError, Global};
-use std::str;
-
-/// What stands where there is no text.
-fn null_value() -> Value
-    ensures { view result ≡ null }
-{
-    Value::Null
-}
-
-/// A text.
-fn string_value(alloc: Global, text: &str) -> Result<Value, AllocError>
-    ensures { IfOk result (λ v. view v ≡ string text.now) }
-{
-    json!(in alloc; text)
-}
-
-/// A name as a text; null if its bytes are no UTF-8 text.
-pub(crate) fn name_value(alloc: Global, name: &[u8]) -> Result<Value, AllocError>
-    ensures { IfOk result (λ v. view v ≡ text_data name.now) }
-{
-    match str::from_utf8(name) {
-        Ok(text) => string_value(alloc, text),
-        Err(_) => Ok(null_value()),
-    }
-}
 
 /// Appends the name of the team's cell of that position, if there is one.
 fn push_name<S: Seeker + Drop>(
@@ -50,7 +26,7 @@ fn push_name<S: Seeker + Drop>(
     let Some(name) = floor.name_of(team, own as usize) else {
         return Ok(());
     };
-    let value = name_value(alloc, name)?;
+    let value = text_value(alloc, name)?;
     names.push(value)?;
     Ok(())
 }

@@ -23,7 +23,7 @@ use Rattle.lf_teams.specs.Committed.{AreCommittedLegal, committed_member, commit
 use Rattle.lf_teams.specs.States.{TeamState}
 use Rattle.lf_teams.proofs.Parts.{legal_teams}
 use Rattle.lf_teams.proofs.Standing.{some_one}
-use Rattle.lf_work.specs.Repairs.{committed_listed}
+use Rattle.lf_work.specs.Judged.{committed_listed}
 
 -- ---- the cells of a list
 

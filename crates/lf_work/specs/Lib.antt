@@ -1,11 +1,7 @@
 pub mod Exits
 pub mod Faults
-pub mod Lines
-pub mod Repairs
-pub mod Services
+pub mod Inputs
+pub mod Judged
 pub mod Standing
 pub mod States
-pub mod Surroundings
-pub mod Telling
 pub mod Twins
-pub mod Work

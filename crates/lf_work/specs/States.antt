@@ -19,8 +19,8 @@ use Rattle.lf_work.specs.Standing.{StandsOn}
 -- ---- the state that work begins with
 
 -- the file of the path is read, and its text tells these teams of the design of the floor that was opened
-abbrev pub TellsOf : Gives → List ℕ → FloorState → List SavedTeam → Type 0
-TellsOf gives path opened saved = (text : List ℕ) × gives path (Some text) × (state_of (named opened) text ≡ Ok saved)
+abbrev pub FileTells : Gives → List ℕ → FloorState → List SavedTeam → Type 0
+FileTells gives path opened saved = (text : List ℕ) × gives path (Some text) × (state_of (named opened) text ≡ Ok saved)
 
 -- the file of the path is read, and the floor is in the state that its text tells of the design of the one that was opened
 abbrev pub IsFileState : Gives → List ℕ → FloorState → FloorState → Type 0

@@ -6,11 +6,11 @@ ghost use Rattle.lf_designs.specs.Checks.{IsUnreported};
 ghost use Rattle.lf_designs.specs.Faults.{BlamesWriter};
 ghost use Rattle.lf_work.specs.Exits.{IsReported};
 ghost use Rattle.lf_work.specs.States.{IsFloorFault, IsSeenOf};
-ghost use Rattle.lf_work.specs.Work.{path_of};
+ghost use Rattle.lf_work.specs.Inputs.{path_of};
 
+use crate::inputs::Inputs;
 use crate::seen::seen;
 use crate::statuses::{DONE, ILLEGAL};
-use crate::work::Inputs;
 use lf_designs::{Fault, Texts, design_of_files, report_design};
 use lf_devices::Sink;
 use lf_frame::Loaded;

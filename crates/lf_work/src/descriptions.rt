@@ -9,11 +9,11 @@ ghost use Rattle.lf_designs.specs.Designs.{IsDefRefusal, IsDesignFault, IsFileFa
 ghost use Rattle.lf_designs.specs.Faults.{BlamesWriter};
 ghost use Rattle.lf_work.specs.Exits.{IsDescribed, IsOpenDescribed, IsOpenUndescribed, IsShown, IsUndescribed, IsUnshown};
 ghost use Rattle.lf_work.specs.States.{IsSeen, IsUnbegun};
-ghost use Rattle.lf_work.specs.Work.{path_of};
+ghost use Rattle.lf_work.specs.Inputs.{path_of};
 
+use crate::inputs::Inputs;
 use crate::seen::seen;
 use crate::statuses::{DONE, ILLEGAL};
-use crate::work::Inputs;
 use lf_def::DefDoc;
 use lf_describe::{Undescribed, describe};
 use lf_designs::{Fault, Texts, def_file, library_of, load_document, read_document, read_text};

@@ -90,10 +90,7 @@ fn export_fault<'f>(path: &'f str, unwritten: Unwritten) -> Fault<'f>
 }
 
 /// Makes sure, as far as that shows beforehand, that a text can be written to the file of that path, if one is given.
-pub(crate) fn try_export<'a, E: Exports>(
-    path: Option<&'a str>,
-    exports: &mut E,
-) -> Result<(), Fault<'a>>
+pub fn try_export<'a, E: Exports>(path: Option<&'a str>, exports: &mut E) -> Result<(), Fault<'a>>
     ensures err { IfErr result (IsExportFault (option_map (λ path. path.now) path.entry)) }
     ensures fails { IfErr result (λ fault. ExportFails fault (E.has_failed exports.old) (E.has_failed exports.new)) }
     ensures sound { OnOk result (E.has_failed exports.new ≡ E.has_failed exports.old) }
@@ -110,7 +107,7 @@ pub(crate) fn try_export<'a, E: Exports>(
 }
 
 /// Writes the exported text to the file of that path, if one is given.
-pub(crate) fn export_to<'a, E: Exports>(
+pub fn export_to<'a, E: Exports>(
     floor: &Floor<IndexSeeker>,
     original: &Original,
     path: Option<&'a str>,

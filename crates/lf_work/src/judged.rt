@@ -7,7 +7,7 @@ ghost use Rattle.lf_rules.specs.FullyLegal.{IsFullyLegal};
 ghost use Rattle.lf_reports.specs.Reports.{IsListed, named, standing_of};
 ghost use Rattle.lf_teams.specs.Committed.{AreCommittedLegal, IsCommittedLegal};
 ghost use Rattle.lf_teams.specs.States.{TeamState};
-ghost use Rattle.lf_work.specs.Repairs.{committed_listed};
+ghost use Rattle.lf_work.specs.Judged.{committed_listed};
 
 use lf_cells::{CellId, CellTable};
 use lf_designs::illegal_in;
@@ -106,10 +106,7 @@ fn is_team_legal(
 /// Whether the committed design is fully legal.
 ///
 /// `Err` if an allocation fails.
-pub(crate) fn is_committed_legal(
-    alloc: Global,
-    floor: &Floor<IndexSeeker>,
-) -> Result<bool, AllocError>
+pub fn is_committed_legal(alloc: Global, floor: &Floor<IndexSeeker>) -> Result<bool, AllocError>
     requires { length floor.now.teams ≡ length floor.now.frame.teams + 1 }
     ensures { IfOk result (λ legal. IsTrue legal ↔ IsCommittedLegal floor.now) }
 {

@@ -9,7 +9,7 @@ ghost use Rattle.lf_write.specs.Export.{CanBeRenewed, clause_of};
 ghost use Rattle.lf_work.specs.Exits.{IsExported};
 ghost use Rattle.lf_work.specs.Faults.{ExportFails, IsExportFault, IsSaveFault};
 ghost use Rattle.lf_work.specs.States.{IsSaved};
-ghost use Rattle.lf_work.specs.Work.{path_of};
+ghost use Rattle.lf_work.specs.Inputs.{path_of};
 
 use crate::exported::{export_to, try_export};
 use crate::saved::{save_to, try_save};
@@ -28,10 +28,7 @@ pub struct Outputs<'a> {
 }
 
 /// Makes sure, as far as that shows beforehand, that what is asked for can be written.
-pub(crate) fn try_outputs<'a, E: Exports>(
-    outputs: Outputs<'a>,
-    exports: &mut E,
-) -> Result<(), Fault<'a>>
+pub fn try_outputs<'a, E: Exports>(outputs: Outputs<'a>, exports: &mut E) -> Result<(), Fault<'a>>
     ensures err { IfErr result (λ fault. IsExportFault (path_of outputs.entry.export) fault ⊎ IsSaveFault (path_of outputs.entry.save) fault) }
     ensures fails { IfErr result (λ fault. ExportFails fault (E.has_failed exports.old) (E.has_failed exports.new)) }
     ensures sound { OnOk result (E.has_failed exports.new ≡ E.has_failed exports.old) }
@@ -43,7 +40,7 @@ pub(crate) fn try_outputs<'a, E: Exports>(
 }
 
 /// Writes what is asked for: the exported text and then the state of the floor.
-pub(crate) fn put_outputs<'a, E: Exports>(
+pub fn put_outputs<'a, E: Exports>(
     floor: &Floor<IndexSeeker>,
     original: &Original,
     outputs: Outputs<'a>,

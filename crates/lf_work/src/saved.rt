@@ -6,7 +6,7 @@ ghost use Rattle.lf_files.specs.Shelf.{is_file};
 ghost use Rattle.lf_floor.specs.Saving.{text_of};
 ghost use Rattle.lf_work.specs.Faults.{ExportFails, IsSaveFault};
 ghost use Rattle.lf_work.specs.States.{IsSaved};
-ghost use Rattle.lf_work.specs.Work.{path_of};
+ghost use Rattle.lf_work.specs.Inputs.{path_of};
 
 use lf_designs::Fault;
 use lf_files::{Exports, Pieces, Unwritten};

@@ -11,7 +11,7 @@ ghost use Rattle.lf_designs.specs.declared.faults.Fault.TheVariants.{NoMemory};
 ghost use Rattle.lf_work.specs.Standing.{stood};
 ghost use Rattle.lf_work.specs.States.{IsFileState, IsSeen, IsStateFileFault, IsStood, IsUnbegun};
 ghost use Rattle.lf_work.specs.Twins.{cells_in};
-ghost use Rattle.lf_work.specs.Work.{path_of};
+ghost use Rattle.lf_work.specs.Inputs.{path_of};
 
 use crate::states::floor_in_state;
 use crate::twins::{copy_cells, design_of, twin_of};

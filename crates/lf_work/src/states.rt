@@ -7,7 +7,7 @@ ghost use Rattle.lf_state.specs.Reading.{state_of};
 ghost use Rattle.lf_state.specs.Saved.{team_views};
 ghost use Rattle.lf_designs.specs.declared.faults.Fault.TheVariants.{NoMemory};
 ghost use Rattle.lf_designs.specs.declared.faults.TextKind.TheVariants.{State};
-ghost use Rattle.lf_work.specs.States.{IsFileState, IsStateFileFault, IsStateRefused, IsStateTextFault, TellsOf};
+ghost use Rattle.lf_work.specs.States.{FileTells, IsFileState, IsStateFileFault, IsStateRefused, IsStateTextFault};
 
 use lf_designs::{Fault, StateRefusal, TextFile, TextKind, Texts, read_text};
 use lf_floor::Floor;
@@ -62,7 +62,7 @@ fn rows_of_file<'a, T: Texts>(
     floor: &Floor<IndexSeeker>,
     path: &'a str,
 ) -> Result<Vec<TeamRow>, Fault<'a>>
-    ensures ok { IfOk result (λ rows. TellsOf (T.gives texts.now) path.now floor.now (team_views rows.items)) }
+    ensures ok { IfOk result (λ rows. FileTells (T.gives texts.now) path.now floor.now (team_views rows.items)) }
     ensures due { IfOk result (λ rows. AreDue floor.now.frame.limits floor.now.teams (team_views rows.items)) }
     ensures err { IfErr result (IsStateFileFault (T.gives texts.now) path.now floor.now) }
 {

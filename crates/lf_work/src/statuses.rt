@@ -1,7 +1,7 @@
 //! The exit statuses of work that is done.
 
 /// The exit status of a task that was done.
-pub(crate) const DONE: u8 = 0;
+pub const DONE: u8 = 0;
 
 /// The exit status of a check, a description or a repair that was done where the design is not fully legal.
-pub(crate) const ILLEGAL: u8 = 4;
+pub const ILLEGAL: u8 = 4;

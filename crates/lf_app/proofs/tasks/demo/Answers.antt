@@ -2,8 +2,8 @@ use Rattle.lf_def.specs.declared.sample.TheConstants.{W_DEF}
 use Rattle.lf_teams.specs.Designs.{opening}
 use Rattle.lf_lef.specs.declared.sample.TheConstants.{W_LEF}
 use Rattle.lf_designs.specs.Designs.{IsTextDesign, IsTextFault}
-use Rattle.lf_work.specs.Exits.{IsLinesFault}
-use Rattle.lf_work.specs.Lines.{most_lines}
+use Rattle.lf_lines.specs.Exits.{IsLinesFault}
+use Rattle.lf_lines.specs.Lines.{most_lines}
 use Rattle.lf_work.proofs.DesignSteps.{fails}
 use Rattle.lf_work.proofs.WorkSteps.{weaker_ok}
 use Rattle.lf_app.proofs.tasks.demo.Goals as goal

@@ -1,6 +1,6 @@
 use Rattle.std.proofs.Common.{◌∙◌, refl, sym}
-use Rattle.lf_work.specs.Lines.{most_lines}
-use Rattle.lf_work.proofs.Answering.{streams_blame}
+use Rattle.lf_lines.specs.Lines.{most_lines}
+use Rattle.lf_lines.proofs.Answering.{streams_blame}
 use Rattle.lf_work.proofs.WorkSteps.{also_fails, blames_as, writer_blames}
 use Rattle.lf_app.proofs.tasks.outcome_within.Goals as goal
 

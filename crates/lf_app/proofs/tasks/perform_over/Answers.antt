@@ -2,7 +2,7 @@ use Rattle.std.proofs.Common.{ℕ, inl, inr, subst, sym}
 use Rattle.lf_command.specs.Command.{as_job}
 use Rattle.lf_app.specs.Exits.{IsOutcome}
 use Rattle.lf_work.specs.Faults.{IsDone, IsFailure}
-use Rattle.lf_work.specs.Surroundings.{io_of}
+use Rattle.lf_lines.specs.Surroundings.{io_of}
 use Rattle.lf_app.proofs.TaskSteps.{checked, failing, not_both, succeeds}
 use Rattle.lf_work.proofs.WorkSteps.{blames_as}
 use Rattle.lf_app.proofs.tasks.perform_over.Goals as goal

@@ -2,9 +2,9 @@ use Rattle.std.proofs.Common.{◌≢◌, ℕ, get_or, arith}
 use Rattle.std.proofs.lemmas.List.Elements.{All-nil, All-same}
 use Rattle.lf_cells.specs.Cells.{cells_of, working_at}
 use Rattle.lf_cells.proofs.TeamIds.{ids_long}
-use Rattle.lf_mend.specs.Deeds.{home_at}
+use Rattle.lf_plans.specs.Homes.{home_at}
 use Rattle.lf_mend.proofs.Finding.{IsHome, all_changed, changed_at, moved_at}
-use Rattle.lf_mend.proofs.Ids.{id_at, ids_are, no_id, working_read}
+use Rattle.lf_plans.proofs.Ids.{id_at, ids_are, no_id, working_read}
 use Rattle.lf_mend.proofs.Lists.{none_named}
 use Rattle.lf_mend.proofs.found.changed_of.Goals as goal
 

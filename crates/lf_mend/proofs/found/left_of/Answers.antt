@@ -3,7 +3,8 @@ use Rattle.std.proofs.lemmas.List.Elements.{All-nil, All-same}
 use Rattle.lf_cells.specs.Cells.{cells_of}
 use Rattle.lf_mend.specs.Mending.{IsLeftIn}
 use Rattle.lf_mend.proofs.Finding.{MayStand, all_named, left_at, named_at}
-use Rattle.lf_mend.proofs.Ids.{all_looked, id_at, ids_are, looked_within, no_id}
+use Rattle.lf_plans.proofs.Ids.{id_at, ids_are, no_id}
+use Rattle.lf_mend.proofs.Ids.{all_looked, looked_within}
 use Rattle.lf_mend.proofs.Lists.{none_named}
 use Rattle.lf_mend.proofs.found.left_of.Goals as goal
 

@@ -1,6 +1,7 @@
 use Rattle.std.proofs.Common.{get_or}
 use Rattle.lf_cells.specs.Cells.{cells_of}
-use Rattle.lf_mend.proofs.Ids.{all_looked, id_at, ids_are, looked_within, no_id}
+use Rattle.lf_plans.proofs.Ids.{id_at, ids_are, no_id}
+use Rattle.lf_mend.proofs.Ids.{all_looked, looked_within}
 use Rattle.lf_mend.proofs.Marking.{all_marked, marked_at, none_marked}
 use Rattle.lf_mend.proofs.start.legal_of.Goals as goal
 

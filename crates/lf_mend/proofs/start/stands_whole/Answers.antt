@@ -7,7 +7,8 @@ use Rattle.lf_legalize.specs.Members.{member_of}
 use Rattle.lf_teams.specs.States.{TeamState}
 use Rattle.lf_teams.specs.Teams.{team_number}
 use Rattle.lf_mend.proofs.Finding.{all_stand, not_whole, one_more_stands}
-use Rattle.lf_mend.proofs.Ids.{all_looked, id_at, ids_are, looked_within, no_id}
+use Rattle.lf_plans.proofs.Ids.{id_at, ids_are, no_id}
+use Rattle.lf_mend.proofs.Ids.{all_looked, looked_within}
 use Rattle.lf_mend.proofs.start.stands_whole.Goals as goal
 
 false_true : false ≡ true → ⊥

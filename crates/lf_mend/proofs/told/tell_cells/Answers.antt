@@ -2,8 +2,9 @@ use Rattle.std.proofs.Common.{◌≡◌, ◌∙◌, ℕ, length, get_or, refl, s
 use Rattle.std.specs.Prelude.{Some, slice_get, true}
 use Rattle.lf_cells.specs.Cells.{cells_of, working_at}
 use Rattle.lf_cells.proofs.TeamIds.{ids_long}
-use Rattle.lf_mend.specs.Deeds.{IsTallyBy, home_at}
-use Rattle.lf_mend.proofs.Ids.{id_at, ids_are, no_id, working_read}
+use Rattle.lf_plans.specs.Homes.{home_at}
+use Rattle.lf_mend.specs.Deeds.{IsTallyBy}
+use Rattle.lf_plans.proofs.Ids.{id_at, ids_are, no_id, working_read}
 use Rattle.lf_mend.proofs.Telling.{nothing_told, short_more, told_at}
 use Rattle.lf_mend.proofs.told.tell_cells.Goals as goal
 

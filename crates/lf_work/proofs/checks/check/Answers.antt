@@ -4,7 +4,7 @@ use Rattle.lf_floorplan.specs.declared.loaded.Loaded.{Loaded}
 use Rattle.lf_designs.specs.Checks.{IsUnreported}
 use Rattle.lf_work.specs.Exits.{IsReported}
 use Rattle.lf_work.specs.States.{IsFloorFault, IsSeenOf}
-use Rattle.lf_work.specs.Work.{path_of}
+use Rattle.lf_work.specs.Inputs.{path_of}
 use Rattle.lf_work.proofs.DesignSteps.{comes_of, fails}
 use Rattle.lf_work.proofs.WorkSteps.{first_fails, floor_early}
 use Rattle.lf_work.proofs.checks.check.Goals as goal

@@ -1,5 +1,5 @@
 use Rattle.lf_work.specs.Exits.{IsUnshown}
-use Rattle.lf_work.specs.Work.{path_of}
+use Rattle.lf_work.specs.Inputs.{path_of}
 use Rattle.lf_work.proofs.WorkSteps.{file_fails, step_fails, weaker_ok}
 use Rattle.lf_work.proofs.descriptions.describe_file.Goals as goal
 

@@ -2,7 +2,7 @@ use Rattle.std.proofs.Common.{◌≡◌, ◌⊎◌, inl, map, refl}
 use Rattle.std.proofs.lemmas.Result.{err_from_is_err_and}
 use Rattle.lf_designs.specs.Designs.{IsDesignFault, IsLibraryFault, no_library}
 use Rattle.lf_work.specs.Exits.{IsOpenUndescribed}
-use Rattle.lf_work.specs.Work.{path_of}
+use Rattle.lf_work.specs.Inputs.{path_of}
 use Rattle.lf_work.proofs.WorkSteps.{files_fail, first_fails, library_early, step_fails, weaker_ok}
 use Rattle.lf_work.proofs.descriptions.describe_files.Goals as goal
 

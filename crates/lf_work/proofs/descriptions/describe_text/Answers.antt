@@ -8,7 +8,7 @@ use Rattle.lf_designs.specs.declared.faults.TextKind.TheVariants.{Def}
 use Rattle.lf_designs.specs.Designs.{IsDefRefusal, IsLoadRefusal, IsLoadedIn, IsRefused}
 use Rattle.lf_work.specs.Exits.{IsUnshown}
 use Rattle.lf_work.specs.States.{IsUnbegun}
-use Rattle.lf_work.specs.Work.{path_of}
+use Rattle.lf_work.specs.Inputs.{path_of}
 use Rattle.lf_work.proofs.WorkSteps.{first_fails, step_fails, unseen_early, unseen_fails, weaker_ok}
 use Rattle.lf_work.proofs.descriptions.describe_text.Goals as goal
 

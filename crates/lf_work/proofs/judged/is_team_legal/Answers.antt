@@ -9,7 +9,7 @@ use Rattle.lf_reports.proofs.CleanLemmas.{each_named}
 use Rattle.lf_teams.specs.States.{TeamState}
 use Rattle.lf_teams.specs.Teams.{IsTeamOf}
 use Rattle.lf_teams.proofs.Parts.{each}
-use Rattle.lf_work.specs.Repairs.{committed_listed}
+use Rattle.lf_work.specs.Judged.{committed_listed}
 use Rattle.lf_work.proofs.Judging.{committed_known, judged_as}
 use Rattle.lf_work.proofs.judged.is_team_legal.Goals as goal
 

@@ -7,7 +7,7 @@ use Rattle.lf_cells.specs.Cells.{cell_at, cells_of, id_of, ids_of}
 use Rattle.lf_cells.proofs.TeamIds.{ids_long, ids_read}
 use Rattle.lf_reports.specs.Reports.{named}
 use Rattle.lf_teams.proofs.Standing.{there_within}
-use Rattle.lf_work.specs.Repairs.{committed_listed}
+use Rattle.lf_work.specs.Judged.{committed_listed}
 use Rattle.lf_work.proofs.judged.listed_team.Goals as goal
 
 abbrev no_id : CellId

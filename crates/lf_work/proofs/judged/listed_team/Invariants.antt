@@ -1,7 +1,7 @@
 use Rattle.std.proofs.Common.{◌≡◌, map, take}
 use Rattle.lf_cells.specs.Cells.{cells_of}
 use Rattle.lf_reports.specs.Reports.{named}
-use Rattle.lf_work.specs.Repairs.{committed_listed}
+use Rattle.lf_work.specs.Judged.{committed_listed}
 use Rattle.lf_work.proofs.judged.listed_team.Given as goal
 
 -- the cells so far are listed

@@ -2,7 +2,7 @@ use Rattle.std.proofs.Common.{inl, inr, subst, sym, List, Option}
 use Rattle.std.proofs.lemmas.Result.{err_from_is_err_and, on_ok_weaker}
 use Rattle.lf_files.specs.Shelf.{Put}
 use Rattle.lf_work.specs.Exits.{IsExported}
-use Rattle.lf_work.specs.Work.{path_of}
+use Rattle.lf_work.specs.Inputs.{path_of}
 use Rattle.lf_work.proofs.WorkSteps.{fails_and, never_fails, none_unsaved}
 use Rattle.lf_work.proofs.outputs.put_outputs.Goals as goal
 

@@ -1,0 +1,69 @@
+-- Steps of work on lines.
+use Rattle.std.proofs.Common.{◌≡◌, ◌⊎◌, ap, inl, inr, refl, Bool, ℕ, List, None, Option, Some}
+use Rattle.lf_def.specs.Document.{Document}
+use Rattle.lf_files.specs.Shelf.{Put}
+use Rattle.lf_server.specs.Connections.{Accepted}
+use Rattle.lf_floorplan.specs.declared.limits.Limits.{Limits}
+use Rattle.lf_floorplan.specs.declared.loaded.Loaded.{Loaded}
+use Rattle.lf_designs.specs.declared.faults.Fault.{Fault}
+use Rattle.lf_designs.specs.Designs.{Gives, IsOpened}
+use Rattle.lf_teams.specs.States.{FloorState}
+use Rattle.lf_work.specs.Exits.{IsExported}
+use Rattle.lf_work.specs.Faults.{IsExportFault, IsSaveFault}
+use Rattle.lf_work.specs.States.{IsBegun}
+use Rattle.lf_work.proofs.WorkSteps.{design_opened}
+use Rattle.lf_lines.specs.Exits.{IsUndone, Streams, streams}
+use Rattle.lf_lines.specs.Surroundings.{IsSound}
+use Rattle.lf_lines.specs.Work.{IsDone, IsFault, IsUnfinished, IsUnworked}
+use Rattle.lf_lines.specs.declared.surroundings.Surroundings.{Surroundings}
+use Rattle.lf_lines.specs.declared.sources.Lines.{Lines}
+use Rattle.lf_lines.specs.declared.sources.Lines.TheVariants.{Stream, Port}
+
+-- lines are done whatever is put into files beside them
+pub done_beside : (lines : Lines) (begin floor : FloorState) (input left before after : Option (List ℕ))
+    (old_puts new_puts other_old other_new : Option (List Put)) (old_accepted new_accepted : Option Accepted)
+    → IsDone lines begin floor (streams input left before after old_puts new_puts old_accepted new_accepted)
+    → IsDone lines begin floor (streams input left before after other_old other_new old_accepted new_accepted)
+done_beside (Stream limit) begin floor input left before after old_puts new_puts other_old other_new old_accepted new_accepted is = is
+done_beside (Port port connections) begin floor input left before after old_puts new_puts other_old other_new old_accepted new_accepted is = is
+
+-- and so is a fault of them one
+pub fault_beside : (lines : Lines) (begin : FloorState) (fault : Fault) (input left before after : Option (List ℕ))
+    (old_puts new_puts other_old other_new : Option (List Put)) (old_accepted new_accepted : Option Accepted)
+    → IsFault lines begin fault (streams input left before after old_puts new_puts old_accepted new_accepted)
+    → IsFault lines begin fault (streams input left before after other_old other_new old_accepted new_accepted)
+fault_beside (Stream limit) begin fault input left before after old_puts new_puts other_old other_new old_accepted new_accepted is = is
+fault_beside (Port port connections) begin fault input left before after old_puts new_puts other_old other_new old_accepted new_accepted is = is
+
+-- why the work on the design of a text is not done is why the work on that of its files is not
+pub undone : (limits : Limits) (gives : Gives) (def : List ℕ) (lefs : List (List ℕ)) (state save export : Option (List ℕ)) (lines : Lines) (text : List ℕ)
+    (document : Document) (loaded : Loaded) (fault : Fault) (io : Streams) → IsOpened limits gives def lefs text document loaded
+    → IsUnworked gives state save export lines loaded text document fault io
+    → IsUndone limits gives def lefs state save export (IsFault lines) (IsDone lines) fault io
+undone limits gives def lefs state save export lines text document loaded fault io is (inl unbegun) =
+    inl (inl (inr (loaded, design_opened limits gives def lefs text document loaded is, unbegun.0)), unbegun.1)
+undone limits gives def lefs state save export lines text document loaded fault io is (inr (begin, begins, inl stopped)) =
+    inl (inr (begin, (loaded, design_opened limits gives def lefs text document loaded is, begins), stopped.0), stopped.1)
+undone limits gives def lefs state save export lines text document loaded fault io is (inr (begin, begins, inr unsaved)) =
+    inr (unsaved.0, record { text = text; document = document; loaded = loaded; opened = is; begin = begin; begins = begins; finished = unsaved.1 })
+
+-- a fault of what is written once the lines are done leaves the work unfinished
+pub outputs_unfinished : (save export : Option (List ℕ)) (lines : Lines) (begin floor : FloorState) (text : List ℕ) (document : Document) (fault : Fault) (io : Streams)
+    → IsDone lines begin floor io
+    → (IsExportFault export fault × (io.new_puts ≡ io.old_puts)) ⊎ (IsSaveFault save fault × IsExported export text document floor io.old_puts io.new_puts)
+    → IsUnfinished save export lines begin text document fault io
+outputs_unfinished save export lines begin floor text document fault io done (inl unexported) =
+    inl (inr (inr (unexported.0, (floor, done))), unexported.1)
+outputs_unfinished save export lines begin floor text document fault io done (inr unsaved) =
+    inr (unsaved.0, record { floor = floor; work = done; between = io.new_puts; exports = unsaved.1; saves = refl })
+
+-- the cells of a floor with which work begins are those of its design
+pub begun_components : (gives : Gives) (state : Option (List ℕ)) (opened begin : FloorState) → IsBegun gives state opened begin
+    → begin.components ≡ opened.components
+begun_components gives None opened begin is = ap (λ (f : FloorState). f.components) is
+begun_components gives (Some path) opened begin is = ap (λ (f : FloorState). f.components) is.2.2
+
+-- nothing fails where nothing is changed
+pub still_sound : {T E V R W F P : Type 0} (e : E → Bool) (v : V → Bool) (r : R → Bool) (w : W → Bool) (around : Surroundings T E V R W F P)
+    → IsSound e v r w around around
+still_sound e v r w around = record { exports = refl; services = refl; reader = refl; writer = refl }

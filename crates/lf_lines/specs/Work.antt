@@ -1,0 +1,68 @@
+-- Work on a design: lines that are answered, or connections that are served.
+use Rattle.std.specs.Prelude.{◌≡◌, ◌⊎◌, ℕ, Bool, List, None, OnErr, OnOk, Option, Result, true}
+use Rattle.lf_def.specs.Document.{Document}
+use Rattle.lf_files.specs.Shelf.{Put}
+use Rattle.lf_floorplan.specs.declared.loaded.Loaded.{Loaded}
+use Rattle.lf_server.specs.declared.accepting.Offer.{Offer}
+use Rattle.lf_teams.specs.States.{FloorState}
+use Rattle.lf_teams.specs.Designs.{opening}
+use Rattle.lf_designs.specs.declared.faults.Fault.{Fault}
+use Rattle.lf_designs.specs.Designs.{Gives}
+use Rattle.lf_designs.specs.Faults.{Blames}
+use Rattle.lf_work.specs.Faults.{IsSaveFault}
+use Rattle.lf_work.specs.States.{IsBegun, IsUnbegun}
+use Rattle.lf_lines.specs.declared.surroundings.Surroundings.{Surroundings}
+use Rattle.lf_lines.specs.declared.sources.Lines.{Lines}
+use Rattle.lf_lines.specs.declared.sources.Lines.TheVariants.{Stream, Port}
+use Rattle.lf_lines.specs.Exits.{IsAnswered, IsBrokenOff, IsFinished, IsOffered, IsServiceFault, IsWorkFault, Streams}
+use Rattle.lf_lines.specs.Lines.{ReadsFail}
+use Rattle.lf_lines.specs.Services.{OffersLocal}
+use Rattle.lf_lines.specs.Surroundings.{IsSound}
+
+-- the lines were answered to their end, on the floor that they began with
+abbrev pub IsDone : Lines → FloorState → FloorState → Streams → Type 0
+IsDone (Stream limit) begin floor io = IsAnswered limit begin floor io.input io.left io.before io.after
+IsDone (Port port connections) begin floor io = IsOffered begin floor connections io.before io.after io.old_accepted io.new_accepted
+
+-- why they were not
+abbrev pub IsFault : Lines → FloorState → Fault → Streams → Type 0
+IsFault (Stream limit) begin fault io = IsBrokenOff limit begin fault io.input io.left io.before io.after
+IsFault (Port port connections) begin fault io = IsServiceFault port connections begin fault io.before io.after io.old_accepted io.new_accepted
+
+-- why the work on a floor is not finished: it is stopped, and no text is put; or all is done but that the state is not saved
+abbrev pub IsUnfinished : Option (List ℕ) → Option (List ℕ) → Lines → FloorState → List ℕ → Document → Fault → Streams → Type 0
+IsUnfinished save export lines begin text document fault io =
+    (IsWorkFault save export (IsFault lines begin) (IsDone lines begin) fault io × (io.new_puts ≡ io.old_puts))
+    ⊎ (IsSaveFault save fault × IsFinished (IsDone lines begin) None export text document io)
+
+-- why the work on the design of a text is not finished: there is no floor with which it begins, and no text is put; or there is
+abbrev pub IsUnworked : Gives → Option (List ℕ) → Option (List ℕ) → Option (List ℕ) → Lines → Loaded → List ℕ → Document → Fault → Streams → Type 0
+IsUnworked gives state save export lines loaded text document fault io =
+    (IsUnbegun gives state loaded fault × (io.new_puts ≡ io.old_puts))
+    ⊎ ((begin : FloorState) × IsBegun gives state (opening loaded) begin × IsUnfinished save export lines begin text document fault io)
+
+-- the reader has failed, or was read as often as is allowed; no other lines read from it
+abbrev pub IsReaderSpent : Lines → Bool → ℕ → ℕ → Type 0
+IsReaderSpent (Stream limit) failed old new = ReadsFail limit failed old new
+IsReaderSpent (Port port connections) failed old new = ⊥
+
+-- who is to blame for a fault of the lines
+abbrev pub BlamesIn : {T E V R W F P : Type 0} → (E → Bool) → (V → Bool) → (R → Bool) → (R → ℕ) → (W → Bool) → Lines
+    → Surroundings T E V R W F P → Surroundings T E V R W F P → Fault → Type 0
+BlamesIn export_failed service_failed read_failed reads write_failed lines old new fault =
+    Blames fault (new.writer ≡ old.writer) (IsReaderSpent lines (read_failed new.reader) (reads old.reader) (reads new.reader)) (write_failed new.writer ≡ true)
+    (export_failed new.exports ≡ true) (service_failed new.services ≡ true) (IsSound export_failed service_failed read_failed write_failed old new)
+
+-- what was offered for the lines: a service, and nothing for those of the reader
+abbrev pub IsOfferFor : Lines → Option (List Offer) → Option (List Offer) → Type 0
+IsOfferFor (Stream limit) old new = new ≡ old
+IsOfferFor (Port port connections) old new = OffersLocal port connections old new
+
+-- what the work on a design leaves beside its lines: texts are put and services offered only as was asked for, and after a fault
+-- no text is put where no state was asked for
+pub record Leaves {T E V R W F P : Type 0} (puts : E → Option (List Put)) (offers : V → Option (List Offer)) (lines : Lines) (save export : Option (List ℕ))
+    (result : Result ℕ Fault) (old new : Surroundings T E V R W F P) : Type 0 where
+  pub unput : save ≡ None → OnErr result (puts new.exports ≡ puts old.exports)
+  pub unasked : save ≡ None → export ≡ None → new.exports ≡ old.exports
+  pub offered : OnOk result (IsOfferFor lines (offers old.services) (offers new.services))
+  pub unoffered : (offers new.services ≡ offers old.services) ⊎ IsOfferFor lines (offers old.services) (offers new.services)

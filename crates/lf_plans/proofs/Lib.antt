@@ -1,0 +1,3 @@
+mod Homes
+pub mod Ids
+pub mod Lists

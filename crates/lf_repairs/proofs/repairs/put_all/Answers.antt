@@ -1,0 +1,26 @@
+use Rattle.std.proofs.Common.{inl, inr, refl}
+use Rattle.std.proofs.lemmas.Result.{err_from_is_err_and}
+use Rattle.lf_repairs.proofs.Repairing.{output_blames, unput_as}
+use Rattle.lf_work.proofs.WorkSteps.{export_blames}
+use Rattle.lf_repairs.proofs.repairs.put_all.Goals as goal
+
+pub returns-clause-ok : goal.returns-clause-ok
+returns-clause-ok g c = λ document kept.
+    let put = c.in_ok-put_files.ensures.ok document kept in
+    record { told = c.in_ok-put_report.ensures.ok; between = put.0; exports = put.1; lists = put.2 }
+
+pub returns-in_err-put_report-clause-err : goal.returns-in_err-put_report-clause-err
+returns-in_err-put_report-clause-err g c =
+    let p = err_from_is_err_and c.from_residual.result c.from_residual.ensures.1 in
+    rw (p.1, p.2) (
+      record { why = inr (inr c.in_err-put_report.ensures.err); front = c.in_err-put_report.ensures.front; unput = inl refl },
+      output_blames _ _ _ _ _ _ _ c.in_err-put_report.ensures.err c.in_err-put_report.ensures.failed,
+    )
+
+pub returns-in_err-put_files-clause-err : goal.returns-in_err-put_files-clause-err
+returns-in_err-put_files-clause-err g c =
+    let p = err_from_is_err_and c.from_residual-in_err-put_files.result c.from_residual-in_err-put_files.ensures.1 in
+    rw (p.1, p.2) (
+      unput_as _ _ _ _ _ _ _ (_, c.in_ok-put_report.ensures.ok) c.in_err-put_files.ensures.err,
+      export_blames _ _ _ _ _ _ _ _ _ c.in_err-put_files.ensures.fails (λ fails. fails) (λ same. (c.in_ok-put_report.ensures.healthy, same)),
+    )

@@ -1,0 +1,41 @@
+use Rattle.std.proofs.Common.{◌≡◌, ◌∙◌, ◌+◌, ap, inl, inr, refl, subst, sym, List, length}
+use Rattle.std.proofs.lemmas.Result.{IfErr-weaker, IfOk-weaker, err_from_is_err_and}
+use Rattle.lf_teams.specs.States.{FloorState}
+use Rattle.lf_teams.proofs.Openings.{opening_whole}
+use Rattle.lf_write.specs.Export.{CanBeRenewed, ClauseFacts}
+use Rattle.lf_repairs.proofs.Repairing.{memory_early}
+use Rattle.lf_work.proofs.WorkSteps.{early_blames}
+use Rattle.lf_repairs.proofs.repairs.repair_opened.Goals as goal
+
+pub repair_on_floor-requires : goal.repair_on_floor-requires
+repair_on_floor-requires g c =
+    let document = c.requires.loads.2 in
+    let kept = c.requires.loads.3 in
+    let is = c.in_ok-floor.ensures in
+    record {
+      teams = subst (λ (f : FloorState). length f.teams ≡ length f.frame.teams + 1) (sym is) (opening_whole c.args.opened.loaded).0;
+      fits = λ s places same are.
+          subst (λ (clauses : List ClauseFacts). CanBeRenewed c.args.opened.original.text.items clauses places) (sym kept.clauses_are)
+          (c.clauses_serve.ensures.ready c.args.opened.original.text.items document places kept.read
+          (c.loaded_cells_can_be_given.ensures _ c.args.opened.loaded places kept.loads
+          (c.places_follow_design.ensures c.args.opened.loaded s places (same ∙ ap (λ (f : FloorState). f.components) is) are)));
+    }
+
+pub returns-clause-ok : goal.returns-clause-ok
+returns-clause-ok g c = λ document kept.
+    IfOk-weaker c.repair_on_floor.result _ _
+    (λ status is. (c.in_ok-least.least.items, record { many = c.in_ok-least.ensures.many; each = c.in_ok-least.ensures.each }, is))
+    (rw c.in_ok-floor.ensures at (c.repair_on_floor.ensures.ok document kept))
+
+pub returns-clause-err : goal.returns-clause-err
+returns-clause-err g c = IfErr-weaker c.repair_on_floor.result _ _ (λ fault both. (inr (rw c.in_ok-floor.ensures at both.0), both.1)) c.repair_on_floor.ensures.err
+
+pub returns-in_err-floor-clause-err : goal.returns-in_err-floor-clause-err
+returns-in_err-floor-clause-err g c =
+    let p = err_from_is_err_and c.from_residual-in_err-floor.result c.from_residual-in_err-floor.ensures.1 in
+    rw (p.1, p.2) (inl (refl, refl), early_blames _ _ _ _ _ _ _ refl (refl, refl) (memory_early _ refl))
+
+pub returns-in_err-least-clause-err : goal.returns-in_err-least-clause-err
+returns-in_err-least-clause-err g c =
+    let p = err_from_is_err_and c.from_residual.result c.from_residual.ensures.1 in
+    rw (p.1, p.2) (inl (refl, refl), early_blames _ _ _ _ _ _ _ refl (refl, refl) (memory_early _ refl))

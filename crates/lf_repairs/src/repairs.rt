@@ -1,0 +1,451 @@
+//! The repair of the teams of a design: the floor's own commands give their cells legal places.
+
+ghost use Rattle.std.specs.Prelude.{◌≡◌, ◌≢◌, ◌⊎◌, ◌+◌, ℕ, All, List, None, Option, Some, IfErr, IfOk, IsTrue, OnErr, OnOk};
+ghost use Rattle.std.specs.Prelude.{bytes_eq, false, length, map, position, true};
+ghost use Rattle.std.specs.Io.KnownBytes.{Appends};
+ghost use Rattle.lf_command.specs.declared.command.LegalCells.TheVariants.{Stay};
+ghost use Rattle.lf_def.specs.Document.{Document};
+ghost use Rattle.lf_files.specs.Shelf.{Put};
+ghost use Rattle.lf_floorplan.specs.declared.limits.Limits.{Limits as TheLimits};
+ghost use Rattle.lf_floorplan.specs.declared.place.Place.{Place};
+ghost use Rattle.lf_lef.specs.Contents.{Contents};
+ghost use Rattle.lf_rules.specs.Legalizer.{Legalizer};
+ghost use Rattle.lf_teams.specs.Designs.{opening};
+ghost use Rattle.lf_teams.specs.Places.{AreCommittedPlaces};
+ghost use Rattle.lf_teams.specs.States.{FloorState};
+ghost use Rattle.lf_teams.specs.Teams.{state_of, team_number};
+ghost use Rattle.lf_write.specs.Export.{CanBeRenewed, clause_of};
+ghost use Rattle.lf_plans.specs.declared.start.How.TheVariants.{Keep};
+ghost use Rattle.lf_mend.specs.Mending.{AreLegalBut, ChangesOnly, IsLeftIn, LegalStay};
+ghost use Rattle.lf_plans.specs.declared.repaired.Repaired.{Repaired};
+ghost use Rattle.lf_told.specs.Told.{IsOneMore};
+ghost use Rattle.lf_designs.specs.declared.faults.Fault.TheVariants.{NoMemory, Output};
+ghost use Rattle.lf_designs.specs.Designs.{IsKept};
+ghost use Rattle.lf_work.specs.Exits.{IsExported};
+ghost use Rattle.lf_work.specs.Faults.{ExportFails, IsDone, IsExportFault};
+ghost use Rattle.lf_work.specs.Inputs.{path_of};
+ghost use Rattle.lf_repairs.specs.Exits.{IsNotPut, IsNotRepaired, IsOpenRepaired, IsPut, IsRepaired, IsUnrepaired};
+ghost use Rattle.lf_repairs.specs.Repairs.{AllLegalStay, AreKnown, BlamesOutputs, IsJudged, IsKeptRun, IsLinesFileFault, IsListed, IsUnknown, OnlyAsked};
+ghost use Rattle.lf_repairs.specs.Repairs.{begun_lines, is_asked, kept_text};
+ghost use Rattle.lf_repairs.specs.Telling.{AreBounds, AreToldMore, IsReport, IsToldLast, asked_at, asked_names};
+
+use crate::kept_lines::{KeptLines, lines_to, try_lines};
+use crate::progress::{Progress, WatchedLines};
+use lf_alone::least_largest;
+use lf_command::LegalCells;
+use lf_designs::{Fault, Opened, Original, Texts, open_files};
+use lf_devices::{Sink, send};
+use lf_files::Exports;
+use lf_floor::{Floor, team_name};
+use lf_floorplan::{Frame, Limits};
+use lf_legalize::IndexSeeker;
+use lf_mend::{How, repair_team};
+use lf_reread::loaded_cells_can_be_given;
+use lf_rules::legalizer_is_there;
+use lf_teams::places_follow_design;
+use lf_told::RepairReport;
+use lf_work::{DONE, ILLEGAL, export_to, floor_of, is_committed_legal, try_export};
+use lf_write::clauses_serve;
+use std::alloc::Global;
+
+/// A repair that is asked for: of a design of files, and what is written of it.
+#[derive(Clone, Copy)]
+pub struct RepairAsked<'a> {
+    /// The path of the DEF file.
+    pub def: &'a str,
+    /// The paths of the LEF files, in the order in which they are read.
+    pub lefs: &'a [&'a str],
+    /// The names of the teams; all teams are repaired if there is none.
+    pub teams: &'a [&'a str],
+    /// Whether cells that stand legally may be moved.
+    pub legal: LegalCells,
+    /// The path of the exported text, if it is asked for.
+    pub export: Option<&'a str>,
+    /// The path of the lines, if they are asked for.
+    pub lines: Option<&'a str>,
+    pub limits: Limits,
+}
+
+/// Which of a team's cells may be moved.
+fn how_of(legal: LegalCells) -> How
+    ensures { legal ≡ Stay → result ≡ Keep }
+{
+    match legal {
+        LegalCells::Stay => How::Keep,
+        LegalCells::MoveAsNeeded => How::AsNeeded,
+        LegalCells::Move => How::All,
+    }
+}
+
+/// Where the name stands first among these; none if it is none of them.
+fn position_of(teams: &[&str], name: &[u8]) -> Option<usize>
+    ensures { result ≡ position (λ team. bytes_eq team.now name.now) teams.now }
+{
+    teams.iter().position(|team| team.as_bytes() == name)
+}
+
+/// Whether the team of that name is to be repaired: it is one of these, or none is named.
+fn is_asked(teams: &[&str], name: &[u8]) -> bool
+    ensures { result ≡ is_asked (map (λ team. team.now) teams.now) name.now }
+{
+    if teams.len() == 0 {
+        return true;
+    }
+    position_of(teams, name).is_some()
+}
+
+/// Whether the name is that of a team.
+fn is_known(floor: &Floor<IndexSeeker>, name: &[u8]) -> bool
+    ensures known { IsTrue result → team_number floor.now.frame name.now ≢ None }
+    ensures unknown { result ≡ false → team_number floor.now.frame name.now ≡ None }
+{
+    match floor.number_of(name) {
+        Some(_) => true,
+        None => false,
+    }
+}
+
+/// Makes sure that each of the names is that of a team.
+fn all_known<'a>(floor: &Floor<IndexSeeker>, teams: &'a [&'a str]) -> Result<(), Fault<'a>>
+    ensures ok { OnOk result (AreKnown floor.now.frame (map (λ team. team.now) teams.now)) }
+    ensures err { IfErr result (IsUnknown floor.now.frame (map (λ team. team.now) teams.now)) }
+{
+    for team in teams {
+        if !is_known(floor, team.as_bytes()) {
+            return Err(Fault::NoTeam(team));
+        }
+    }
+    Ok(())
+}
+
+/// Repairs the team of that name, and tells of it.
+fn repair_named<'f, P: Progress>(
+    alloc: Global,
+    floor: &mut Floor<IndexSeeker>,
+    name: &[u8],
+    how: How,
+    lines: &mut WatchedLines<'_, P>,
+    report: &mut RepairReport,
+) -> Result<(), Fault<'f>>
+    ensures run { (l : Legalizer) → OnOk result (IsKeptRun l floor.old (kept_text lines.old.lines) (kept_text lines.new.lines) floor.new) }
+    ensures only { ChangesOnly name.now floor.old floor.new }
+    ensures kept { how ≡ Keep → LegalStay name.now floor.old floor.new }
+    ensures told { OnOk result ((repaired : Repaired) × IsOneMore floor.new name.now repaired report.old report.new
+        × AreLegalBut name.now floor.new repaired.left.items × All (IsLeftIn floor.new name.now) repaired.left.items) }
+    ensures err { IfErr result (λ fault. fault ≡ NoMemory) }
+{
+    match repair_team(alloc, floor, name, how, lines) {
+        Ok(repaired) => {
+            report.add(alloc, floor, name, &repaired)?;
+            Ok(())
+        }
+        Err(_) => Err(Fault::NoMemory),
+    }
+}
+
+/// Tells that the repair of the team of that name and number begins.
+fn tell_begin<P: Progress>(progress: &mut P, frame: &Frame, name: &[u8], number: usize) {
+    progress.begin(name, number.saturating_add(1), frame.teams.len() + 1);
+}
+
+/// Repairs the team of that number, if it is asked for.
+#[tactic(auto, using(crate::proofs::Repairing::nothing_asked, crate::proofs::Repairing::none_changes))]
+fn repair_numbered<'a, P: Progress>(
+    alloc: Global,
+    floor: &mut Floor<IndexSeeker>,
+    number: usize,
+    asked: &RepairAsked<'a>,
+    lines: &mut WatchedLines<'_, P>,
+    report: &mut RepairReport,
+) -> Result<(), Fault<'a>>
+    ensures run { (l : Legalizer) → OnOk result (IsKeptRun l floor.old (kept_text lines.old.lines) (kept_text lines.new.lines) floor.new) }
+    ensures only { OnOk result (OnlyAsked (map (λ team. team.now) asked.now.teams.now) floor.old floor.new) }
+    ensures told { OnOk result (AreToldMore (asked_at floor.old.frame (map (λ team. team.now) asked.now.teams.now) number) floor.new report.old report.new) }
+    ensures err { IfErr result (λ fault. fault ≡ NoMemory) }
+    ensures kept { asked.now.legal ≡ Stay → (team : List ℕ) → team_number floor.old.frame team ≡ Some number → LegalStay team floor.old floor.new }
+    ensures others { (team : List ℕ) → team_number floor.old.frame team ≢ Some number → state_of floor.new team ≡ state_of floor.old team }
+{
+    let Some(name) = team_name(floor.placement().frame(), number) else {
+        return Ok(());
+    };
+    let copy = Vec::from_slice(alloc, name)?;
+    let name = copy.as_slice();
+    if !is_asked(asked.teams, name) {
+        return Ok(());
+    }
+    tell_begin(lines.progress, floor.placement().frame(), name, number);
+    repair_named(alloc, floor, name, how_of(asked.legal), lines, report)
+}
+
+/// Repairs the teams that are asked for, in their order.
+fn repair_teams<'a, P: Progress>(
+    alloc: Global,
+    floor: &mut Floor<IndexSeeker>,
+    asked: &RepairAsked<'a>,
+    lines: &mut WatchedLines<'_, P>,
+    report: &mut RepairReport,
+) -> Result<(), Fault<'a>>
+    ensures run { (l : Legalizer) → OnOk result (IsKeptRun l floor.old (kept_text lines.old.lines) (kept_text lines.new.lines) floor.new) }
+    ensures only { OnOk result (OnlyAsked (map (λ team. team.now) asked.now.teams.now) floor.old floor.new) }
+    ensures kept { asked.now.legal ≡ Stay → OnOk result (AllLegalStay floor.old floor.new) }
+    ensures told { OnOk result (AreToldMore (asked_names floor.old.frame (map (λ team. team.now) asked.now.teams.now)) floor.new report.old report.new) }
+    ensures err { IfErr result (λ fault. fault ≡ NoMemory) }
+{
+    let teams = floor.placement().frame().teams.len() + 1;
+    for number in 0..teams {
+        repair_numbered(alloc, floor, number, asked, lines, report)?;
+    }
+    Ok(())
+}
+
+/// The exit status, by whether the committed design is fully legal.
+fn status_by(legal: bool) -> u8
+    ensures done { IsDone result }
+    ensures legal { result ≡ 0 → IsTrue legal }
+    ensures illegal { result ≡ 4 → ¬ IsTrue legal }
+{
+    if legal { DONE } else { ILLEGAL }
+}
+
+/// Tells of all teams, and returns the exit status.
+fn judge<'f>(
+    alloc: Global,
+    floor: &Floor<IndexSeeker>,
+    report: &mut RepairReport,
+) -> Result<u8, Fault<'f>>
+    requires { length floor.now.teams ≡ length floor.now.frame.teams + 1 }
+    ensures ok { IfOk result (IsJudged floor.now) }
+    ensures told { OnOk result (IsToldLast floor.now report.old report.new) }
+    ensures err { IfErr result (λ fault. fault ≡ NoMemory) }
+{
+    let legal = is_committed_legal(alloc, floor)?;
+    report.close(alloc, legal)?;
+    Ok(status_by(legal))
+}
+
+/// A repair that is done on a floor, and not written yet.
+#[derive(Drop)]
+struct RepairDone {
+    lines: KeptLines,
+    report: RepairReport,
+    /// The exit status.
+    status: u8,
+}
+
+/// Repairs the teams that are asked for, and tells of them; for each team the largest of the least ways of its cells is this.
+fn repaired<'a, P: Progress>(
+    alloc: Global,
+    floor: &mut Floor<IndexSeeker>,
+    asked: &RepairAsked<'a>,
+    least: &[u64],
+    progress: &mut P,
+) -> Result<RepairDone, Fault<'a>>
+    requires { length floor.old.teams ≡ length floor.old.frame.teams + 1 }
+    ensures run { (l : Legalizer) → IfOk result (λ done. IsKeptRun l floor.old (begun_lines (path_of asked.now.lines)) (kept_text done.lines) floor.new) }
+    ensures only { OnOk result (OnlyAsked (map (λ team. team.now) asked.now.teams.now) floor.old floor.new) }
+    ensures kept { asked.now.legal ≡ Stay → OnOk result (AllLegalStay floor.old floor.new) }
+    ensures judged { IfOk result (λ done. IsJudged floor.new done.status) }
+    ensures told { IfOk result (λ done. IsReport (map (λ team. team.now) asked.now.teams.now) least.now floor.new done.report.text.items) }
+    ensures err { IfErr result (λ fault. fault ≡ NoMemory) }
+{
+    legalizer_is_there();
+    let lines = KeptLines::new(alloc, asked.lines);
+    let mut lines = WatchedLines { lines, progress };
+    let mut report = RepairReport::new(alloc, least)?;
+    repair_teams(alloc, floor, asked, &mut lines, &mut report)?;
+    let status = judge(alloc, floor, &mut report)?;
+    let WatchedLines { lines, .. } = lines;
+    Ok(RepairDone {
+        lines,
+        report,
+        status,
+    })
+}
+
+/// Writes the report.
+fn put_report<'f, W: Sink>(writer: &mut W, report: &RepairReport) -> Result<(), Fault<'f>>
+    ensures ok { OnOk result (Appends (W.contents writer.old) (W.contents writer.new) report.now.text.items) }
+    ensures healthy { OnOk result (W.has_failed writer.new ≡ W.has_failed writer.old) }
+    ensures front { OnErr result ((bytes : List ℕ) × Appends (W.contents writer.old) (W.contents writer.new) bytes) }
+    ensures err { IfErr result (λ fault. fault ≡ Output) }
+    ensures failed { OnErr result (W.has_failed writer.new ≡ true) }
+    ensures held { W.holds writer.new ≡ W.holds writer.old }
+{
+    match send(writer, report.text.as_slice()) {
+        Ok(()) => Ok(()),
+        Err(_) => Err(Fault::Output),
+    }
+}
+
+/// Makes sure, as far as that shows beforehand, that what is asked for can be written.
+fn try_files<'a, E: Exports>(asked: &RepairAsked<'a>, exports: &mut E) -> Result<(), Fault<'a>>
+    ensures err { IfErr result (λ fault. IsExportFault (path_of asked.now.export) fault ⊎ IsLinesFileFault (path_of asked.now.lines) fault) }
+    ensures fails { IfErr result (λ fault. ExportFails fault (E.has_failed exports.old) (E.has_failed exports.new)) }
+    ensures sound { OnOk result (E.has_failed exports.new ≡ E.has_failed exports.old) }
+    ensures unput { E.puts exports.new ≡ E.puts exports.old }
+    ensures unasked { path_of asked.now.lines ≡ None → path_of asked.now.export ≡ None → exports.new ≡ exports.old }
+{
+    try_export(asked.export, exports)?;
+    try_lines(asked.lines, exports)
+}
+
+/// Writes what is asked for: the exported text and then the lines.
+fn put_files<'a, E: Exports>(
+    floor: &Floor<IndexSeeker>,
+    original: &Original,
+    lines: &KeptLines,
+    asked: &RepairAsked<'a>,
+    exports: &mut E,
+) -> Result<(), Fault<'a>>
+    requires fits { (places : List (ℕ × Option Place)) → AreCommittedPlaces floor.now places
+        → CanBeRenewed original.now.text.items original.now.clauses places }
+    ensures ok { (document : Document) → original.now.clauses ≡ map (clause_of original.now.text.items) document.components
+        → OnOk result ((between : Option (List Put))
+        × IsExported (path_of asked.now.export) original.now.text.items document floor.now (E.puts exports.old) between
+        × IsListed (path_of asked.now.lines) (kept_text lines.now) between (E.puts exports.new)) }
+    ensures err { IfErr result (λ fault. (IsExportFault (path_of asked.now.export) fault × (E.puts exports.new ≡ E.puts exports.old))
+        ⊎ IsLinesFileFault (path_of asked.now.lines) fault) }
+    ensures fails { IfErr result (λ fault. ExportFails fault (E.has_failed exports.old) (E.has_failed exports.new)) }
+    ensures sound { OnOk result (E.has_failed exports.new ≡ E.has_failed exports.old) }
+    ensures unput { path_of asked.now.lines ≡ None → OnErr result (E.puts exports.new ≡ E.puts exports.old) }
+    ensures unasked { path_of asked.now.lines ≡ None → path_of asked.now.export ≡ None → exports.new ≡ exports.old }
+{
+    export_to(floor, original, asked.export, exports)?;
+    lines_to(lines, asked.lines, exports)
+}
+
+/// Writes the report, and what is asked for.
+fn put_all<'a, E: Exports, W: Sink>(
+    floor: &Floor<IndexSeeker>,
+    original: &Original,
+    done: &RepairDone,
+    asked: &RepairAsked<'a>,
+    exports: &mut E,
+    writer: &mut W,
+) -> Result<u8, Fault<'a>>
+    requires fits { (places : List (ℕ × Option Place)) → AreCommittedPlaces floor.now places
+        → CanBeRenewed original.now.text.items original.now.clauses places }
+    ensures status { IfOk result (λ status. status ≡ done.now.status) }
+    ensures ok { (document : Document) → original.now.clauses ≡ map (clause_of original.now.text.items) document.components
+        → OnOk result (IsPut (path_of asked.now.export) (path_of asked.now.lines) original.now.text.items document floor.now (kept_text done.now.lines)
+        done.now.report.text.items (W.contents writer.old) (W.contents writer.new) (E.puts exports.old) (E.puts exports.new)) }
+    ensures err { IfErr result (λ fault. IsNotPut (path_of asked.now.export) (path_of asked.now.lines)
+        (W.contents writer.old) (W.contents writer.new) (E.puts exports.old) (E.puts exports.new) fault
+        × BlamesOutputs fault (writer.new ≡ writer.old) (W.has_failed writer.old) (W.has_failed writer.new)
+        (E.has_failed exports.old) (E.has_failed exports.new)) }
+    ensures unput { path_of asked.now.lines ≡ None → OnErr result (E.puts exports.new ≡ E.puts exports.old) }
+    ensures unasked { path_of asked.now.lines ≡ None → path_of asked.now.export ≡ None → exports.new ≡ exports.old }
+    ensures held { W.holds writer.new ≡ W.holds writer.old }
+{
+    put_report(writer, &done.report)?;
+    put_files(floor, original, &done.lines, asked, exports)?;
+    Ok(done.status)
+}
+
+/// What there is beside the floor of a design, before any team is repaired.
+#[derive(Drop)]
+struct Before<'p, P> {
+    original: Original,
+    /// For each team the largest of the least ways of its cells.
+    least: Vec<u64>,
+    /// Who is told how far the repair is.
+    progress: &'p mut P,
+}
+
+/// Repairs the teams of a floor of the text's design, and writes what is asked for. Where that cannot be, as far as it shows
+/// beforehand, nothing is asked of the floor.
+fn repair_on_floor<'a, E: Exports, W: Sink, P: Progress>(
+    alloc: Global,
+    floor: &mut Floor<IndexSeeker>,
+    before: &mut Before<'_, P>,
+    asked: &RepairAsked<'a>,
+    exports: &mut E,
+    writer: &mut W,
+) -> Result<u8, Fault<'a>>
+    requires teams { length floor.old.teams ≡ length floor.old.frame.teams + 1 }
+    requires fits { (s : FloorState) (places : List (ℕ × Option Place)) → s.components ≡ floor.old.components → AreCommittedPlaces s places
+        → CanBeRenewed before.old.original.text.items before.old.original.clauses places }
+    ensures ok { (document : Document) → before.old.original.clauses ≡ map (clause_of before.old.original.text.items) document.components
+        → IfOk result (IsRepaired (map (λ team. team.now) asked.now.teams.now) asked.now.legal (path_of asked.now.export) (path_of asked.now.lines)
+        before.old.original.text.items document before.old.least.items floor.old
+        (W.contents writer.old) (W.contents writer.new) (E.puts exports.old) (E.puts exports.new)) }
+    ensures err { IfErr result (λ fault. IsUnrepaired (map (λ team. team.now) asked.now.teams.now) (path_of asked.now.export) (path_of asked.now.lines)
+        floor.old (W.contents writer.old) (W.contents writer.new) (E.puts exports.old) (E.puts exports.new) fault
+        × BlamesOutputs fault (writer.new ≡ writer.old) (W.has_failed writer.old) (W.has_failed writer.new)
+        (E.has_failed exports.old) (E.has_failed exports.new)) }
+    ensures unput { path_of asked.now.lines ≡ None → OnErr result (E.puts exports.new ≡ E.puts exports.old) }
+    ensures unasked { path_of asked.now.lines ≡ None → path_of asked.now.export ≡ None → exports.new ≡ exports.old }
+    ensures held { W.holds writer.new ≡ W.holds writer.old }
+{
+    all_known(floor, asked.teams)?;
+    try_files(asked, exports)?;
+    let done = repaired(alloc, floor, asked, &before.least, before.progress)?;
+    put_all(floor, &before.original, &done, asked, exports, writer)
+}
+
+/// Repairs the teams of the design of a text that was opened.
+fn repair_opened<'a, E: Exports, W: Sink, P: Progress>(
+    alloc: Global,
+    opened: Opened,
+    asked: &RepairAsked<'a>,
+    exports: &mut E,
+    writer: &mut W,
+    progress: &mut P,
+) -> Result<u8, Fault<'a>>
+    requires loads { (limits : TheLimits) × (library : Contents) × (document : Document)
+        × IsKept limits opened.original.text.items library document opened.original.clauses opened.loaded }
+    ensures ok { (document : Document) → opened.original.clauses ≡ map (clause_of opened.original.text.items) document.components
+        → IfOk result (λ status. (bounds : List ℕ) × AreBounds opened.loaded bounds
+        × IsRepaired (map (λ team. team.now) asked.now.teams.now) asked.now.legal (path_of asked.now.export) (path_of asked.now.lines)
+        opened.original.text.items document bounds (opening opened.loaded)
+        (W.contents writer.old) (W.contents writer.new) (E.puts exports.old) (E.puts exports.new) status) }
+    ensures err { IfErr result (λ fault. (((fault ≡ NoMemory) × (E.puts exports.new ≡ E.puts exports.old))
+        ⊎ IsUnrepaired (map (λ team. team.now) asked.now.teams.now) (path_of asked.now.export) (path_of asked.now.lines)
+        (opening opened.loaded) (W.contents writer.old) (W.contents writer.new) (E.puts exports.old) (E.puts exports.new) fault)
+        × BlamesOutputs fault (writer.new ≡ writer.old) (W.has_failed writer.old) (W.has_failed writer.new)
+        (E.has_failed exports.old) (E.has_failed exports.new)) }
+    ensures unput { path_of asked.now.lines ≡ None → OnErr result (E.puts exports.new ≡ E.puts exports.old) }
+    ensures unasked { path_of asked.now.lines ≡ None → path_of asked.now.export ≡ None → exports.new ≡ exports.old }
+    ensures held { W.holds writer.new ≡ W.holds writer.old }
+{
+    clauses_serve();
+    loaded_cells_can_be_given();
+    places_follow_design();
+    let Opened { loaded, original } = opened;
+    let least = least_largest(alloc, &loaded)?;
+    let mut floor = floor_of(alloc, loaded)?;
+    let mut before = Before {
+        original,
+        least,
+        progress,
+    };
+    repair_on_floor(alloc, &mut floor, &mut before, asked, exports, writer)
+}
+
+/// Repairs the teams of the design of a DEF file over LEF files by the floor's own commands, writes what became of each as JSON Lines and
+/// then the files that are asked for, and returns the exit status: 0, or 4 if the committed design is not fully legal. `Err` is the first
+/// fault of: the files, LEF before DEF; the design; a name that is no team's; the paths of the files that are asked for; memory; the
+/// writer; those files, the exported text before the lines. No file is written if another than the lines' is at fault.
+pub fn repair<'a, T: Texts, E: Exports, W: Sink, P: Progress>(
+    alloc: Global,
+    texts: &T,
+    exports: &mut E,
+    writer: &mut W,
+    progress: &mut P,
+    asked: &RepairAsked<'a>,
+) -> Result<u8, Fault<'a>>
+    ensures ok { IfOk result (IsOpenRepaired asked.now.limits (T.gives texts.now) asked.now.def.now (map (λ lef. lef.now) asked.now.lefs.now)
+        (map (λ team. team.now) asked.now.teams.now) asked.now.legal (path_of asked.now.export) (path_of asked.now.lines)
+        (W.contents writer.old) (W.contents writer.new) (E.puts exports.old) (E.puts exports.new)) }
+    ensures err { IfErr result (λ fault. IsNotRepaired asked.now.limits (T.gives texts.now) asked.now.def.now (map (λ lef. lef.now) asked.now.lefs.now)
+        (map (λ team. team.now) asked.now.teams.now) (path_of asked.now.export) (path_of asked.now.lines)
+        (W.contents writer.old) (W.contents writer.new) (E.puts exports.old) (E.puts exports.new) fault
+        × BlamesOutputs fault (writer.new ≡ writer.old) (W.has_failed writer.old) (W.has_failed writer.new)
+        (E.has_failed exports.old) (E.has_failed exports.new)) }
+    ensures unput { path_of asked.now.lines ≡ None → OnErr result (E.puts exports.new ≡ E.puts exports.old) }
+    ensures unasked { path_of asked.now.lines ≡ None → path_of asked.now.export ≡ None → exports.new ≡ exports.old }
+    ensures held { W.holds writer.new ≡ W.holds writer.old }
+{
+    let opened = open_files(alloc, asked.limits, texts, asked.def, asked.lefs)?;
+    repair_opened(alloc, opened, asked, exports, writer, progress)
+}
