@@ -30,7 +30,7 @@ loop-number-preserved c =
     ]
 
 pub loop-number-init : goal.loop-number-init
-loop-number-init c = rw c.new-cells.ensures (λ more zip. zip, none_earlier c.args.document.now.components)
+loop-number-init c = rw (c.in_ok-cells.ensures {u = tt}) (λ more zip. zip, none_earlier c.args.document.now.components)
 
 pub push-requires : goal.push-requires
 push-requires c =
