@@ -1,7 +1,9 @@
 //! Room for places, found by counting: no cell is moved.
 
-ghost use Rattle.std.specs.Prelude.{◌≡◌, ◌≢◌, ◌<◌, ◌≤◌, [], All, IfOk, List, None, OnOk, Option, Some, length, slice_get, slice_set, ℕ};
+ghost use Rattle.std.specs.Prelude.{◌≡◌, ◌≢◌, ◌<◌, ◌≤◌, [], All, IfOk, List, None, OnOk, Option, Some, length, option_map, slice_get, slice_set, ℕ};
 ghost use Rattle.lf_units.specs.declared.area.Rect.{Rect};
+ghost use Rattle.lf_floorplan.specs.Boxes.{IsSized, size_of};
+ghost use Rattle.lf_floorplan.specs.Sizes.{box_at, turned};
 ghost use Rattle.lf_cells.specs.Cells.{cells_of, committed_at, working_at};
 ghost use Rattle.lf_legalize.specs.Members.{IsSizedCell};
 ghost use Rattle.lf_occupancy.specs.Floorplans.{boxes_in};
@@ -11,10 +13,10 @@ ghost use Rattle.lf_undo.specs.Entries.{Places};
 ghost use Rattle.lf_placement.specs.Placings.{AreSized, boxes_at, committed_of, places_of};
 ghost use Rattle.lf_placement.specs.Steps.{GainsRoom, box_moved};
 
-use crate::strips::box_at;
 use lf_cells::{CellId, CellTable};
-use lf_floorplan::{Frame, PackedPlace, Place, are_alike};
+use lf_floorplan::{Frame, Macro, PackedPlace, Place, are_alike};
 use lf_occupancy::{Occupancy, Tally, teams_of};
+use lf_rules::box_of;
 use lf_units::Rect;
 use std::alloc::{AllocError, Global};
 
@@ -26,19 +28,36 @@ pub(crate) struct Change {
     pub(crate) to: PackedPlace,
 }
 
-/// The box of the team's cell of that position at a place; none where there is no such cell, or no place.
-fn box_of_own(
+/// The box of a cell of this macro at a place; none where there is none.
+fn box_of_macro(frame: &Frame, mac: &Macro, place: Option<Place>) -> Option<Rect>
+    requires { IsSized frame.now mac.now }
+    ensures { result ≡ option_map (λ p. box_at (turned (size_of frame.now mac.now) p.orient) p.x p.y) place }
+{
+    Some(box_of(frame, mac, &place?))
+}
+
+/// The boxes of the team's cell of that position at both places of a change; none where there is no such
+/// cell, or no place.
+fn boxes_of_change(
     frame: &Frame,
     cells: &CellTable,
     team: usize,
-    own: u32,
-    place: Option<Place>,
-) -> Option<Rect>
+    change: &Change,
+) -> (Option<Rect>, Option<Rect>)
     requires { All (IsSizedCell frame.now) (cells_of cells.now team) }
-    ensures { result ≡ box_moved frame.now (slice_get (cells_of cells.now team) own) place }
+    ensures from { result.0 ≡ box_moved frame.now (slice_get (cells_of cells.now team) change.now.own) change.now.from }
+    ensures to { result.1 ≡ box_moved frame.now (slice_get (cells_of cells.now team) change.now.own) change.now.to }
 {
-    let id = cells.cell_of(team, own as usize)?;
-    box_at(frame, cells, id, place)
+    let Some(id) = cells.cell_of(team, change.own as usize) else {
+        return (None, None);
+    };
+    let Some(standing) = cells.standing(id) else {
+        return (None, None);
+    };
+    let mac = &frame.macros.as_slice()[standing.mac];
+    let from = box_of_macro(frame, mac, change.from.place());
+    let to = box_of_macro(frame, mac, change.to.place());
+    (from, to)
 }
 
 /// Counts a cell at one place in place of another, and makes the room that is lacking then.
@@ -63,8 +82,7 @@ pub(crate) fn fit_change(
         → OnOk result (Bounds (filled_by occupancy.new []) other boxes tally.new) }
     ensures gains { GainsRoom occupancy.old occupancy.new }
 {
-    let from = box_of_own(frame, cells, team, change.own, change.from.place());
-    let to = box_of_own(frame, cells, team, change.own, change.to.place());
+    let (from, to) = boxes_of_change(frame, cells, team, change);
     occupancy.fit(tally, team, &from, &to)
 }
 

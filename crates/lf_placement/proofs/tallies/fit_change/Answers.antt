@@ -1,11 +1,10 @@
 use Rattle.std.proofs.Common.{[], List, Option, ap, set, subst, sym, ◌∙◌}
-use Rattle.std.specs.Prelude.{OnOk, slice_get}
+use Rattle.std.specs.Prelude.{OnOk}
 use Rattle.lf_units.specs.declared.area.Rect.{Rect}
 use Rattle.lf_cells.specs.Cells.{cells_of}
 use Rattle.lf_occupancy.specs.Occupied.{Bounds}
 use Rattle.lf_occupancy.specs.Strips.{filled_by}
 use Rattle.lf_placement.specs.Placings.{boxes_at}
-use Rattle.lf_placement.specs.Steps.{box_moved}
 use Rattle.lf_placement.proofs.Tallying.{box_put_at, place_box, within_places}
 use Rattle.lf_placement.proofs.tallies.fit_change.Goals as goal
 
@@ -15,8 +14,8 @@ returns-clause-own c = λ places is bounds.
     let cells = cells_of c.args.cells.now c.args.team in
     let change = c.args.change.now in
     let boxes = boxes_at f cells places in
-    let from = c.box_of_own-from.ensures ∙ ap (box_moved f (slice_get cells change.own)) c.place.ensures in
-    let to = c.box_of_own-to.ensures ∙ ap (box_moved f (slice_get cells change.own)) c.place-2.ensures in
+    let from = c.boxes_of_change-from.ensures.from in
+    let to = c.boxes_of_change-from.ensures.to in
     subst (λ (bs : List (Option Rect)). OnOk c.fit.result (Bounds (filled_by c.fit.new.self []) c.args.team bs c.fit.new.tally))
     (ap (set boxes change.own) to ∙ box_put_at f cells places change.own change.to (within_places places change.own change.from is))
     (c.fit.ensures.own boxes change.own (place_box f cells places change.own change.from is ∙ sym from) bounds)
