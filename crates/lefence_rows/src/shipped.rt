@@ -5,12 +5,13 @@ ghost use Rattle.std.specs.Prelude.{◌≡◌, false};
 
 use lf_app::{
     Acceptor, ClientReader, ClientWriter, Connection, Offer, Services, Silent, Slots, Surroundings,
-    Task, Texts, Unbound, Unread, perform_over,
+    Task, Texts, Unbound, Unread, one_piece, perform_over,
 };
 use lf_devices::{DeviceFault, FromRead, ToWrite};
 use lf_files::{Exports, Pieces, Unwritten};
 use lf_units::Sequence;
 use std::alloc::{AllocError, Global};
+use std::collections::VecDeque;
 
 /// The path of the LEF text; that of every other text is the DEF text's.
 const LEF: &str = "row.lef";
@@ -30,6 +31,10 @@ impl<'a> Texts for RowTexts<'a> {
             Ok(copy) => Ok(copy),
             Err(_) => Err(Unread::OutOfMemory),
         }
+    }
+
+    fn pieces(&self, alloc: Global, path: &str) -> Result<VecDeque<Vec<u8>>, Unread> {
+        one_piece(alloc, self.text(path)?)
     }
 }
 

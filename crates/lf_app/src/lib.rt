@@ -36,7 +36,7 @@ pub use lf_command::{
 };
 pub use lf_designs::{
     Exit, Fault, FenceLine, FileTexts, Hint, Refusal, StateRefusal, TextFile, TextKind, Texts,
-    Unbound, Unread, Unreadable, status_of, write_fault,
+    Unbound, Unread, Unreadable, one_piece, status_of, write_fault,
 };
 pub use lf_devices::{FromRead, ToWrite};
 pub use lf_files::FileExports;

@@ -2,3 +2,4 @@ pub mod DesignSteps
 mod Opening
 mod Reporting
 mod Shown
+pub mod Ends

@@ -4,6 +4,7 @@
 //! by end.
 
 ghost use Rattle.std.specs.Prelude.{◌≡◌, Ok, Some, map, IfErr, IfOk, OnOk};
+ghost use Rattle.lf_state.specs.Pieces.{joined};
 ghost use Rattle.lf_designs.specs.declared.faults.TextKind.TheVariants.{Lef, Def};
 ghost use Rattle.lf_lef.specs.Library.{library_after};
 ghost use Rattle.lf_def.specs.Contents.{contents};
@@ -24,6 +25,7 @@ use lf_lef::{Library, read_lef};
 use lf_lex::LoadFault;
 use lf_refusals::met_fences;
 use std::alloc::Global;
+use std::collections::VecDeque;
 
 /// What the built-in texts are called in place of a path.
 pub(crate) const BUILT_IN: &str = "(built in)";
@@ -50,6 +52,21 @@ pub fn read_text<'a, T: Texts>(texts: &T, file: TextFile<'a>) -> Result<Vec<u8>,
 {
     match texts.text(file.path) {
         Ok(text) => Ok(text),
+        Err(unread) => Err(unread_fault(file, unread)),
+    }
+}
+
+/// The same in pieces.
+pub fn read_in_pieces<'a, T: Texts>(
+    alloc: Global,
+    texts: &T,
+    file: TextFile<'a>,
+) -> Result<VecDeque<Vec<u8>>, Fault<'a>>
+    ensures ok { IfOk result (λ pieces. T.gives texts.now file.entry.path.now (Some (joined pieces.items))) }
+    ensures err { IfErr result (IsUnread (T.gives texts.now) file.entry.kind file.entry.path.now) }
+{
+    match texts.pieces(alloc, file.path) {
+        Ok(pieces) => Ok(pieces),
         Err(unread) => Err(unread_fault(file, unread)),
     }
 }

@@ -27,11 +27,11 @@ mod texts;
 
 pub use designs::{
     def_file, design_of_files, design_of_texts, library_of, limits_with, load_document,
-    read_document, read_text,
+    read_document, read_in_pieces, read_text,
 };
 pub use faults::{Exit, Fault, TextFile, TextKind, Unbound, done, status_of, tell, write_fault};
 pub use hints::Hint;
 pub use opened::{Opened, Original, open_files};
 pub use refusals::{FenceLine, Refusal, StateRefusal};
 pub use reports::{illegal_in, report_design};
-pub use texts::{FileTexts, Texts, Unread, Unreadable};
+pub use texts::{FileTexts, Texts, Unread, Unreadable, one_piece};

@@ -1,19 +1,20 @@
 //! What is printed of a refused text: it is taken from the text, which may then go.
 
-ghost use Rattle.std.specs.Prelude.{◌≡◌, ◌<◌, IfOk, IfSome, length, option_map, position, take};
+ghost use Rattle.std.specs.Prelude.{◌≡◌, ◌<◌, List, ℕ, IfOk, IfSome, length, option_map, position, take};
 ghost use Rattle.std.specs.Option.{option_copied};
 ghost use Rattle.lf_lex.specs.Tokens.{is_line_feed};
 ghost use Rattle.lf_lex.specs.declared.fault.LoadFault.{LoadFault};
 ghost use Rattle.lf_lex.specs.declared.fault.ReadError.TheVariants.{Memory};
 ghost use Rattle.lf_lex.specs.Faults.{load_fault_of};
 ghost use Rattle.lf_refusals.specs.Meetings.{Met, met_in, no_fence};
+ghost use Rattle.lf_state.specs.Refused.{HasEnd};
 ghost use Rattle.lf_designs.specs.Refusals.{IsTold, Tells, TellsState, behind_line, behind_lines, first_line, line_at, line_front, standing_in, standing_of};
 
 use crate::faults::TextKind;
 use crate::hints::{Hint, earlier_line, hint_of, line_told, nth_line};
 use lf_lex::{FaultNumber, LoadFault};
 use lf_refusals::MetFences;
-use lf_state::{FaultNumber as StateNumber, StateFault};
+use lf_state::{FaultNumber as StateNumber, Refused};
 use std::alloc::{AllocError, Global};
 
 /// How many bytes of a line are shown.
@@ -199,10 +200,14 @@ pub struct StateRefusal {
 
 impl StateRefusal {
     /// What is told of the text that is refused so; `Err` if an allocation fails.
-    pub fn new(alloc: Global, text: &[u8], fault: StateFault) -> Result<StateRefusal, AllocError>
-        ensures { IfOk result (TellsState text.now fault) }
+    pub fn new(alloc: Global, refused: &Refused) -> Result<StateRefusal, AllocError>
+        ensures { (text : List ℕ) → HasEnd text refused.now → IfOk result (TellsState text refused.now.fault) }
     {
-        let shown = Vec::from_slice(alloc, line_front(text, Some(fault.line)))?;
+        let Refused { fault, lines, end } = refused;
+        let shown = Vec::from_slice(
+            alloc,
+            line_front(end, Some(fault.line.saturating_sub(*lines))),
+        )?;
         Ok(StateRefusal {
             number: fault.number,
             line: fault.line,

@@ -1,9 +1,17 @@
 //! Where the texts of a design are read from.
 
-ghost use Rattle.std.specs.Prelude.{ℕ, List, Option, Some, None, ⊤, IfOk, IfErr};
+ghost use Rattle.std.specs.Prelude.{◌≡◌, ℕ, List, Option, Some, None, ⊤, IfOk, IfErr};
+ghost use Rattle.lf_state.specs.Pieces.{joined};
 
+use std::alloc::Global;
+use std::collections::VecDeque;
+use std::fs::File;
+use std::io::Read;
 use std::rt::Files;
 use std::{fs, io};
+
+/// How many bytes a piece of a file has, but for the last.
+const PIECE: usize = 1_048_576;
 
 /// Why a file cannot be read, where the system says it.
 #[derive(Clone, Copy, Debug, PartialEq, Eq)]
@@ -29,6 +37,7 @@ pub enum Unread {
 
 /// Where texts are read from, by the paths of their files.
 pub trait Texts {
+    ghost use Rattle.lf_state.specs.Pieces.{joined};
     ghost use Rattle.lf_designs.specs.Texts.{IsOfFile};
 
     // What reading the file of a path may return: its text, or None if it cannot be read.
@@ -38,6 +47,22 @@ pub trait Texts {
     fn text(&self, path: &str) -> Result<Vec<u8>, Unread>
         ensures ok { IfOk result (λ text. gives self.now path.now (Some text.items)) }
         ensures err { IfErr result (λ unread. IsOfFile unread → gives self.now path.now None) };
+
+    /// The same in pieces, of which each can be let go by itself.
+    fn pieces(&self, alloc: Global, path: &str) -> Result<VecDeque<Vec<u8>>, Unread>
+        ensures ok { IfOk result (λ pieces. gives self.now path.now (Some (joined pieces.items))) }
+        ensures err { IfErr result (λ unread. IsOfFile unread → gives self.now path.now None) };
+}
+
+/// The text as one piece, for texts that are in memory.
+pub fn one_piece(alloc: Global, text: Vec<u8>) -> Result<VecDeque<Vec<u8>>, Unread>
+    ensures { IfOk result (λ pieces. joined pieces.items ≡ text.items) }
+{
+    let mut pieces = VecDeque::new(alloc);
+    match pieces.push_back(text) {
+        Ok(()) => Ok(pieces),
+        Err(_) => Err(Unread::OutOfMemory),
+    }
 }
 
 /// The files of a runtime. Contracts know nothing of what they hold.
@@ -64,10 +89,39 @@ fn unread_of(error: &io::Error) -> Unread {
     }
 }
 
+/// The next piece; no byte at the end.
+fn next_piece<R: Read>(alloc: Global, file: &mut R) -> io::Result<Vec<u8>> {
+    // A byte more than the piece has, so that the look for more takes no room.
+    let mut piece = Vec::with_capacity(alloc, PIECE + 1)?;
+    file.by_ref().take(PIECE as u64).read_to_end(&mut piece)?;
+    Ok(piece)
+}
+
+/// All pieces of the file.
+fn all_pieces<T: Files>(files: &T, alloc: Global, path: &str) -> io::Result<VecDeque<Vec<u8>>> {
+    let mut file = File::open(files, path)?;
+    let mut pieces = VecDeque::new(alloc);
+    for _ in 0..u64::MAX {
+        let piece = next_piece(alloc, &mut file)?;
+        if piece.is_empty() {
+            break;
+        }
+        pieces.push_back(piece)?;
+    }
+    Ok(pieces)
+}
+
 impl<'a, T: Files + AllocGlobal> Texts for FileTexts<'a, T> {
     fn text(&self, path: &str) -> Result<Vec<u8>, Unread> {
         match fs::read(self.files, path) {
             Ok(text) => Ok(text),
+            Err(error) => Err(unread_of(&error)),
+        }
+    }
+
+    fn pieces(&self, alloc: Global, path: &str) -> Result<VecDeque<Vec<u8>>, Unread> {
+        match all_pieces(self.files, alloc, path) {
+            Ok(pieces) => Ok(pieces),
             Err(error) => Err(unread_of(&error)),
         }
     }

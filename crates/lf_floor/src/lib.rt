@@ -8,8 +8,8 @@
 //! DEF text: not how best places are searched for. The *committed design* is the cells of all teams at their committed places. Once
 //! it is fully legal, it stays so whatever is asked.
 //!
-//! `restore` brings a floor into the state of a state text. Where the text is large, `read_state` reads its rows of a floor on which no
-//! cell is placed (`bare`), the text is let go, and `restore_rows` restores them.
+//! `restore` brings a floor into the state of a state text. Where the text is large, `read_pieces` reads its rows of a floor on which
+//! no cell is placed (`bare`), piece by piece, and `restore_rows` restores them.
 //!
 //! ```
 //! let mut floor = Floor::start(alloc, loaded, seeker)?;

@@ -6,6 +6,8 @@ ghost use Rattle.lf_rules.specs.FullyLegal.{IsFullyLegal};
 ghost use Rattle.lf_teams.specs.Committed.{IsCommittedLegal};
 ghost use Rattle.lf_teams.specs.States.{FloorState};
 ghost use Rattle.lf_state.specs.declared.fault.StateError.TheVariants.{Memory};
+ghost use Rattle.lf_state.specs.Pieces.{joined};
+ghost use Rattle.lf_state.specs.Refused.{GivesIn, HoldsEnd};
 ghost use Rattle.lf_state.specs.Reading.{FailsAt, GivesAt, state_of};
 ghost use Rattle.lf_state.specs.Saved.{SavedTeam, team_view, team_views, IsTeamOf as IsSavedTeamOf};
 ghost use Rattle.lf_restore.specs.Saved.{AreDue, AreOfOneDesign, IsRestoredFrom, IsStateText, named, named_team, restored, restored_team, saved_design};
@@ -21,10 +23,11 @@ use lf_restore::{
     place_teams, restore_entries, restored_is_committed, saved_restores, working_places,
 };
 use lf_rules::Padding;
-use lf_state::{SavedCell, StateError, TeamRow, read_state};
+use lf_state::{PiecesError, SavedCell, StateError, TeamRow, read_pieces, read_state};
 use lf_tables::Tables;
 use lf_undo::UndoStore;
 use std::alloc::{AllocError, Global};
+use std::collections::VecDeque;
 
 /// A law: a frame has at most 64 session slots for each team.
 fn slots_are_few(frame: &Frame)
@@ -180,6 +183,21 @@ fn read_rows(alloc: Global, tables: &Tables, text: &[u8]) -> Result<Vec<TeamRow>
     read_state(alloc, &told, text)
 }
 
+/// The same of the text of which these are the pieces.
+fn read_pieces_of(
+    alloc: Global,
+    tables: &Tables,
+    pieces: VecDeque<Vec<u8>>,
+) -> Result<Vec<TeamRow>, PiecesError>
+    requires { AreTables tables.now }
+    ensures exact { GivesIn (λ rows. team_views rows.items) result (state_of (named (floor_in tables.now)) (joined pieces.items)) }
+    ensures due { IfOk result (λ rows. AreDue (frame_of tables.now).limits (teams_in tables.now) (team_views rows.items)) }
+    ensures end { IfErr result (λ error. HoldsEnd (joined pieces.items) error) }
+{
+    let told = Told { tables };
+    read_pieces(alloc, &told, pieces)
+}
+
 /// The tables in the state that the text tells.
 fn restore_tables(alloc: Global, tables: Tables, text: &[u8]) -> Result<Tables, StateError>
     requires { AreTables tables }
@@ -229,18 +247,20 @@ impl<S: Seeker + Drop> Floor<S> {
         }
     }
 
-    /// What a state text tells of the teams of the floor's design: `restore_rows` brings the floor into that state, and the text
-    /// can be let go before.
+    /// What a state text tells of the teams of the floor's design, of which these are the pieces: each is let go once it was read, and
+    /// `restore_rows` brings the floor into that state.
     ///
-    /// `Err` with the first fault of a text that tells no state of the design, and its line; or if an allocation fails.
-    pub fn read_state(&self, text: &[u8]) -> Result<Vec<TeamRow>, StateError>
-        ensures exact { GivesAt (λ rows. team_views rows.items) result (state_of (named self.now) text.now) }
+    /// `Err` with the first fault of a text that tells no state of the design, its line, and the end of the text; or if an allocation
+    /// fails.
+    pub fn read_pieces(&self, pieces: VecDeque<Vec<u8>>) -> Result<Vec<TeamRow>, PiecesError>
+        ensures exact { GivesIn (λ rows. team_views rows.items) result (state_of (named self.now) (joined pieces.items)) }
         ensures due { IfOk result (λ rows. AreDue self.now.frame.limits self.now.teams (team_views rows.items)) }
+        ensures end { IfErr result (λ error. HoldsEnd (joined pieces.items) error) }
     {
-        read_rows(self.alloc, &self.tables, text)
+        read_pieces_of(self.alloc, &self.tables, pieces)
     }
 
-    /// The floor in the state of which the rows tell, as `read_state` reads them of a state text: each cell's working and committed
+    /// The floor in the state of which the rows tell, as `read_pieces` reads them of a state text: each cell's working and committed
     /// place, and each team's revision, padding, session slots and undo entries.
     ///
     /// `Err` if an allocation fails; the floor is then dropped.

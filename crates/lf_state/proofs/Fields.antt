@@ -10,8 +10,7 @@ use Rattle.std.proofs.lemmas.Slice.Eq.{bytes_eq-Decides}
 use Rattle.std.specs.Char.{is_ascii_digit}
 use Rattle.std.specs.Fmt.{decimal, signed_decimal}
 use Rattle.std.specs.List.{list_all, position_or_len}
-use Rattle.std.specs.Prelude.{slice_index, IfSome, MatchOption, codes, take, option_map}
-use Rattle.std.specs.Borrow.{Bor}
+use Rattle.std.specs.Prelude.{slice_index, IfSome, codes, take}
 use Rattle.std.specs.Str.{bytes_eq}
 use Rattle.lf_orient.specs.declared.Orient.{Orient}
 use Rattle.lf_orient.specs.declared.Orient.TheVariants.{N, W, S, E, FN, FW, FS, FE}
@@ -62,15 +61,6 @@ unfolding behind
 behind-front due rest =
     let same : bytes_eq (take (length due) (due ++ rest)) due ≡ true = (bytes_eq-Decides (take (length due) (due ++ rest)) due).1 (take-append_seam due rest) in
     rw (same, drop_front due rest) refl
-
--- what is left of bytes without those that are due
-pub strip_is : (due bytes : List ℕ) (r : Option (Bor (List ℕ)))
-    → MatchOption r (bytes_eq (take (length due) bytes) due ≡ false)
-    (λ x. (bytes_eq (take (length due) bytes) due ≡ true) × (x.now ≡ drop (length due) bytes) × (length x.now + length due ≡ length bytes))
-    → option_map (λ rest. rest.now) r ≡ behind due bytes
-unfolding behind
-strip_is due bytes None none = rw none refl
-strip_is due bytes (Some x) (has, is, count) = rw (has, is) refl
 
 -- ---- numbers
 

@@ -3,3 +3,4 @@ pub mod Loop
 pub mod Lines
 pub mod Again
 pub mod Within
+pub mod Held

@@ -5,11 +5,10 @@ use Rattle.std.proofs.lemmas.List.{drop_all}
 use Rattle.std.proofs.lemmas.List.{append-nil}
 use Rattle.std.specs.List.{flat_map, AllByRecursion}
 use Rattle.std.proofs.lemmas.List.Concat.{flat_map-cons}
-use Rattle.lf_state.specs.declared.fault.Fault.{Fault}
 use Rattle.lf_state.specs.declared.fault.ReadError.{ReadError}
 use Rattle.lf_state.specs.declared.fault.ReadError.TheVariants as errors
 use Rattle.lf_state.specs.Saved.{Both, lines_of}
-use Rattle.lf_state.specs.Reading.{◌>>=◌, Fails, each_at, many_at}
+use Rattle.lf_state.specs.Reading.{◌>>=◌, Fault, Fails, each_at, many_at}
 
 -- what was read before, and what is still read
 abbrev pub with_front : {X : Type 0} → List X → Result (List X × List ℕ) Fault → Result (List X × List ℕ) Fault
@@ -28,13 +27,13 @@ module _ {X : Type 0} (item : List ℕ → Result (X × List ℕ) Fault) where
       let one : with_front front (many_at item (count - i) bytes) ≡ with_front (front ++ n ∷ []) (many_at item (count - (i + 1)) after) = rw (k, h) (regroup front n (many_at item (count - (i + 1)) after)) in
       sym one ∙ so_far
 
-  pub ends : (e : ReadError) (front : List X) (count i : ℕ) (bytes : List ℕ) (total : Result (List X × List ℕ) Fault) → i < count → Fails e (item bytes)
-      → with_front front (many_at item (count - i) bytes) ≡ total → Fails e total
+  pub ends : (e : ReadError) (front : List X) (count i : ℕ) (bytes : List ℕ) (total : Result (List X × List ℕ) Fault) (left : ℕ) → i < count
+      → Fails e (item bytes) left → with_front front (many_at item (count - i) bytes) ≡ total → Fails e total left
   unfolding many_at
-  ends errors.Memory front count i bytes total lt h so_far = tt
-  ends (errors.Fault f) front count i bytes total lt h so_far =
+  ends errors.Memory front count i bytes total left lt h so_far = tt
+  ends (errors.Fault number) front count i bytes total left lt h so_far =
       let k : count - i ≡ suc (count - (i + 1)) = omega arith in
-      let one : with_front front (many_at item (count - i) bytes) ≡ Err f = rw (k, h) refl in
+      let one : with_front front (many_at item (count - i) bytes) ≡ Err (record { number = number; left = left }) = rw (k, h) refl in
       sym so_far ∙ one
 
   pub is_done : (front : List X) (count i : ℕ) (bytes : List ℕ) (total : Result (List X × List ℕ) Fault) → count ≤ i → with_front front (many_at item (count - i) bytes) ≡ total → total ≡ Ok (front, bytes)
@@ -71,13 +70,13 @@ module _ {D X : Type 0} (item : D → List ℕ → Result (X × List ℕ) Fault)
       rw (next_due dues i d lt, h) (regroup_each front n (each_at item (drop (i + 1) dues) after)) in
       sym one ∙ so_far
 
-  pub each_ends : (e : ReadError) (front : List X) (dues : List D) (i : ℕ) (d : D) (bytes : List ℕ) (total : Result (List X × List ℕ) Fault) → i < length dues
-      → Fails e (item (get_or dues i d) bytes)
-      → with_front front (each_at item (drop i dues) bytes) ≡ total → Fails e total
+  pub each_ends : (e : ReadError) (front : List X) (dues : List D) (i : ℕ) (d : D) (bytes : List ℕ) (total : Result (List X × List ℕ) Fault) (left : ℕ)
+      → i < length dues → Fails e (item (get_or dues i d) bytes) left
+      → with_front front (each_at item (drop i dues) bytes) ≡ total → Fails e total left
   unfolding each_at
-  each_ends errors.Memory front dues i d bytes total lt h so_far = tt
-  each_ends (errors.Fault f) front dues i d bytes total lt h so_far =
-      let one : with_front front (each_at item (drop i dues) bytes) ≡ Err f = rw (next_due dues i d lt, h) refl in
+  each_ends errors.Memory front dues i d bytes total left lt h so_far = tt
+  each_ends (errors.Fault number) front dues i d bytes total left lt h so_far =
+      let one : with_front front (each_at item (drop i dues) bytes) ≡ Err (record { number = number; left = left }) = rw (next_due dues i d lt, h) refl in
       sym so_far ∙ one
 
   pub each_is_done : (front : List X) (dues : List D) (i : ℕ) (bytes : List ℕ) (total : Result (List X × List ℕ) Fault) → length dues ≤ i

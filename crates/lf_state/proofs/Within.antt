@@ -5,13 +5,14 @@ use Rattle.std.specs.List.{AllByRecursion}
 use Rattle.std.proofs.lemmas.Bool.{leb-true, ltb-true}
 use Rattle.lf_floorplan.specs.declared.limits.Limits.{Limits}
 use Rattle.lf_undo.specs.declared.moves.Move.{Move}
-use Rattle.lf_state.specs.declared.fault.Fault.{Fault}
 use Rattle.lf_state.specs.declared.fault.FaultNumber.TheVariants.{Unexpected, BadNumber}
 use Rattle.lf_state.specs.declared.fault.StateError.{StateError}
+use Rattle.lf_state.specs.declared.refused.PiecesError.{PiecesError}
+use Rattle.lf_state.specs.Refused.{GivesIn}
 use Rattle.lf_state.specs.Designs.{NamedDesign, NamedTeam}
 use Rattle.lf_state.specs.Words.{slot_on}
 use Rattle.lf_state.specs.Saved.{SavedTeam, AreOf, Both, IsTeamOf}
-use Rattle.lf_state.specs.Reading.{◌>>=◌, Numbers, GivesAt, or_fault, is_seen_by, word_at, due_at, number_at, below_at, count_at, spot_at, slot_at, cell_at, move_at, entry_at, named_at, numbers_at, rows_at, team_at, opening_at, all_at, state_of, many_at, each_at, with_line}
+use Rattle.lf_state.specs.Reading.{◌>>=◌, Fault, Numbers, GivesAt, or_fault, is_seen_by, word_at, due_at, number_at, below_at, count_at, spot_at, slot_at, cell_at, move_at, entry_at, named_at, numbers_at, rows_at, team_at, opening_at, all_at, state_of, many_at, each_at, with_line}
 
 -- ---- what was read one after the other
 
@@ -169,7 +170,12 @@ state-within : (design : NamedDesign) (text : List ℕ) (read : Result (List Sav
 state-within design text (Ok xs) ts is told = subst (AreOf design) (same_ok told) (all-within design text xs is)
 state-within design text (Err f) ts is told = absurd cc
 
-pub told-within : {X : Type 0} (view : X → List SavedTeam) (design : NamedDesign) (text : List ℕ) (result : Result X StateError) → GivesAt view result (state_of design text)
+pub told-within : {X : Type 0} (view : X → List SavedTeam) (design : NamedDesign) (text : List ℕ) (result : Result X PiecesError) → GivesIn view result (state_of design text)
     → IfOk result (λ rows. AreOf design (view rows))
 told-within view design text (Ok rows) told = state-within design text (all_at design text) (view rows) refl told
 told-within view design text (Err e) told = tt
+
+pub told-at : {X : Type 0} (view : X → List SavedTeam) (design : NamedDesign) (text : List ℕ) (result : Result X StateError) → GivesAt view result (state_of design text)
+    → IfOk result (λ rows. AreOf design (view rows))
+told-at view design text (Ok rows) told = state-within design text (all_at design text) (view rows) refl told
+told-at view design text (Err e) told = tt

@@ -3,3 +3,5 @@ pub mod Words
 pub mod Saved
 pub mod Reading
 pub mod Writing
+pub mod Pieces
+pub mod Refused

@@ -4,7 +4,6 @@ use Rattle.lf_floorplan.specs.declared.limits.Limits.{Limits}
 use Rattle.lf_floorplan.specs.declared.place.Place.{Place}
 use Rattle.lf_undo.specs.declared.moves.Move.{Move}
 use Rattle.lf_lex.specs.Tokens.{line_feeds}
-use Rattle.lf_state.specs.declared.fault.Fault.{Fault}
 use Rattle.lf_state.specs.declared.fault.FaultNumber.{FaultNumber}
 use Rattle.lf_state.specs.declared.fault.FaultNumber.TheVariants.{UnexpectedEnd, Unexpected, BadNumber, OtherVersion, OtherDesign, OutOfRange}
 use Rattle.lf_state.specs.declared.fault.ReadError.{ReadError}
@@ -17,20 +16,26 @@ use Rattle.lf_state.specs.Designs.{NamedDesign, NamedTeam}
 use Rattle.lf_state.specs.Words.{behind, cut, number, place_on, slot_on}
 use Rattle.lf_state.specs.Saved.{SavedTeam, title}
 
+-- the first fault of a text, in its order, and how many bytes were left there
+pub record Fault : Type 0 where
+  pub number : FaultNumber
+  pub left : ℕ
+
 infixl 10 ◌>>=◌
 abbrev pub ◌>>=◌ : {A B : Type 0} → Result A Fault → (A → Result B Fault) → Result B Fault
 (Ok x) >>= f = f x
 (Err e) >>= f = Err e
 
--- ---- what a function returned, seen by view, is what reading gives, unless memory ran out
+-- ---- what a function returned, seen by view, is what reading gives, unless memory ran out; these bytes are left
 
-abbrev pub Fails : {Y : Type 0} → ReadError → Result Y Fault → Type 0
-Fails reading.Memory read = Unit {0}
-Fails (reading.Fault f) read = read ≡ Err f
+-- the fault where so many bytes are left
+abbrev pub Fails : {Y : Type 0} → ReadError → Result Y Fault → ℕ → Type 0
+Fails reading.Memory read left = Unit {0}
+Fails (reading.Fault number) read left = read ≡ Err (record { number = number; left = left })
 
-abbrev pub Gives : {X Y : Type 0} → (X → Y) → Result X ReadError → Result Y Fault → Type 0
-Gives view (Ok x) read = read ≡ Ok (view x)
-Gives view (Err e) read = Fails e read
+abbrev pub Reads : {X Y : Type 0} → (X → List ℕ → Y) → Result X ReadError → Result Y Fault → List ℕ → Type 0
+Reads view (Ok x) read left = read ≡ Ok (view x left)
+Reads view (Err e) read left = Fails e read (length left)
 
 -- the same where the fault has its line
 abbrev pub FailsAt : {Y : Type 0} → StateError → Result Y StateFault → Type 0

@@ -1,9 +1,8 @@
 //! Why a text is no state of a design.
 
-ghost use Rattle.std.specs.Prelude.{◌≡◌, ◌<◌, ◌-◌, ◌^◌, length, take};
+ghost use Rattle.std.specs.Prelude.{◌≡◌};
 ghost use Rattle.lf_lex.specs.Tokens.{line_feeds};
 ghost use Rattle.lf_state.specs.declared.fault.ReadError.TheVariants.{Memory};
-ghost use Rattle.lf_state.specs.Reading.{located};
 
 use std::alloc::{AllocError, AllocFailed};
 
@@ -24,18 +23,11 @@ pub enum FaultNumber {
     OutOfRange,
 }
 
-/// The first fault of a text, in its order, and how many bytes were left there.
-#[derive(Clone, Copy, Debug, PartialEq, Eq)]
-pub(crate) struct Fault {
-    pub(crate) number: FaultNumber,
-    pub(crate) left: usize,
-}
-
-/// Why reading stopped: a fault of the text, or a failed allocation.
+/// Why reading stopped: a fault of the text where reading came to, or a failed allocation.
 #[derive(Debug, Drop)]
 pub(crate) enum ReadError {
     Memory,
-    Fault(Fault),
+    Fault(FaultNumber),
 }
 
 impl From<AllocError> for ReadError {
@@ -69,25 +61,8 @@ pub enum StateError {
 }
 
 /// How many line feeds there are.
-fn line_feeds(text: &[u8]) -> usize
+pub(crate) fn line_feeds(text: &[u8]) -> usize
     ensures { result ≡ line_feeds text.now }
 {
     text.iter().filter(|byte| **byte == b'\n').count()
-}
-
-/// The bytes before the last so many.
-fn text_before(text: &[u8], left: usize) -> &[u8]
-    ensures { result.now ≡ take (length text.now - left) text.now }
-{
-    &text[..text.len().saturating_sub(left)]
-}
-
-/// The fault with its line in the text.
-pub(crate) fn located(text: &[u8], fault: &Fault) -> StateFault
-    ensures { result ≡ located text.now fault.now }
-{
-    StateFault {
-        number: fault.number,
-        line: line_feeds(text_before(text, fault.left)) + 1,
-    }
 }

@@ -11,14 +11,17 @@
 //! ```
 #![tactic(auto)]
 
+mod cursor;
 mod design;
 mod fault;
 mod laws;
 mod lists;
 mod numbers;
+mod pieces;
 mod places;
 mod ranges;
 mod reading;
+mod refused;
 mod rows;
 mod teams;
 mod words;
@@ -27,7 +30,8 @@ mod writing;
 pub use design::Design;
 pub use fault::{FaultNumber, StateError, StateFault};
 pub use laws::saved_reads_back;
-pub use reading::read_state;
+pub use reading::{read_pieces, read_state};
+pub use refused::{PiecesError, Refused};
 pub use rows::{SavedCell, TeamRow};
 pub use teams::Teams;
 pub use writing::put_state;

@@ -1,9 +1,11 @@
 //! Lists of lines.
 
-ghost use Rattle.std.specs.Prelude.{◌≡◌};
+ghost use Rattle.std.specs.Prelude.{◌≡◌, List, ℕ};
 ghost use Rattle.lf_state.specs.Designs.{team_of};
-ghost use Rattle.lf_state.specs.Reading.{Gives, cell_at, each_at, entry_at, many_at, move_at, slot_at};
+ghost use Rattle.lf_state.specs.Pieces.{IsEnd, rest};
+ghost use Rattle.lf_state.specs.Reading.{Reads, cell_at, each_at, entry_at, many_at, move_at, slot_at};
 
+use crate::cursor::Cursor;
 use crate::design::{Design, name_of_cell};
 use crate::fault::{FaultNumber, ReadError};
 use crate::rows::SavedCell;
@@ -13,33 +15,26 @@ use std::alloc::Global;
 
 /// The line of the cell of that name.
 #[tactic(auto, unfolding(crate::specs::Reading::cell_at))]
-fn cell_at<'a>(name: &[u8], bytes: &'a [u8]) -> Result<(SavedCell, &'a [u8]), ReadError>
-    ensures { Gives (λ x. (x.0, x.1.now)) result (cell_at name.now bytes.now) }
+fn cell_at(name: &[u8], cursor: &mut Cursor) -> Result<SavedCell, ReadError>
+    ensures read { Reads (λ cell left. (cell, left)) result (cell_at name.now (rest cursor.old)) (rest cursor.new) }
+    ensures ends { (text : List ℕ) → IsEnd text cursor.old → IsEnd text cursor.new }
 {
-    let named = due_at(FaultNumber::OtherDesign, name, bytes)?;
-    let rest = due_at(FaultNumber::OtherDesign, b" ", named)?;
-    let (working, rest) = match spot_at(b' ', rest) {
-        Ok(found) => found,
-        Err(error) => return Err(error),
-    };
-    let (committed, rest) = match spot_at(b'\n', rest) {
-        Ok(found) => found,
-        Err(error) => return Err(error),
-    };
-    Ok((SavedCell { working, committed }, rest))
+    due_at(FaultNumber::OtherDesign, name, cursor)?;
+    due_at(FaultNumber::OtherDesign, b" ", cursor)?;
+    let working = spot_at(b' ', cursor)?;
+    let committed = spot_at(b'\n', cursor)?;
+    Ok(SavedCell { working, committed })
 }
 
 /// The line of a move of one of so many cells.
 #[tactic(auto, unfolding(crate::specs::Reading::move_at))]
-fn move_at(cells: usize, bytes: &[u8]) -> Result<(Move, &[u8]), ReadError>
-    ensures { Gives (λ x. (x.0, x.1.now)) result (move_at cells bytes.now) }
+fn move_at(cells: usize, cursor: &mut Cursor) -> Result<Move, ReadError>
+    ensures read { Reads (λ made left. (made, left)) result (move_at cells (rest cursor.old)) (rest cursor.new) }
+    ensures ends { (text : List ℕ) → IsEnd text cursor.old → IsEnd text cursor.new }
 {
-    let (own, rest) = below_at(cells, b' ', bytes)?;
-    let (old, rest) = match spot_at(b'\n', rest) {
-        Ok(found) => found,
-        Err(error) => return Err(error),
-    };
-    Ok((Move { own, old }, rest))
+    let own = below_at(cells, b' ', cursor)?;
+    let old = spot_at(b'\n', cursor)?;
+    Ok(Move { own, old })
 }
 
 /// So many session slots of a team that has this revision.
@@ -47,73 +42,66 @@ pub(crate) fn slots_at(
     alloc: Global,
     revision: u32,
     count: u32,
-    bytes: &[u8],
-) -> Result<(Vec<Option<u32>>, &[u8]), ReadError>
-    ensures { Gives (λ x. (x.0.items, x.1.now)) result (many_at (slot_at revision) count bytes.now) }
+    cursor: &mut Cursor,
+) -> Result<Vec<Option<u32>>, ReadError>
+    ensures read { Reads (λ slots left. (slots.items, left)) result (many_at (slot_at revision) count (rest cursor.old)) (rest cursor.new) }
+    ensures ends { (text : List ℕ) → IsEnd text cursor.old → IsEnd text cursor.new }
 {
     let mut items = Vec::with_capacity(alloc, count as usize)?;
-    let mut rest = bytes;
     for _ in 0..count {
-        let (item, after) = slot_at(revision, rest)?;
+        let item = slot_at(revision, cursor)?;
         items.push(item)?;
-        rest = after;
     }
-    Ok((items, rest))
+    Ok(items)
 }
 
 /// The cells of a team.
-pub(crate) fn cells_at<'a, D: Design>(
+pub(crate) fn cells_at<D: Design>(
     alloc: Global,
     design: &D,
     team: usize,
-    bytes: &'a [u8],
-) -> Result<(Vec<SavedCell>, &'a [u8]), ReadError>
-    ensures { Gives (λ x. (x.0.items, x.1.now)) result (each_at cell_at (team_of (D.named design.now) team).cells bytes.now) }
+    cursor: &mut Cursor,
+) -> Result<Vec<SavedCell>, ReadError>
+    ensures read { Reads (λ cells left. (cells.items, left)) result
+        (each_at cell_at (team_of (D.named design.now) team).cells (rest cursor.old)) (rest cursor.new) }
+    ensures ends { (text : List ℕ) → IsEnd text cursor.old → IsEnd text cursor.new }
 {
     let count = design.cell_count(team);
     let mut items = Vec::with_capacity(alloc, count)?;
-    let mut rest = bytes;
     for own in 0..count {
-        let (item, after) = match cell_at(name_of_cell(design, team, own), rest) {
-            Ok(found) => found,
-            Err(error) => return Err(error),
-        };
+        let item = cell_at(name_of_cell(design, team, own), cursor)?;
         items.push(item)?;
-        rest = after;
     }
-    Ok((items, rest))
+    Ok(items)
 }
 
-/// So many moves of so many cells.
+/// So many moves of so many cells. A text may tell of any number of them: there is room at first for one of each cell at most.
 fn moves_at(
     alloc: Global,
     cells: usize,
     count: u32,
-    bytes: &[u8],
-) -> Result<(Moves, &[u8]), ReadError>
-    ensures { Gives (λ x. (x.0, x.1.now)) result (many_at (move_at cells) count bytes.now) }
+    cursor: &mut Cursor,
+) -> Result<Moves, ReadError>
+    ensures read { Reads (λ moves left. (moves, left)) result (many_at (move_at cells) count (rest cursor.old)) (rest cursor.new) }
+    ensures ends { (text : List ℕ) → IsEnd text cursor.old → IsEnd text cursor.new }
 {
-    let mut items = Moves::new(alloc);
-    let mut rest = bytes;
+    let mut items = Moves::with_capacity(alloc, cells.min(count as usize))?;
     for _ in 0..count {
-        let (item, after) = match move_at(cells, rest) {
-            Ok(found) => found,
-            Err(error) => return Err(error),
-        };
+        let item = move_at(cells, cursor)?;
         items.push(item)?;
-        rest = after;
     }
-    Ok((items, rest))
+    Ok(items)
 }
 
 /// An undo entry of a team of so many cells: its line, and its moves.
 #[tactic(auto, unfolding(crate::specs::Reading::entry_at))]
-fn entry_at(alloc: Global, cells: usize, bytes: &[u8]) -> Result<(Moves, &[u8]), ReadError>
-    ensures { Gives (λ x. (x.0, x.1.now)) result (entry_at cells bytes.now) }
+fn entry_at(alloc: Global, cells: usize, cursor: &mut Cursor) -> Result<Moves, ReadError>
+    ensures read { Reads (λ moves left. (moves, left)) result (entry_at cells (rest cursor.old)) (rest cursor.new) }
+    ensures ends { (text : List ℕ) → IsEnd text cursor.old → IsEnd text cursor.new }
 {
-    let rest = due_at(FaultNumber::Unexpected, b"undo ", bytes)?;
-    let (count, rest) = number_at(b'\n', rest)?;
-    moves_at(alloc, cells, count, rest)
+    due_at(FaultNumber::Unexpected, b"undo ", cursor)?;
+    let count = number_at(b'\n', cursor)?;
+    moves_at(alloc, cells, count, cursor)
 }
 
 /// So many undo entries of a team of so many cells.
@@ -121,19 +109,15 @@ pub(crate) fn entries_at(
     alloc: Global,
     cells: usize,
     count: u32,
-    bytes: &[u8],
-) -> Result<(Vec<Moves>, &[u8]), ReadError>
-    ensures { Gives (λ x. (x.0.items, x.1.now)) result (many_at (entry_at cells) count bytes.now) }
+    cursor: &mut Cursor,
+) -> Result<Vec<Moves>, ReadError>
+    ensures read { Reads (λ entries left. (entries.items, left)) result (many_at (entry_at cells) count (rest cursor.old)) (rest cursor.new) }
+    ensures ends { (text : List ℕ) → IsEnd text cursor.old → IsEnd text cursor.new }
 {
     let mut items = Vec::new(alloc);
-    let mut rest = bytes;
     for _ in 0..count {
-        let (item, after) = match entry_at(alloc, cells, rest) {
-            Ok(found) => found,
-            Err(error) => return Err(error),
-        };
+        let item = entry_at(alloc, cells, cursor)?;
         items.push(item)?;
-        rest = after;
     }
-    Ok((items, rest))
+    Ok(items)
 }

@@ -2,7 +2,7 @@
 
 ghost use Rattle.std.specs.Prelude.{◌≡◌, ◌<◌, ◌==◌, IfSome, length, option_map, position};
 ghost use Rattle.lf_proto.specs.Requests.{orient_named, place_written};
-ghost use Rattle.lf_state.specs.Words.{behind, cut, place_in, place_on};
+ghost use Rattle.lf_state.specs.Words.{cut, place_in, place_on};
 
 use crate::numbers::coordinate_of;
 use lf_floorplan::{PackedPlace, Place};
@@ -10,7 +10,7 @@ use lf_orient::Orient;
 
 /// What stands before and behind the first such byte.
 #[tactic(auto, unfolding(crate::specs::Words::cut))]
-pub(crate) fn cut(byte: u8, bytes: &[u8]) -> Option<(&[u8], &[u8])>
+fn cut(byte: u8, bytes: &[u8]) -> Option<(&[u8], &[u8])>
     ensures { option_map (λ x. (x.0.now, x.1.now)) result ≡ cut byte bytes.now }
 {
     let at = position_of(byte, bytes)?;
@@ -18,19 +18,11 @@ pub(crate) fn cut(byte: u8, bytes: &[u8]) -> Option<(&[u8], &[u8])>
 }
 
 /// Where the first such byte stands.
-fn position_of(byte: u8, bytes: &[u8]) -> Option<usize>
+pub(crate) fn position_of(byte: u8, bytes: &[u8]) -> Option<usize>
     ensures found { result ≡ position (λ b. b == byte) bytes.now }
     ensures within { IfSome result (λ at. at < length bytes.now) }
 {
     bytes.iter().position(|b| *b == byte)
-}
-
-/// What stands behind these bytes, where they come first.
-#[tactic(auto, unfolding(crate::specs::Words::behind))]
-pub(crate) fn behind<'a>(due: &[u8], bytes: &'a [u8]) -> Option<&'a [u8]>
-    ensures { option_map (λ rest. rest.now) result ≡ behind due.now bytes.now }
-{
-    bytes.strip_prefix(due)
 }
 
 /// The orientation of that name.

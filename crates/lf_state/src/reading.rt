@@ -1,21 +1,26 @@
 //! A state text as it is read.
 
-ghost use Rattle.std.specs.Prelude.{◌≡◌, ◌<◌, IfOk, List, Ok, Result, length};
-ghost use Rattle.lf_state.specs.declared.fault.Fault.{Fault};
+ghost use Rattle.std.specs.Prelude.{◌≡◌, ◌<◌, IfErr, IfOk, List, Ok, Result, ℕ, length};
+ghost use Rattle.lf_state.specs.declared.fault.StateFault.{StateFault};
 ghost use Rattle.lf_state.specs.Designs.{team_of};
+ghost use Rattle.lf_state.specs.Pieces.{IsEnd, joined, rest};
+ghost use Rattle.lf_state.specs.Refused.{GivesIn, HoldsEnd};
 ghost use Rattle.lf_state.specs.Saved.{AreOf, AreSaved, SavedTeam, state_text, team_view, team_views};
-ghost use Rattle.lf_state.specs.Reading.{Gives, GivesAt, all_at, each_at, named_at, numbers_at, opening_at, rows_at, state_of, team_at, title_at, with_line};
+ghost use Rattle.lf_state.specs.Reading.{Fault, GivesAt, Reads, all_at, each_at, named_at, numbers_at, opening_at, rows_at, state_of, team_at, title_at, with_line};
 ghost use Rattle.lf_state.specs.Writing.{numbers_view};
 
+use crate::cursor::Cursor;
 use crate::design::{Design, name_of_team};
-use crate::fault::{FaultNumber, ReadError, StateError, located};
+use crate::fault::{FaultNumber, ReadError, StateError};
 use crate::lists::{cells_at, entries_at, slots_at};
-use crate::places::behind;
+use crate::pieces::{begins, is_done, skip};
+use crate::refused::{PiecesError, refusal_at};
 use crate::rows::TeamRow;
-use crate::words::{below_at, count_at, due_at, fault};
+use crate::words::{below_at, count_at, due_at};
 use lf_floorplan::Limits;
 use lf_rules::Padding;
 use std::alloc::Global;
+use std::collections::VecDeque;
 
 /// The numbers of a team's first line that its design does not say.
 #[derive(Clone, Copy)]
@@ -27,12 +32,13 @@ struct Numbers {
 
 /// The keyword of a team's first line, and the team's name.
 #[tactic(auto, unfolding(crate::specs::Reading::named_at))]
-fn named_at<'a>(name: &[u8], bytes: &'a [u8]) -> Result<&'a [u8], ReadError>
-    ensures { Gives (λ rest. rest.now) result (named_at name.now bytes.now) }
+fn named_at(name: &[u8], cursor: &mut Cursor) -> Result<(), ReadError>
+    ensures read { Reads (λ _ left. left) result (named_at name.now (rest cursor.old)) (rest cursor.new) }
+    ensures ends { (text : List ℕ) → IsEnd text cursor.old → IsEnd text cursor.new }
 {
-    let rest = due_at(FaultNumber::Unexpected, b"team ", bytes)?;
-    let named = due_at(FaultNumber::OtherDesign, name, rest)?;
-    due_at(FaultNumber::OtherDesign, b" ", named)
+    due_at(FaultNumber::Unexpected, b"team ", cursor)?;
+    due_at(FaultNumber::OtherDesign, name, cursor)?;
+    due_at(FaultNumber::OtherDesign, b" ", cursor)
 }
 
 /// The padding of that many core sites, of which it has at most 16.
@@ -48,145 +54,195 @@ fn padding_of(sites: u32) -> Padding
 
 /// The numbers of a team's first line, within the limits and of so many cells.
 #[tactic(auto, unfolding(crate::specs::Reading::numbers_at))]
-fn numbers_at<'a>(
-    limits: &Limits,
-    cells: usize,
-    bytes: &'a [u8],
-) -> Result<(Numbers, &'a [u8]), ReadError>
-    ensures { Gives (λ x. (numbers_view x.0, x.1.now)) result (numbers_at limits.now cells bytes.now) }
+fn numbers_at(limits: &Limits, cells: usize, cursor: &mut Cursor) -> Result<Numbers, ReadError>
+    ensures read { Reads (λ numbers left. (numbers_view numbers, left)) result (numbers_at limits.now cells (rest cursor.old)) (rest cursor.new) }
+    ensures ends { (text : List ℕ) → IsEnd text cursor.old → IsEnd text cursor.new }
 {
-    let (revision, rest) = below_at(limits.revisions as usize + 1, b' ', bytes)?;
-    let (sites, rest) = below_at(17, b' ', rest)?;
-    let rest = count_at(limits.sessions as usize, b' ', rest)?;
-    let rest = count_at(cells, b' ', rest)?;
-    let (entries, rest) = below_at(limits.undo as usize + 1, b'\n', rest)?;
-    Ok((
-        Numbers {
-            revision,
-            padding: padding_of(sites),
-            entries,
-        },
-        rest,
-    ))
+    let revision = below_at(limits.revisions as usize + 1, b' ', cursor)?;
+    let sites = below_at(17, b' ', cursor)?;
+    count_at(limits.sessions as usize, b' ', cursor)?;
+    count_at(cells, b' ', cursor)?;
+    let entries = below_at(limits.undo as usize + 1, b'\n', cursor)?;
+    Ok(Numbers {
+        revision,
+        padding: padding_of(sites),
+        entries,
+    })
 }
 
 /// The lines of a team behind its first.
 #[tactic(auto, unfolding(crate::specs::Reading::rows_at))]
-fn rows_at<'a, D: Design>(
+fn rows_at<D: Design>(
     alloc: Global,
     design: &D,
     team: usize,
     numbers: Numbers,
-    bytes: &'a [u8],
-) -> Result<(TeamRow, &'a [u8]), ReadError>
-    ensures { Gives (λ x. (team_view x.0, x.1.now)) result
-        (rows_at (D.named design.now).limits (team_of (D.named design.now) team) (numbers_view numbers) bytes.now) }
+    cursor: &mut Cursor,
+) -> Result<TeamRow, ReadError>
+    ensures read { Reads (λ row left. (team_view row, left)) result
+        (rows_at (D.named design.now).limits (team_of (D.named design.now) team) (numbers_view numbers) (rest cursor.old)) (rest cursor.new) }
+    ensures ends { (text : List ℕ) → IsEnd text cursor.old → IsEnd text cursor.new }
 {
     let cells = design.cell_count(team);
-    let (slots, rest) = slots_at(alloc, numbers.revision, design.limits().sessions, bytes)?;
-    let (places, rest) = match cells_at(alloc, design, team, rest) {
-        Ok(found) => found,
-        Err(error) => return Err(error),
-    };
-    let (entries, rest) = match entries_at(alloc, cells, numbers.entries, rest) {
-        Ok(found) => found,
-        Err(error) => return Err(error),
-    };
-    Ok((
-        TeamRow {
-            revision: numbers.revision,
-            padding: numbers.padding,
-            slots,
-            cells: places,
-            entries,
-        },
-        rest,
-    ))
+    let slots = slots_at(alloc, numbers.revision, design.limits().sessions, cursor)?;
+    let places = cells_at(alloc, design, team, cursor)?;
+    let entries = entries_at(alloc, cells, numbers.entries, cursor)?;
+    Ok(TeamRow {
+        revision: numbers.revision,
+        padding: numbers.padding,
+        slots,
+        cells: places,
+        entries,
+    })
 }
 
 /// The lines of a team.
 #[tactic(auto, unfolding(crate::specs::Reading::team_at))]
-fn team_at<'a, D: Design>(
+fn team_at<D: Design>(
     alloc: Global,
     design: &D,
     team: usize,
-    bytes: &'a [u8],
-) -> Result<(TeamRow, &'a [u8]), ReadError>
+    cursor: &mut Cursor,
+) -> Result<TeamRow, ReadError>
     requires { team < length (D.named design.now).teams }
-    ensures { Gives (λ x. (team_view x.0, x.1.now)) result (team_at (D.named design.now).limits (team_of (D.named design.now) team) bytes.now) }
+    ensures read { Reads (λ row left. (team_view row, left)) result
+        (team_at (D.named design.now).limits (team_of (D.named design.now) team) (rest cursor.old)) (rest cursor.new) }
+    ensures ends { (text : List ℕ) → IsEnd text cursor.old → IsEnd text cursor.new }
 {
-    let rest = named_at(name_of_team(design, team), bytes)?;
-    let (numbers, rest) = numbers_at(&design.limits(), design.cell_count(team), rest)?;
-    rows_at(alloc, design, team, numbers, rest)
+    named_at(name_of_team(design, team), cursor)?;
+    let numbers = numbers_at(&design.limits(), design.cell_count(team), cursor)?;
+    rows_at(alloc, design, team, numbers, cursor)
 }
 
 /// The lines of all teams.
-fn teams_at<'a, D: Design>(
+fn teams_at<D: Design>(
     alloc: Global,
     design: &D,
-    bytes: &'a [u8],
-) -> Result<(Vec<TeamRow>, &'a [u8]), ReadError>
-    ensures { Gives (λ x. (team_views x.0.items, x.1.now)) result (each_at (team_at (D.named design.now).limits) (D.named design.now).teams bytes.now) }
+    cursor: &mut Cursor,
+) -> Result<Vec<TeamRow>, ReadError>
+    ensures read { Reads (λ rows left. (team_views rows.items, left)) result
+        (each_at (team_at (D.named design.now).limits) (D.named design.now).teams (rest cursor.old)) (rest cursor.new) }
+    ensures ends { (text : List ℕ) → IsEnd text cursor.old → IsEnd text cursor.new }
 {
     let mut items = Vec::new(alloc);
-    let mut rest = bytes;
     for team in 0..design.team_count() {
-        let (item, after) = match team_at(alloc, design, team, rest) {
-            Ok(found) => found,
-            Err(error) => return Err(error),
-        };
+        let item = team_at(alloc, design, team, cursor)?;
         items.push(item)?;
-        rest = after;
     }
-    Ok((items, rest))
+    Ok(items)
 }
 
 /// The title of the version that is read here.
 #[tactic(auto, unfolding(crate::specs::Words::behind))]
-fn title_at(text: &[u8]) -> Result<&[u8], ReadError>
-    ensures { Gives (λ rest. rest.now) result (title_at text.now) }
+fn title_at(cursor: &mut Cursor) -> Result<(), ReadError>
+    ensures read { Reads (λ _ left. left) result (title_at (rest cursor.old)) (rest cursor.new) }
+    ensures ends { (text : List ℕ) → IsEnd text cursor.old → IsEnd text cursor.new }
 {
-    match behind(b"lefence-state 1\n", text) {
-        Some(rest) => Ok(rest),
-        None => Err(fault(FaultNumber::OtherVersion, text)),
+    let title = b"lefence-state 1\n".as_slice();
+    if begins(title, cursor)? {
+        skip(title.len(), cursor);
+        return Ok(());
     }
+    Err(ReadError::Fault(FaultNumber::OtherVersion))
 }
 
 /// The title, and the number of teams.
 #[tactic(auto, unfolding(crate::specs::Reading::opening_at))]
-fn opening_at<'a, D: Design>(design: &D, text: &'a [u8]) -> Result<&'a [u8], ReadError>
-    ensures { Gives (λ rest. rest.now) result (opening_at (D.named design.now) text.now) }
+fn opening_at<D: Design>(design: &D, cursor: &mut Cursor) -> Result<(), ReadError>
+    ensures read { Reads (λ _ left. left) result (opening_at (D.named design.now) (rest cursor.old)) (rest cursor.new) }
+    ensures ends { (text : List ℕ) → IsEnd text cursor.old → IsEnd text cursor.new }
 {
-    let rest = title_at(text)?;
-    let rest = due_at(FaultNumber::Unexpected, b"teams ", rest)?;
-    count_at(design.team_count(), b'\n', rest)
+    title_at(cursor)?;
+    due_at(FaultNumber::Unexpected, b"teams ", cursor)?;
+    count_at(design.team_count(), b'\n', cursor)
 }
 
 /// All of the text.
 #[tactic(auto, unfolding(crate::specs::Reading::all_at))]
-fn all_at<D: Design>(alloc: Global, design: &D, text: &[u8]) -> Result<Vec<TeamRow>, ReadError>
-    ensures { Gives (λ rows. team_views rows.items) result (all_at (D.named design.now) text.now) }
+fn all_at<D: Design>(
+    alloc: Global,
+    design: &D,
+    cursor: &mut Cursor,
+) -> Result<Vec<TeamRow>, ReadError>
+    ensures read { Reads (λ rows _. team_views rows.items) result (all_at (D.named design.now) (rest cursor.old)) (rest cursor.new) }
+    ensures ends { (text : List ℕ) → IsEnd text cursor.old → IsEnd text cursor.new }
 {
-    let rest = opening_at(design, text)?;
-    let (teams, rest) = match teams_at(alloc, design, rest) {
-        Ok(found) => found,
-        Err(error) => return Err(error),
-    };
-    if !rest.is_empty() {
-        return Err(fault(FaultNumber::Unexpected, rest));
+    opening_at(design, cursor)?;
+    let teams = teams_at(alloc, design, cursor)?;
+    if !is_done(cursor)? {
+        return Err(ReadError::Fault(FaultNumber::Unexpected));
     }
     Ok(teams)
 }
 
-/// What was read, where a fault has its line in the text.
-fn with_line(text: &[u8], read: Result<Vec<TeamRow>, ReadError>) -> Result<Vec<TeamRow>, StateError>
-    ensures { (found : Result (List SavedTeam) Fault) → Gives (λ rows. team_views rows.items) read found
-        → GivesAt (λ rows. team_views rows.items) result (with_line text.now found) }
+/// The cursor in front of the text of which these are the pieces.
+fn cursor_at(alloc: Global, pieces: VecDeque<Vec<u8>>) -> Cursor
+    ensures rest { rest result ≡ joined pieces.items }
+    ensures end { IsEnd (joined pieces.items) result }
+{
+    Cursor {
+        alloc,
+        lines: 0,
+        piece: Vec::new(alloc),
+        at: 0,
+        later: pieces,
+    }
+}
+
+/// What was read, where a fault is told with the end of the text.
+fn with_refusal(
+    read: Result<Vec<TeamRow>, ReadError>,
+    cursor: Cursor,
+) -> Result<Vec<TeamRow>, PiecesError>
+    ensures read { (text : List ℕ) (found : Result (List SavedTeam) Fault) → IsEnd text cursor
+        → Reads (λ rows _. team_views rows.items) read found (rest cursor) → GivesIn (λ rows. team_views rows.items) result (with_line text found) }
+    ensures end { (text : List ℕ) → IsEnd text cursor → IfErr result (HoldsEnd text) }
 {
     match read {
         Ok(rows) => Ok(rows),
-        Err(ReadError::Memory) => Err(StateError::Memory),
-        Err(ReadError::Fault(fault)) => Err(StateError::Fault(located(text, &fault))),
+        Err(ReadError::Memory) => Err(PiecesError::Memory),
+        Err(ReadError::Fault(number)) => Err(refusal_at(number, cursor)),
+    }
+}
+
+/// What a state text tells of the teams of the design, of which these are the pieces. Each piece is let go once it was read.
+///
+/// `Err` with the first fault and its line, if it tells nothing such; or if an allocation fails.
+pub fn read_pieces<D: Design>(
+    alloc: Global,
+    design: &D,
+    pieces: VecDeque<Vec<u8>>,
+) -> Result<Vec<TeamRow>, PiecesError>
+    // Which teams they are, or which fault it is.
+    ensures exact { GivesIn (λ rows. team_views rows.items) result (state_of (D.named design.now) (joined pieces.items)) }
+    // What is read is within the design's limits.
+    ensures fits { IfOk result (λ rows. AreOf (D.named design.now) (team_views rows.items)) }
+    // The end of the text that is refused.
+    ensures end { IfErr result (λ error. HoldsEnd (joined pieces.items) error) }
+{
+    let mut cursor = cursor_at(alloc, pieces);
+    let read = all_at(alloc, design, &mut cursor);
+    with_refusal(read, cursor)
+}
+
+/// The text in one piece.
+fn piece_of(alloc: Global, text: &[u8]) -> Result<VecDeque<Vec<u8>>, ReadError>
+    ensures { IfOk result (λ pieces. joined pieces.items ≡ text.now) }
+{
+    let mut pieces = VecDeque::new(alloc);
+    pieces.push_back(Vec::from_slice(alloc, text)?)?;
+    Ok(pieces)
+}
+
+/// The same without the end of a text that is refused.
+fn without_end(read: Result<Vec<TeamRow>, PiecesError>) -> Result<Vec<TeamRow>, StateError>
+    ensures { (found : Result (List SavedTeam) StateFault) → GivesIn (λ rows. team_views rows.items) read found
+        → GivesAt (λ rows. team_views rows.items) result found }
+{
+    match read {
+        Ok(rows) => Ok(rows),
+        Err(PiecesError::Memory) => Err(StateError::Memory),
+        Err(PiecesError::Refused(refused)) => Err(StateError::Fault(refused.fault)),
     }
 }
 
@@ -206,6 +262,9 @@ pub fn read_state<D: Design>(
     ensures again { (teams : List SavedTeam) → AreSaved (D.named design.now) teams → text.now ≡ state_text (D.named design.now) teams
         → GivesAt (λ rows. team_views rows.items) result (Ok teams) }
 {
-    let read = all_at(alloc, design, text);
-    with_line(text, read)
+    let Ok(pieces) = piece_of(alloc, text) else {
+        return Err(StateError::Memory);
+    };
+    let read = read_pieces(alloc, design, pieces);
+    without_end(read)
 }

@@ -1,107 +1,124 @@
 //! The words of a text, one after the other.
 
-ghost use Rattle.std.specs.Prelude.{◌≡◌, length};
-ghost use Rattle.lf_state.specs.declared.fault.ReadError.TheVariants as errors;
+ghost use Rattle.std.specs.Prelude.{◌≡◌, ◌+◌, ◌<◌, ◌≤◌, List, ℕ, IfOk, drop, length, take};
 ghost use Rattle.lf_state.specs.Words.{slot_on};
-ghost use Rattle.lf_state.specs.Reading.{Gives, below_at, count_at, due_at, is_seen_by, number_at, slot_at, spot_at, unmet, word_at};
+ghost use Rattle.lf_state.specs.Pieces.{IsEnd, front, rest};
+ghost use Rattle.lf_state.specs.Reading.{Reads, below_at, count_at, due_at, is_seen_by, number_at, slot_at, spot_at, unmet, word_at};
 
-use crate::fault::{Fault, FaultNumber, ReadError};
+use crate::cursor::Cursor;
+use crate::fault::{FaultNumber, ReadError};
 use crate::numbers::number_of;
-use crate::places::{behind, cut, place_on};
+use crate::pieces::{begins, find, skip, word};
+use crate::places::place_on;
 use lf_floorplan::PackedPlace;
-
-/// The fault of that number where these bytes are left.
-pub(crate) fn fault(number: FaultNumber, bytes: &[u8]) -> ReadError
-    ensures { result ≡ errors.Fault (record { number = number; left = length bytes.now }) }
-{
-    ReadError::Fault(Fault {
-        number,
-        left: bytes.len(),
-    })
-}
+use std::alloc::AllocError;
 
 /// What is wrong with a line that goes on otherwise: that, or the text ends within the line.
-fn unmet(number: FaultNumber, bytes: &[u8]) -> FaultNumber
-    ensures { result ≡ unmet number bytes.now }
+#[tactic(auto, unfolding(crate::specs::Words::cut))]
+fn unmet(number: FaultNumber, cursor: &mut Cursor) -> Result<FaultNumber, AllocError>
+    ensures unmet { IfOk result (λ met. met ≡ unmet number (rest cursor.old)) }
+    ensures rest { rest cursor.new ≡ rest cursor.old }
+    ensures ends { (text : List ℕ) → IsEnd text cursor.old → IsEnd text cursor.new }
 {
-    match cut(b'\n', bytes) {
-        Some(_) => number,
-        None => FaultNumber::UnexpectedEnd,
+    match find(b'\n', cursor)? {
+        Some(_) => Ok(number),
+        None => Ok(FaultNumber::UnexpectedEnd),
     }
 }
 
-/// What follows the bytes that are due.
-#[tactic(auto, unfolding(crate::specs::Reading::due_at))]
-pub(crate) fn due_at<'a>(
-    number: FaultNumber,
-    due: &[u8],
-    bytes: &'a [u8],
-) -> Result<&'a [u8], ReadError>
-    ensures { Gives (λ rest. rest.now) result (due_at number due.now bytes.now) }
+/// Takes the bytes that are due.
+#[tactic(auto, unfolding(crate::specs::Reading::due_at, crate::specs::Words::behind))]
+pub(crate) fn due_at(number: FaultNumber, due: &[u8], cursor: &mut Cursor) -> Result<(), ReadError>
+    ensures read { Reads (λ _ left. left) result (due_at number due.now (rest cursor.old)) (rest cursor.new) }
+    ensures ends { (text : List ℕ) → IsEnd text cursor.old → IsEnd text cursor.new }
 {
-    match behind(due, bytes) {
-        Some(rest) => Ok(rest),
-        None => Err(fault(unmet(number, bytes), bytes)),
+    if begins(due, cursor)? {
+        skip(due.len(), cursor);
+        return Ok(());
+    }
+    let met = unmet(number, cursor)?;
+    Err(ReadError::Fault(met))
+}
+
+/// How long the word up to the next such byte is: the piece then has it and the byte.
+#[tactic(auto, unfolding(crate::specs::Reading::word_at, crate::specs::Words::cut))]
+fn word_len(byte: u8, cursor: &mut Cursor) -> Result<usize, ReadError>
+    ensures read { Reads (λ len left. (take len left, drop (len + 1) left)) result (word_at byte (rest cursor.old)) (rest cursor.new) }
+    ensures within { IfOk result (λ len. len < length (front cursor.new)) }
+    ensures rest { rest cursor.new ≡ rest cursor.old }
+    ensures ends { (text : List ℕ) → IsEnd text cursor.old → IsEnd text cursor.new }
+{
+    match find(byte, cursor)? {
+        Some(len) => Ok(len),
+        None => Err(ReadError::Fault(FaultNumber::UnexpectedEnd)),
     }
 }
 
-/// The bytes up to the next such byte, and those behind it.
-#[tactic(auto, unfolding(crate::specs::Reading::word_at))]
-fn word_at(byte: u8, bytes: &[u8]) -> Result<(&[u8], &[u8]), ReadError>
-    ensures { Gives (λ x. (x.0.now, x.1.now)) result (word_at byte bytes.now) }
+/// The number below 2^32 that comes next, and how long its word is, which is not taken.
+#[tactic(auto, unfolding(crate::specs::Reading::number_at))]
+fn next_number(byte: u8, cursor: &mut Cursor) -> Result<(u32, usize), ReadError>
+    ensures read { Reads (λ x left. (x.0, drop (x.1 + 1) left)) result (number_at byte (rest cursor.old)) (rest cursor.new) }
+    ensures within { IfOk result (λ x. x.1 < length (front cursor.new)) }
+    ensures rest { rest cursor.new ≡ rest cursor.old }
+    ensures ends { (text : List ℕ) → IsEnd text cursor.old → IsEnd text cursor.new }
 {
-    match cut(byte, bytes) {
-        Some(found) => Ok(found),
-        None => Err(fault(FaultNumber::UnexpectedEnd, bytes)),
-    }
+    let len = word_len(byte, cursor)?;
+    let Some(number) = number_of(word(len, cursor)) else {
+        return Err(ReadError::Fault(FaultNumber::BadNumber));
+    };
+    Ok((number, len))
 }
 
 /// A number below 2^32.
-#[tactic(auto, unfolding(crate::specs::Reading::number_at))]
-pub(crate) fn number_at(byte: u8, bytes: &[u8]) -> Result<(u32, &[u8]), ReadError>
-    ensures { Gives (λ x. (x.0, x.1.now)) result (number_at byte bytes.now) }
+pub(crate) fn number_at(byte: u8, cursor: &mut Cursor) -> Result<u32, ReadError>
+    ensures read { Reads (λ n left. (n, left)) result (number_at byte (rest cursor.old)) (rest cursor.new) }
+    ensures ends { (text : List ℕ) → IsEnd text cursor.old → IsEnd text cursor.new }
 {
-    let (word, rest) = word_at(byte, bytes)?;
-    let Some(number) = number_of(word) else {
-        return Err(fault(FaultNumber::BadNumber, bytes));
-    };
-    Ok((number, rest))
+    let (number, len) = next_number(byte, cursor)?;
+    skip(len + 1, cursor);
+    Ok(number)
 }
 
 /// A number below a limit.
 #[tactic(auto, unfolding(crate::specs::Reading::below_at))]
-pub(crate) fn below_at(limit: usize, byte: u8, bytes: &[u8]) -> Result<(u32, &[u8]), ReadError>
-    ensures { Gives (λ x. (x.0, x.1.now)) result (below_at limit byte bytes.now) }
+pub(crate) fn below_at(limit: usize, byte: u8, cursor: &mut Cursor) -> Result<u32, ReadError>
+    ensures read { Reads (λ n left. (n, left)) result (below_at limit byte (rest cursor.old)) (rest cursor.new) }
+    ensures ends { (text : List ℕ) → IsEnd text cursor.old → IsEnd text cursor.new }
 {
-    let (number, rest) = number_at(byte, bytes)?;
+    let (number, len) = next_number(byte, cursor)?;
     if (number as usize) < limit {
-        return Ok((number, rest));
+        skip(len + 1, cursor);
+        return Ok(number);
     }
-    Err(fault(FaultNumber::OutOfRange, bytes))
+    Err(ReadError::Fault(FaultNumber::OutOfRange))
 }
 
-/// What follows the number that is due.
+/// Takes the number that is due.
 #[tactic(auto, unfolding(crate::specs::Reading::count_at))]
-pub(crate) fn count_at(count: usize, byte: u8, bytes: &[u8]) -> Result<&[u8], ReadError>
-    ensures { Gives (λ rest. rest.now) result (count_at count byte bytes.now) }
+pub(crate) fn count_at(count: usize, byte: u8, cursor: &mut Cursor) -> Result<(), ReadError>
+    ensures read { Reads (λ _ left. left) result (count_at count byte (rest cursor.old)) (rest cursor.new) }
+    ensures ends { (text : List ℕ) → IsEnd text cursor.old → IsEnd text cursor.new }
 {
-    let (number, rest) = number_at(byte, bytes)?;
+    let (number, len) = next_number(byte, cursor)?;
     if number as usize == count {
-        return Ok(rest);
+        skip(len + 1, cursor);
+        return Ok(());
     }
-    Err(fault(FaultNumber::OtherDesign, bytes))
+    Err(ReadError::Fault(FaultNumber::OtherDesign))
 }
 
 /// A place or none.
 #[tactic(auto, unfolding(crate::specs::Reading::spot_at))]
-pub(crate) fn spot_at(byte: u8, bytes: &[u8]) -> Result<(PackedPlace, &[u8]), ReadError>
-    ensures { Gives (λ x. (x.0, x.1.now)) result (spot_at byte bytes.now) }
+pub(crate) fn spot_at(byte: u8, cursor: &mut Cursor) -> Result<PackedPlace, ReadError>
+    ensures read { Reads (λ place left. (place, left)) result (spot_at byte (rest cursor.old)) (rest cursor.new) }
+    ensures ends { (text : List ℕ) → IsEnd text cursor.old → IsEnd text cursor.new }
 {
-    let (word, rest) = word_at(byte, bytes)?;
-    let Some(place) = place_on(word) else {
-        return Err(fault(FaultNumber::BadNumber, bytes));
+    let len = word_len(byte, cursor)?;
+    let Some(place) = place_on(word(len, cursor)) else {
+        return Err(ReadError::Fault(FaultNumber::BadNumber));
     };
-    Ok((place, rest))
+    skip(len + 1, cursor);
+    Ok(place)
 }
 
 /// What the word of a session slot writes.
@@ -128,15 +145,17 @@ fn is_seen_by(revision: u32, slot: Option<u32>) -> bool
 
 /// The line of a session slot of a team that has this revision.
 #[tactic(auto, unfolding(crate::specs::Reading::slot_at))]
-pub(crate) fn slot_at(revision: u32, bytes: &[u8]) -> Result<(Option<u32>, &[u8]), ReadError>
-    ensures { Gives (λ x. (x.0, x.1.now)) result (slot_at revision bytes.now) }
+pub(crate) fn slot_at(revision: u32, cursor: &mut Cursor) -> Result<Option<u32>, ReadError>
+    ensures read { Reads (λ slot left. (slot, left)) result (slot_at revision (rest cursor.old)) (rest cursor.new) }
+    ensures ends { (text : List ℕ) → IsEnd text cursor.old → IsEnd text cursor.new }
 {
-    let (word, rest) = word_at(b'\n', bytes)?;
-    let Some(slot) = slot_on(word) else {
-        return Err(fault(FaultNumber::BadNumber, bytes));
+    let len = word_len(b'\n', cursor)?;
+    let Some(slot) = slot_on(word(len, cursor)) else {
+        return Err(ReadError::Fault(FaultNumber::BadNumber));
     };
     if is_seen_by(revision, slot) {
-        return Ok((slot, rest));
+        skip(len + 1, cursor);
+        return Ok(slot);
     }
-    Err(fault(FaultNumber::OutOfRange, bytes))
+    Err(ReadError::Fault(FaultNumber::OutOfRange))
 }

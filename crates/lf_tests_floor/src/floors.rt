@@ -100,8 +100,8 @@ fn runs_requests(rt: HostRuntime) -> Result<(), Fail> {
 
 /// A text in memory.
 #[derive(Drop)]
-struct Kept {
-    text: Vec<u8>,
+pub(crate) struct Kept {
+    pub(crate) text: Vec<u8>,
 }
 
 impl Output for Kept {

@@ -10,6 +10,8 @@ mod devices;
 #[cfg(test)]
 mod floors;
 #[cfg(test)]
+mod pieces;
+#[cfg(test)]
 mod sockets;
 #[cfg(test)]
 mod starts;

@@ -1,6 +1,8 @@
 //! The state that a floor is brought into before work on it begins: the one that the text of a file tells.
 
-ghost use Rattle.std.specs.Prelude.{◌≡◌, ◌⊎◌, ◌+◌, IfErr, IfOk, Ok, length};
+ghost use Rattle.std.specs.Prelude.{◌≡◌, ◌⊎◌, ◌+◌, IfErr, IfOk, List, Ok, ℕ, length};
+ghost use Rattle.lf_state.specs.Pieces.{joined};
+ghost use Rattle.lf_state.specs.Refused.{HasEnd};
 ghost use Rattle.lf_teams.specs.Designs.{opening};
 ghost use Rattle.lf_restore.specs.Saved.{AreDue, AreOfOneDesign, named};
 ghost use Rattle.lf_state.specs.Reading.{state_of};
@@ -9,12 +11,13 @@ ghost use Rattle.lf_designs.specs.declared.faults.Fault.TheVariants.{NoMemory};
 ghost use Rattle.lf_designs.specs.declared.faults.TextKind.TheVariants.{State};
 ghost use Rattle.lf_work.specs.States.{FileTells, IsFileState, IsStateFileFault, IsStateRefused, IsStateTextFault};
 
-use lf_designs::{Fault, StateRefusal, TextFile, TextKind, Texts, read_text};
+use lf_designs::{Fault, StateRefusal, TextFile, TextKind, Texts, read_in_pieces};
 use lf_floor::Floor;
 use lf_floorplan::Loaded;
 use lf_legalize::IndexSeeker;
-use lf_state::{StateError, StateFault, TeamRow};
+use lf_state::{PiecesError, Refused, TeamRow};
 use std::alloc::{AllocError, Global};
+use std::collections::VecDeque;
 
 /// The file of a saved state.
 fn state_file(path: &str) -> TextFile<'_>
@@ -28,34 +31,34 @@ fn state_file(path: &str) -> TextFile<'_>
 }
 
 /// The fault of the text of the file of that path, which is refused so: that an allocation failed, if there is no memory to tell more.
-fn refused_state<'a>(alloc: Global, path: &'a str, text: &[u8], fault: StateFault) -> Fault<'a>
-    ensures { IsStateRefused path.now text.now fault result }
+fn refused_state<'a>(alloc: Global, path: &'a str, refused: &Refused) -> Fault<'a>
+    ensures { (text : List ℕ) → HasEnd text refused.now → IsStateRefused path.now text refused.now.fault result }
 {
-    match StateRefusal::new(alloc, text, fault) {
+    match StateRefusal::new(alloc, refused) {
         Ok(refusal) => Fault::NoState(path, refusal),
         Err(_) => Fault::NoMemory,
     }
 }
 
-/// What the text of the file of that path tells of the teams of the floor's design.
+/// What the text of the file of that path, of which these are the pieces, tells of the teams of the floor's design.
 fn read_rows<'a>(
     alloc: Global,
     floor: &Floor<IndexSeeker>,
     path: &'a str,
-    text: &[u8],
+    pieces: VecDeque<Vec<u8>>,
 ) -> Result<Vec<TeamRow>, Fault<'a>>
-    ensures ok { IfOk result (λ rows. state_of (named floor.now) text.now ≡ Ok (team_views rows.items)) }
+    ensures ok { IfOk result (λ rows. state_of (named floor.now) (joined pieces.items) ≡ Ok (team_views rows.items)) }
     ensures due { IfOk result (λ rows. AreDue floor.now.frame.limits floor.now.teams (team_views rows.items)) }
-    ensures err { IfErr result (IsStateTextFault floor.now path.now text.now) }
+    ensures err { IfErr result (IsStateTextFault floor.now path.now (joined pieces.items)) }
 {
-    match floor.read_state(text) {
+    match floor.read_pieces(pieces) {
         Ok(rows) => Ok(rows),
-        Err(StateError::Memory) => Err(Fault::NoMemory),
-        Err(StateError::Fault(fault)) => Err(refused_state(alloc, path, text, fault)),
+        Err(PiecesError::Memory) => Err(Fault::NoMemory),
+        Err(PiecesError::Refused(refused)) => Err(refused_state(alloc, path, &refused)),
     }
 }
 
-/// The same of the file of that path: its text is let go once it is read.
+/// The same of the file of that path: each piece of its text is let go once it was read.
 fn rows_of_file<'a, T: Texts>(
     alloc: Global,
     texts: &T,
@@ -66,8 +69,8 @@ fn rows_of_file<'a, T: Texts>(
     ensures due { IfOk result (λ rows. AreDue floor.now.frame.limits floor.now.teams (team_views rows.items)) }
     ensures err { IfErr result (IsStateFileFault (T.gives texts.now) path.now floor.now) }
 {
-    let text = read_text(texts, state_file(path))?;
-    read_rows(alloc, floor, path, &text)
+    let pieces = read_in_pieces(alloc, texts, state_file(path))?;
+    read_rows(alloc, floor, path, pieces)
 }
 
 /// The floor in the state that the file of that path tells of its design: the text is let go before anything is built of it.

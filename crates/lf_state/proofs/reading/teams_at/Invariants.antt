@@ -1,4 +1,5 @@
-use Rattle.std.proofs.Common.{◌≡◌, drop}
+use Rattle.std.proofs.Common.{◌≡◌, List, ℕ, drop}
+use Rattle.lf_state.specs.Pieces.{IsEnd, rest}
 use Rattle.lf_state.specs.Saved.{team_views}
 use Rattle.lf_state.specs.Reading.{each_at, team_at}
 use Rattle.lf_state.proofs.Loop.{with_front}
@@ -7,4 +8,7 @@ use Rattle.lf_state.proofs.reading.teams_at.Given as goal
 abbrev pub invariant-loop-team : goal.invariant-loop-team
 invariant-loop-team g l =
     let design = g.D.Design.named l.design in
-    with_front (team_views l.items.items) (each_at (team_at design.limits) (drop l.team design.teams) l.rest) ≡ each_at (team_at design.limits) design.teams l.bytes
+    record {
+      read : with_front (team_views l.items.items) (each_at (team_at design.limits) (drop l.team design.teams) (rest l.cursor)) ≡ each_at (team_at design.limits) design.teams (rest l.fn.cursor);
+      ends : (text : List ℕ) → IsEnd text l.fn.cursor → IsEnd text l.cursor;
+    }

@@ -2,8 +2,8 @@ use Rattle.std.proofs.Common.{◌++◌, ap, subst, sym, ◌∙◌, [], take, ari
 use Rattle.std.specs.Prelude.{All}
 use Rattle.std.proofs.lemmas.List.{take_all}
 use Rattle.std.proofs.lemmas.List.Elements.{All-more, All-nil}
-use Rattle.lf_state.specs.Designs.{NamedTeam, team_of}
-use Rattle.lf_state.specs.Saved.{IsInRange, SavedTeam, lines_of, saved_at, team_lines}
+use Rattle.lf_state.specs.Designs.{NamedTeam}
+use Rattle.lf_state.specs.Saved.{IsInRange, SavedTeam, lines_of, team_lines}
 use Rattle.lf_state.proofs.Lines.{all_lines, line_there, next_line, no_line}
 use Rattle.lf_state.proofs.writing.put_teams.Goals as goal
 
