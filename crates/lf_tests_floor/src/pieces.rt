@@ -55,17 +55,16 @@ fn is_restored(
 fn a_state_in_pieces_of_each_size_is_restored(rt: HostRuntime) -> Result<(), Fail> {
     let text = state_of(rt.alloc(), &floor(rt.alloc())?);
     for size in 1..=text.len() {
-        assert!(rt; is_restored(rt.alloc(), floor(rt.alloc())?, &text, size)?, "{size} bytes a piece");
+        assert!(rt;
+            is_restored(rt.alloc(), floor(rt.alloc())?, &text, size)?,
+            "{size} bytes a piece"
+        );
     }
     Ok(())
 }
 
 /// Whether the faulty text in pieces of this size is refused for its third line, with an end that has that line.
-fn is_refused(
-    alloc: Global,
-    floor: &Floor<PlainSeeker>,
-    size: usize,
-) -> Result<bool, AllocError>
+fn is_refused(alloc: Global, floor: &Floor<PlainSeeker>, size: usize) -> Result<bool, AllocError>
     requires { 0 < size }
 {
     let Err(PiecesError::Refused(refused)) = floor.read_pieces(cut(alloc, FAULTY, size)?) else {
@@ -82,7 +81,10 @@ fn is_refused(
 fn a_fault_in_pieces_of_each_size_is_told_the_same(rt: HostRuntime) -> Result<(), Fail> {
     let floor = floor(rt.alloc())?;
     for size in 1..=FAULTY.len() {
-        assert!(rt; is_refused(rt.alloc(), &floor, size)?, "{size} bytes a piece");
+        assert!(rt;
+            is_refused(rt.alloc(), &floor, size)?,
+            "{size} bytes a piece"
+        );
     }
     Ok(())
 }
