@@ -5,10 +5,10 @@ ghost use Rattle.lf_state.specs.Pieces.{joined};
 
 use std::alloc::Global;
 use std::collections::VecDeque;
-use std::fs::File;
+use std::fs::{File, OpenFile};
+use std::io;
 use std::io::Read;
 use std::rt::Files;
-use std::{fs, io};
 
 /// How many bytes a piece of a file has, but for the last.
 const PIECE: usize = 1_048_576;
@@ -89,11 +89,19 @@ fn unread_of(error: &io::Error) -> Unread {
     }
 }
 
+/// The whole text of the file, in a list that has room for no more, where the system tells its length.
+fn whole_text<T: Files>(files: &T, alloc: Global, path: &str) -> io::Result<Vec<u8>> {
+    let mut file = File::open(files, path)?;
+    let length = file.metadata()?.len();
+    let mut text = Vec::with_capacity(alloc, length as usize)?;
+    io::copy(&mut file, &mut text)?;
+    Ok(text)
+}
+
 /// The next piece; no byte at the end.
 fn next_piece<R: Read>(alloc: Global, file: &mut R) -> io::Result<Vec<u8>> {
-    // A byte more than the piece has, so that the look for more takes no room.
-    let mut piece = Vec::with_capacity(alloc, PIECE + 1)?;
-    file.by_ref().take(PIECE as u64).read_to_end(&mut piece)?;
+    let mut piece = Vec::with_capacity(alloc, PIECE)?;
+    io::copy(&mut file.by_ref().take(PIECE as u64), &mut piece)?;
     Ok(piece)
 }
 
@@ -113,7 +121,7 @@ fn all_pieces<T: Files>(files: &T, alloc: Global, path: &str) -> io::Result<VecD
 
 impl<'a, T: Files + AllocGlobal> Texts for FileTexts<'a, T> {
     fn text(&self, path: &str) -> Result<Vec<u8>, Unread> {
-        match fs::read(self.files, path) {
+        match whole_text(self.files, self.files.alloc(), path) {
             Ok(text) => Ok(text),
             Err(error) => Err(unread_of(&error)),
         }

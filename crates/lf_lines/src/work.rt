@@ -1,7 +1,7 @@
 //! Work on a design: its lines are answered or its connections served, and then the text with its committed places and the state of
 //! the floor are written, if they are asked for.
 
-ghost use Rattle.std.specs.Prelude.{◌≡◌, ℕ, List, Option, IfErr, IfOk, map};
+ghost use Rattle.std.specs.Prelude.{◌≡◌, ℕ, List, None, Option, IfErr, IfOk, map};
 ghost use Rattle.lf_lef.specs.Contents.{Contents};
 ghost use Rattle.lf_def.specs.Document.{Document};
 ghost use Rattle.lf_floorplan.specs.declared.limits.Limits.{Limits as TheLimits};
@@ -31,7 +31,9 @@ use lf_frame::Loaded;
 use lf_legalize::IndexSeeker;
 use lf_reread::loaded_cells_can_be_given;
 use lf_teams::places_follow_design;
-use lf_work::{Inputs, Outputs, floor_of, floor_to_begin, put_outputs, try_outputs};
+use lf_work::{
+    Inputs, Outputs, floor_of, floor_to_begin, put_outputs, save_to, try_outputs, try_save,
+};
 use lf_write::clauses_serve;
 use std::alloc::Global;
 
@@ -65,7 +67,31 @@ fn work_on_floor<'a, T, E: Exports, V: Services, R: Source, W: Sink, F, P>(
     Ok(0)
 }
 
-/// Works on the design of a text that was opened.
+/// The same on the floor of a design whose text is not exported: the state alone is written, if it is asked for.
+fn work_unexported<'a, T, E: Exports, V: Services, R: Source, W: Sink, F, P>(
+    alloc: Global,
+    around: &mut Surroundings<T, E, V, R, W, F, P>,
+    begun: &mut Floor<IndexSeeker>,
+    lines: Lines,
+    save: Option<&'a str>,
+) -> Result<u8, Fault<'a>>
+    requires ready { IsReady R.has_failed R.reads W.has_failed around.old.reader around.old.writer }
+    ensures ok { (text : List ℕ) (document : Document) → IfOk result (λ status. (status ≡ 0) × IsFinished (IsDone lines begun.old)
+        (path_of save.entry) None text document (io_of R.remaining W.contents E.puts V.accepted around.old around.new)) }
+    ensures err { (text : List ℕ) (document : Document) → IfErr result (λ fault. IsUnfinished (path_of save.entry) None lines begun.old
+        text document fault (io_of R.remaining W.contents E.puts V.accepted around.old around.new)
+        × BlamesIn E.has_failed V.has_failed R.has_failed R.reads W.has_failed lines around.old around.new fault) }
+    ensures leaves { Leaves E.puts V.offers lines (path_of save.entry) None result around.old around.new }
+    ensures silent { around.new.progress ≡ around.old.progress }
+    ensures keeps { Keeps R.holds W.holds around.old around.new }
+{
+    try_save(save, &mut around.exports)?;
+    answer(alloc, around, begun, lines)?;
+    save_to(begun, save, &mut around.exports)?;
+    Ok(0)
+}
+
+/// Works on the design of a text that was opened, and is exported again if that is asked for.
 fn work_on_opened<'a, T: Texts, E: Exports, V: Services, R: Source, W: Sink, F, P>(
     alloc: Global,
     around: &mut Surroundings<T, E, V, R, W, F, P>,
@@ -97,8 +123,44 @@ fn work_on_opened<'a, T: Texts, E: Exports, V: Services, R: Source, W: Sink, F, 
     work_on_floor(alloc, around, &original, &mut floor, lines, outputs)
 }
 
+/// Works on a design of which no text is exported.
+fn work_on_loaded<'a, T: Texts, E: Exports, V: Services, R: Source, W: Sink, F, P>(
+    alloc: Global,
+    around: &mut Surroundings<T, E, V, R, W, F, P>,
+    loaded: Loaded,
+    state: Option<&'a str>,
+    lines: Lines,
+    save: Option<&'a str>,
+) -> Result<u8, Fault<'a>>
+    requires ready { IsReady R.has_failed R.reads W.has_failed around.old.reader around.old.writer }
+    ensures ok { (text : List ℕ) (document : Document) → IfOk result (λ status. (status ≡ 0) × ((begin : FloorState)
+        × IsBegun (T.gives around.old.texts) (path_of state.entry) (opening loaded) begin
+        × IsFinished (IsDone lines begin) (path_of save.entry) None text document (io_of R.remaining W.contents E.puts V.accepted around.old around.new))) }
+    ensures err { (text : List ℕ) (document : Document) → IfErr result (λ fault. IsUnworked (T.gives around.old.texts) (path_of state.entry)
+        (path_of save.entry) None lines loaded text document fault (io_of R.remaining W.contents E.puts V.accepted around.old around.new)
+        × BlamesIn E.has_failed V.has_failed R.has_failed R.reads W.has_failed lines around.old around.new fault) }
+    ensures leaves { Leaves E.puts V.offers lines (path_of save.entry) None result around.old around.new }
+    ensures silent { around.new.progress ≡ around.old.progress }
+    ensures keeps { Keeps R.holds W.holds around.old around.new }
+{
+    let mut floor = floor_to_begin(alloc, &around.texts, loaded, state)?;
+    work_unexported(alloc, around, &mut floor, lines, save)
+}
+
+/// The design alone: its text is let go.
+fn without_text(opened: Opened) -> Loaded
+    ensures { result ≡ opened.loaded }
+{
+    let Opened {
+        loaded,
+        original: _,
+    } = opened;
+    loaded
+}
+
 /// Works on the design of a DEF file over LEF files, in the state of a third file if one is given: its lines are answered or its
-/// connections served, and then the exported text and the state are written, where they are asked for. Returns the exit status 0. `Err` is
+/// connections served, and then the exported text and the state are written, where they are asked for. The DEF text is kept only where it
+/// is exported again. Returns the exit status 0. `Err` is
 /// the first fault of: the files, LEF before DEF; the design; the state; the paths of what is asked for; the port; the lines; the
 /// exported text; the state. No file is written if another than the state's is at fault.
 pub fn work_on_files<'a, T: Texts, E: Exports, V: Services, R: Source, W: Sink, F, P>(
@@ -123,7 +185,13 @@ pub fn work_on_files<'a, T: Texts, E: Exports, V: Services, R: Source, W: Sink, 
     ensures keeps { Keeps R.holds W.holds around.old around.new }
 {
     let opened = open_files(alloc, inputs.limits, &around.texts, inputs.def, inputs.lefs)?;
-    work_on_opened(alloc, around, opened, inputs.state, lines, outputs)
+    match outputs.export {
+        Some(_) => work_on_opened(alloc, around, opened, inputs.state, lines, outputs),
+        None => {
+            let loaded = without_text(opened);
+            work_on_loaded(alloc, around, loaded, inputs.state, lines, outputs.save)
+        }
+    }
 }
 
 /// Answers the lines of the reader over the design, 1,000,000 at most; no text is exported. Returns the exit status 0. `Err` is want of

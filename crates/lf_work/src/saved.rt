@@ -90,10 +90,7 @@ fn save_fault<'f>(path: &'f str, unwritten: Unwritten) -> Fault<'f>
 }
 
 /// Makes sure, as far as that shows beforehand, that a state can be written to the file of that path, if one is given.
-pub(crate) fn try_save<'a, E: Exports>(
-    path: Option<&'a str>,
-    exports: &mut E,
-) -> Result<(), Fault<'a>>
+pub fn try_save<'a, E: Exports>(path: Option<&'a str>, exports: &mut E) -> Result<(), Fault<'a>>
     ensures err { IfErr result (IsSaveFault (path_of path.entry)) }
     ensures fails { IfErr result (λ fault. ExportFails fault (E.has_failed exports.old) (E.has_failed exports.new)) }
     ensures sound { OnOk result (E.has_failed exports.new ≡ E.has_failed exports.old) }
@@ -110,7 +107,7 @@ pub(crate) fn try_save<'a, E: Exports>(
 }
 
 /// Writes the state of the floor to the file of that path, if one is given.
-pub(crate) fn save_to<'a, E: Exports>(
+pub fn save_to<'a, E: Exports>(
     floor: &Floor<IndexSeeker>,
     path: Option<&'a str>,
     exports: &mut E,

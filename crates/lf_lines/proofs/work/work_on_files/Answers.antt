@@ -1,4 +1,4 @@
-use Rattle.std.proofs.Common.{◌≡◌, inl, map, refl}
+use Rattle.std.proofs.Common.{◌≡◌, inl, map, refl, None}
 use Rattle.std.proofs.lemmas.Result.{err_from_is_err_and}
 use Rattle.lf_designs.specs.Designs.{IsDesignFault}
 use Rattle.lf_lines.specs.Exits.{IsUndone}
@@ -9,16 +9,17 @@ use Rattle.lf_work.proofs.WorkSteps.{design_early, first_fails, step_fails, weak
 use Rattle.lf_lines.proofs.LineSteps.{still_sound, undone}
 use Rattle.lf_lines.proofs.work.work_on_files.Goals as goal
 
-pub work_on_opened-requires : goal.work_on_opened-requires
-work_on_opened-requires g c =
-    let is = c.in_ok-opened.ensures.ok.1 in
-    record {
-      ready = c.requires.ready;
-      loads = (c.args.inputs.limits, is.library, c.in_ok-opened.ensures.ok.0, record { read = is.read; clauses_are = c.in_ok-opened.ensures.ok.2; loads = is.loads });
-    }
+pub work_on_opened-requires-clause-loads : goal.work_on_opened-requires-clause-loads
+work_on_opened-requires-clause-loads g c =
+    let is = c.in_ok-opened.ensures.ok.1 in (
+      c.args.inputs.limits,
+      is.library,
+      c.in_ok-opened.ensures.ok.0,
+      record { read = is.read; clauses_are = c.in_ok-opened.ensures.ok.2; loads = is.loads },
+    )
 
-pub returns-clause-ok : goal.returns-clause-ok
-returns-clause-ok g c =
+pub returns-in-Some-clause-ok : goal.returns-in-Some-clause-ok
+returns-in-Some-clause-ok g c =
     let opened = c.in_ok-opened.opened in
     let of = c.in_ok-opened.ensures.ok in
     weaker_ok c.work_on_opened.result _ _ (c.work_on_opened.ensures.ok of.0 of.2)
@@ -35,11 +36,37 @@ returns-clause-ok g c =
       is.0,
     ))
 
-pub returns-clause-err : goal.returns-clause-err
-returns-clause-err g c =
+pub returns-in-Some-clause-err : goal.returns-in-Some-clause-err
+returns-in-Some-clause-err g c =
     let of = c.in_ok-opened.ensures.ok in
     step_fails c.work_on_opened.result _ _ _ (c.work_on_opened.ensures.err of.0 of.2)
     (λ fault why. undone _ _ _ _ (path_of c.args.inputs.state) (path_of c.args.outputs.save) (path_of c.args.outputs.export) c.args.lines _ of.0 _ fault _ of.1 why)
+
+pub returns-in-None-clause-ok : goal.returns-in-None-clause-ok
+returns-in-None-clause-ok g c =
+    let opened = c.in_ok-opened.opened in
+    let text = opened.original.text.items in
+    let of = c.in_ok-opened.ensures.ok in
+    rw c.in-None.is (weaker_ok c.work_on_loaded.result _ _ (rw c.without_text-loaded.ensures at (c.work_on_loaded.ensures.ok text of.0))
+    (λ status is. (
+      record {
+        text = text;
+        document = of.0;
+        loaded = opened.loaded;
+        opened = of.1;
+        begin = is.1.0;
+        begins = is.1.1;
+        finished = is.1.2;
+      },
+      is.0,
+    )))
+
+pub returns-in-None-clause-err : goal.returns-in-None-clause-err
+returns-in-None-clause-err g c =
+    let of = c.in_ok-opened.ensures.ok in
+    rw c.in-None.is (step_fails c.work_on_loaded.result _ _ _
+    (rw c.without_text-loaded.ensures at (c.work_on_loaded.ensures.err c.in_ok-opened.opened.original.text.items of.0))
+    (λ fault why. undone _ _ _ _ (path_of c.args.inputs.state) (path_of c.args.outputs.save) None c.args.lines _ of.0 _ fault _ of.1 why))
 
 pub returns-in_err-opened-clause-err : goal.returns-in_err-opened-clause-err
 returns-in_err-opened-clause-err g c =
