@@ -2,14 +2,15 @@
 """Asks a floor to look for places and to move cells, and prints microseconds per command, and seconds of whole teams' commands: the
 best of three runs of each.
 
-usage: bench/place.py [--padding P] [COUNT ...]    (0; 10000 100000 1000000; from the top; the program crates/lefence is proved and
-                                                    built first: rt run there)
+usage: bench/place.py [--padding P] [--room] [COUNT ...]    (0; 10000 100000 1000000; from the top; the program crates/lefence is
+                                                            proved and built first: rt run there)
 
 The designs are `generate.py packed`: 10 or 500 fences, cells of one to four rows that take 60 or 95 percent of the sites. The
 commands go to cells of the first fence and of the ground team, half of each, over a pipe and a hundred at a time. `find` and
 `legalize` look for a place within twenty sites and two rows of the cell's own. `tidy`, `commit` and `check` are asked of every
 team of a design in which a tenth of the cells stand half a site beside their places. With a padding every team keeps its cells
-that many core sites apart.
+that many core sites apart. With --room the cells take 30 percent of the sites, at places at which they are legal for that padding,
+and each line is there twice: with the padding, and without it.
 """
 
 from __future__ import annotations
@@ -113,31 +114,70 @@ def best(asked: list[tuple[list[str], float]], lef: str, def_: str, teams: Itera
     return found
 
 
+def settle(lef: str, def_: str, teams: list[str], padding: int) -> None:
+    """Puts the cells of all teams at places at which they are legal for the padding."""
+    lines = [line for team in teams for line in (f"open {team}", f"pad {team} 0 {padding}", f"tidy {team} 0", f"commit {team} 0")]
+    settled = def_ + ".settled"
+    subprocess.run([LEFENCE, "replay", def_, lef, "--export", settled], input="\n".join(lines) + "\n", text=True, stdout=subprocess.PIPE, check=True)
+    os.replace(settled, def_)
+
+
+def displace(def_: str) -> None:
+    """Puts a tenth of the cells half a site beside their places."""
+    rng = random.Random(5)
+    with open(def_) as text:
+        lines = text.read().split("\n")
+    for number, line in enumerate(lines):
+        words = line.split()
+        if len(words) > 4 and words[0] == "-" and "PLACED" in words and rng.randrange(10) == 0:
+            words[-5] = str(int(words[-5]) + 100)
+            lines[number] = " ".join(words)
+    with open(def_, "w") as out:
+        out.write("\n".join(lines))
+
+
+def line_of(lef: str, def_: str, design: tuple[int, int, int], room: int, paddings: list[int]) -> list[str]:
+    """What is printed of a design of so many cells, fences and percent, for each padding; its cells have room for that padding."""
+    count, fences, percent = design
+    all_teams = [f"f{fence}" for fence in range(fences)] + ["-"]
+    write(def_, "packed", count, fences, percent)
+    if room:
+        settle(lef, def_, all_teams, room)
+    teams = cells_of(def_)
+    told = verbs(teams)
+    single = [best([(lines, 1e6 / len(lines)) for lines in told.values()], lef, def_, teams, padding) for padding in paddings]
+    if room:
+        displace(def_)
+    else:
+        write(def_, "packed", count, fences, percent, 10)
+    asked = [([f"{verb} {team} 0\n" for team in all_teams], 1.0) for verb in ("tidy", "commit", "check")]
+    whole = [best(asked, lef, def_, all_teams, padding) for padding in paddings]
+    return [
+        "".join(f" {t:{w}.1f}" for t, w in zip(times, (7, 7, 7, 7, 8, 7, 7))) + "    " + "".join(f" {t:7.3f}" for t in seconds)
+        for times, seconds in zip(single, whole)
+    ]
+
+
 def main() -> None:
     words = argparse.ArgumentParser()
     words.add_argument("--padding", type=int, default=0)
+    words.add_argument("--room", action="store_true")
     words.add_argument("counts", type=int, nargs="*")
     given = words.parse_args()
     counts = given.counts or [10_000, 100_000, 1_000_000]
     need(LEFENCE)
     print(f"{'cells':>8} {'fences':>6} {'%':>3} {'where':>7} {'find':>7} {'place':>7} {'swap':>7} {'legalize':>8} {'unplace':>7} {'undo':>7}"
           f" us {'tidy':>7} {'commit':>7} {'check':>7} s")
+    paddings = [given.padding, 0] if given.room else [given.padding]
     with tempfile.TemporaryDirectory() as folder:
         lef, def_ = os.path.join(folder, "x.lef"), os.path.join(folder, "x.def")
         write(lef, "tall")
-        for percent in (60, 95):
+        for percent in [30] if given.room else [60, 95]:
             for fences in (10, 500):
                 for count in counts:
-                    write(def_, "packed", count, fences, percent)
-                    teams = cells_of(def_)
-                    told = verbs(teams)
-                    times = best([(lines, 1e6 / len(lines)) for lines in told.values()], lef, def_, teams, given.padding)
-                    write(def_, "packed", count, fences, percent, 10)
-                    all_teams = [f"f{fence}" for fence in range(fences)] + ["-"]
-                    asked = [([f"{verb} {team} 0\n" for team in all_teams], 1.0) for verb in ("tidy", "commit", "check")]
-                    whole = best(asked, lef, def_, all_teams, given.padding)
-                    print(f"{count:>8} {fences:>6} {percent:>3}" + "".join(f" {t:{w}.1f}" for t, w in zip(times, (7, 7, 7, 7, 8, 7, 7)))
-                          + "    " + "".join(f" {t:7.3f}" for t in whole), flush=True)
+                    rows = line_of(lef, def_, (count, fences, percent), given.padding if given.room else 0, paddings)
+                    for row in rows:
+                        print(f"{count:>8} {fences:>6} {percent:>3}" + row, flush=True)
 
 
 if __name__ == "__main__":

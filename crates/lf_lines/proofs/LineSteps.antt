@@ -6,7 +6,7 @@ use Rattle.lf_server.specs.Connections.{Accepted}
 use Rattle.lf_floorplan.specs.declared.limits.Limits.{Limits}
 use Rattle.lf_floorplan.specs.declared.loaded.Loaded.{Loaded}
 use Rattle.lf_designs.specs.declared.faults.Fault.{Fault}
-use Rattle.lf_designs.specs.Designs.{Gives, IsOpened}
+use Rattle.lf_designs.specs.Designs.{Gives, IsDesignOf, IsOpened}
 use Rattle.lf_teams.specs.States.{FloorState}
 use Rattle.lf_work.specs.Exits.{IsExported}
 use Rattle.lf_work.specs.Faults.{IsExportFault, IsSaveFault}
@@ -34,6 +34,12 @@ pub fault_beside : (lines : Lines) (begin : FloorState) (fault : Fault) (input l
     → IsFault lines begin fault (streams input left before after other_old other_new old_accepted new_accepted)
 fault_beside (Stream limit) begin fault input left before after old_puts new_puts other_old other_new old_accepted new_accepted is = is
 fault_beside (Port port connections) begin fault input left before after old_puts new_puts other_old other_new old_accepted new_accepted is = is
+
+-- the design of files is opened with their DEF text
+pub opened_of : (limits : Limits) (gives : Gives) (def : List ℕ) (lefs : List (List ℕ)) (loaded : Loaded) → (of : IsDesignOf limits gives def lefs loaded)
+    → IsOpened limits gives def lefs of.2.text of.2.design.0 loaded
+opened_of limits gives def lefs loaded of =
+    record { library = of.0; lefs_are = of.1; given = of.2.given; read = of.2.design.1; loads = of.2.design.2 }
 
 -- why the work on the design of a text is not done is why the work on that of its files is not
 pub undone : (limits : Limits) (gives : Gives) (def : List ℕ) (lefs : List (List ℕ)) (state save export : Option (List ℕ)) (lines : Lines) (text : List ℕ)

@@ -23,7 +23,7 @@ use crate::lines::MOST_LINES;
 use crate::services::Services;
 use crate::sources::{Lines, answer, answer_on};
 use crate::surroundings::Surroundings;
-use lf_designs::{Fault, Opened, Original, Texts, open_files};
+use lf_designs::{Fault, Opened, Original, Texts, design_of_files, open_files};
 use lf_devices::{Sink, Source};
 use lf_files::Exports;
 use lf_floor::Floor;
@@ -147,17 +147,6 @@ fn work_on_loaded<'a, T: Texts, E: Exports, V: Services, R: Source, W: Sink, F, 
     work_unexported(alloc, around, &mut floor, lines, save)
 }
 
-/// The design alone: its text is let go.
-fn without_text(opened: Opened) -> Loaded
-    ensures { result ≡ opened.loaded }
-{
-    let Opened {
-        loaded,
-        original: _,
-    } = opened;
-    loaded
-}
-
 /// Works on the design of a DEF file over LEF files, in the state of a third file if one is given: its lines are answered or its
 /// connections served, and then the exported text and the state are written, where they are asked for. The DEF text is kept only where it
 /// is exported again. Returns the exit status 0. `Err` is
@@ -184,11 +173,19 @@ pub fn work_on_files<'a, T: Texts, E: Exports, V: Services, R: Source, W: Sink, 
     ensures silent { around.new.progress ≡ around.old.progress }
     ensures keeps { Keeps R.holds W.holds around.old around.new }
 {
-    let opened = open_files(alloc, inputs.limits, &around.texts, inputs.def, inputs.lefs)?;
     match outputs.export {
-        Some(_) => work_on_opened(alloc, around, opened, inputs.state, lines, outputs),
+        Some(_) => {
+            let opened = open_files(alloc, inputs.limits, &around.texts, inputs.def, inputs.lefs)?;
+            work_on_opened(alloc, around, opened, inputs.state, lines, outputs)
+        }
         None => {
-            let loaded = without_text(opened);
+            let loaded = design_of_files(
+                alloc,
+                inputs.limits,
+                &around.texts,
+                inputs.def,
+                inputs.lefs,
+            )?;
             work_on_loaded(alloc, around, loaded, inputs.state, lines, outputs.save)
         }
     }
