@@ -19,9 +19,7 @@ use lf_def::DefDoc;
 use lf_floorplan::{Frame, Limits, Loaded, LoadedCells};
 use lf_lef::Library;
 use lf_lex::{LoadFault, ReadError};
-use lf_refusals::{
-    MacroTable, core_pitch, first_refusal, macro_table, sized_core_site, units_of,
-};
+use lf_refusals::{MacroTable, core_pitch, first_refusal, macro_table, sized_core_site, units_of};
 use lf_units::{Rect, Sequence};
 use std::alloc::{AllocError, Global};
 
