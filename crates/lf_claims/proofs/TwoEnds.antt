@@ -2,6 +2,7 @@
 use Rattle.std.proofs.Common.{◌≡◌, ℕ, ◌⊎◌, inl, inr, List, [], ◌∷◌, ◌++◌}
 use Rattle.lf_names.specs.Pattern.{Matches}
 use Rattle.lf_claims.specs.declared.claims.Claim.{Claim}
+use Rattle.lf_claims.specs.declared.claims.Claim.TheVariants.{Unclaimed}
 use Rattle.lf_claims.specs.declared.starred.Bound.{Bound}
 use Rattle.lf_claims.specs.declared.starred.StarredPatterns.{StarredPatterns}
 use Rattle.lf_claims.specs.Claims.{merged, Tells, ClaimsBy, HasAtEnd, HasStarred}
@@ -81,3 +82,10 @@ tells_together starred name front back by_front by_back bounds h =
     tells_same (λ fence. ClaimsBy h.fronts name fence ⊎ ClaimsBy h.backs name fence) (ClaimsBy bounds name) (merged front back)
     (λ fence u. (h.together name fence).1 u) (λ fence c. (h.together name fence).0 c)
     (tells_merged (ClaimsBy h.fronts name) (ClaimsBy h.backs name) front back (by_front h.fronts h.by_front) (by_back h.backs h.by_back))
+
+-- what is claimed at the front, all patterns claim where there is none at the back
+pub tells_at_front : (starred : StarredPatterns) (name : List ℕ) (front : Claim) →
+    ((fronts : List Bound) → HasAtEnd starred.fronts fronts → Tells (ClaimsBy fronts name) front) →
+    ((backs : List Bound) → HasAtEnd starred.backs backs → backs ≡ []) → (bounds : List Bound) → HasStarred starred bounds → Tells (ClaimsBy bounds name) front
+tells_at_front starred name front by_front none bounds h =
+    tells_together starred name front Unclaimed by_front (λ backs has fence c. claims_none backs name fence (none backs has) c) bounds h

@@ -185,6 +185,9 @@ impl Claims {
         ensures ok { OnOk result (self.new ≡ slice_set self.old number (merged_claim (claim_at self.old number) more)) }
         ensures err { OnErr result (self.new ≡ self.old) }
     {
+        if let Claim::Unclaimed = more {
+            return Ok(());
+        }
         let claim = merged(self.at(number), more);
         self.put(alloc, number, claim)
     }

@@ -203,6 +203,10 @@ impl StarredPatterns {
     pub(crate) fn claim_on(&self, name: &[u8]) -> Claim
         ensures { (bounds : List Bound) → HasStarred self.now bounds → Tells (ClaimsBy bounds name.now) result }
     {
-        merged(self.fronts.claim_on(name), self.backs.claim_on(name))
+        let front = self.fronts.claim_on(name);
+        if self.backs.is_empty() {
+            return front;
+        }
+        merged(front, self.backs.claim_on(name))
     }
 }

@@ -1,16 +1,40 @@
 -- The cells of the movable components, one after the other.
 use Rattle.std.proofs.Common.{◌≡◌, ◌≢◌, ◌⊎◌, inl, inr, ℕ, zero, suc, ◌+◌, ◌<◌, ◌≤◌, true, false, List, [], ◌∷◌, ◌++◌, length, get_or, take, drop, refl, sym, ap, ◌∙◌, subst, length-take-le, arith}
-use Rattle.std.specs.Prelude.{All}
+use Rattle.std.specs.Prelude.{All, Option, None, option_map, unwrap_or}
 use Rattle.std.specs.List.{AllZip}
 use Rattle.std.proofs.lemmas.Grind.{common_steps}
 use Rattle.std.proofs.lemmas.List.{get_or_default, get_or-take, length-append}
+use Rattle.std.proofs.lemmas.Option.{slice_get-map, slice_get_read}
+use Rattle.lf_lef.specs.Contents.{Contents}
+use Rattle.lf_def.specs.declared.regions.Region.{Region}
+use Rattle.lf_def.specs.declared.groups.Group.{Group}
 use Rattle.lf_def.specs.declared.components.Component.{Component}
 use Rattle.lf_floorplan.specs.declared.loaded.Cell.{Cell}
 use Rattle.lf_claims.specs.Entries.{NoneBreaks}
-use Rattle.lf_claims.specs.Refusals.{BearsEarlierName}
+use Rattle.lf_claims.specs.Refusals.{BearsEarlierName, HasTwoFences}
+use Rattle.lf_claims.specs.Teams.{IsTeamOf}
+use Rattle.lf_claims.specs.ClaimTables.{Told, IsTableOf, TellsTeam}
 use Rattle.lf_def.specs.Kinds.{is_movable}
+use Rattle.lf_refusals.specs.MacroTables.{macro_of, macros_of, macro_at}
 use Rattle.lf_refusals.specs.Findings.{Inputs}
 use Rattle.lf_frame.specs.Loads.{movables, movables_from, IsCellOf}
+
+-- what the table of macros has at its number is the macro of a component
+pub macro_read : (library : Contents) (components : List Component) (macros : List (Option ℕ)) (k : ℕ) (c : Component) → macros ≡ macros_of library components →
+    k < length components → c ≡ get_or components k c → macro_at macros k ≡ macro_of library c
+macro_read library components macros k c made within is =
+    ap (λ (all : List (Option ℕ)). macro_at all k) made
+    ∙ ap (λ (found : Option (Option ℕ)). unwrap_or found None) (
+    slice_get-map (macro_of library) components k
+    ∙ ap (option_map (macro_of library)) (slice_get_read components (length components) k c refl within is)
+    )
+
+-- what the table of claims has there is its team, unless two fences claim it
+pub team_read : (regions : List Region) (groups : List Group) (components : List Component) (table : Told) (k : ℕ) (c : Component) (team : ℕ) →
+    TellsTeam table k team → IsTableOf regions groups components table → NoneBreaks BearsEarlierName components → k < length components →
+    c ≡ get_or components k c → (HasTwoFences regions groups c.name → ⊥) → IsTeamOf regions groups c.name team
+team_read regions groups components table k c team tells of differ within is once =
+    tells regions groups components of differ c (slice_get_read components (length components) k c refl within is) once
 
 -- whatever cells the components from this one on have, after these they are the cells of all
 abbrev pub GoesOn : Inputs → List Component → ℕ → List Cell → Type 0

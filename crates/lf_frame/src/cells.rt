@@ -1,9 +1,7 @@
 //! The movable cells of an accepted design.
 
-ghost use Rattle.std.specs.Prelude.{◌≡◌, ◌<◌, ◌≤◌, true, IfOk, IsSome, All, length, option_map};
+ghost use Rattle.std.specs.Prelude.{◌≡◌, ◌<◌, ◌≤◌, true, Some, IfOk, All, length, option_map};
 ghost use Rattle.std.specs.List.{AllZip};
-ghost use Rattle.lf_names.specs.Names.{position_of};
-ghost use Rattle.lf_lef.specs.Contents.{macro_names};
 ghost use Rattle.lf_def.specs.Ranges.{IsComponent};
 ghost use Rattle.lf_floorplan.specs.LoadedCells.{with_name};
 ghost use Rattle.lf_def.specs.Kinds.{is_movable as is_movable_component};
@@ -11,7 +9,8 @@ ghost use Rattle.lf_claims.specs.Teams.{fences, IsTeamOf};
 ghost use Rattle.lf_claims.specs.Entries.{NoneBreaks};
 ghost use Rattle.lf_claims.specs.Refusals.{BearsEarlierName};
 ghost use Rattle.lf_claims.specs.ClaimTables.{IsTableOf};
-ghost use Rattle.lf_refusals.specs.Findings.{inputs};
+ghost use Rattle.lf_refusals.specs.Findings.{Inputs, inputs};
+ghost use Rattle.lf_refusals.specs.MacroTables.{macro_of, macros_of};
 ghost use Rattle.lf_frame.specs.Loads.{location as location_of, as_location, movables, CanBeCell, IsCellOf};
 
 use crate::copies::{location, place_at};
@@ -19,6 +18,7 @@ use lf_claims::ClaimTable;
 use lf_def::{Component, DefDoc, is_movable};
 use lf_floorplan::{Limits, LoadedCells, PackedPlace, Place, PlainCell};
 use lf_lef::Library;
+use lf_refusals::MacroTable;
 use std::alloc::{AllocError, Global};
 
 /// The component's place; none if it is unplaced.
@@ -40,24 +40,15 @@ fn in_32_bits(number: usize) -> u32
     number as u32
 }
 
-/// The cell of a movable component, without its name.
-fn cell_of(
-    library: &Library,
-    document: &DefDoc,
-    limits: &Limits,
-    team: usize,
-    number: usize,
-    component: &Component,
-) -> PlainCell
+/// The cell of a movable component of that team, macro and number, without its name.
+fn cell_of(team: usize, mac: usize, number: usize, component: &Component) -> PlainCell
     requires few_teams { team ≤ 1024 }
+    requires few_macros { mac < 1000000 }
     requires few_components { number < 4000000 }
-    requires team { IsTeamOf document.now.regions document.now.groups component.now.name team }
     requires range { IsComponent component.now }
-    requires able { CanBeCell (inputs library.now document.now limits.now) component.now }
-    ensures { IsCellOf (inputs library.now document.now limits.now) (number, component.now) (with_name component.now.name result) }
+    ensures { (i : Inputs) → IsTeamOf i.document.regions i.document.groups component.now.name team
+        → macro_of i.library component.now ≡ Some mac → IsCellOf i (number, component.now) (with_name component.now.name result) }
 {
-    let _ = library.macros();
-    let mac = library.find_macro(component.macro_name()).unwrap();
     let own_team = in_32_bits(team);
     let own_macro = in_32_bits(mac);
     let entry = in_32_bits(number);
@@ -73,6 +64,7 @@ fn cell_of(
 pub(crate) fn movable_cells(
     alloc: Global,
     claims: &ClaimTable,
+    macros: &MacroTable,
     library: &Library,
     document: &DefDoc,
     limits: &Limits,
@@ -80,16 +72,19 @@ pub(crate) fn movable_cells(
     requires few_fences { length (fences document.now.regions) ≤ 1024 }
     requires few_components { length document.now.components ≤ 4000000 }
     requires claims { IsTableOf document.now.regions document.now.groups document.now.components claims.now }
+    requires macros { macros.now ≡ macros_of library.now document.now.components }
     requires differ { NoneBreaks BearsEarlierName document.now.components }
     requires ranged { All IsComponent document.now.components }
     requires able { All (λ c. is_movable_component c ≡ true → CanBeCell (inputs library.now document.now limits.now) c) document.now.components }
     ensures { IfOk result (λ cells. AllZip (IsCellOf (inputs library.now document.now limits.now)) (movables document.now.components) cells) }
 {
+    let _ = library.macros();
     let mut cells = LoadedCells::with_capacity(alloc, document.components.len())?;
     for (number, component) in document.components.as_slice().iter().enumerate() {
         if is_movable(component) {
             let team = claims.team_at(number);
-            let cell = cell_of(library, document, limits, team, number, component);
+            let mac = macros.macro_at(number).unwrap();
+            let cell = cell_of(team, mac, number, component);
             cells.push(component.name(), cell)?;
         }
     }

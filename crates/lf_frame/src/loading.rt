@@ -6,6 +6,7 @@ ghost use Rattle.lf_lex.specs.Faults.{load_fault_of};
 ghost use Rattle.lf_floorplan.specs.Design.{MakeDesign};
 ghost use Rattle.lf_claims.specs.ClaimTables.{IsTableOf};
 ghost use Rattle.lf_refusals.specs.Findings.{inputs, units_in, IsAccepted, IsFault};
+ghost use Rattle.lf_refusals.specs.MacroTables.{macros_of};
 ghost use Rattle.lf_frame.specs.Loads.{fixed_box, blocked, FixedIsSized, AreInRange, IsFrameOf, IsLoadedFrom};
 
 use crate::cells::movable_cells;
@@ -18,7 +19,7 @@ use lf_def::DefDoc;
 use lf_floorplan::{Frame, Limits, Loaded, LoadedCells};
 use lf_lef::Library;
 use lf_lex::{LoadFault, ReadError};
-use lf_refusals::{core_pitch, first_refusal, sized_core_site, units_of};
+use lf_refusals::{MacroTable, core_pitch, first_refusal, macro_table, sized_core_site, units_of};
 use lf_units::{Rect, Sequence};
 use std::alloc::{AllocError, Global};
 
@@ -87,17 +88,19 @@ fn loaded_from(frame: Frame, cells: LoadedCells) -> Loaded
 fn accepted_design(
     alloc: Global,
     claims: &ClaimTable,
+    macros: &MacroTable,
     library: &Library,
     document: &DefDoc,
     limits: &Limits,
 ) -> Result<Loaded, AllocError>
     requires claims { IsTableOf document.now.regions document.now.groups document.now.components claims.now }
+    requires macros { macros.now ≡ macros_of library.now document.now.components }
     requires accepted { IsAccepted (inputs library.now document.now limits.now) }
     ensures { IfOk result (λ loaded. IsLoadedFrom (inputs library.now document.now limits.now) loaded) }
 {
     ranges_kept(library, document, limits);
     let frame = frame_of(alloc, library, document, limits)?;
-    let cells = movable_cells(alloc, claims, library, document, limits)?;
+    let cells = movable_cells(alloc, claims, macros, library, document, limits)?;
     Ok(loaded_from(frame, cells))
 }
 
@@ -141,12 +144,15 @@ pub fn load<'d>(
     let Ok(claims) = claims_of(alloc, document) else {
         return Err(out_of_memory());
     };
-    match first_refusal(alloc, &claims, library, document, &limits) {
+    let Ok(macros) = macro_table(alloc, document.components.as_slice(), library) else {
+        return Err(out_of_memory());
+    };
+    match first_refusal(alloc, &claims, &macros, library, document, &limits) {
         Ok(Some(fault)) => return Err(fault),
         Ok(None) => {}
         Err(_) => return Err(out_of_memory()),
     }
-    match accepted_design(alloc, &claims, library, document, &limits) {
+    match accepted_design(alloc, &claims, &macros, library, document, &limits) {
         Ok(loaded) => Ok(loaded),
         Err(_) => Err(out_of_memory()),
     }

@@ -1,4 +1,6 @@
 pub mod Loading
+pub mod MacroNumbers
+pub mod MacroTables
 pub mod Refusals
 pub mod Findings
 pub mod Sweep

@@ -5,20 +5,30 @@ ghost use Rattle.std.specs.Option.{option_copied};
 ghost use Rattle.lf_lef.specs.Lengths.{IsInRange, HasRange};
 ghost use Rattle.lf_units.specs.Length.{IsLength, in_dbu};
 ghost use Rattle.lf_claims.specs.Entries.{FirstIs, first_of};
-ghost use Rattle.lf_refusals.specs.Loading.{macro_named as named_macro, has_size as is_size, IsWholeSize};
+ghost use Rattle.lf_refusals.specs.Loading.{at_place, macro_named as named_macro, has_size as is_size, IsWholeSize};
+ghost use Rattle.lf_refusals.specs.MacroTables.{macro_of, macros_of};
 ghost use Rattle.lf_refusals.specs.Refusals.{HasNoMacro, HasNoSize, HasPartUnits, AreMacroFaults, IsComponentTooMany};
 
+use crate::macros::MacroTable;
 use lf_def::{Component, is_cover};
 use lf_floorplan::Macro;
 use lf_lef::Library;
 use lf_units::{Point, micros_to_dbu};
+
+/// The macro of that number in the library; none iff there is no number.
+fn macro_numbered(library: &Library, number: Option<usize>) -> Option<&Macro>
+    ensures macro_is { option_copied result ≡ at_place library.now.macros number }
+    ensures range { IfSome result (λ m. HasRange m.now.size) }
+{
+    library.macros().get(number?)
+}
 
 /// The macro of that name; none iff there is none.
 pub fn macro_named<'l>(library: &'l Library, name: &[u8]) -> Option<&'l Macro>
     ensures macro_is { option_copied result ≡ named_macro library.now name.now }
     ensures range { IfSome result (λ m. HasRange m.now.size) }
 {
-    library.macros().get(library.find_macro(name)?)
+    macro_numbered(library, library.find_macro(name))
 }
 
 /// Whether both lengths are above 0.
@@ -68,9 +78,16 @@ pub struct MacroFaults {
     pub part_units: Option<usize>,
 }
 
-fn macro_fault(component: &Component, library: &Library, units: u32) -> MacroFault
+/// What is wrong with the component's macro, which has that number in the library.
+fn macro_fault(
+    component: &Component,
+    number: Option<usize>,
+    library: &Library,
+    units: u32,
+) -> MacroFault
     requires least { 1 ≤ units }
     requires most { units ≤ 20000 }
+    requires number { number ≡ macro_of library.now component.now }
     ensures unknown { IsTrue result.unknown ↔ HasNoMacro library.now [] component.now }
     ensures sizeless { IsTrue result.sizeless ↔ HasNoSize library.now [] component.now }
     ensures part_units { IsTrue result.part_units ↔ HasPartUnits library.now units [] component.now }
@@ -83,7 +100,7 @@ fn macro_fault(component: &Component, library: &Library, units: u32) -> MacroFau
     if is_cover(component) {
         return fault;
     }
-    match macro_named(library, component.macro_name()) {
+    match macro_numbered(library, number) {
         Some(mac) => {
             fault.sizeless = !has_size(&mac.size);
             fault.part_units = !is_whole_size(&mac.size, units);
@@ -104,16 +121,22 @@ fn first_so_far(first: Option<usize>, number: usize, counts: bool) -> Option<usi
 }
 
 /// The first components whose macros are at fault, of each kind.
-pub(crate) fn macro_faults(components: &[Component], library: &Library, units: u32) -> MacroFaults
+pub(crate) fn macro_faults(
+    components: &[Component],
+    macros: &MacroTable,
+    library: &Library,
+    units: u32,
+) -> MacroFaults
     requires least { 1 ≤ units }
     requires most { units ≤ 20000 }
+    requires macros { macros.now ≡ macros_of library.now components.now }
     ensures { AreMacroFaults library.now units components.now result }
 {
     let mut unknown = None;
     let mut sizeless = None;
     let mut part_units = None;
     for (number, component) in components.iter().enumerate() {
-        let fault = macro_fault(component, library, units);
+        let fault = macro_fault(component, macros.macro_at(number), library, units);
         unknown = first_so_far(unknown, number, fault.unknown);
         sizeless = first_so_far(sizeless, number, fault.sizeless);
         part_units = first_so_far(part_units, number, fault.part_units);

@@ -6,7 +6,8 @@
 //!
 //! ```
 //! let claims = claim_table(Global, components, groups, regions)?; // those of the document
-//! let found = first_refusal(Global, &claims, &library, &document, &limits)?;
+//! let macros = macro_table(Global, components, &library)?;
+//! let found = first_refusal(Global, &claims, &macros, &library, &document, &limits)?;
 //! // None, or Some(LoadFault { number: FaultNumber::NoMacro, line: None, name: Some(b"INVX9") })
 //! ```
 #![tactic(auto)]
@@ -14,6 +15,7 @@
 mod component_refusals;
 mod fence_refusals;
 mod findings;
+mod macros;
 mod meetings;
 mod pitch;
 mod refusal;
@@ -22,6 +24,7 @@ mod sweep;
 
 pub use component_refusals::macro_named;
 pub use findings::units_of;
+pub use macros::{MacroTable, macro_table};
 pub use meetings::{MetFences, met_fences};
 pub use pitch::{Pitch, core_pitch, sized_core_site};
 pub use refusal::first_refusal;

@@ -6,6 +6,7 @@ ghost use Rattle.lf_lex.specs.declared.fault.FaultNumber.{FaultNumber};
 ghost use Rattle.lf_lex.specs.declared.fault.FaultNumber.TheVariants.{TwoFences};
 ghost use Rattle.lf_claims.specs.Entries.{NoneBreaks};
 ghost use Rattle.lf_claims.specs.Refusals.{BearsEarlierName};
+ghost use Rattle.lf_refusals.specs.MacroTables.{macros_of};
 ghost use Rattle.lf_refusals.specs.Refusals.{AreMacroFaults};
 ghost use Rattle.lf_claims.specs.ClaimTables.{IsTableOf};
 ghost use Rattle.lf_refusals.specs.Findings.{inputs, units_in, Finds, number_of, IsAccepted, IsFault};
@@ -16,6 +17,7 @@ use crate::findings::{
     row_orient, rows_overlap, second_name, second_region, team_name, too_many, two_fences,
     units_of, vertical_row,
 };
+use crate::macros::MacroTable;
 use lf_claims::ClaimTable;
 use lf_def::DefDoc;
 use lf_floorplan::Limits;
@@ -100,20 +102,22 @@ fn finding<'d>(
 }
 
 /// The refusal of the least number that finds an entry, with the name of the first entry that it finds; none iff no refusal
-/// finds anything. The claims must be those of the document. `Err` if an allocation fails.
+/// finds anything. The claims and the macros must be those of the document's components. `Err` if an allocation fails.
 pub fn first_refusal<'d>(
     alloc: Global,
     claims: &ClaimTable,
+    macros: &MacroTable,
     library: &'d Library,
     document: &'d DefDoc,
     limits: &Limits,
 ) -> Result<Option<LoadFault<'d>>, AllocError>
-    requires { IsTableOf document.now.regions document.now.groups document.now.components claims.now }
+    requires claims { IsTableOf document.now.regions document.now.groups document.now.components claims.now }
+    requires macros { macros.now ≡ macros_of library.now document.now.components }
     ensures { IfOk result (λ found. MatchOption found (IsAccepted (inputs library.now document.now limits.now))
         (λ fault. IsFault (inputs library.now document.now limits.now) fault)) }
 {
     let components = document.components.as_slice();
-    let faults = macro_faults(components, library, units_of(document));
+    let faults = macro_faults(components, macros, library, units_of(document));
     for number in FIRST..END {
         let refusal = numbered(number);
         if let Some(name) = finding(alloc, claims, &faults, library, document, limits, refusal)? {

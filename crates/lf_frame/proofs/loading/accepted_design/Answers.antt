@@ -21,6 +21,7 @@ movable_cells-requires c =
       ranged = c.ranges_kept.ensures.components;
       able = can_be_cells i c.requires.accepted;
       claims = c.requires.claims;
+      macros = c.requires.macros;
       differ = none_of_name {breaks = BearsEarlierName} (c.requires.accepted SecondName);
     }
 
