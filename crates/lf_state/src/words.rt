@@ -8,8 +8,8 @@ ghost use Rattle.lf_state.specs.Reading.{Reads, below_at, count_at, due_at, is_s
 use crate::cursor::Cursor;
 use crate::fault::{FaultNumber, ReadError};
 use crate::numbers::number_of;
-use crate::pieces::{begins, find, skip, word};
-use crate::places::place_on;
+use crate::pieces::{begins, find, front, skip, word};
+use crate::places::{front_place, place_on};
 use lf_floorplan::PackedPlace;
 use std::alloc::AllocError;
 
@@ -110,9 +110,14 @@ pub(crate) fn count_at(count: usize, byte: u8, cursor: &mut Cursor) -> Result<()
 /// A place or none.
 #[tactic(auto, unfolding(crate::specs::Reading::spot_at))]
 pub(crate) fn spot_at(byte: u8, cursor: &mut Cursor) -> Result<PackedPlace, ReadError>
+    requires { byte ≤ 32 }
     ensures read { Reads (λ place left. (place, left)) result (spot_at byte (rest cursor.old)) (rest cursor.new) }
     ensures ends { (text : List ℕ) → IsEnd text cursor.old → IsEnd text cursor.new }
 {
+    if let Some((place, len)) = front_place(byte, front(cursor)) {
+        skip(len, cursor);
+        return Ok(PackedPlace::of(Some(place)));
+    }
     let len = word_len(byte, cursor)?;
     let Some(place) = place_on(word(len, cursor)) else {
         return Err(ReadError::Fault(FaultNumber::BadNumber));
