@@ -22,7 +22,7 @@ use Rattle.lf_proto.specs.Requests.{orient_named}
 use Rattle.lf_proto.proofs.Digits.{Digits, short_value}
 use Rattle.lf_proto.proofs.Places.{place_written-some}
 use Rattle.lf_state.specs.Words.{Begins, place_in, place_on}
-use Rattle.lf_state.specs.Reading.{spot_at, word_at}
+use Rattle.lf_state.specs.Reading.{number_at, spot_at, word_at}
 use Rattle.lf_state.proofs.Fields.{lacks, lacks-weaker, lacks-both, digit-no_mark, no_minus, no_dash, below-less, cut-word, drop_front, IsMark, mark44}
 
 -- ---- a word up to a byte
@@ -125,6 +125,10 @@ mark-low byte low = record { below = omega arith; other = grind (arith, nat_test
 comma-low : (byte : ℕ) → byte ≤ 32 → (44 == byte) ≡ false
 comma-low byte low = grind (arith, nat_tests)
 
+-- what stands behind a front is what is left when that was taken
+drop_to : (w d : List ℕ) → drop (length (w ++ d) - length d) (w ++ d) ≡ d
+drop_to w d = let many : length (w ++ d) - length d ≡ length w = omega (arith, length-append w d) in rw many (drop_front w d)
+
 -- the bytes of three words in front
 apart : (byte : ℕ) (bytes rest_x rest_y rest : List ℕ) (x y : ℤ) (o : Orient) (in_x : Begins coordinate 44 bytes x rest_x) (in_y : Begins coordinate 44 rest_x y rest_y) (in_o : Begins orient_named byte rest_y o rest)
     → bytes ≡ in_x.word ++ (44 ∷ (in_y.word ++ (44 ∷ (in_o.word ++ (byte ∷ rest)))))
@@ -141,9 +145,6 @@ rest-in_front byte bytes rest_x rest_y rest x y o in_x in_y in_o =
   where
     regroup : (a b c d : List ℕ) → a ++ (44 ∷ (b ++ (44 ∷ (c ++ (byte ∷ d))))) ≡ (a ++ (44 ∷ (b ++ (44 ∷ (c ++ (byte ∷ [])))))) ++ d
     regroup a b c d = simp append_assoc
-
-    drop_to : (w d : List ℕ) → drop (length (w ++ d) - length d) (w ++ d) ≡ d
-    drop_to w d = let many : length (w ++ d) - length d ≡ length w = omega (arith, length-append w d) in rw many (drop_front w d)
 
 pub spot-in_front : (byte : ℕ) (bytes rest_x rest_y rest later : List ℕ) (p : Place) → byte ≤ 32
     → Begins coordinate 44 bytes p.x rest_x → Begins coordinate 44 rest_x p.y rest_y → Begins orient_named byte rest_y p.orient rest
@@ -195,3 +196,18 @@ begins-negative bytes minus rest z n signed front small is = record {
   is = signed ∙ ap (λ (t : List ℕ). 45 ∷ t) front.is;
   said = rw is (negative-some front.word n front.said small);
 }
+
+-- ---- a number in front
+
+pub rest-number : (byte n : ℕ) (bytes rest : List ℕ) → Begins digits byte bytes n rest → drop (length bytes - length rest) bytes ≡ rest
+rest-number byte n bytes rest front = subst (λ (t : List ℕ). drop (length t - length rest) t ≡ rest) (sym is) (drop_to (front.word ++ (byte ∷ [])) rest)
+  where
+    is : bytes ≡ (front.word ++ (byte ∷ [])) ++ rest
+    is = front.is ∙ sym (append_assoc front.word (byte ∷ []) rest)
+
+pub number-in_front : (byte n : ℕ) (bytes rest later : List ℕ) → byte < 48 → n < 2 ^ 32 → Begins digits byte bytes n rest → number_at byte (bytes ++ later) ≡ Ok (n, rest ++ later)
+unfolding number_at word_at
+number-in_front byte n bytes rest later low small front =
+    let without = lacks-weaker is_ascii_digit byte (digit-no_mark byte low) front.word (digits-are front.word n front.said) in
+    let together : bytes ++ later ≡ front.word ++ (byte ∷ (rest ++ later)) = ap (λ (t : List ℕ). t ++ later) front.is ∙ append_assoc front.word (byte ∷ rest) later in
+    ap (number_at byte) together ∙ rw (cut-word byte front.word (rest ++ later) without, front.said, below-less (2 ^ 32) n small) refl

@@ -1,10 +1,11 @@
 //! The numbers of a state text.
 
-ghost use Rattle.std.specs.Prelude.{◌≡◌, ◌<◌, ◌≤◌, ◌^◌, ◌<ℤ◌, IfSome, length, negsuc, pos, take, true};
+ghost use Rattle.std.specs.Prelude.{◌≡◌, ◌<◌, ◌≤◌, ◌^◌, ◌++◌, ◌<ℤ◌, IfSome, List, Ok, ℕ, drop, length, negsuc, pos, take, true};
 ghost use Rattle.std.specs.Char.{is_ascii_digit};
 ghost use Rattle.std.specs.List.{list_all};
 ghost use Rattle.std.specs.Str.Parse.{digits_value};
 ghost use Rattle.lf_proto.specs.Numbers.{coordinate, digits};
+ghost use Rattle.lf_state.specs.Reading.{number_at};
 ghost use Rattle.lf_state.specs.Words.{Begins, number};
 
 /// Whether each byte is a digit.
@@ -83,6 +84,17 @@ pub(crate) fn front_number(byte: u8, bytes: &[u8]) -> Option<(u64, &[u8])>
         return Some((value, &bytes[len + 1..]));
     }
     None
+}
+
+/// The number below 2^32 in front whose digits such a byte ends, and how many bytes both are.
+pub(crate) fn front_u32(byte: u8, bytes: &[u8]) -> Option<(u32, usize)>
+    requires { byte < 48 }
+    ensures within { IfSome result (λ x. x.1 ≤ length bytes.now) }
+    ensures read { IfSome result (λ x. (later : List ℕ) → number_at byte (bytes.now ++ later) ≡ Ok (x.0, drop x.1 bytes.now ++ later)) }
+{
+    let (value, rest) = front_number(byte, bytes)?;
+    let number = u32::try_from(value).ok()?;
+    Some((number, bytes.len() - rest.len()))
 }
 
 /// The size of a coordinate that the number is, if it is below 2^31.
