@@ -1,6 +1,5 @@
-use Rattle.std.proofs.Common.{arith, ◌≡◌, ◌≤◌, true, sym, ◌∙◌}
-use Rattle.std.specs.Char.{is_ascii_digit}
-use Rattle.lf_state.proofs.Fronts.{digit-range, digits-more, few-value, value-more}
+use Rattle.std.proofs.Common.{arith, ◌≤◌, sym, ◌∙◌}
+use Rattle.lf_state.proofs.Fronts.{digits-more, few-value, value-more}
 use Rattle.lf_state.proofs.numbers.front_digits.Goals as goal
 
 pub overflow_mul-value : goal.overflow_mul-value

@@ -1,4 +1,4 @@
-use Rattle.std.proofs.Common.{◌≡◌, ◌+◌, ◌-◌, length, take, drop, arith, rules}
+use Rattle.std.proofs.Common.{◌≡◌, ◌+◌, ◌-◌, length, take, drop, arith}
 use Rattle.std.proofs.lemmas.List.{length-drop, length-take, take_all}
 use Rattle.lf_state.proofs.Fronts.{begins-at, digits-some}
 use Rattle.lf_state.proofs.numbers.front_number.Goals as goal

@@ -1,4 +1,4 @@
-use Rattle.std.proofs.Common.{◌≡◌, ◌<◌, ◌^◌, List, ℕ, sym, subst, rules}
+use Rattle.std.proofs.Common.{◌≡◌, ◌<◌, ◌^◌, ℕ, subst, rules}
 use Rattle.lf_proto.specs.Numbers.{digits}
 use Rattle.lf_state.specs.Words.{Begins}
 use Rattle.lf_state.proofs.Fronts.{number-in_front, rest-number}

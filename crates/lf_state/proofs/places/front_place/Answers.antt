@@ -1,4 +1,4 @@
-use Rattle.std.proofs.Common.{◌≡◌, ◌-◌, ◌++◌, ◌∙◌, List, ℕ, Ok, Some, length, drop, ap, sym, subst, rules, ℤ}
+use Rattle.std.proofs.Common.{◌≡◌, sym, subst, rules, ℤ}
 use Rattle.lf_orient.specs.declared.Orient.{Orient}
 use Rattle.lf_proto.specs.Numbers.{coordinate}
 use Rattle.lf_proto.specs.Requests.{orient_named}
