@@ -51,7 +51,7 @@ cut-word byte w rest without =
     drop_past [] byte rest = refl
     drop_past (b ∷ w) byte rest = let more : suc (length w) + 1 ≡ suc (length w + 1) = omega arith in rw more (drop_past w byte rest)
 
-drop_front : (w rest : List ℕ) → drop (length w) (w ++ rest) ≡ rest
+pub drop_front : (w rest : List ℕ) → drop (length w) (w ++ rest) ≡ rest
 drop_front [] rest = refl
 drop_front (b ∷ w) rest = drop_front w rest
 
@@ -76,7 +76,7 @@ digits-decimal n small =
     let short : nat_le (length (decimal n)) 10 ≡ true = grind (arith, nat_tests) in
     rw (all, some, short) (ap Some numeral.1)
 
-below-less : (limit n : ℕ) → n < limit → below limit n ≡ Some n
+pub below-less : (limit n : ℕ) → n < limit → below limit n ≡ Some n
 below-less limit n small = ap (λ t. cond t (Some n) None) (lt-ltb n limit small)
 
 pub number-decimal : (n : ℕ) → n < 2 ^ 32 → number (decimal n) ≡ Some n
@@ -89,7 +89,7 @@ negative-decimal : (n : ℕ) → n < 2 ^ 31 → negative (decimal n) ≡ Some (n
 negative-decimal n small = rw (digits-decimal n (omega arith), below-less (2 ^ 31) n small) refl
 
 -- no digit is a minus
-no_minus : (text : List ℕ) → Digits text → 0 < length text → (slice_index text 0 == 45) ≡ false
+pub no_minus : (text : List ℕ) → Digits text → 0 < length text → (slice_index text 0 == 45) ≡ false
 no_minus text all some =
     let range = is_digit_at text 0 all some in
     grind (arith, nat_tests, range)
@@ -106,7 +106,7 @@ coordinate-signed_decimal (negsuc n) low high =
 
 -- ---- which bytes words lack
 
-lacks-weaker : (p : ℕ → Bool) (byte : ℕ) → ((b : ℕ) → p b ≡ true → (b == byte) ≡ false) → (text : List ℕ) → list_all p text ≡ true → lacks byte text ≡ true
+pub lacks-weaker : (p : ℕ → Bool) (byte : ℕ) → ((b : ℕ) → p b ≡ true → (b == byte) ≡ false) → (text : List ℕ) → list_all p text ≡ true → lacks byte text ≡ true
 lacks-weaker p byte weaker [] all = refl
 lacks-weaker p byte weaker (b ∷ text) all =
     let parts = and_parts (p b) (list_all p text) all in
@@ -117,7 +117,7 @@ pub record IsMark (byte : ℕ) : Type 0 where
   pub below : byte < 48
   pub other : (45 == byte) ≡ false
 
-digit-no_mark : (byte : ℕ) → byte < 48 → (b : ℕ) → is_ascii_digit b ≡ true → (b == byte) ≡ false
+pub digit-no_mark : (byte : ℕ) → byte < 48 → (b : ℕ) → is_ascii_digit b ≡ true → (b == byte) ≡ false
 digit-no_mark byte low b digit = grind (arith, nat_tests)
 
 pub decimal-lacks : (byte n : ℕ) → byte < 48 → n < 10 ^ 10 → lacks byte (decimal n) ≡ true
@@ -139,7 +139,7 @@ orient-lacks byte FW low = grind (arith, nat_tests)
 orient-lacks byte FS low = grind (arith, nat_tests)
 orient-lacks byte FE low = grind (arith, nat_tests)
 
-lacks-both : (byte comma : ℕ) (a b : List ℕ) → (comma == byte) ≡ false → lacks byte a ≡ true → lacks byte b ≡ true → lacks byte (a ++ (comma ∷ b)) ≡ true
+pub lacks-both : (byte comma : ℕ) (a b : List ℕ) → (comma == byte) ≡ false → lacks byte a ≡ true → lacks byte b ≡ true → lacks byte (a ++ (comma ∷ b)) ≡ true
 lacks-both byte comma a b other in_a in_b = list_all-append (λ x. not (x == byte)) a (comma ∷ b) ∙ rw (in_a, other, in_b) refl
 
 -- ---- places
@@ -160,7 +160,7 @@ mark32 = record { below = omega arith; other = refl }
 mark10 : IsMark 10
 mark10 = record { below = omega arith; other = refl }
 
-mark44 : IsMark 44
+pub mark44 : IsMark 44
 mark44 = record { below = omega arith; other = refl }
 
 place_in-text : (p : Place) → IsSpot p → place_in (place_text (Some p)) ≡ Some p
@@ -174,7 +174,7 @@ place_in-text p spot =
     (orient_named-text p.orient))
 
 -- a place's text is not a minus alone, since that has no comma
-no_dash : (w : List ℕ) (p : Place) → place_in w ≡ Some p → bytes_eq w (codes "-") ≡ false
+pub no_dash : (w : List ℕ) (p : Place) → place_in w ≡ Some p → bytes_eq w (codes "-") ≡ false
 unfolding place_in cut
 no_dash w p is = cases_dash (bytes_eq w (codes "-")) refl
   where

@@ -4,3 +4,4 @@ pub mod Lines
 pub mod Again
 pub mod Within
 pub mod Held
+pub mod Fronts

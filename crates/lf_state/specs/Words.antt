@@ -1,5 +1,5 @@
 -- The words of a state text.
-use Rattle.std.specs.Prelude.{ℕ, ◌+◌, ◌==◌, ◌^◌, cond, List, ◌∷◌, ◌++◌, length, take, drop, Option, Some, None, option_map, position, codes}
+use Rattle.std.specs.Prelude.{◌≡◌, ℕ, ◌+◌, ◌==◌, ◌^◌, cond, List, ◌∷◌, ◌++◌, length, take, drop, Option, Some, None, option_map, position, codes}
 use Rattle.std.specs.Fmt.{decimal, signed_decimal}
 use Rattle.std.specs.Str.{bytes_eq}
 use Rattle.lf_orient.specs.Words.{orient_word}
@@ -35,6 +35,12 @@ place_on word = cond (bytes_eq word (codes "-")) (Some None) (option_map (λ p. 
 -- the revision that a session has seen, or - for a free slot
 unfoldable pub slot_on : List ℕ → Option (Option ℕ)
 slot_on word = cond (bytes_eq word (codes "-")) (Some None) (option_map (λ n. Some n) (number word))
+
+-- a word in front that says this, the byte that ends it, and what stands behind
+pub record Begins {A : Type 0} (says : List ℕ → Option A) (byte : ℕ) (bytes : List ℕ) (value : A) (rest : List ℕ) : Type 0 where
+  pub word : List ℕ
+  pub is : bytes ≡ word ++ (byte ∷ rest)
+  pub said : says word ≡ Some value
 
 -- ---- as they are written
 

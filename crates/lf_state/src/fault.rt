@@ -1,6 +1,6 @@
 //! Why a text is no state of a design.
 
-ghost use Rattle.std.specs.Prelude.{◌≡◌};
+ghost use Rattle.std.specs.Prelude.{◌≡◌, ◌≤◌, length};
 ghost use Rattle.lf_lex.specs.Tokens.{line_feeds};
 ghost use Rattle.lf_state.specs.declared.fault.ReadError.TheVariants.{Memory};
 
@@ -60,9 +60,28 @@ pub enum StateError {
     Fault(StateFault),
 }
 
+/// How many line feeds there are among few bytes.
+fn few_line_feeds(bytes: &[u8]) -> u8
+    requires { length bytes.now ≤ 255 }
+    ensures { result ≡ line_feeds bytes.now }
+{
+    let mut feeds = 0;
+    for byte in bytes {
+        feeds += u8::from(*byte == b'\n');
+    }
+    feeds
+}
+
 /// How many line feeds there are.
 pub(crate) fn line_feeds(text: &[u8]) -> usize
     ensures { result ≡ line_feeds text.now }
 {
-    text.iter().filter(|byte| **byte == b'\n').count()
+    let mut feeds = 0;
+    let mut rest = text;
+    while !rest.is_empty() {
+        let (bytes, behind) = rest.split_at(rest.len().min(255));
+        feeds += usize::from(few_line_feeds(bytes));
+        rest = behind;
+    }
+    feeds
 }

@@ -1,10 +1,11 @@
 //! Places as words.
 
-ghost use Rattle.std.specs.Prelude.{◌≡◌, ◌<◌, ◌==◌, IfSome, length, option_map, position};
+ghost use Rattle.std.specs.Prelude.{◌≡◌, ◌<◌, ◌≤◌, ◌==◌, ◌++◌, IfSome, List, Ok, Some, ℕ, drop, length, option_map, position, slice_index};
 ghost use Rattle.lf_proto.specs.Requests.{orient_named, place_written};
-ghost use Rattle.lf_state.specs.Words.{cut, place_in, place_on};
+ghost use Rattle.lf_state.specs.Reading.{spot_at};
+ghost use Rattle.lf_state.specs.Words.{Begins, cut, place_in, place_on};
 
-use crate::numbers::coordinate_of;
+use crate::numbers::{coordinate_of, front_coordinate};
 use lf_floorplan::{PackedPlace, Place};
 use lf_orient::Orient;
 
@@ -72,4 +73,39 @@ pub(crate) fn place_on(word: &[u8]) -> Option<PackedPlace>
     }
     let place = place_in(word)?;
     Some(PackedPlace::of(Some(place)))
+}
+
+/// How many bytes stand before such a byte, if they are one or two.
+fn short_len(byte: u8, bytes: &[u8]) -> Option<usize>
+    ensures within { IfSome result (λ len. len < length bytes.now) }
+    ensures found { IfSome result (λ len. slice_index bytes.now len ≡ byte) }
+{
+    if 1 < bytes.len() && bytes[1] == byte {
+        return Some(1);
+    }
+    if 2 < bytes.len() && bytes[2] == byte {
+        return Some(2);
+    }
+    None
+}
+
+/// The orientation in front whose name such a byte ends, and what stands behind the byte.
+fn front_orient(byte: u8, bytes: &[u8]) -> Option<(Orient, &[u8])>
+    ensures { IfSome result (λ x. Begins orient_named byte bytes.now x.0 x.1.now) }
+{
+    let len = short_len(byte, bytes)?;
+    let orient = orient_of(&bytes[..len])?;
+    Some((orient, &bytes[len + 1..]))
+}
+
+/// The place in front whose word such a byte ends, and how many bytes both are, if all of them are here.
+pub(crate) fn front_place(byte: u8, bytes: &[u8]) -> Option<(Place, usize)>
+    requires { byte ≤ 32 }
+    ensures within { IfSome result (λ x. x.1 ≤ length bytes.now) }
+    ensures read { IfSome result (λ x. (later : List ℕ) → spot_at byte (bytes.now ++ later) ≡ Ok (Some x.0, drop x.1 bytes.now ++ later)) }
+{
+    let (x, rest) = front_coordinate(bytes)?;
+    let (y, rest) = front_coordinate(rest)?;
+    let (orient, rest) = front_orient(byte, rest)?;
+    Some((Place::new(x, y, orient), bytes.len() - rest.len()))
 }

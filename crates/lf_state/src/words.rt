@@ -7,9 +7,9 @@ ghost use Rattle.lf_state.specs.Reading.{Reads, below_at, count_at, due_at, is_s
 
 use crate::cursor::Cursor;
 use crate::fault::{FaultNumber, ReadError};
-use crate::numbers::number_of;
-use crate::pieces::{begins, find, skip, word};
-use crate::places::place_on;
+use crate::numbers::{front_u32, number_of};
+use crate::pieces::{begins, find, front, skip, word};
+use crate::places::{front_place, place_on};
 use lf_floorplan::PackedPlace;
 use std::alloc::AllocError;
 
@@ -54,40 +54,46 @@ fn word_len(byte: u8, cursor: &mut Cursor) -> Result<usize, ReadError>
     }
 }
 
-/// The number below 2^32 that comes next, and how long its word is, which is not taken.
+/// The number below 2^32 that comes next, and how many bytes it and the one that ends it are, which are not taken.
 #[tactic(auto, unfolding(crate::specs::Reading::number_at))]
 fn next_number(byte: u8, cursor: &mut Cursor) -> Result<(u32, usize), ReadError>
-    ensures read { Reads (λ x left. (x.0, drop (x.1 + 1) left)) result (number_at byte (rest cursor.old)) (rest cursor.new) }
-    ensures within { IfOk result (λ x. x.1 < length (front cursor.new)) }
+    requires { byte < 48 }
+    ensures read { Reads (λ x left. (x.0, drop x.1 left)) result (number_at byte (rest cursor.old)) (rest cursor.new) }
+    ensures within { IfOk result (λ x. x.1 ≤ length (front cursor.new)) }
     ensures rest { rest cursor.new ≡ rest cursor.old }
     ensures ends { (text : List ℕ) → IsEnd text cursor.old → IsEnd text cursor.new }
 {
+    if let Some(next) = front_u32(byte, front(cursor)) {
+        return Ok(next);
+    }
     let len = word_len(byte, cursor)?;
     let Some(number) = number_of(word(len, cursor)) else {
         return Err(ReadError::Fault(FaultNumber::BadNumber));
     };
-    Ok((number, len))
+    Ok((number, len + 1))
 }
 
 /// A number below 2^32.
 pub(crate) fn number_at(byte: u8, cursor: &mut Cursor) -> Result<u32, ReadError>
+    requires { byte < 48 }
     ensures read { Reads (λ n left. (n, left)) result (number_at byte (rest cursor.old)) (rest cursor.new) }
     ensures ends { (text : List ℕ) → IsEnd text cursor.old → IsEnd text cursor.new }
 {
     let (number, len) = next_number(byte, cursor)?;
-    skip(len + 1, cursor);
+    skip(len, cursor);
     Ok(number)
 }
 
 /// A number below a limit.
 #[tactic(auto, unfolding(crate::specs::Reading::below_at))]
 pub(crate) fn below_at(limit: usize, byte: u8, cursor: &mut Cursor) -> Result<u32, ReadError>
+    requires { byte < 48 }
     ensures read { Reads (λ n left. (n, left)) result (below_at limit byte (rest cursor.old)) (rest cursor.new) }
     ensures ends { (text : List ℕ) → IsEnd text cursor.old → IsEnd text cursor.new }
 {
     let (number, len) = next_number(byte, cursor)?;
     if (number as usize) < limit {
-        skip(len + 1, cursor);
+        skip(len, cursor);
         return Ok(number);
     }
     Err(ReadError::Fault(FaultNumber::OutOfRange))
@@ -96,12 +102,13 @@ pub(crate) fn below_at(limit: usize, byte: u8, cursor: &mut Cursor) -> Result<u3
 /// Takes the number that is due.
 #[tactic(auto, unfolding(crate::specs::Reading::count_at))]
 pub(crate) fn count_at(count: usize, byte: u8, cursor: &mut Cursor) -> Result<(), ReadError>
+    requires { byte < 48 }
     ensures read { Reads (λ _ left. left) result (count_at count byte (rest cursor.old)) (rest cursor.new) }
     ensures ends { (text : List ℕ) → IsEnd text cursor.old → IsEnd text cursor.new }
 {
     let (number, len) = next_number(byte, cursor)?;
     if number as usize == count {
-        skip(len + 1, cursor);
+        skip(len, cursor);
         return Ok(());
     }
     Err(ReadError::Fault(FaultNumber::OtherDesign))
@@ -110,9 +117,14 @@ pub(crate) fn count_at(count: usize, byte: u8, cursor: &mut Cursor) -> Result<()
 /// A place or none.
 #[tactic(auto, unfolding(crate::specs::Reading::spot_at))]
 pub(crate) fn spot_at(byte: u8, cursor: &mut Cursor) -> Result<PackedPlace, ReadError>
+    requires { byte ≤ 32 }
     ensures read { Reads (λ place left. (place, left)) result (spot_at byte (rest cursor.old)) (rest cursor.new) }
     ensures ends { (text : List ℕ) → IsEnd text cursor.old → IsEnd text cursor.new }
 {
+    if let Some((place, len)) = front_place(byte, front(cursor)) {
+        skip(len, cursor);
+        return Ok(PackedPlace::of(Some(place)));
+    }
     let len = word_len(byte, cursor)?;
     let Some(place) = place_on(word(len, cursor)) else {
         return Err(ReadError::Fault(FaultNumber::BadNumber));
