@@ -17,7 +17,7 @@ use Rattle.lf_teams.specs.Teams.{IsTeamOf}
 use Rattle.lf_state.specs.declared.rows.SavedCell.{SavedCell}
 use Rattle.lf_state.specs.declared.rows.TeamRow.{TeamRow}
 use Rattle.lf_state.specs.Designs.{NamedTeam}
-use Rattle.lf_state.specs.Saved.{SavedTeam, saved_at, IsTeamOf as IsSavedTeamOf}
+use Rattle.lf_state.specs.Saved.{SavedTeam, saved_at, team_view, team_views, IsTeamOf as IsSavedTeamOf}
 use Rattle.lf_restore.specs.Saved.{AreDue, map_two, named_team, restored, restored_cell, restored_team, saved_cell}
 use Rattle.lf_restore.specs.Stands.{AreAsMany, without_cells}
 use Rattle.lf_restore.proofs.Framing.{cells_names, due_at, due_each, due_many, restored_each, restored_twice, saved_restored, team_placed}
@@ -177,9 +177,16 @@ module _ (saved : List SavedTeam) (old : Tables) (are : AreTables old) (due : Ar
         ∙ ap (λ (cs : List Cell). map saved_cell cs) (own_cells k less)
         ∙ saved_restored (cells_in k old) (saved_at saved k).cells (as_many k less))
 
-    -- one row for each team
-    pub rows_many : (left : List SavedTeam) → left ≡ map without_cells saved → length left ≡ length (teams_in new)
-    rows_many left is = ap (λ (l : List SavedTeam). length l) is ∙ length-map saved without_cells ∙ sym new_many
+    module _ (rows left : List TeamRow) (same : rows ≡ left) (emptied : team_views left ≡ map without_cells saved) where
+      -- so do the rows that are left of them
+      pub rows_told : all_standing new (team_views rows) ≡ saved
+      rows_told = ap (λ (l : List TeamRow). all_standing new (team_views l)) same ∙ ap (all_standing new) emptied ∙ still_told
+
+      -- one row for each team
+      pub rows_many : length rows ≡ length (teams_in new)
+      rows_many =
+          ap (λ (l : List TeamRow). length l) same ∙ sym (length-map left team_view) ∙ ap (λ (l : List SavedTeam). length l) emptied
+          ∙ length-map saved without_cells ∙ sym new_many
 
 -- ---- one team after the other gets its entries
 

@@ -1,8 +1,8 @@
 -- Teams whose cells stand already, restored one after the other, from the last to the first.
-use Rattle.std.proofs.Common.{◌≡◌, ◌<◌, ◌≤◌, ℕ, zero, suc, ◌+◌, List, [], ◌∷◌, ◌++◌, length, map, get_or, refl, ap, sym, subst, ◌∙◌, arith}
+use Rattle.std.proofs.Common.{◌≡◌, ◌<◌, ◌≤◌, ℕ, suc, ◌+◌, List, [], ◌∷◌, ◌++◌, length, map, get_or, refl, ap, sym, subst, ◌∙◌, arith}
 use Rattle.std.proofs.lemmas.List.{length-append}
 use Rattle.lf_cells.specs.Cells.{Cells, cells_of}
-use Rattle.lf_teams.specs.States.{FloorState, TeamState}
+use Rattle.lf_teams.specs.States.{TeamState}
 use Rattle.lf_state.specs.Saved.{SavedTeam, IsTeamOf as IsSavedTeamOf}
 use Rattle.lf_restore.specs.Saved.{map_two, named_team, restored, restored_team, saved_cell}
 use Rattle.lf_tables.specs.declared.tables.Tables.{Tables}

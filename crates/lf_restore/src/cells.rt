@@ -111,8 +111,8 @@ fn place_in_table(alloc: Global, cells: &mut CellTable, rows: &mut [TeamRow])
     }
 }
 
-/// The placement with each team's cells at the places that its row tells, working and committed. The strips are built anew, when the
-/// saved cells were let go: what is left of the rows is all else that they tell.
+/// The placement with each team's cells at the places that its row tells, working and committed. These are taken out of the rows and
+/// let go, and then the strips are built anew.
 ///
 /// `Err` if an allocation fails; the placement is then gone.
 pub fn place_teams(

@@ -1,4 +1,4 @@
-use Rattle.std.proofs.Common.{◌≡◌, ◌<◌, ◌≤◌, ℕ, List, length, map, refl, ap, sym, subst, ◌∙◌, arith}
+use Rattle.std.proofs.Common.{◌<◌, ◌≤◌, ℕ, List, length, map, refl, ap, sym, subst, ◌∙◌, arith}
 use Rattle.std.proofs.lemmas.List.{length-map}
 use Rattle.lf_floorplan.specs.declared.frame.Frame.{Frame}
 use Rattle.lf_cells.specs.declared.cell.Cell.{Cell}
@@ -6,9 +6,7 @@ use Rattle.lf_cells.specs.Cells.{Cells, cells_of}
 use Rattle.lf_undo.specs.declared.moves.Move.{Move}
 use Rattle.lf_undo.specs.Entries.{Places, entries_of}
 use Rattle.lf_undo.specs.Stacks.{stack_of}
-use Rattle.lf_placement.specs.Placings.{BoundsAt, places_of}
-use Rattle.lf_state.specs.declared.rows.SavedCell.{SavedCell}
-use Rattle.lf_state.specs.Saved.{team_view}
+use Rattle.lf_placement.specs.Placings.{places_of}
 use Rattle.lf_restore.specs.Saved.{map_two, restored_cell, saved_cell}
 use Rattle.lf_restore.proofs.Restoring.{cells_back, saved_places}
 use Rattle.lf_tables.specs.Tables.{cells_in}

@@ -1,12 +1,11 @@
 use Rattle.std.proofs.Common.{◌≡◌, ◌++◌, List, drop, length, map, take, ap, subst, sym, ◌∙◌}
-use Rattle.std.proofs.lemmas.List.{length-map}
 use Rattle.lf_state.specs.declared.rows.TeamRow.{TeamRow}
-use Rattle.lf_state.specs.Saved.{SavedTeam, team_view, team_views}
+use Rattle.lf_state.specs.Saved.{SavedTeam, team_views}
 use Rattle.lf_restore.specs.Saved.{AreDue, restored}
 use Rattle.lf_restore.specs.Stands.{without_cells}
 use Rattle.lf_tables.specs.Tables.{floor_in, frame_of, teams_in}
-use Rattle.lf_floor.specs.Saving.{PlacesTeams, all_standing}
-use Rattle.lf_floor.proofs.Placing.{due_placed, each_awaits, floor_placed, in_place, rows_many, still_told, tables_placed}
+use Rattle.lf_floor.specs.Saving.{PlacesTeams}
+use Rattle.lf_floor.proofs.Placing.{due_placed, each_awaits, floor_placed, in_place, rows_many, rows_told, tables_placed}
 use Rattle.lf_floor.proofs.restored.restored_by.Goals as goal
 
 pub restore_teams-requires : goal.restore_teams-requires
@@ -22,15 +21,13 @@ restore_teams-requires c =
     let placed : PlacesTeams saved old new = subst (λ (rows : List TeamRow). PlacesTeams (team_views rows) old new) same c.in_ok-placed.ensures.places in
     let emptied : team_views left ≡ map without_cells saved =
     c.place_cells.ensures.rows ∙ ap (λ (rows : List TeamRow). map without_cells (team_views rows)) same in
-    let back : take c.args.rows.len (left ++ drop (length left) rows) ≡ left =
-    in_place c.args.rows.len rows left c.args.rows.ok.0 (c.place_cells.auto.rows ∙ ap (λ (rows : List TeamRow). length rows) same) in
-    let told : all_standing new (team_views (take c.args.rows.len (left ++ drop (length left) rows))) ≡ saved =
-    ap (λ (rows : List TeamRow). all_standing new (team_views rows)) back ∙ ap (all_standing new) emptied ∙ still_told saved old are due new placed in
+    let back = in_place c.args.rows.len rows left c.args.rows.ok.0 (c.place_cells.auto.rows ∙ ap (λ (rows : List TeamRow). length rows) same) in
     record {
       tables = tables_placed saved old are due new placed;
-      many =
-          ap (λ (rows : List TeamRow). length rows) back ∙ sym (length-map left team_view) ∙ rows_many saved old are due new placed (team_views left) emptied;
-      due = subst (λ (l : List SavedTeam). AreDue (frame_of new).limits (teams_in new) l) (sym told) (due_placed saved old are due new placed);
+      many = rows_many saved old are due new placed _ left back emptied;
+      due =
+          subst (λ (l : List SavedTeam). AreDue (frame_of new).limits (teams_in new) l) (sym (rows_told saved old are due new placed _ left back emptied))
+          (due_placed saved old are due new placed);
       room = c.in_ok-tally.ensures.room;
       each = each_awaits saved old are due new placed _ c.in_ok-tally.tally (λ k. c.in_ok-tally.ensures.bounds k);
     }
@@ -48,10 +45,6 @@ returns-clause-floor c =
     let placed : PlacesTeams saved old new = subst (λ (rows : List TeamRow). PlacesTeams (team_views rows) old new) same c.in_ok-placed.ensures.places in
     let emptied : team_views left ≡ map without_cells saved =
     c.place_cells.ensures.rows ∙ ap (λ (rows : List TeamRow). map without_cells (team_views rows)) same in
-    let back : take c.args.rows.len (left ++ drop (length left) rows) ≡ left =
-    in_place c.args.rows.len rows left c.args.rows.ok.0 (c.place_cells.auto.rows ∙ ap (λ (rows : List TeamRow). length rows) same) in
+    let back = in_place c.args.rows.len rows left c.args.rows.ok.0 (c.place_cells.auto.rows ∙ ap (λ (rows : List TeamRow). length rows) same) in
     floor_placed saved old are due new placed (floor_in c.restore_teams.new.tables)
-    (c.in_ok-restore_teams.ensures.floor
-    ∙ ap (λ (rows : List TeamRow). restored (floor_in new) (all_standing new (team_views rows))) back
-    ∙ ap (λ (l : List SavedTeam). restored (floor_in new) (all_standing new l)) emptied
-    ∙ ap (restored (floor_in new)) (still_told saved old are due new placed))
+    (c.in_ok-restore_teams.ensures.floor ∙ ap (restored (floor_in new)) (rows_told saved old are due new placed _ left back emptied))
