@@ -1,7 +1,7 @@
 -- Tables whose teams' cells are placed first, and that then await their undo entries.
-use Rattle.std.proofs.Common.{◌≡◌, ◌≢◌, ◌<◌, ℕ, zero, suc, ◌+◌, List, [], ◌∷◌, ◌++◌, length, map, Option, refl, ap, sym, subst, ◌∙◌, arith}
+use Rattle.std.proofs.Common.{◌≡◌, ◌≢◌, ◌<◌, ℕ, zero, suc, ◌+◌, List, [], ◌∷◌, ◌++◌, length, map, take, drop, get_or, Option, refl, ap, sym, subst, ◌∙◌, arith, append-nil}
 use Rattle.std.specs.Prelude.{All, slice_index_or}
-use Rattle.std.proofs.lemmas.List.{length-append, length-map, length-replicate}
+use Rattle.std.proofs.lemmas.List.{drop_all, length-map, length-replicate, take_all}
 use Rattle.std.proofs.lemmas.List.Elements.{All-nil}
 use Rattle.lf_floorplan.specs.declared.frame.Frame.{Frame}
 use Rattle.lf_cells.specs.declared.cell.Cell.{Cell}
@@ -14,15 +14,37 @@ use Rattle.lf_placement.specs.Placings.{BoundsAt, Fits, Placing, places_of}
 use Rattle.lf_teams.specs.States.{FloorState, TeamState}
 use Rattle.lf_teams.specs.Steps.{floor_of}
 use Rattle.lf_teams.specs.Teams.{IsTeamOf}
+use Rattle.lf_state.specs.declared.rows.SavedCell.{SavedCell}
+use Rattle.lf_state.specs.declared.rows.TeamRow.{TeamRow}
 use Rattle.lf_state.specs.Designs.{NamedTeam}
-use Rattle.lf_state.specs.Saved.{SavedTeam, saved_at, IsTeamOf as IsSavedTeamOf}
-use Rattle.lf_restore.specs.Saved.{AreDue, map_two, named_team, restored, restored_cell, restored_team}
-use Rattle.lf_restore.specs.Stands.{AreAsMany}
-use Rattle.lf_restore.proofs.Framing.{cells_names, due_at, due_each, due_many, restored_each, restored_twice, team_placed, working_restored}
+use Rattle.lf_state.specs.Saved.{SavedTeam, saved_at, team_view, team_views, IsTeamOf as IsSavedTeamOf}
+use Rattle.lf_restore.specs.Saved.{AreDue, map_two, named_team, restored, restored_cell, restored_team, saved_cell}
+use Rattle.lf_restore.specs.Stands.{AreAsMany, without_cells}
+use Rattle.lf_restore.proofs.Framing.{cells_names, due_at, due_each, due_many, restored_each, restored_twice, saved_restored, team_placed}
 use Rattle.lf_tables.specs.declared.tables.Tables.{Tables}
-use Rattle.lf_floor.specs.Saving.{AwaitsEntries, EachAwaits, PlacesTeams}
+use Rattle.lf_floor.specs.Saving.{AwaitsEntries, EachAwaits, PlacesTeams, all_standing, standing_as}
 use Rattle.lf_tables.specs.Tables.{AreTables, EntriesFit, cells_in, floor_in, frame_of, own_team, padding_of, revision_of, team_with, teams_in}
 use Rattle.lf_floor.proofs.Rows.{count_teams, each_team, replicate_each, team_at}
+
+-- ---- rows that were lent to be changed, in their list again
+
+pub in_place : (many : ℕ) (rows left : List TeamRow) → many ≡ length rows → length left ≡ length rows → take many (left ++ drop (length left) rows) ≡ left
+in_place many rows left is same =
+    ap (λ (rest : List TeamRow). take many (left ++ rest)) (drop_all (length left) rows (omega (arith, same)))
+    ∙ ap (λ (all : List TeamRow). take many all) (append-nil left)
+    ∙ take_all many left (omega (arith, is, same))
+
+-- ---- saved teams whose cells stand
+
+each_told : (teams : List TeamState) (saved : List SavedTeam) (d : TeamState) → length teams ≡ length saved
+    → ((k : ℕ) → k < length saved → map saved_cell (get_or teams k d).cells ≡ (saved_at saved k).cells)
+    → map_two standing_as teams (map without_cells saved) ≡ saved
+each_told [] [] d many each = refl
+each_told [] (t ∷ saved) d many each = absurd (omega (arith, many))
+each_told (s ∷ teams) [] d many each = absurd (omega (arith, many))
+each_told (s ∷ teams) (t ∷ saved) d many each =
+    ap (λ (cs : List SavedCell). record t { cells = cs } ∷ map_two standing_as teams (map without_cells saved)) (each zero (omega arith))
+    ∙ ap (λ (l : List SavedTeam). t ∷ l) (each_told teams saved d (omega (arith, many)) (λ k less. each (suc k) (omega (arith, less))))
 
 -- ---- all teams' cells are placed
 
@@ -46,14 +68,8 @@ module _ (saved : List SavedTeam) (old : Tables) (are : AreTables old) (due : Ar
     own_cells : (k : ℕ) → k < length saved → cells_in k new ≡ map_two restored_cell (cells_in k old) (saved_at saved k).cells
     own_cells k less = placed.cells.cells k less
 
-    still_cells : (k : ℕ) → k < length saved → map_two restored_cell (cells_in k new) (saved_at saved k).cells ≡ cells_in k new
-    still_cells k less =
-        ap (λ (cs : List Cell). map_two restored_cell cs (saved_at saved k).cells) (own_cells k less)
-        ∙ restored_twice (cells_in k old) (saved_at saved k).cells
-        ∙ sym (own_cells k less)
-
-    pub each_awaits : (tally : List ℕ) → ((k : ℕ) → BoundsAt new.placement k (places_of (cells_in k new)) tally) → EachAwaits saved tally new
-    each_awaits tally bounds = λ k less. record { cells = still_cells k less; none = none_there k; bounds = bounds k }
+    pub each_awaits : (count : ℕ) (tally : List ℕ) → ((k : ℕ) → BoundsAt new.placement k (places_of (cells_in k new)) tally) → EachAwaits count tally new
+    each_awaits count tally bounds = λ k less. record { none = none_there k; bounds = bounds k }
 
     placed_team : (k : ℕ) → k < length saved → own_team k new
         ≡ record {
@@ -152,53 +168,42 @@ module _ (saved : List SavedTeam) (old : Tables) (are : AreTables old) (due : Ar
         ∙ ap (λ (cs : List (List ℕ)). floor_of (frame_of old) cs (map_two restored_team (teams_in new) saved)) placed.cells.components
         ∙ ap (floor_of (frame_of old) old.placement.cells.components) same_teams
 
+    -- the saved teams are those that are left of them, with the cells as they stand
+    pub still_told : all_standing new (map without_cells saved) ≡ saved
+    still_told =
+        let d = own_team 0 old in
+        each_told (teams_in new) saved d new_many
+        (λ k less. ap (λ (s : TeamState). map saved_cell s.cells) (team_at new k d (within k less))
+        ∙ ap (λ (cs : List Cell). map saved_cell cs) (own_cells k less)
+        ∙ saved_restored (cells_in k old) (saved_at saved k).cells (as_many k less))
+
+    module _ (rows left : List TeamRow) (same : rows ≡ left) (emptied : team_views left ≡ map without_cells saved) where
+      -- so do the rows that are left of them
+      pub rows_told : all_standing new (team_views rows) ≡ saved
+      rows_told = ap (λ (l : List TeamRow). all_standing new (team_views l)) same ∙ ap (all_standing new) emptied ∙ still_told
+
+      -- one row for each team
+      pub rows_many : length rows ≡ length (teams_in new)
+      rows_many =
+          ap (λ (l : List TeamRow). length l) same ∙ sym (length-map left team_view) ∙ ap (λ (l : List SavedTeam). length l) emptied
+          ∙ length-map saved without_cells ∙ sym new_many
+
 -- ---- one team after the other gets its entries
 
-pub still_awaits : (other : ℕ) (t : SavedTeam) (before after : List ℕ) (old mid new : Tables) → mid.placement.cells ≡ old.placement.cells
+pub still_awaits : (other : ℕ) (before after : List ℕ) (old mid new : Tables) → mid.placement.cells ≡ old.placement.cells
     → stack_of mid.undo other ≡ stack_of old.undo other → new.placement ≡ mid.placement → new.undo ≡ mid.undo
     → ((at : Places) → BoundsAt old.placement other at before → BoundsAt mid.placement other at after)
-    → AwaitsEntries other t before old → AwaitsEntries other t after new
-still_awaits other t before after old mid new cells stack placement undo bounds awaits =
-    let same : cells_in other new ≡ cells_in other old =
-    ap (λ (p : Placing). cells_of p.cells other) placement ∙ ap (λ (cs : Cells). cells_of cs other) cells in
-    record {
-      cells = ap (λ (cs : List Cell). map_two restored_cell cs t.cells) same ∙ awaits.cells ∙ sym same;
-      none = ap (λ (u : Stacks (List Move)). stack_of u other) undo ∙ stack ∙ awaits.none;
-      bounds =
-          subst (λ (p : Placing). BoundsAt p other (places_of (cells_of p.cells other)) after) (sym placement)
-          (subst (λ (cs : Cells). BoundsAt mid.placement other (places_of (cells_of cs other)) after) (sym cells)
-          (bounds (places_of (cells_in other old)) awaits.bounds));
-    }
+    → AwaitsEntries other before old → AwaitsEntries other after new
+still_awaits other before after old mid new cells stack placement undo bounds awaits = record {
+  none = ap (λ (u : Stacks (List Move)). stack_of u other) undo ∙ stack ∙ awaits.none;
+  bounds =
+      subst (λ (p : Placing). BoundsAt p other (places_of (cells_of p.cells other)) after) (sym placement)
+      (subst (λ (cs : Cells). BoundsAt mid.placement other (places_of (cells_of cs other)) after) (sym cells)
+      (bounds (places_of (cells_in other old)) awaits.bounds));
+}
 
--- where the team's cells stand
-pub stands_there : (number : ℕ) (t : SavedTeam) (tally : List ℕ) (tables : Tables) → length t.cells ≡ length (map (λ c. c.name) (cells_in number tables))
-    → AwaitsEntries number t tally tables → map (λ c. c.working) t.cells ≡ places_of (cells_in number tables)
-stands_there number t tally tables many awaits =
-    sym (working_restored (cells_in number tables) t.cells (many ∙ length-map (cells_in number tables) (λ (c : Cell). c.name)))
-    ∙ ap (λ (cs : List Cell). places_of cs) awaits.cells
-
--- the last of those that are left, and the others
-saved_last : (rest : List SavedTeam) (t : SavedTeam) → saved_at (rest ++ t ∷ []) (length rest) ≡ t
-saved_last [] t = refl
-saved_last (s ∷ rest) t = saved_last rest t
-
-saved_first : (rest : List SavedTeam) (t : SavedTeam) (k : ℕ) → k < length rest → saved_at (rest ++ t ∷ []) k ≡ saved_at rest k
-saved_first [] t k less = absurd (omega (arith, less))
-saved_first (s ∷ rest) t zero less = refl
-saved_first (s ∷ rest) t (suc k) less = saved_first rest t k (omega (arith, less))
-
-module _ (rest left : List SavedTeam) (t : SavedTeam) (tally : List ℕ) (tables : Tables) (is : left ≡ rest ++ t ∷ []) (each : EachAwaits left tally tables) where
-  more : length left ≡ length rest + 1
-  more = ap (λ (l : List SavedTeam). length l) is ∙ length-append rest (t ∷ [])
-
-  pub last_awaits : (k : ℕ) → k ≡ length rest → AwaitsEntries k t tally tables
-  last_awaits k at =
-      subst (λ (u : SavedTeam). AwaitsEntries k u tally tables)
-      (ap (λ (l : List SavedTeam). saved_at l k) is ∙ ap (λ (n : ℕ). saved_at (rest ++ t ∷ []) n) at ∙ saved_last rest t)
-      (each k (omega (arith, at, more)))
-
-  pub rest_awaits : (k : ℕ) → k ≡ length rest → (after : List ℕ) (new : Tables)
-      → ((u : SavedTeam) (other : ℕ) → other ≢ k → AwaitsEntries other u tally tables → AwaitsEntries other u after new) → EachAwaits rest after new
-  rest_awaits k at after new stay = λ n less.
-      stay (saved_at rest n) n (λ same. absurd (omega (arith, less, same, at)))
-      (subst (λ (u : SavedTeam). AwaitsEntries n u tally tables) (ap (λ (l : List SavedTeam). saved_at l n) is ∙ saved_first rest t n less) (each n (omega (arith, less, more))))
+-- the teams before the last one await theirs still
+pub rest_awaits : (count more : ℕ) (before after : List ℕ) (old new : Tables) → more ≡ count + 1 → EachAwaits more before old
+    → ((other : ℕ) → other ≢ count → AwaitsEntries other before old → AwaitsEntries other after new) → EachAwaits count after new
+rest_awaits count more before after old new is each stay = λ k less.
+    stay k (λ same. absurd (omega (arith, less, same))) (each k (omega (arith, less, is)))

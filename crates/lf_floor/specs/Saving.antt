@@ -2,13 +2,14 @@
 use Rattle.std.specs.Prelude.{◌≡◌, ℕ, ◌+◌, ◌<◌, List, [], Option, length, map, replicate, slice_set}
 use Rattle.std.specs.List.{range_with_len}
 use Rattle.lf_undo.specs.Stacks.{stack_of}
+use Rattle.lf_teams.specs.States.{TeamState}
 use Rattle.lf_state.specs.Designs.{NamedDesign}
 use Rattle.lf_placement.specs.Placings.{BoundsAt, places_of}
-use Rattle.lf_state.specs.Saved.{SavedTeam, moves_within, saved_at, state_text}
-use Rattle.lf_restore.specs.Saved.{map_two, restored_cell, saved_cell}
+use Rattle.lf_state.specs.Saved.{SavedTeam, moves_within, state_text}
+use Rattle.lf_restore.specs.Saved.{map_two, saved_cell}
 use Rattle.lf_restore.specs.Stands.{ArePlaced}
 use Rattle.lf_tables.specs.declared.tables.Tables.{Tables}
-use Rattle.lf_tables.specs.Tables.{cells_in, frame_of, padding_of, revision_of, sites_in}
+use Rattle.lf_tables.specs.Tables.{cells_in, frame_of, padding_of, revision_of, sites_in, teams_in}
 use Rattle.lf_sessions.specs.Slots.{slots_of}
 
 -- what is told of the team of that number: of its undo entries the moves of its cells
@@ -47,12 +48,19 @@ pub record PlacesTeams (saved : List SavedTeam) (old new : Tables) : Type 0 wher
   pub revisions : new.revisions ≡ old.revisions
   pub paddings : new.paddings ≡ old.paddings
 
--- the team's cells stand where the saved team tells, it has nothing to undo, and the tally bounds its working places
-pub record AwaitsEntries (number : ℕ) (t : SavedTeam) (tally : List ℕ) (tables : Tables) : Type 0 where
-  pub cells : map_two restored_cell (cells_in number tables) t.cells ≡ cells_in number tables
+-- the team has nothing to undo, and the tally bounds its working places
+pub record AwaitsEntries (number : ℕ) (tally : List ℕ) (tables : Tables) : Type 0 where
   pub none : stack_of tables.undo number ≡ []
   pub bounds : BoundsAt tables.placement number (places_of (cells_in number tables)) tally
 
--- so it is for each of these
-abbrev pub EachAwaits : List SavedTeam → List ℕ → Tables → Type 0
-EachAwaits saved tally tables = (number : ℕ) → number < length saved → AwaitsEntries number (saved_at saved number) tally tables
+-- so it is for the first so many teams
+abbrev pub EachAwaits : ℕ → List ℕ → Tables → Type 0
+EachAwaits count tally tables = (number : ℕ) → number < count → AwaitsEntries number tally tables
+
+-- the saved team with the team's cells as they stand: it tells all else of the team
+abbrev pub standing_as : TeamState → SavedTeam → SavedTeam
+standing_as s t = record t { cells = map saved_cell s.cells }
+
+-- so it is for each team of the tables
+abbrev pub all_standing : Tables → List SavedTeam → List SavedTeam
+all_standing tables saved = map_two standing_as (teams_in tables) saved

@@ -30,23 +30,28 @@ fn commit(cells: &mut CellTable, team: usize)
     cells.commit_team(team);
 }
 
-/// Takes the team's cell of that position off its working place, if there is one.
-fn unplace_at(cells: &mut CellTable, team: usize, own: usize)
+/// Takes the cell, and those before it in its team, off their working places.
+fn unplace_up_to(cells: &mut CellTable, last: CellId)
     ensures { AreSameCells cells.old cells.new }
 {
-    match cells.cell_of(team, own) {
-        Some(id) => unplace(cells, id),
-        None => {}
+    for own in 0..last.own {
+        let id = CellId {
+            team: last.team,
+            own,
+        };
+        unplace(cells, id);
     }
+    unplace(cells, last);
 }
 
 /// Takes the team's cells off their working and committed places.
 fn unplace_team(cells: &mut CellTable, team: usize)
     ensures { AreSameCells cells.old cells.new }
 {
-    for own in 0..cells.cells_of(team).len() {
-        unplace_at(cells, team, own);
-    }
+    let Some(&last) = cells.cells_of(team).last() else {
+        return;
+    };
+    unplace_up_to(cells, last);
     commit(cells, team);
 }
 

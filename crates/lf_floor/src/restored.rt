@@ -11,19 +11,18 @@ ghost use Rattle.lf_state.specs.Refused.{GivesIn, HoldsEnd};
 ghost use Rattle.lf_state.specs.Reading.{FailsAt, GivesAt, state_of};
 ghost use Rattle.lf_state.specs.Saved.{SavedTeam, team_view, team_views, IsTeamOf as IsSavedTeamOf};
 ghost use Rattle.lf_restore.specs.Saved.{AreDue, AreOfOneDesign, IsRestoredFrom, IsStateText, named, named_team, restored, restored_team, saved_design};
-ghost use Rattle.lf_floor.specs.Saving.{AwaitsEntries, EachAwaits, HasNumbers, PlacesTeams};
+ghost use Rattle.lf_restore.specs.Stands.{without_cells};
+ghost use Rattle.lf_floor.specs.Saving.{AwaitsEntries, EachAwaits, HasNumbers, PlacesTeams, all_standing, standing_as};
 ghost use Rattle.lf_tables.specs.Tables.{AreTables, EntriesFit, HasRows, IsServed, OthersStay, floor_in, frame_of, own_team, teams_in};
 
 use crate::floor::Floor;
 use crate::saved::Told;
-use lf_floorplan::{Frame, PackedPlace};
+use lf_floorplan::Frame;
 use lf_legalize::Seeker;
 use lf_occupancy::Tally;
-use lf_restore::{
-    place_teams, restore_entries, restored_is_committed, saved_restores, working_places,
-};
+use lf_restore::{place_teams, restore_entries, restored_is_committed, saved_restores};
 use lf_rules::Padding;
-use lf_state::{PiecesError, SavedCell, StateError, TeamRow, read_pieces, read_state};
+use lf_state::{PiecesError, StateError, TeamRow, read_pieces, read_state};
 use lf_tables::Tables;
 use lf_undo::UndoStore;
 use std::alloc::{AllocError, Global};
@@ -53,17 +52,8 @@ fn set_numbers(
     tables.sessions.set_slots(number, slots);
 }
 
-/// The working places of the cells, of which nothing else is kept.
-///
-/// `Err` if an allocation fails.
-fn places_of(alloc: Global, cells: Vec<SavedCell>) -> Result<Vec<PackedPlace>, AllocError>
-    ensures { IfOk result (λ places. places.items ≡ map (λ c. c.working) cells.items) }
-{
-    working_places(alloc, &cells)
-}
-
-/// Restores the team of that number, of which the row tells, where its cells stand already; it has nothing to undo, and the tally
-/// bounds its working places.
+/// Restores the team of that number, whose cells stand already, and of which the row tells all else; it has nothing to undo, and the
+/// tally bounds its working places.
 ///
 /// `Err` if an allocation fails.
 fn restore_team(
@@ -74,38 +64,37 @@ fn restore_team(
     row: TeamRow,
 ) -> Result<(), AllocError>
     requires served { IsServed number tables.old }
-    requires due { IsSavedTeamOf (frame_of tables.old).limits (named_team [] (own_team number tables.old)) (team_view row) }
+    requires due { IsSavedTeamOf (frame_of tables.old).limits (named_team [] (own_team number tables.old)) (standing_as (own_team number tables.old) (team_view row)) }
     requires room { NoLess tally.old tables.old.placement.held.rooms }
-    requires awaits { AwaitsEntries number (team_view row) tally.old tables.old }
-    ensures team { OnOk result (own_team number tables.new ≡ restored_team (own_team number tables.old) (team_view row)) }
+    requires awaits { AwaitsEntries number tally.old tables.old }
+    ensures team { OnOk result (own_team number tables.new ≡ restored_team (own_team number tables.old) (standing_as (own_team number tables.old) (team_view row))) }
     ensures others { OnOk result (OthersStay number tables.old tables.new) }
+    ensures cells { OnOk result (tables.new.placement.cells ≡ tables.old.placement.cells) }
     ensures fit { OnOk result (EntriesFit number tables.new) }
     ensures room { OnOk result (NoLess tally.new tables.new.placement.held.rooms) }
-    ensures awaits { (t : SavedTeam) → (other : ℕ) → other ≢ number → AwaitsEntries other t tally.old tables.old
-        → OnOk result (AwaitsEntries other t tally.new tables.new) }
+    ensures awaits { (other : ℕ) → other ≢ number → AwaitsEntries other tally.old tables.old → OnOk result (AwaitsEntries other tally.new tables.new) }
 {
     let TeamRow {
         revision,
         padding,
         slots,
-        cells,
+        cells: _,
         entries,
     } = row;
     slots_are_few(tables.placement.frame());
-    let places = places_of(alloc, cells)?;
     restore_entries(
+        alloc,
         &mut tables.placement,
         tally,
         &mut tables.undo,
         number,
-        places,
         entries,
     )?;
     set_numbers(tables, number, revision, padding, slots);
     Ok(())
 }
 
-/// Restores the teams of which the rows tell, from the last to the first, where their cells stand already.
+/// Restores the teams, whose cells stand already, and of which the rows tell all else, from the last to the first.
 ///
 /// `Err` if an allocation fails.
 fn restore_teams(
@@ -115,11 +104,12 @@ fn restore_teams(
     rows: Vec<TeamRow>,
 ) -> Result<(), AllocError>
     requires tables { AreTables tables.old }
-    requires due { AreDue (frame_of tables.old).limits (teams_in tables.old) (team_views rows.items) }
+    requires many { length rows.items ≡ length (teams_in tables.old) }
+    requires due { AreDue (frame_of tables.old).limits (teams_in tables.old) (all_standing tables.old (team_views rows.items)) }
     requires room { NoLess tally.old tables.old.placement.held.rooms }
-    requires each { EachAwaits (team_views rows.items) tally.old tables.old }
+    requires each { EachAwaits (length rows.items) tally.old tables.old }
     ensures tables { OnOk result (AreTables tables.new) }
-    ensures floor { OnOk result (floor_in tables.new ≡ restored (floor_in tables.old) (team_views rows.items)) }
+    ensures floor { OnOk result (floor_in tables.new ≡ restored (floor_in tables.old) (all_standing tables.old (team_views rows.items))) }
 {
     let mut left = rows;
     while !left.is_empty() {
@@ -132,11 +122,12 @@ fn restore_teams(
     Ok(())
 }
 
-/// The tables with the cells of all teams where the rows tell, and nothing to undo.
-fn place_cells(alloc: Global, tables: Tables, rows: &[TeamRow]) -> Result<Tables, AllocError>
+/// The tables with the cells of all teams where the rows tell, and nothing to undo. The rows no longer have the cells then.
+fn place_cells(alloc: Global, tables: Tables, rows: &mut [TeamRow]) -> Result<Tables, AllocError>
     requires tables { AreTables tables }
-    requires due { AreDue (frame_of tables).limits (teams_in tables) (team_views rows.now) }
-    ensures { IfOk result (PlacesTeams (team_views rows.now) tables) }
+    requires due { AreDue (frame_of tables).limits (teams_in tables) (team_views rows.old) }
+    ensures places { IfOk result (PlacesTeams (team_views rows.old) tables) }
+    ensures rows { team_views rows.new ≡ map without_cells (team_views rows.old) }
 {
     let Tables {
         placement,
@@ -158,7 +149,7 @@ fn place_cells(alloc: Global, tables: Tables, rows: &[TeamRow]) -> Result<Tables
     })
 }
 
-/// The tables in the state of which the rows tell: first all cells are placed, and then each team is restored.
+/// The tables in the state of which the rows tell: first all cells are placed, and then all else of each team is restored.
 ///
 /// `Err` if an allocation fails.
 fn restored_by(alloc: Global, tables: Tables, rows: Vec<TeamRow>) -> Result<Tables, AllocError>
@@ -167,9 +158,10 @@ fn restored_by(alloc: Global, tables: Tables, rows: Vec<TeamRow>) -> Result<Tabl
     ensures tables { IfOk result AreTables }
     ensures floor { IfOk result (λ now. floor_in now ≡ restored (floor_in tables) (team_views rows.items)) }
 {
-    let mut placed = place_cells(alloc, tables, &rows)?;
+    let mut left = rows;
+    let mut placed = place_cells(alloc, tables, &mut left)?;
     let mut tally = placed.placement.tally(alloc)?;
-    restore_teams(alloc, &mut placed, &mut tally, rows)?;
+    restore_teams(alloc, &mut placed, &mut tally, left)?;
     Ok(placed)
 }
 

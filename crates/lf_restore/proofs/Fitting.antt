@@ -1,16 +1,18 @@
 -- Undo entries that are made room for and pushed.
-use Rattle.std.proofs.Common.{◌≡◌, ◌≢◌, ◌≤◌, ℕ, List, ◌∷◌, length, map, drop, refl, ap, sym, subst, ◌∙◌, arith}
+use Rattle.std.proofs.Common.{◌≡◌, ◌≤◌, ℕ, zero, suc, List, [], ◌∷◌, length, map, drop, get_or, None, refl, ap, sym, subst, ◌∙◌, arith}
 use Rattle.std.specs.Prelude.{All}
-use Rattle.std.proofs.lemmas.List.{drop_all}
+use Rattle.std.specs.List.{range_with_len}
+use Rattle.std.proofs.lemmas.List.{drop_all, length-map}
+use Rattle.std.proofs.lemmas.List.FromFn.{fill_by_all}
 use Rattle.std.proofs.lemmas.List.Elements.{All-cons, All-nil}
-use Rattle.lf_cells.specs.Cells.{Cells, cells_of}
+use Rattle.lf_cells.specs.declared.cell.Cell.{Cell}
+use Rattle.lf_cells.specs.declared.cell.CellId.{CellId}
+use Rattle.lf_cells.specs.Cells.{Cells, cells_of, id_of, ids_of, working_at}
 use Rattle.lf_undo.specs.declared.moves.Move.{Move}
 use Rattle.lf_undo.specs.Entries.{Places, entries_of, taken_back}
-use Rattle.lf_undo.specs.Stacks.{Stacks, stack_of}
 use Rattle.lf_occupancy.specs.Occupied.{NoLess}
 use Rattle.lf_placement.specs.Laws.{FitsLast}
 use Rattle.lf_placement.specs.Placings.{Fits, Placing, SameButRooms, places_of}
-use Rattle.lf_restore.specs.Stands.{EntriesFit, OthersStay}
 
 -- ---- room
 
@@ -49,23 +51,20 @@ pub none_fits : (k : ℕ) (p : Placing) (entries : List (List Move)) (places : P
 none_fits k p entries places n past =
     subst (λ (es : List (List Move)). All (Fits p k) (entries_of places es)) (sym (drop_all n entries past)) (All-nil (Fits p k))
 
--- ---- the team, and the others
+-- ---- the working places of a team
 
-pub entries_fit : (k : ℕ) (p q : Placing) (done : Stacks (List Move)) (places : Places) (entries : List (List Move)) → places ≡ places_of (cells_of p.cells k)
-    → SameButRooms p q → stack_of done k ≡ entries → All (Fits q k) (entries_of places entries) → EntriesFit q done k
-entries_fit k p q done places entries stand same stack fit =
-    subst (λ (cs : Cells). All (Fits q k) (entries_of (places_of (cells_of cs k)) (stack_of done k))) (sym same.cells)
-    (subst (λ (ps : Places). All (Fits q k) (entries_of ps (stack_of done k))) stand
-    (subst (λ (es : List (List Move)). All (Fits q k) (entries_of places es)) (sym stack) fit))
+working_there : (cells : List Cell) (own : ℕ) → get_or (places_of cells) own None ≡ working_at cells own
+working_there [] own = refl
+working_there (c ∷ cs) zero = refl
+working_there (c ∷ cs) (suc own) = working_there cs own
 
-pub others_stay : (k : ℕ) (p q : Placing) (undo done : Stacks (List Move)) → SameButRooms p q → ((other : ℕ) → other ≢ k → stack_of done other ≡ stack_of undo other)
-    → OthersStay k p q undo done
-others_stay k p q undo done same stacks = record {
-  frame = same.frame;
-  components = ap (λ (cs : Cells). cs.components) same.cells;
-  index = same.index;
-  site = same.site;
-  rooms = same.rooms;
-  cells = λ other apart. ap (λ (cs : Cells). cells_of cs other) same.cells;
-  stacks = stacks;
-}
+map_twice : {X Y Z : Type 0} (f : Y → Z) (g : X → Y) (xs : List X) → map f (map g xs) ≡ map (λ x. f (g x)) xs
+map_twice f g [] = refl
+map_twice {Z = Z} f g (x ∷ xs) = ap (λ (zs : List Z). f (g x) ∷ zs) (map_twice f g xs)
+
+-- those of the ids of the team's cells are its working places
+pub working_ids : (table : Cells) (team : ℕ) → map (λ id. working_at (cells_of table id.team) id.own) (ids_of team (cells_of table team)) ≡ places_of (cells_of table team)
+working_ids table team =
+    let cells = cells_of table team in
+    map_twice (λ (id : CellId). working_at (cells_of table id.team) id.own) (id_of team) (range_with_len 0 (length cells))
+    ∙ sym (fill_by_all (working_at cells) (places_of cells) (length cells) None (length-map cells (λ (c : Cell). c.working)) (λ k less. working_there cells k))

@@ -9,7 +9,7 @@ use Rattle.lf_floorplan.specs.declared.limits.Limits.{Limits}
 use Rattle.lf_floorplan.specs.Bounds.{IsName}
 use Rattle.lf_cells.specs.declared.cell.Cell.{Cell}
 use Rattle.lf_cells.specs.Cells.{Cells, cells_of}
-use Rattle.lf_placement.specs.Placings.{AreSized, places_of}
+use Rattle.lf_placement.specs.Placings.{AreSized}
 use Rattle.lf_legalize.specs.Members.{IsSizedCell}
 use Rattle.lf_undo.specs.Entries.{Places, entries_of}
 use Rattle.lf_undo.proofs.Undone.{count_entries, whole_entries}
@@ -18,7 +18,7 @@ use Rattle.lf_teams.specs.Teams.{IsTeamOf}
 use Rattle.lf_teams.proofs.Kept.{sized_as}
 use Rattle.lf_state.specs.declared.rows.SavedCell.{SavedCell}
 use Rattle.lf_state.specs.Saved.{Both, SavedTeam, saved_at, IsTeamOf as IsSavedTeamOf}
-use Rattle.lf_restore.specs.Saved.{AreDue, AreOfOneDesign, fixed_cells, fixed_of, map_two, named_team, restored, restored_cell, restored_team}
+use Rattle.lf_restore.specs.Saved.{AreDue, AreOfOneDesign, fixed_cells, fixed_of, map_two, named_team, restored, restored_cell, restored_team, saved_cell}
 use Rattle.lf_restore.specs.Stands.{AreAsMany, ArePlaced}
 
 -- ---- cells
@@ -61,11 +61,12 @@ restored_twice [] saved = refl
 restored_twice (c ∷ cells) [] = refl
 restored_twice (c ∷ cells) (s ∷ saved) = ap (λ (cs : List Cell). restored_cell c s ∷ cs) (restored_twice cells saved)
 
-pub working_restored : (cells : List Cell) (saved : List SavedCell) → length saved ≡ length cells → places_of (map_two restored_cell cells saved) ≡ map (λ c. c.working) saved
-working_restored [] [] many = refl
-working_restored [] (s ∷ saved) many = absurd (omega (arith, many))
-working_restored (c ∷ cells) [] many = absurd (omega (arith, many))
-working_restored (c ∷ cells) (s ∷ saved) many = ap (λ (ps : Places). s.working ∷ ps) (working_restored cells saved (omega (arith, many)))
+-- what is saved of cells at saved places are these places
+pub saved_restored : (cells : List Cell) (saved : List SavedCell) → length saved ≡ length cells → map saved_cell (map_two restored_cell cells saved) ≡ saved
+saved_restored [] [] many = refl
+saved_restored [] (s ∷ saved) many = absurd (omega (arith, many))
+saved_restored (c ∷ cells) [] many = absurd (omega (arith, many))
+saved_restored (c ∷ cells) (s ∷ saved) many = ap (λ (l : List SavedCell). s ∷ l) (saved_restored cells saved (omega (arith, many)))
 
 -- each team of a table keeps the macros of its cells, and their number
 module _ (saved : List SavedTeam) (old new : Cells) (many : AreAsMany saved old) (placed : ArePlaced saved old new) where

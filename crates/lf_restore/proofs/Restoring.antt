@@ -53,14 +53,14 @@ same_design a b one =
 
 -- ---- places
 
-saved_places : (cells : List Cell) → map (λ c. c.working) (map saved_cell cells) ≡ places_of cells
+pub saved_places : (cells : List Cell) → map (λ c. c.working) (map saved_cell cells) ≡ places_of cells
 saved_places [] = refl
 saved_places (c ∷ cs) = ap (λ (ps : Places). c.working ∷ ps) (saved_places cs)
 
 one_cell : (c d : Cell) → fixed_of d ≡ fixed_of c → restored_cell c (saved_cell d) ≡ d
 one_cell c d is = ap (λ (f : List ℕ × ℕ). record { name = f.0; mac = f.1; working = d.working; committed = d.committed }) (sym is)
 
-cells_back : (cells others : List Cell) → map fixed_of others ≡ map fixed_of cells → map_two restored_cell cells (map saved_cell others) ≡ others
+pub cells_back : (cells others : List Cell) → map fixed_of others ≡ map fixed_of cells → map_two restored_cell cells (map saved_cell others) ≡ others
 cells_back [] [] is = refl
 cells_back [] (d ∷ ds) is = absurd cc
 cells_back (c ∷ cs) [] is = absurd cc

@@ -1,6 +1,6 @@
 //! The undo entries of a team, restored.
 
-ghost use Rattle.std.specs.Prelude.{◌≡◌, ◌≢◌, ◌<◌, ◌≤◌, ℕ, [], All, OnOk, length};
+ghost use Rattle.std.specs.Prelude.{◌≡◌, ◌≢◌, ◌<◌, ◌≤◌, ℕ, [], All, IfOk, OnOk, length};
 ghost use Rattle.lf_cells.specs.Cells.{cells_of};
 ghost use Rattle.lf_occupancy.specs.Occupied.{NoLess};
 ghost use Rattle.lf_undo.specs.Entries.{Places, entries_of};
@@ -8,11 +8,28 @@ ghost use Rattle.lf_undo.specs.Stacks.{stack_of};
 ghost use Rattle.lf_placement.specs.Placings.{BoundsAt, Fits, SameButRooms, places_of};
 ghost use Rattle.lf_restore.specs.Stands.{EntriesFit, OthersStay};
 
+use lf_cells::CellTable;
 use lf_floorplan::PackedPlace;
 use lf_occupancy::Tally;
 use lf_placement::{Placement, fits_last};
 use lf_undo::{Moves, UndoStore};
-use std::alloc::AllocError;
+use std::alloc::{AllocError, Global};
+
+/// The working places of the team's cells, in loading order.
+fn working_places(
+    alloc: Global,
+    cells: &CellTable,
+    team: usize,
+) -> Result<Vec<PackedPlace>, AllocError>
+    ensures { IfOk result (λ places. places.items ≡ places_of (cells_of cells.now team)) }
+{
+    let ids = cells.cells_of(team);
+    let mut places = Vec::with_capacity(alloc, ids.len())?;
+    for id in ids {
+        places.push(PackedPlace::of(cells.working(*id)))?;
+    }
+    Ok(places)
+}
 
 /// Takes the entries of the team back on its places, the newest first, and makes room for the places before each of them.
 fn fit_entries(
@@ -61,25 +78,24 @@ fn push_entries(undo: &mut UndoStore, team: usize, entries: Vec<Moves>) -> Resul
     Ok(())
 }
 
-/// Gives the team, which stands at these places and has no undo entries, these ones, the newest first. There is then room for the
-/// places before each of them. The tally, which bounds the team's places, is spent for the team, and bounds other teams' as before.
+/// Gives the team, which has no undo entries, these ones, the newest first. There is then room for the places before each of them.
+/// The tally, which bounds the team's working places, is spent for the team, and bounds other teams' as before.
 ///
 /// `Err` if an allocation fails.
 pub fn restore_entries(
+    alloc: Global,
     placement: &mut Placement,
     tally: &mut Tally,
     undo: &mut UndoStore,
     team: usize,
-    places: Vec<PackedPlace>,
     entries: Vec<Moves>,
 ) -> Result<(), AllocError>
     requires team { team < length undo.old.lists }
     requires none { stack_of undo.old team ≡ [] }
     requires few { length entries.items ≤ undo.old.limit }
-    requires own { All (λ moves. All (λ m. m.own < length places.items) moves) entries.items }
-    requires stand { places.items ≡ places_of (cells_of placement.old.cells team) }
+    requires own { All (λ moves. All (λ m. m.own < length (cells_of placement.old.cells team)) moves) entries.items }
     requires room { NoLess tally.old placement.old.held.rooms }
-    requires bounds { BoundsAt placement.old team places.items tally.old }
+    requires bounds { BoundsAt placement.old team (places_of (cells_of placement.old.cells team)) tally.old }
     ensures stack { OnOk result (stack_of undo.new team ≡ entries.items) }
     ensures fit { OnOk result (EntriesFit placement.new undo.new team) }
     ensures cells { OnOk result (placement.new.cells ≡ placement.old.cells) }
@@ -90,8 +106,11 @@ pub fn restore_entries(
     ensures teams { OnOk result (length undo.new.lists ≡ length undo.old.lists) }
     ensures limit { OnOk result (undo.new.limit ≡ undo.old.limit) }
 {
-    let mut now = places;
-    fit_entries(placement, tally, team, &mut now, &entries)?;
+    if entries.is_empty() {
+        return Ok(());
+    }
+    let mut places = working_places(alloc, placement.cells(), team)?;
+    fit_entries(placement, tally, team, &mut places, &entries)?;
     push_entries(undo, team, entries)?;
     Ok(())
 }

@@ -1,11 +1,5 @@
-use Rattle.lf_floor.proofs.Unplacing.{same_cells, same_through}
+use Rattle.lf_floor.proofs.Unplacing.{same_through}
 use Rattle.lf_floor.proofs.bare.unplace_team.Goals as goal
 
-pub loop-own-init : goal.loop-own-init
-loop-own-init c = same_cells c.args.cells.now
-
-pub loop-own-preserved : goal.loop-own-preserved
-loop-own-preserved c = same_through c.args.cells.now c.loop-own.cells c.unplace_at.new.cells c.loop-own.invariant c.unplace_at.ensures
-
 pub returns : goal.returns
-returns c = same_through c.args.cells.now c.loop-own.cells c.commit.new.cells c.loop-own.invariant c.commit.ensures
+returns c = same_through c.args.cells.now c.unplace_up_to.new.cells c.commit.new.cells c.unplace_up_to.ensures c.commit.ensures

@@ -1,37 +1,30 @@
-use Rattle.std.proofs.Common.{◌≡◌, ◌<◌, ◌≤◌, ℕ, List, length, map, refl, ap, sym, subst, ◌∙◌, arith}
+use Rattle.std.proofs.Common.{◌<◌, ◌≤◌, ℕ, List, length, map, refl, ap, sym, subst, ◌∙◌, arith}
 use Rattle.std.proofs.lemmas.List.{length-map}
 use Rattle.lf_floorplan.specs.declared.frame.Frame.{Frame}
+use Rattle.lf_cells.specs.declared.cell.Cell.{Cell}
 use Rattle.lf_cells.specs.Cells.{Cells, cells_of}
 use Rattle.lf_undo.specs.declared.moves.Move.{Move}
 use Rattle.lf_undo.specs.Entries.{Places, entries_of}
 use Rattle.lf_undo.specs.Stacks.{stack_of}
-use Rattle.lf_placement.specs.Placings.{BoundsAt, places_of}
-use Rattle.lf_state.specs.declared.rows.SavedCell.{SavedCell}
-use Rattle.lf_state.specs.Saved.{team_view}
-use Rattle.lf_restore.specs.Saved.{map_two, restored_cell}
+use Rattle.lf_placement.specs.Placings.{places_of}
+use Rattle.lf_restore.specs.Saved.{map_two, restored_cell, saved_cell}
+use Rattle.lf_restore.proofs.Restoring.{cells_back, saved_places}
 use Rattle.lf_tables.specs.Tables.{cells_in}
 use Rattle.lf_tables.specs.declared.tables.Tables.{Tables}
-use Rattle.lf_floor.proofs.Placing.{stands_there, still_awaits}
+use Rattle.lf_floor.proofs.Placing.{still_awaits}
 use Rattle.lf_floor.proofs.Saving.{fit_is, others_are, own_cells, team_is}
 use Rattle.lf_floor.proofs.restored.restore_team.Goals as goal
 
 pub restore_entries-requires : goal.restore_entries-requires
 restore_entries-requires c =
-    let k = c.args.number in
-    let old = c.args.tables.now in
-    let t = team_view c.args.row in
-    let working : c.in_ok-places.places.items ≡ map (λ c. c.working) c.args.row.cells.items = c.in_ok-places.ensures in
-    let stand : c.in_ok-places.places.items ≡ places_of (cells_in k old) = working ∙ stands_there k t c.args.tally.now old c.requires.due.cells c.requires.awaits in
-    let many : length c.in_ok-places.places.items ≡ length c.args.row.cells.items =
-    ap (λ (ps : Places). length ps) working ∙ length-map c.args.row.cells.items (λ (s : SavedCell). s.working) in
+    let cells = cells_in c.args.number c.args.tables.now in
     record {
       team = c.requires.served.rows.undo;
       none = c.requires.awaits.none;
       few = subst (λ (n : ℕ). length c.args.row.entries.items ≤ n) (sym c.requires.served.limit) c.requires.due.entries;
-      own = own_cells (length c.in_ok-places.places.items) _ c.args.row.entries.items (sym c.requires.due.cells ∙ sym many) c.requires.due.own;
-      stand = stand;
+      own = own_cells (length cells) _ c.args.row.entries.items (length-map cells (λ (c : Cell). c.name)) c.requires.due.own;
       room = c.requires.room;
-      bounds = subst (λ (ps : Places). BoundsAt old.placement k ps c.args.tally.now) (sym stand) c.requires.awaits.bounds;
+      bounds = c.requires.awaits.bounds;
     }
 
 pub set_numbers-requires : goal.set_numbers-requires
@@ -51,16 +44,16 @@ set_numbers-requires c =
 pub returns-clause-team : goal.returns-clause-team
 returns-clause-team c =
     let old = c.args.tables.now in
+    let cells = cells_in c.args.number old in
     let mid : Tables = record old { placement = c.restore_entries.new.placement; undo = c.restore_entries.new.undo } in
     team_is c.args.number old c.set_numbers.new.tables mid c.args.row.revision c.args.row.padding.sites c.args.row.slots.items c.requires.served.rows
     c.in_ok-restore_entries.ensures.others refl refl refl c.in_ok-restore_entries.ensures.teams c.in_ok-restore_entries.ensures.limit c.set_numbers.ensures
-    (map_two restored_cell (cells_in c.args.number old) c.args.row.cells.items)
-    (entries_of (map (λ c. c.working) c.args.row.cells.items) c.args.row.entries.items)
-    (ap (λ (cs : Cells). cells_of cs c.args.number) c.in_ok-restore_entries.ensures.cells ∙ sym c.requires.awaits.cells)
+    (map_two restored_cell cells (map saved_cell cells))
+    (entries_of (map (λ c. c.working) (map saved_cell cells)) c.args.row.entries.items)
+    (ap (λ (cs : Cells). cells_of cs c.args.number) c.in_ok-restore_entries.ensures.cells ∙ sym (cells_back cells cells refl))
     (ap (λ (cs : Cells). entries_of (places_of (cells_of cs c.args.number)) (stack_of mid.undo c.args.number)) c.in_ok-restore_entries.ensures.cells
-    ∙ ap (λ (ps : Places). entries_of ps (stack_of mid.undo c.args.number))
-    (sym (stands_there c.args.number (team_view c.args.row) c.args.tally.now old c.requires.due.cells c.requires.awaits))
-    ∙ ap (λ (es : List (List Move)). entries_of (map (λ c. c.working) c.args.row.cells.items) es) c.in_ok-restore_entries.ensures.stack)
+    ∙ ap (λ (ps : Places). entries_of ps (stack_of mid.undo c.args.number)) (sym (saved_places cells))
+    ∙ ap (λ (es : List (List Move)). entries_of (map (λ c. c.working) (map saved_cell cells)) es) c.in_ok-restore_entries.ensures.stack)
 
 pub returns-clause-others : goal.returns-clause-others
 returns-clause-others c =
@@ -78,9 +71,9 @@ returns-clause-fit c =
     c.in_ok-restore_entries.ensures.fit
 
 pub returns-clause-awaits : goal.returns-clause-awaits
-returns-clause-awaits c = λ t other apart awaits.
+returns-clause-awaits c = λ other apart awaits.
     let old = c.args.tables.now in
     let mid : Tables = record old { placement = c.restore_entries.new.placement; undo = c.restore_entries.new.undo } in
-    still_awaits other t c.args.tally.now c.restore_entries.new.tally old mid c.set_numbers.new.tables c.in_ok-restore_entries.ensures.cells
+    still_awaits other c.args.tally.now c.restore_entries.new.tally old mid c.set_numbers.new.tables c.in_ok-restore_entries.ensures.cells
     (c.in_ok-restore_entries.ensures.others.stacks other apart) c.set_numbers.ensures.placement c.set_numbers.ensures.undo
     (λ at bounds. c.in_ok-restore_entries.ensures.tally at other apart bounds) awaits

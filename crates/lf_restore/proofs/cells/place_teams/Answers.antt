@@ -5,9 +5,6 @@ use Rattle.lf_restore.specs.Stands.{AreAsMany}
 use Rattle.lf_restore.proofs.Framing.{few_placed, sized_placed}
 use Rattle.lf_restore.proofs.cells.place_teams.Goals as goal
 
-pub place_in_table-requires : goal.place_in_table-requires
-place_in_table-requires c = subst (λ (cs : Cells). AreAsMany (team_views c.args.rows.now) cs) (sym c.into_parts-frame.ensures.cells) c.requires
-
 pub of-requires : goal.of-requires
 of-requires c =
     let saved = team_views c.args.rows.now in
@@ -15,6 +12,6 @@ of-requires c =
     let new = c.place_in_table.new.cells in
     let many = subst (λ (cs : Cells). AreAsMany saved cs) (sym c.into_parts-frame.ensures.cells) c.requires in
     record {
-      sized = sized_placed saved old new many c.in_ok-place_in_table.ensures c.into_parts-frame.result.0 c.into_parts-frame.ensures.sized;
-      few = few_placed saved old new many c.in_ok-place_in_table.ensures c.into_parts-frame.ensures.few;
+      sized = sized_placed saved old new many c.place_in_table.ensures.placed c.into_parts-frame.result.0 c.into_parts-frame.ensures.sized;
+      few = few_placed saved old new many c.place_in_table.ensures.placed c.into_parts-frame.ensures.few;
     }
