@@ -1,4 +1,4 @@
-use Rattle.std.proofs.Common.{◌≡◌, ◌++◌, List, drop, length, map, take, ap, subst, sym, ◌∙◌}
+use Rattle.std.proofs.Common.{◌≡◌, List, length, map, ap, subst, sym, ◌∙◌}
 use Rattle.lf_state.specs.declared.rows.TeamRow.{TeamRow}
 use Rattle.lf_state.specs.Saved.{SavedTeam, team_views}
 use Rattle.lf_restore.specs.Saved.{AreDue, restored}
