@@ -8,6 +8,7 @@
 //! ```
 //! put_state(&mut out, &design, &teams);
 //! let rows = read_state(alloc, &design, text)?; // or the first fault and its line
+//! let rows = read_pieces(alloc, &design, pieces)?; // the same of a text in pieces, each of which is let go once it was read
 //! ```
 #![tactic(auto)]
 
