@@ -60,7 +60,7 @@ pub enum StateError {
     Fault(StateFault),
 }
 
-/// How many line feeds there are among few bytes.
+/// How many line feeds there are among 255 bytes at most.
 fn few_line_feeds(bytes: &[u8]) -> u8
     requires { length bytes.now ≤ 255 }
     ensures { result ≡ line_feeds bytes.now }

@@ -76,7 +76,7 @@ fn front_digits(bytes: &[u8]) -> (u64, usize)
 }
 
 /// The number in front whose digits such a byte ends, and what stands behind the byte.
-pub(crate) fn front_number(byte: u8, bytes: &[u8]) -> Option<(u64, &[u8])>
+fn front_number(byte: u8, bytes: &[u8]) -> Option<(u64, &[u8])>
     ensures { IfSome result (λ x. Begins digits byte bytes.now x.0 x.1.now) }
 {
     let (value, len) = front_digits(bytes);
