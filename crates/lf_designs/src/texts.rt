@@ -92,8 +92,11 @@ fn unread_of(error: &io::Error) -> Unread {
 /// The whole text of the file, in a list that has room for no more, where the system tells its length.
 fn whole_text<T: Files>(files: &T, alloc: Global, path: &str) -> io::Result<Vec<u8>> {
     let mut file = File::open(files, path)?;
-    let length = file.metadata()?.len();
-    let mut text = Vec::with_capacity(alloc, length as usize)?;
+    let length = match file.metadata() {
+        Ok(told) => told.len() as usize,
+        Err(_) => 0,
+    };
+    let mut text = Vec::with_capacity(alloc, length)?;
     io::copy(&mut file, &mut text)?;
     Ok(text)
 }
