@@ -23,7 +23,7 @@ use Rattle.lf_proto.proofs.Digits.{Digits, short_value}
 use Rattle.lf_proto.proofs.Places.{place_written-some}
 use Rattle.lf_state.specs.Words.{Begins, place_in, place_on}
 use Rattle.lf_state.specs.Reading.{number_at, spot_at, word_at}
-use Rattle.lf_state.proofs.Fields.{lacks, lacks-weaker, lacks-both, digit-no_mark, no_minus, no_dash, below-less, cut-word, drop_front, IsMark, mark44}
+use Rattle.lf_state.proofs.Fields.{lacks, lacks-weaker, lacks-both, digit-no_mark, no_dash, below-less, cut-word, drop_front, IsMark, mark44}
 
 -- ---- a word up to a byte
 
@@ -45,15 +45,6 @@ digits-are w n is = cases_all (list_all is_ascii_digit w) refl
     cases_all : (b : Bool) → list_all is_ascii_digit w ≡ b → b ≡ true
     cases_all true e = refl
     cases_all false e = let none : None ≡ Some n = rw e at is in absurd cc
-
-digits-long : (w : List ℕ) (n : ℕ) → digits w ≡ Some n → 0 < length w
-digits-long [] n is = absurd cc
-digits-long (b ∷ w) n is = omega arith
-
-pub positive-some : (w : List ℕ) (n : ℕ) → digits w ≡ Some n → n < 2 ^ 31 → coordinate w ≡ Some (pos n)
-positive-some w n is small =
-    ap (λ t. cond t (negative (drop 1 w)) (positive w)) (no_minus w (digits-are w n is) (digits-long w n is))
-    ∙ rw (is, below-less (2 ^ 31) n small) refl
 
 pub negative-some : (w : List ℕ) (n : ℕ) → digits w ≡ Some n → n < 2 ^ 31 → coordinate (45 ∷ w) ≡ Some (neg_ℤ (pos n))
 negative-some w n is small = rw (is, below-less (2 ^ 31) n small) refl
@@ -186,9 +177,6 @@ pub few-value : (bytes : List ℕ) (len : ℕ) → Digits (take len bytes) → l
 few-value bytes len all few = short_value (take len bytes) all (omega (arith, length-take len bytes))
 
 -- ---- a coordinate in front
-
-pub begins-positive : (bytes rest : List ℕ) (z : ℤ) (n : ℕ) → Begins digits 44 bytes n rest → n < 2 ^ 31 → z ≡ pos n → Begins coordinate 44 bytes z rest
-begins-positive bytes rest z n front small is = record { word = front.word; is = front.is; said = rw is (positive-some front.word n front.said small) }
 
 pub begins-negative : (bytes minus rest : List ℕ) (z : ℤ) (n : ℕ) → bytes ≡ 45 ∷ minus → Begins digits 44 minus n rest → n < 2 ^ 31 → z ≡ neg_ℤ (pos n) → Begins coordinate 44 bytes z rest
 begins-negative bytes minus rest z n signed front small is = record {
