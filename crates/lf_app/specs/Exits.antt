@@ -43,6 +43,12 @@ abbrev pub RepairsNothing : Job → Type 0
 RepairsNothing (repair def lefs teams legal export lines) = ⊥
 RepairsNothing job = Unit {0}
 
+-- a job that reads nothing of standard input
+abbrev pub ReadsNoInput : Job → Type 0
+ReadsNoInput demo = ⊥
+ReadsNoInput (replay def lefs state slots lines save export) = ⊥
+ReadsNoInput job = Unit {0}
+
 -- how many session slots each team of a job's design has
 abbrev pub slots_of : Job → ℕ
 slots_of (check def lefs state slots) = slots

@@ -12,7 +12,8 @@ ghost use Rattle.lf_work.specs.Faults.{IsDone, IsFailure};
 ghost use Rattle.lf_lines.specs.Faults.{BlamesStreams};
 ghost use Rattle.lf_lines.specs.Lines.{most_lines};
 ghost use Rattle.lf_lines.specs.Surroundings.{BlamesOver, IsReady, Keeps, io_of};
-ghost use Rattle.lf_app.specs.Exits.{AsksForNoFile, AsksForNoState, Ends, IsJobFault, IsJobFaultWithin, IsOutcome, IsOutcomeWithin, RepairsNothing, reads_of, slots_of};
+ghost use Rattle.lf_app.specs.Exits.{AsksForNoFile, AsksForNoState, Ends, IsJobFault, IsJobFaultWithin, IsOutcome, IsOutcomeWithin, ReadsNoInput, RepairsNothing};
+ghost use Rattle.lf_app.specs.Exits.{reads_of, slots_of};
 ghost use Rattle.lf_app.specs.Offers.{IsOfferOf};
 
 use lf_command::{Slots, Task};
@@ -67,7 +68,7 @@ fn outcome_within<'a, T: Texts, E: Exports, V: Services, R: Source, W: Sink, F, 
     ensures err { IfErr result (λ fault. IsJobFaultWithin limits (T.gives around.old.texts) (as_job task.now) fault
         (io_of R.remaining W.contents E.puts V.accepted around.old around.new)
         × BlamesOver E.has_failed V.has_failed R.has_failed R.reads W.has_failed (reads_of (as_job task.now)) around.old around.new fault) }
-    ensures unread { ReadsNone task.now → around.new.reader ≡ around.old.reader }
+    ensures unread { ReadsNoInput (as_job task.now) → around.new.reader ≡ around.old.reader }
     ensures unput { AsksForNoState (as_job task.now) → OnErr result (E.puts around.new.exports ≡ E.puts around.old.exports) }
     ensures unasked { AsksForNoFile (as_job task.now) → around.new.exports ≡ around.old.exports }
     ensures offered { OnOk result (IsOfferOf (as_job task.now) (V.offers around.old.services) (V.offers around.new.services)) }
@@ -204,7 +205,7 @@ fn outcome<'a, T: Texts, E: Exports, V: Services, R: Source, W: Sink, F, P: Prog
     ensures err { IfErr result (λ fault. IsJobFault (T.gives around.old.texts) (as_job task.now) fault
         (io_of R.remaining W.contents E.puts V.accepted around.old around.new)
         × BlamesOver E.has_failed V.has_failed R.has_failed R.reads W.has_failed (reads_of (as_job task.now)) around.old around.new fault) }
-    ensures unread { ReadsNone task.now → around.new.reader ≡ around.old.reader }
+    ensures unread { ReadsNoInput (as_job task.now) → around.new.reader ≡ around.old.reader }
     ensures unput { AsksForNoState (as_job task.now) → OnErr result (E.puts around.new.exports ≡ E.puts around.old.exports) }
     ensures unasked { AsksForNoFile (as_job task.now) → around.new.exports ≡ around.old.exports }
     ensures offered { OnOk result (IsOfferOf (as_job task.now) (V.offers around.old.services) (V.offers around.new.services)) }
@@ -247,7 +248,7 @@ pub fn perform_over<T: Texts, E: Exports, V: Services, R: Source, W: Sink, F: Si
         × BlamesOver E.has_failed V.has_failed R.has_failed R.reads W.has_failed (reads_of (as_job task.now)) around.old around.new fault)
         (F.contents around.old.faults) (F.contents around.new.faults) (F.has_failed around.new.faults) result }
     ensures checked { result.status ≡ 4 → ReadsNone task.now }
-    ensures unread { ReadsNone task.now → around.new.reader ≡ around.old.reader }
+    ensures unread { ReadsNoInput (as_job task.now) → around.new.reader ≡ around.old.reader }
     ensures unput { AsksForNoState (as_job task.now) → IsFailure result.status → E.puts around.new.exports ≡ E.puts around.old.exports }
     ensures unasked { AsksForNoFile (as_job task.now) → around.new.exports ≡ around.old.exports }
     ensures offered { IsDone result.status → IsOfferOf (as_job task.now) (V.offers around.old.services) (V.offers around.new.services) }
@@ -296,7 +297,7 @@ fn perform_with<T: Files + Net + AllocGlobal, R: Source + Drop, W: Sink + Drop, 
         × (IsEarly fault → result.writer ≡ writer))
         (F.contents faults) (F.contents result.faults) (not result.exit.is_told) result.exit }
     ensures checked { result.exit.status ≡ 4 → ReadsNone task.now }
-    ensures unread { ReadsNone task.now → result.reader ≡ reader }
+    ensures unread { ReadsNoInput (as_job task.now) → result.reader ≡ reader }
     ensures reader_held { R.holds result.reader ≡ R.holds reader }
     ensures writer_held { W.holds result.writer ≡ W.holds writer }
     ensures faults_held { F.holds result.faults ≡ F.holds faults }
@@ -345,7 +346,7 @@ pub fn perform<T: Files + Net + AllocGlobal, R: Read, W: Write, F: Write>(
         × (IsEarly fault → writer.new ≡ writer.old))
         (F.contents faults.old) (F.contents faults.new) (not result.is_told) result }
     ensures checked { result.status ≡ 4 → ReadsNone task.now }
-    ensures unread { ReadsNone task.now → reader.new ≡ reader.old }
+    ensures unread { ReadsNoInput (as_job task.now) → reader.new ≡ reader.old }
 {
     let source = FromRead::new(reader);
     let sink = ToWrite::new(writer);

@@ -1,20 +1,24 @@
 -- Steps of work on lines.
-use Rattle.std.proofs.Common.{◌≡◌, ◌⊎◌, ap, inl, inr, refl, Bool, ℕ, List, None, Option, Some}
-use Rattle.lf_def.specs.Document.{Document}
+use Rattle.std.proofs.Common.{◌≡◌, ◌⊎◌, ap, inl, inr, map, refl, subst, sym, Bool, ℕ, List, None, Ok, Option, Some}
+use Rattle.lf_def.specs.Document.{Document, document_of}
+use Rattle.lf_lef.specs.Contents.{Contents}
 use Rattle.lf_files.specs.Shelf.{Put}
 use Rattle.lf_server.specs.Connections.{Accepted}
 use Rattle.lf_floorplan.specs.declared.limits.Limits.{Limits}
 use Rattle.lf_floorplan.specs.declared.loaded.Loaded.{Loaded}
 use Rattle.lf_designs.specs.declared.faults.Fault.{Fault}
-use Rattle.lf_designs.specs.Designs.{Gives, IsDesignOf, IsOpened}
+use Rattle.lf_designs.specs.declared.opened.Original.{Original}
+use Rattle.lf_designs.specs.Designs.{Gives, IsLoadedIn, IsOpened}
+use Rattle.lf_floorplan.specs.declared.place.Place.{Place}
+use Rattle.lf_write.specs.Export.{CanBeRenewed, ClauseFacts, clause_of}
 use Rattle.lf_teams.specs.States.{FloorState}
-use Rattle.lf_work.specs.Exits.{IsExported}
+use Rattle.lf_work.specs.Exits.{CanBePut, IsExported}
 use Rattle.lf_work.specs.Faults.{IsExportFault, IsSaveFault}
 use Rattle.lf_work.specs.States.{IsBegun}
 use Rattle.lf_work.proofs.WorkSteps.{design_opened}
 use Rattle.lf_lines.specs.Exits.{IsUndone, Streams, streams}
 use Rattle.lf_lines.specs.Surroundings.{IsSound}
-use Rattle.lf_lines.specs.Work.{IsDone, IsFault, IsUnfinished, IsUnworked}
+use Rattle.lf_lines.specs.Work.{IsDone, IsFault, IsOfOriginal, IsUnfinished, IsUnworked}
 use Rattle.lf_lines.specs.declared.surroundings.Surroundings.{Surroundings}
 use Rattle.lf_lines.specs.declared.sources.Lines.{Lines}
 use Rattle.lf_lines.specs.declared.sources.Lines.TheVariants.{Stream, Port}
@@ -34,12 +38,6 @@ pub fault_beside : (lines : Lines) (begin : FloorState) (fault : Fault) (input l
     → IsFault lines begin fault (streams input left before after other_old other_new old_accepted new_accepted)
 fault_beside (Stream limit) begin fault input left before after old_puts new_puts other_old other_new old_accepted new_accepted is = is
 fault_beside (Port port connections) begin fault input left before after old_puts new_puts other_old other_new old_accepted new_accepted is = is
-
--- the design of files is opened with their DEF text
-pub opened_of : (limits : Limits) (gives : Gives) (def : List ℕ) (lefs : List (List ℕ)) (loaded : Loaded) → (of : IsDesignOf limits gives def lefs loaded)
-    → IsOpened limits gives def lefs of.2.text of.2.design.0 loaded
-opened_of limits gives def lefs loaded of =
-    record { library = of.0; lefs_are = of.1; given = of.2.given; read = of.2.design.1; loads = of.2.design.2 }
 
 -- why the work on the design of a text is not done is why the work on that of its files is not
 pub undone : (limits : Limits) (gives : Gives) (def : List ℕ) (lefs : List (List ℕ)) (state save export : Option (List ℕ)) (lines : Lines) (text : List ℕ)
@@ -68,6 +66,16 @@ pub begun_components : (gives : Gives) (state : Option (List ℕ)) (opened begin
     → begin.components ≡ opened.components
 begun_components gives None opened begin is = ap (λ (f : FloorState). f.components) is
 begun_components gives (Some path) opened begin is = ap (λ (f : FloorState). f.components) is.2.2
+
+-- places can be written into the DEF text that is kept where they can be into any of which the design was loaded
+pub can_be_put : (original : Option Original) (loaded : Loaded) (places : List (ℕ × Option Place)) → IsOfOriginal original loaded
+    → ((text : List ℕ) (limits : Limits) (library : Contents) (document : Document) → document_of text ≡ Ok document
+    → IsLoadedIn limits library document loaded → CanBeRenewed text (map (clause_of text) document.components) places)
+    → CanBePut original places
+can_be_put None loaded places of can = tt
+can_be_put (Some original) loaded places (limits, library, document, kept) can =
+    subst (λ (clauses : List ClauseFacts). CanBeRenewed original.text.items clauses places) (sym kept.clauses_are)
+    (can original.text.items limits library document kept.read kept.loads)
 
 -- nothing fails where nothing is changed
 pub still_sound : {T E V R W F P : Type 0} (e : E → Bool) (v : V → Bool) (r : R → Bool) (w : W → Bool) (around : Surroundings T E V R W F P)

@@ -1,18 +1,23 @@
 -- Work on a design: lines that are answered, or connections that are served.
-use Rattle.std.specs.Prelude.{◌≡◌, ◌⊎◌, ℕ, Bool, List, None, OnErr, OnOk, Option, Result, true}
+use Rattle.std.specs.Prelude.{◌≡◌, ◌⊎◌, ℕ, Bool, IfSome, List, None, OnErr, OnOk, Option, Result, true}
+use Rattle.lf_lef.specs.Contents.{Contents}
 use Rattle.lf_def.specs.Document.{Document}
 use Rattle.lf_files.specs.Shelf.{Put}
+use Rattle.lf_floorplan.specs.declared.limits.Limits.{Limits}
 use Rattle.lf_floorplan.specs.declared.loaded.Loaded.{Loaded}
 use Rattle.lf_server.specs.declared.accepting.Offer.{Offer}
 use Rattle.lf_teams.specs.States.{FloorState}
 use Rattle.lf_teams.specs.Designs.{opening}
 use Rattle.lf_designs.specs.declared.faults.Fault.{Fault}
-use Rattle.lf_designs.specs.Designs.{Gives}
+use Rattle.lf_designs.specs.declared.opened.Original.{Original}
+use Rattle.lf_designs.specs.Designs.{Gives, IsKept, IsOpened}
 use Rattle.lf_designs.specs.Faults.{Blames}
+use Rattle.lf_work.specs.Exits.{AreKept}
 use Rattle.lf_work.specs.Faults.{IsSaveFault}
 use Rattle.lf_work.specs.States.{IsBegun, IsUnbegun}
 use Rattle.lf_lines.specs.declared.surroundings.Surroundings.{Surroundings}
 use Rattle.lf_lines.specs.declared.sources.Lines.{Lines}
+use Rattle.lf_lines.specs.declared.work.Design.{Design}
 use Rattle.lf_lines.specs.declared.sources.Lines.TheVariants.{Stream, Port}
 use Rattle.lf_lines.specs.Exits.{IsAnswered, IsBrokenOff, IsFinished, IsOffered, IsServiceFault, IsWorkFault, Streams}
 use Rattle.lf_lines.specs.Lines.{ReadsFail}
@@ -28,6 +33,20 @@ IsDone (Port port connections) begin floor io = IsOffered begin floor connection
 abbrev pub IsFault : Lines → FloorState → Fault → Streams → Type 0
 IsFault (Stream limit) begin fault io = IsBrokenOff limit begin fault io.input io.left io.before io.after
 IsFault (Port port connections) begin fault io = IsServiceFault port connections begin fault io.before io.after io.old_accepted io.new_accepted
+
+-- the design was loaded of the DEF text that is kept, if one is
+abbrev pub IsOfOriginal : Option Original → Loaded → Type 0
+IsOfOriginal original loaded = IfSome original (λ original. (limits : Limits) × (library : Contents) × (document : Document)
+    × IsKept limits original.text.items library document original.clauses loaded)
+
+-- what is worked on is the design of the files, with its DEF text if that is exported to a path
+pub record IsDesignFor (limits : Limits) (gives : Gives) (def : List ℕ) (lefs : List (List ℕ)) (export : Option (List ℕ)) (design : Design) : Type 0 where
+  pub text : List ℕ
+  pub document : Document
+  pub opened : IsOpened limits gives def lefs text document design.loaded
+  pub are : AreKept design.original text document
+  pub of : IsOfOriginal design.original design.loaded
+  pub kept : design.original ≡ None → export ≡ None
 
 -- why the work on a floor is not finished: it is stopped, and no text is put; or all is done but that the state is not saved
 abbrev pub IsUnfinished : Option (List ℕ) → Option (List ℕ) → Lines → FloorState → List ℕ → Document → Fault → Streams → Type 0
@@ -58,11 +77,17 @@ abbrev pub IsOfferFor : Lines → Option (List Offer) → Option (List Offer) �
 IsOfferFor (Stream limit) old new = new ≡ old
 IsOfferFor (Port port connections) old new = OffersLocal port connections old new
 
--- what the work on a design leaves beside its lines: texts are put and services offered only as was asked for, and after a fault
--- no text is put where no state was asked for
+-- what is left of the reader: nothing is read from it for a service
+abbrev pub IsLeft : {R : Type 0} → Lines → R → R → Type 0
+IsLeft (Stream limit) old new = Unit {0}
+IsLeft (Port port connections) old new = new ≡ old
+
+-- what the work on a design leaves beside its lines: texts are put, services offered and the reader read only as was asked for, and
+-- after a fault no text is put where no state was asked for
 pub record Leaves {T E V R W F P : Type 0} (puts : E → Option (List Put)) (offers : V → Option (List Offer)) (lines : Lines) (save export : Option (List ℕ))
     (result : Result ℕ Fault) (old new : Surroundings T E V R W F P) : Type 0 where
   pub unput : save ≡ None → OnErr result (puts new.exports ≡ puts old.exports)
   pub unasked : save ≡ None → export ≡ None → new.exports ≡ old.exports
   pub offered : OnOk result (IsOfferFor lines (offers old.services) (offers new.services))
   pub unoffered : (offers new.services ≡ offers old.services) ⊎ IsOfferFor lines (offers old.services) (offers new.services)
+  pub unread : IsLeft lines old.reader new.reader

@@ -7,7 +7,7 @@ ghost use Rattle.lf_lines.specs.Faults.{BlamesStreams};
 ghost use Rattle.lf_lines.specs.Lines.{most_lines};
 ghost use Rattle.lf_lines.specs.Services.{Offers};
 ghost use Rattle.lf_lines.specs.Surroundings.{IsReady, IsSound, Keeps, io_of};
-ghost use Rattle.lf_lines.specs.Work.{BlamesIn, IsDone, IsFault, IsOfferFor};
+ghost use Rattle.lf_lines.specs.Work.{BlamesIn, IsDone, IsFault, IsLeft, IsOfferFor};
 
 use crate::lines::{answer_lines, ending_fault};
 use crate::services::{Services, local_offer};
@@ -104,6 +104,7 @@ pub(crate) fn answer<'a, T, E: Exports, V: Services, R: Source, W: Sink, F, P>(
     ensures sound { OnOk result (IsSound E.has_failed V.has_failed R.has_failed W.has_failed around.old around.new) }
     ensures exports { around.new.exports ≡ around.old.exports }
     ensures offered { IsOfferFor lines (V.offers around.old.services) (V.offers around.new.services) }
+    ensures unread { IsLeft lines around.old.reader around.new.reader }
     ensures silent { around.new.progress ≡ around.old.progress }
     ensures keeps { Keeps R.holds W.holds around.old around.new }
 {

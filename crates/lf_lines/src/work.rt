@@ -1,23 +1,21 @@
 //! Work on a design: its lines are answered or its connections served, and then the text with its committed places and the state of
 //! the floor are written, if they are asked for.
 
-ghost use Rattle.std.specs.Prelude.{◌≡◌, ℕ, List, None, Option, IfErr, IfOk, map};
-ghost use Rattle.lf_lef.specs.Contents.{Contents};
+ghost use Rattle.std.specs.Prelude.{◌≡◌, ℕ, List, None, Option, IfErr, IfOk, map, option_copied};
 ghost use Rattle.lf_def.specs.Document.{Document};
-ghost use Rattle.lf_floorplan.specs.declared.limits.Limits.{Limits as TheLimits};
 ghost use Rattle.lf_floorplan.specs.declared.place.Place.{Place};
-ghost use Rattle.lf_write.specs.Export.{CanBeRenewed, clause_of};
 ghost use Rattle.lf_teams.specs.Designs.{opening};
 ghost use Rattle.lf_teams.specs.Places.{AreCommittedPlaces};
 ghost use Rattle.lf_teams.specs.States.{FloorState};
-ghost use Rattle.lf_designs.specs.Designs.{IsKept};
+ghost use Rattle.lf_designs.specs.Designs.{IsDesignFault};
+ghost use Rattle.lf_work.specs.Exits.{AreKept, CanBePut};
 ghost use Rattle.lf_work.specs.States.{IsBegun};
 ghost use Rattle.lf_work.specs.Inputs.{path_of};
 ghost use Rattle.lf_lines.specs.Exits.{IsAnswered, IsFinished, IsLinesFault, IsUndone, IsWorked};
 ghost use Rattle.lf_lines.specs.Faults.{BlamesStreams};
 ghost use Rattle.lf_lines.specs.Lines.{most_lines};
 ghost use Rattle.lf_lines.specs.Surroundings.{IsReady, Keeps, io_of};
-ghost use Rattle.lf_lines.specs.Work.{BlamesIn, IsDone, IsFault, IsUnfinished, IsUnworked, Leaves};
+ghost use Rattle.lf_lines.specs.Work.{BlamesIn, IsDesignFor, IsDone, IsFault, IsOfOriginal, IsUnfinished, IsUnworked, Leaves};
 
 use crate::lines::MOST_LINES;
 use crate::services::Services;
@@ -31,31 +29,70 @@ use lf_frame::Loaded;
 use lf_legalize::IndexSeeker;
 use lf_reread::loaded_cells_can_be_given;
 use lf_teams::places_follow_design;
-use lf_work::{
-    Inputs, Outputs, floor_of, floor_to_begin, put_outputs, save_to, try_outputs, try_save,
-};
+use lf_work::{Inputs, Outputs, floor_of, floor_to_begin, put_outputs, try_outputs};
 use lf_write::clauses_serve;
 use std::alloc::Global;
 
-/// Works on a floor of the text's design: its lines are answered, and then what is asked for is written. Where that cannot be,
-/// as far as it shows beforehand, no line is read.
+/// The design that is worked on.
+#[derive(Drop)]
+struct Design {
+    loaded: Loaded,
+    /// Its DEF text, where that is exported again.
+    original: Option<Original>,
+}
+
+/// The design of the files. Its DEF text is kept if it is exported to the file of a path.
+fn design_for<'a, T: Texts>(
+    alloc: Global,
+    texts: &T,
+    inputs: Inputs<'a>,
+    export: Option<&str>,
+) -> Result<Design, Fault<'a>>
+    ensures ok { IfOk result (λ design. IsDesignFor inputs.entry.limits (T.gives texts.now) inputs.entry.def.now (map (λ lef. lef.now) inputs.entry.lefs.now)
+        (path_of export.entry) design) }
+    ensures err { IfErr result (IsDesignFault inputs.entry.limits (T.gives texts.now) inputs.entry.def.now (map (λ lef. lef.now) inputs.entry.lefs.now)) }
+{
+    let Inputs {
+        def,
+        lefs,
+        limits,
+        ..
+    } = inputs;
+    match export {
+        Some(_) => {
+            let Opened { loaded, original } = open_files(alloc, limits, texts, def, lefs)?;
+            Ok(Design {
+                loaded,
+                original: Some(original),
+            })
+        }
+        None => Ok(Design {
+            loaded: design_of_files(alloc, limits, texts, def, lefs)?,
+            original: None,
+        }),
+    }
+}
+
+/// Works on a floor of the design: its lines are answered, and then what is asked for is written. Where that cannot be, as far as it
+/// shows beforehand, no line is read. The DEF text is kept where it is exported again.
 fn work_on_floor<'a, T, E: Exports, V: Services, R: Source, W: Sink, F, P>(
     alloc: Global,
     around: &mut Surroundings<T, E, V, R, W, F, P>,
-    original: &Original,
+    original: Option<&Original>,
     floor: &mut Floor<IndexSeeker>,
     lines: Lines,
     outputs: Outputs<'a>,
 ) -> Result<u8, Fault<'a>>
     requires ready { IsReady R.has_failed R.reads W.has_failed around.old.reader around.old.writer }
+    requires kept { original ≡ None → path_of outputs.export ≡ None }
     requires fits { (s : FloorState) (places : List (ℕ × Option Place)) → s.components ≡ floor.old.components → AreCommittedPlaces s places
-        → CanBeRenewed original.now.text.items original.now.clauses places }
-    ensures ok { (document : Document) → original.now.clauses ≡ map (clause_of original.now.text.items) document.components
+        → CanBePut (option_copied original) places }
+    ensures ok { (text : List ℕ) (document : Document) → AreKept (option_copied original.entry) text document
         → IfOk result (λ status. (status ≡ 0) × IsFinished (IsDone lines floor.old) (path_of outputs.entry.save) (path_of outputs.entry.export)
-        original.now.text.items document (io_of R.remaining W.contents E.puts V.accepted around.old around.new)) }
-    ensures err { (document : Document) → original.now.clauses ≡ map (clause_of original.now.text.items) document.components
+        text document (io_of R.remaining W.contents E.puts V.accepted around.old around.new)) }
+    ensures err { (text : List ℕ) (document : Document) → AreKept (option_copied original.entry) text document
         → IfErr result (λ fault. IsUnfinished (path_of outputs.entry.save) (path_of outputs.entry.export) lines floor.old
-        original.now.text.items document fault (io_of R.remaining W.contents E.puts V.accepted around.old around.new)
+        text document fault (io_of R.remaining W.contents E.puts V.accepted around.old around.new)
         × BlamesIn E.has_failed V.has_failed R.has_failed R.reads W.has_failed lines around.old around.new fault) }
     ensures leaves { Leaves E.puts V.offers lines (path_of outputs.entry.save) (path_of outputs.entry.export) result around.old around.new }
     ensures silent { around.new.progress ≡ around.old.progress }
@@ -67,49 +104,25 @@ fn work_on_floor<'a, T, E: Exports, V: Services, R: Source, W: Sink, F, P>(
     Ok(0)
 }
 
-/// The same on the floor of a design whose text is not exported: the state alone is written, if it is asked for.
-fn work_unexported<'a, T, E: Exports, V: Services, R: Source, W: Sink, F, P>(
+/// Works on the design in the state of the file of that path, if one is given.
+fn work_on_design<'a, T: Texts, E: Exports, V: Services, R: Source, W: Sink, F, P>(
     alloc: Global,
     around: &mut Surroundings<T, E, V, R, W, F, P>,
-    begun: &mut Floor<IndexSeeker>,
-    lines: Lines,
-    save: Option<&'a str>,
-) -> Result<u8, Fault<'a>>
-    requires ready { IsReady R.has_failed R.reads W.has_failed around.old.reader around.old.writer }
-    ensures ok { (text : List ℕ) (document : Document) → IfOk result (λ status. (status ≡ 0) × IsFinished (IsDone lines begun.old)
-        (path_of save.entry) None text document (io_of R.remaining W.contents E.puts V.accepted around.old around.new)) }
-    ensures err { (text : List ℕ) (document : Document) → IfErr result (λ fault. IsUnfinished (path_of save.entry) None lines begun.old
-        text document fault (io_of R.remaining W.contents E.puts V.accepted around.old around.new)
-        × BlamesIn E.has_failed V.has_failed R.has_failed R.reads W.has_failed lines around.old around.new fault) }
-    ensures leaves { Leaves E.puts V.offers lines (path_of save.entry) None result around.old around.new }
-    ensures silent { around.new.progress ≡ around.old.progress }
-    ensures keeps { Keeps R.holds W.holds around.old around.new }
-{
-    try_save(save, &mut around.exports)?;
-    answer(alloc, around, begun, lines)?;
-    save_to(begun, save, &mut around.exports)?;
-    Ok(0)
-}
-
-/// Works on the design of a text that was opened, and is exported again if that is asked for.
-fn work_on_opened<'a, T: Texts, E: Exports, V: Services, R: Source, W: Sink, F, P>(
-    alloc: Global,
-    around: &mut Surroundings<T, E, V, R, W, F, P>,
-    opened: Opened,
+    design: Design,
     state: Option<&'a str>,
     lines: Lines,
     outputs: Outputs<'a>,
 ) -> Result<u8, Fault<'a>>
     requires ready { IsReady R.has_failed R.reads W.has_failed around.old.reader around.old.writer }
-    requires loads { (limits : TheLimits) × (library : Contents) × (document : Document)
-        × IsKept limits opened.original.text.items library document opened.original.clauses opened.loaded }
-    ensures ok { (document : Document) → opened.original.clauses ≡ map (clause_of opened.original.text.items) document.components
-        → IfOk result (λ status. (status ≡ 0) × ((begin : FloorState) × IsBegun (T.gives around.old.texts) (path_of state.entry) (opening opened.loaded) begin
+    requires kept { design.original ≡ None → path_of outputs.export ≡ None }
+    requires loads { IsOfOriginal design.original design.loaded }
+    ensures ok { (text : List ℕ) (document : Document) → AreKept design.original text document
+        → IfOk result (λ status. (status ≡ 0) × ((begin : FloorState) × IsBegun (T.gives around.old.texts) (path_of state.entry) (opening design.loaded) begin
         × IsFinished (IsDone lines begin) (path_of outputs.entry.save) (path_of outputs.entry.export)
-        opened.original.text.items document (io_of R.remaining W.contents E.puts V.accepted around.old around.new))) }
-    ensures err { (document : Document) → opened.original.clauses ≡ map (clause_of opened.original.text.items) document.components
+        text document (io_of R.remaining W.contents E.puts V.accepted around.old around.new))) }
+    ensures err { (text : List ℕ) (document : Document) → AreKept design.original text document
         → IfErr result (λ fault. IsUnworked (T.gives around.old.texts) (path_of state.entry) (path_of outputs.entry.save) (path_of outputs.entry.export) lines
-        opened.loaded opened.original.text.items document fault (io_of R.remaining W.contents E.puts V.accepted around.old around.new)
+        design.loaded text document fault (io_of R.remaining W.contents E.puts V.accepted around.old around.new)
         × BlamesIn E.has_failed V.has_failed R.has_failed R.reads W.has_failed lines around.old around.new fault) }
     ensures leaves { Leaves E.puts V.offers lines (path_of outputs.entry.save) (path_of outputs.entry.export) result around.old around.new }
     ensures silent { around.new.progress ≡ around.old.progress }
@@ -118,39 +131,14 @@ fn work_on_opened<'a, T: Texts, E: Exports, V: Services, R: Source, W: Sink, F, 
     clauses_serve();
     loaded_cells_can_be_given();
     places_follow_design();
-    let Opened { loaded, original } = opened;
+    let Design { loaded, original } = design;
     let mut floor = floor_to_begin(alloc, &around.texts, loaded, state)?;
-    work_on_floor(alloc, around, &original, &mut floor, lines, outputs)
-}
-
-/// Works on a design of which no text is exported.
-fn work_on_loaded<'a, T: Texts, E: Exports, V: Services, R: Source, W: Sink, F, P>(
-    alloc: Global,
-    around: &mut Surroundings<T, E, V, R, W, F, P>,
-    loaded: Loaded,
-    state: Option<&'a str>,
-    lines: Lines,
-    save: Option<&'a str>,
-) -> Result<u8, Fault<'a>>
-    requires ready { IsReady R.has_failed R.reads W.has_failed around.old.reader around.old.writer }
-    ensures ok { (text : List ℕ) (document : Document) → IfOk result (λ status. (status ≡ 0) × ((begin : FloorState)
-        × IsBegun (T.gives around.old.texts) (path_of state.entry) (opening loaded) begin
-        × IsFinished (IsDone lines begin) (path_of save.entry) None text document (io_of R.remaining W.contents E.puts V.accepted around.old around.new))) }
-    ensures err { (text : List ℕ) (document : Document) → IfErr result (λ fault. IsUnworked (T.gives around.old.texts) (path_of state.entry)
-        (path_of save.entry) None lines loaded text document fault (io_of R.remaining W.contents E.puts V.accepted around.old around.new)
-        × BlamesIn E.has_failed V.has_failed R.has_failed R.reads W.has_failed lines around.old around.new fault) }
-    ensures leaves { Leaves E.puts V.offers lines (path_of save.entry) None result around.old around.new }
-    ensures silent { around.new.progress ≡ around.old.progress }
-    ensures keeps { Keeps R.holds W.holds around.old around.new }
-{
-    let mut floor = floor_to_begin(alloc, &around.texts, loaded, state)?;
-    work_unexported(alloc, around, &mut floor, lines, save)
+    work_on_floor(alloc, around, original.as_ref(), &mut floor, lines, outputs)
 }
 
 /// Works on the design of a DEF file over LEF files, in the state of a third file if one is given: its lines are answered or its
-/// connections served, and then the exported text and the state are written, where they are asked for. The DEF text is kept only where it
-/// is exported again. Returns the exit status 0. `Err` is
-/// the first fault of: the files, LEF before DEF; the design; the state; the paths of what is asked for; the port; the lines; the
+/// connections served, and then the exported text and the state are written, where they are asked for. Returns the exit status 0. `Err`
+/// is the first fault of: the files, LEF before DEF; the design; the state; the paths of what is asked for; the port; the lines; the
 /// exported text; the state. No file is written if another than the state's is at fault.
 pub fn work_on_files<'a, T: Texts, E: Exports, V: Services, R: Source, W: Sink, F, P>(
     alloc: Global,
@@ -173,22 +161,8 @@ pub fn work_on_files<'a, T: Texts, E: Exports, V: Services, R: Source, W: Sink, 
     ensures silent { around.new.progress ≡ around.old.progress }
     ensures keeps { Keeps R.holds W.holds around.old around.new }
 {
-    match outputs.export {
-        Some(_) => {
-            let opened = open_files(alloc, inputs.limits, &around.texts, inputs.def, inputs.lefs)?;
-            work_on_opened(alloc, around, opened, inputs.state, lines, outputs)
-        }
-        None => {
-            let loaded = design_of_files(
-                alloc,
-                inputs.limits,
-                &around.texts,
-                inputs.def,
-                inputs.lefs,
-            )?;
-            work_on_loaded(alloc, around, loaded, inputs.state, lines, outputs.save)
-        }
-    }
+    let design = design_for(alloc, &around.texts, inputs, outputs.export)?;
+    work_on_design(alloc, around, design, inputs.state, lines, outputs)
 }
 
 /// Answers the lines of the reader over the design, 1,000,000 at most; no text is exported. Returns the exit status 0. `Err` is want of

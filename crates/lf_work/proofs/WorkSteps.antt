@@ -15,7 +15,7 @@ use Rattle.lf_designs.specs.Designs.{IsLoadRefusal, IsLoadedIn, IsOpened, IsRefu
 use Rattle.lf_designs.proofs.DesignSteps.{text_refused}
 use Rattle.lf_designs.specs.Faults.{Blames, BlamesWriter, IsEarly}
 use Rattle.lf_work.specs.Exits.{IsOpenUndescribed, IsUnshown}
-use Rattle.lf_work.specs.Faults.{ExportFails, IsSaveFault}
+use Rattle.lf_work.specs.Faults.{ExportFails}
 use Rattle.lf_work.specs.States.{IsFloorFault, IsStateFault, IsStateRefused, IsStateTextFault, IsUnbegun}
 use Rattle.lf_state.specs.declared.fault.StateFault.{StateFault}
 use Rattle.lf_teams.specs.States.{FloorState}
@@ -203,20 +203,10 @@ files_fail limits gives path lefs state library before after fault is (inr work)
   unshown = work.2.2.2;
 }
 
--- what is said of a fault, and what holds where there is one, give what is asked of it
-pub fails_and : {A : Type 0} (r : Result A Fault) (P R : Fault → Type 0) (Q : Type 0) → IfErr r P → OnErr r Q → ((fault : Fault) → P fault → Q → R fault)
-    → IfErr r R
-fails_and (Ok value) P R Q is also gives = tt
-fails_and (Err fault) P R Q is also gives = gives fault is also
-
 -- where no fault can be there is none
 pub never_fails : {A : Type 0} (r : Result A Fault) (P : Fault → Type 0) (Q : Type 0) → IfErr r P → ((fault : Fault) → P fault → ⊥) → OnErr r Q
 never_fails (Ok value) P Q is none = tt
 never_fails (Err fault) P Q is none = absurd (none fault is)
-
--- where no state is asked for none fails to be saved
-pub none_unsaved : (save : Option (List ℕ)) (fault : Fault) → save ≡ None → IsSaveFault save fault → ⊥
-none_unsaved save fault none is = subst (λ (s : Option (List ℕ)). IsSaveFault s fault) none is
 
 -- a text that tells no state is refused before anything is written
 refused_state_early : (path text : List ℕ) (why : StateFault) (fault : Fault) → IsStateRefused path text why fault → IsEarly fault

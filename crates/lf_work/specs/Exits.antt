@@ -1,17 +1,18 @@
 -- What is written of a design, and what is not.
-use Rattle.std.specs.Prelude.{◌≡◌, ◌⊎◌, ℕ, List, Option, Some, None, take}
+use Rattle.std.specs.Prelude.{◌≡◌, ◌⊎◌, ℕ, List, Option, Some, None, IfSome, map, take}
 use Rattle.std.specs.Io.KnownBytes.{Appends}
 use Rattle.lf_floorplan.specs.declared.limits.Limits.{Limits}
 use Rattle.lf_floorplan.specs.declared.loaded.Loaded.{Loaded}
 use Rattle.lf_floorplan.specs.declared.place.Place.{Place}
 use Rattle.lf_rules.specs.Legalizer.{Legalizer}
 use Rattle.lf_def.specs.Document.{Document}
-use Rattle.lf_write.specs.Export.{exported}
+use Rattle.lf_write.specs.Export.{CanBeRenewed, clause_of, exported}
 use Rattle.lf_files.specs.Shelf.{Put, Puts}
 use Rattle.lf_describe.specs.Description.{description}
 use Rattle.lf_teams.specs.States.{FloorState}
 use Rattle.lf_teams.specs.Places.{AreCommittedPlaces}
 use Rattle.lf_designs.specs.declared.faults.Fault.{Fault}
+use Rattle.lf_designs.specs.declared.opened.Original.{Original}
 use Rattle.lf_designs.specs.Checks.{IsLegalDesign, report_line}
 use Rattle.lf_designs.specs.Designs.{Gives, IsOpened}
 use Rattle.lf_work.specs.Faults.{IsDescriptionFault, IsDone}
@@ -23,6 +24,15 @@ pub record IsReported (loaded : Loaded) (old new : Option (List ℕ)) (status : 
   pub text : (l : Legalizer) → Appends old new (report_line l loaded)
   pub legal : status ≡ 0 → IsLegalDesign loaded
   pub illegal : status ≡ 4 → ¬ IsLegalDesign loaded
+
+-- the DEF text that is kept for the export, if one is, has these bytes, and says this
+abbrev pub AreKept : Option Original → List ℕ → Document → Type 0
+AreKept original text document =
+    IfSome original (λ original. (original.text.items ≡ text) × (original.clauses ≡ map (clause_of text) document.components))
+
+-- these places can be written into the DEF text that is kept, if one is
+abbrev pub CanBePut : Option Original → List (ℕ × Option Place) → Type 0
+CanBePut original places = IfSome original (λ original. CanBeRenewed original.text.items original.clauses places)
 
 -- the document's text with the committed places of the floor is put into the file of that path; without a path no file is written
 abbrev pub IsExported : Option (List ℕ) → List ℕ → Document → FloorState → Option (List Put) → Option (List Put) → Type 0

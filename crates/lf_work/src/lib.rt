@@ -2,8 +2,8 @@
 //!
 //! A design is opened (`lf_designs`), and its floor brought into the state of a state text where one is given (`floor_to_begin`). `check`
 //! writes the report of the design, `describe_files` its description; `is_committed_legal` judges the committed places of a floor. The
-//! exported text and the state are put into files, each where it is asked for (`put_outputs`, and `save_to` for the state alone), and their
-//! paths are tried before anything is done. Calls that are a whole task return the exit status, 0, or 4 where the design is not fully legal, or the fault, of which
+//! exported text and the state are put into files, each where it is asked for (`put_outputs`), and their paths are tried before anything
+//! is done. Calls that are a whole task return the exit status, 0, or 4 where the design is not fully legal, or the fault, of which
 //! nothing is written here.
 //!
 //! ```
@@ -30,5 +30,4 @@ pub use exported::{export_to, try_export};
 pub use inputs::{Inputs, floor_of, floor_to_begin};
 pub use judged::is_committed_legal;
 pub use outputs::{Outputs, put_outputs, try_outputs};
-pub use saved::{save_to, try_save};
 pub use statuses::{DONE, ILLEGAL};

@@ -1,12 +1,11 @@
 //! The files that work on a design writes once its lines are answered: the exported text, and then the state.
 
-ghost use Rattle.std.specs.Prelude.{◌≡◌, ◌⊎◌, ℕ, List, None, Option, IfErr, OnErr, OnOk, map};
+ghost use Rattle.std.specs.Prelude.{◌≡◌, ◌⊎◌, ℕ, List, None, Option, IfErr, OnErr, OnOk, option_copied};
 ghost use Rattle.lf_def.specs.Document.{Document};
 ghost use Rattle.lf_files.specs.Shelf.{Put};
 ghost use Rattle.lf_floorplan.specs.declared.place.Place.{Place};
 ghost use Rattle.lf_teams.specs.Places.{AreCommittedPlaces};
-ghost use Rattle.lf_write.specs.Export.{CanBeRenewed, clause_of};
-ghost use Rattle.lf_work.specs.Exits.{IsExported};
+ghost use Rattle.lf_work.specs.Exits.{AreKept, CanBePut, IsExported};
 ghost use Rattle.lf_work.specs.Faults.{ExportFails, IsExportFault, IsSaveFault};
 ghost use Rattle.lf_work.specs.States.{IsSaved};
 ghost use Rattle.lf_work.specs.Inputs.{path_of};
@@ -39,28 +38,30 @@ pub fn try_outputs<'a, E: Exports>(outputs: Outputs<'a>, exports: &mut E) -> Res
     try_save(outputs.save, exports)
 }
 
-/// Writes what is asked for: the exported text and then the state of the floor.
+/// Writes what is asked for: the exported text and then the state of the floor. The DEF text is kept where it is to be exported.
 pub fn put_outputs<'a, E: Exports>(
     floor: &Floor<IndexSeeker>,
-    original: &Original,
+    original: Option<&Original>,
     outputs: Outputs<'a>,
     exports: &mut E,
 ) -> Result<(), Fault<'a>>
-    requires fits { (places : List (ℕ × Option Place)) → AreCommittedPlaces floor.now places
-        → CanBeRenewed original.now.text.items original.now.clauses places }
-    ensures ok { (document : Document) → original.now.clauses ≡ map (clause_of original.now.text.items) document.components
+    requires kept { original ≡ None → path_of outputs.export ≡ None }
+    requires fits { (places : List (ℕ × Option Place)) → AreCommittedPlaces floor.now places → CanBePut (option_copied original) places }
+    ensures ok { (text : List ℕ) (document : Document) → AreKept (option_copied original.entry) text document
         → OnOk result ((between : Option (List Put))
-        × IsExported (path_of outputs.entry.export) original.now.text.items document floor.now (E.puts exports.old) between
+        × IsExported (path_of outputs.entry.export) text document floor.now (E.puts exports.old) between
         × IsSaved (path_of outputs.entry.save) floor.now between (E.puts exports.new)) }
-    ensures err { (document : Document) → original.now.clauses ≡ map (clause_of original.now.text.items) document.components
+    ensures err { (text : List ℕ) (document : Document) → AreKept (option_copied original.entry) text document
         → IfErr result (λ fault. (IsExportFault (path_of outputs.entry.export) fault × (E.puts exports.new ≡ E.puts exports.old))
         ⊎ (IsSaveFault (path_of outputs.entry.save) fault
-        × IsExported (path_of outputs.entry.export) original.now.text.items document floor.now (E.puts exports.old) (E.puts exports.new))) }
+        × IsExported (path_of outputs.entry.export) text document floor.now (E.puts exports.old) (E.puts exports.new))) }
     ensures fails { IfErr result (λ fault. ExportFails fault (E.has_failed exports.old) (E.has_failed exports.new)) }
     ensures sound { OnOk result (E.has_failed exports.new ≡ E.has_failed exports.old) }
     ensures unput { path_of outputs.entry.save ≡ None → OnErr result (E.puts exports.new ≡ E.puts exports.old) }
     ensures unasked { path_of outputs.entry.save ≡ None → path_of outputs.entry.export ≡ None → exports.new ≡ exports.old }
 {
-    export_to(floor, original, outputs.export, exports)?;
+    if let Some(original) = original {
+        export_to(floor, original, outputs.export, exports)?;
+    }
     save_to(floor, outputs.save, exports)
 }

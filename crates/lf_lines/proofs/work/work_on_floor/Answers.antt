@@ -6,11 +6,11 @@ use Rattle.lf_lines.proofs.LineSteps.{done_beside, fault_beside, outputs_unfinis
 use Rattle.lf_lines.proofs.work.work_on_floor.Goals as goal
 
 pub put_outputs-requires : goal.put_outputs-requires
-put_outputs-requires g c = record { fits = λ places are. c.requires.fits c.answer.new.floor places c.answer.ensures.components are }
+put_outputs-requires g c = record { kept = c.requires.kept; fits = λ places are. c.requires.fits c.answer.new.floor places c.answer.ensures.components are }
 
 pub returns-clause-ok : goal.returns-clause-ok
-returns-clause-ok g c = λ document kept.
-    let put = c.in_ok-put_outputs.ensures.ok document kept in (
+returns-clause-ok g c = λ text document kept.
+    let put = c.in_ok-put_outputs.ensures.ok text document kept in (
       refl,
       record {
         floor = c.answer.new.floor;
@@ -22,7 +22,7 @@ returns-clause-ok g c = λ document kept.
     )
 
 pub returns-in_err-try_outputs-clause-err : goal.returns-in_err-try_outputs-clause-err
-returns-in_err-try_outputs-clause-err g c = λ document kept.
+returns-in_err-try_outputs-clause-err g c = λ text document kept.
     let p = err_from_is_err_and c.from_residual.result c.from_residual.ensures.1 in
     rw (p.1, p.2) (
       inl (
@@ -34,7 +34,7 @@ returns-in_err-try_outputs-clause-err g c = λ document kept.
     )
 
 pub returns-in_err-answer-clause-err : goal.returns-in_err-answer-clause-err
-returns-in_err-answer-clause-err g c = λ document kept.
+returns-in_err-answer-clause-err g c = λ text document kept.
     let p = err_from_is_err_and c.from_residual-in_err-answer.result c.from_residual-in_err-answer.ensures.1 in
     let why = c.in_err-answer.ensures.err in
     rw (p.1, p.2) (
@@ -47,13 +47,13 @@ returns-in_err-answer-clause-err g c = λ document kept.
     )
 
 pub returns-in_err-put_outputs-clause-err : goal.returns-in_err-put_outputs-clause-err
-returns-in_err-put_outputs-clause-err g c = λ document kept.
+returns-in_err-put_outputs-clause-err g c = λ text document kept.
     let p = err_from_is_err_and c.from_residual-in_err-put_outputs.result c.from_residual-in_err-put_outputs.ensures.1 in
     let sound = c.in_ok-answer.ensures.sound in
     rw (p.1, p.2) (
-      outputs_unfinished (path_of c.args.outputs.save) (path_of c.args.outputs.export) c.args.lines c.args.floor.now c.answer.new.floor _ document _ _
+      outputs_unfinished (path_of c.args.outputs.save) (path_of c.args.outputs.export) c.args.lines c.args.floor.now c.answer.new.floor text document _ _
           (done_beside c.args.lines c.args.floor.now c.answer.new.floor _ _ _ _ _ _ _ _ _ _ c.in_ok-answer.ensures.ok)
-          (rw (c.answer.ensures.exports, c.try_outputs.ensures.unput) at (c.in_err-put_outputs.ensures.err document kept)),
+          (rw (c.answer.ensures.exports, c.try_outputs.ensures.unput) at (c.in_err-put_outputs.ensures.err text document kept)),
       export_blames _ _ _ _ _ _ _ _ _ c.in_err-put_outputs.ensures.fails (λ fails. fails)
           (λ same. record { exports = same ∙ sound.exports ∙ c.in_ok-try_outputs.ensures.sound; services = sound.services; reader = sound.reader; writer = sound.writer }),
     )
