@@ -18,7 +18,7 @@ use Rattle.lf_work.specs.States.{IsBegun}
 use Rattle.lf_work.proofs.WorkSteps.{design_opened}
 use Rattle.lf_lines.specs.Exits.{IsUndone, Streams, streams}
 use Rattle.lf_lines.specs.Surroundings.{IsSound}
-use Rattle.lf_lines.specs.Work.{IsDone, IsFault, IsOfOriginal, IsUnfinished, IsUnworked}
+use Rattle.lf_lines.specs.Work.{AreAnswered, IsFault, IsOfOriginal, IsUnfinished, IsUnworked}
 use Rattle.lf_lines.specs.declared.surroundings.Surroundings.{Surroundings}
 use Rattle.lf_lines.specs.declared.sources.Lines.{Lines}
 use Rattle.lf_lines.specs.declared.sources.Lines.TheVariants.{Stream, Port}
@@ -26,8 +26,8 @@ use Rattle.lf_lines.specs.declared.sources.Lines.TheVariants.{Stream, Port}
 -- lines are done whatever is put into files beside them
 pub done_beside : (lines : Lines) (begin floor : FloorState) (input left before after : Option (List ℕ))
     (old_puts new_puts other_old other_new : Option (List Put)) (old_accepted new_accepted : Option Accepted)
-    → IsDone lines begin floor (streams input left before after old_puts new_puts old_accepted new_accepted)
-    → IsDone lines begin floor (streams input left before after other_old other_new old_accepted new_accepted)
+    → AreAnswered lines begin floor (streams input left before after old_puts new_puts old_accepted new_accepted)
+    → AreAnswered lines begin floor (streams input left before after other_old other_new old_accepted new_accepted)
 done_beside (Stream limit) begin floor input left before after old_puts new_puts other_old other_new old_accepted new_accepted is = is
 done_beside (Port port connections) begin floor input left before after old_puts new_puts other_old other_new old_accepted new_accepted is = is
 
@@ -43,7 +43,7 @@ fault_beside (Port port connections) begin fault input left before after old_put
 pub undone : (limits : Limits) (gives : Gives) (def : List ℕ) (lefs : List (List ℕ)) (state save export : Option (List ℕ)) (lines : Lines) (text : List ℕ)
     (document : Document) (loaded : Loaded) (fault : Fault) (io : Streams) → IsOpened limits gives def lefs text document loaded
     → IsUnworked gives state save export lines loaded text document fault io
-    → IsUndone limits gives def lefs state save export (IsFault lines) (IsDone lines) fault io
+    → IsUndone limits gives def lefs state save export (IsFault lines) (AreAnswered lines) fault io
 undone limits gives def lefs state save export lines text document loaded fault io is (inl unbegun) =
     inl (inl (inr (loaded, design_opened limits gives def lefs text document loaded is, unbegun.0)), unbegun.1)
 undone limits gives def lefs state save export lines text document loaded fault io is (inr (begin, begins, inl stopped)) =
@@ -53,7 +53,7 @@ undone limits gives def lefs state save export lines text document loaded fault 
 
 -- a fault of what is written once the lines are done leaves the work unfinished
 pub outputs_unfinished : (save export : Option (List ℕ)) (lines : Lines) (begin floor : FloorState) (text : List ℕ) (document : Document) (fault : Fault) (io : Streams)
-    → IsDone lines begin floor io
+    → AreAnswered lines begin floor io
     → (IsExportFault export fault × (io.new_puts ≡ io.old_puts)) ⊎ (IsSaveFault save fault × IsExported export text document floor io.old_puts io.new_puts)
     → IsUnfinished save export lines begin text document fault io
 outputs_unfinished save export lines begin floor text document fault io done (inl unexported) =

@@ -1,5 +1,5 @@
 -- How lines end.
-use Rattle.std.specs.Prelude.{◌≡◌, ◌<◌, ◌⊎◌, ◌*◌, ◌++◌, ℕ, List, [], ◌∷◌, Option, Some, None, codes, take}
+use Rattle.std.specs.Prelude.{◌≡◌, ◌<◌, ◌⊎◌, ◌++◌, ℕ, List, [], ◌∷◌, Option, Some, None, codes, take}
 use Rattle.std.specs.Io.KnownBytes.{Appends}
 use Rattle.lf_floorplan.specs.declared.limits.Limits.{Limits}
 use Rattle.lf_floorplan.specs.declared.loaded.Loaded.{Loaded}
@@ -17,7 +17,7 @@ use Rattle.lf_work.specs.Faults.{IsExportFault, IsSaveFault}
 use Rattle.lf_work.specs.States.{IsBegun, IsFloorFault, IsFloorOf, IsSaved}
 use Rattle.lf_work.specs.Exits.{IsExported}
 use Rattle.lf_lines.specs.Faults.{ending_fault}
-use Rattle.lf_lines.specs.Lines.{IsServed, most_lines}
+use Rattle.lf_lines.specs.Lines.{IsServed, most_lines, reads_for}
 
 -- ---- what a task leaves
 
@@ -65,7 +65,7 @@ listening = codes "listening" ++ 10 ∷ []
 pub record IsOffered (begin floor : FloorState) (connections : ℕ) (before after : Option (List ℕ))
     (old_accepted new_accepted : Option Accepted) : Type 0 where
   pub told : Appends before after listening
-  pub served : AreServed most_lines (most_lines * 4200) connections old_accepted new_accepted begin floor
+  pub served : AreServed most_lines (reads_for most_lines) connections old_accepted new_accepted begin floor
 
 -- this work led to the state of the floor; then the exported text of the document was put where one was asked for, and then the state
 pub record IsFinished (Work : FloorState → Streams → Type 0) (save export : Option (List ℕ)) (text : List ℕ) (document : Document) (io : Streams) : Type 0 where

@@ -20,6 +20,10 @@ pub record IsServed (l : Legalizer) (limit : ℕ) (old new : FloorState) (input 
 abbrev pub most_lines : ℕ
 most_lines = 1000000
 
--- the reader has failed, or was read as often as is allowed for this many lines
+-- how often a reader may be read for this many lines
+abbrev pub reads_for : ℕ → ℕ
+reads_for lines = lines * 4200
+
+-- the reader has failed, or was read as often as it may be for this many lines
 abbrev pub ReadsFail : ℕ → Bool → ℕ → ℕ → Type 0
-ReadsFail limit failed old new = (failed ≡ true) ⊎ (new ≡ old + limit * 4200)
+ReadsFail limit failed old new = (failed ≡ true) ⊎ (new ≡ old + reads_for limit)

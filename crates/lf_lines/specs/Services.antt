@@ -1,8 +1,8 @@
 -- Services that are offered.
-use Rattle.std.specs.Prelude.{◌≡◌, ◌*◌, ℕ, List, [], ◌∷◌, Option, Some, None}
+use Rattle.std.specs.Prelude.{◌≡◌, ℕ, List, [], ◌∷◌, Option, Some, None}
 use Rattle.std.specs.Net.Addr.{ipv4_octets}
 use Rattle.lf_server.specs.declared.accepting.Offer.{Offer}
-use Rattle.lf_lines.specs.Lines.{most_lines}
+use Rattle.lf_lines.specs.Lines.{most_lines, reads_for}
 
 -- this service was offered, and no other one, if what is offered is known
 abbrev pub Offers : Option (List Offer) → Option (List Offer) → Offer → Type 0
@@ -15,7 +15,7 @@ pub record IsLocal (port connections : ℕ) (offer : Offer) : Type 0 where
   pub at : offer.port ≡ port
   pub count : offer.connections ≡ connections
   pub lines : offer.limits.lines ≡ most_lines
-  pub reads : offer.limits.reads ≡ most_lines * 4200
+  pub reads : offer.limits.reads ≡ reads_for most_lines
 
 -- such a service was offered, and no other one
 abbrev pub OffersLocal : ℕ → ℕ → Option (List Offer) → Option (List Offer) → Type 0

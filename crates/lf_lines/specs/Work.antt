@@ -25,9 +25,9 @@ use Rattle.lf_lines.specs.Services.{OffersLocal}
 use Rattle.lf_lines.specs.Surroundings.{IsSound}
 
 -- the lines were answered to their end, on the floor that they began with
-abbrev pub IsDone : Lines → FloorState → FloorState → Streams → Type 0
-IsDone (Stream limit) begin floor io = IsAnswered limit begin floor io.input io.left io.before io.after
-IsDone (Port port connections) begin floor io = IsOffered begin floor connections io.before io.after io.old_accepted io.new_accepted
+abbrev pub AreAnswered : Lines → FloorState → FloorState → Streams → Type 0
+AreAnswered (Stream limit) begin floor io = IsAnswered limit begin floor io.input io.left io.before io.after
+AreAnswered (Port port connections) begin floor io = IsOffered begin floor connections io.before io.after io.old_accepted io.new_accepted
 
 -- why they were not
 abbrev pub IsFault : Lines → FloorState → Fault → Streams → Type 0
@@ -51,8 +51,8 @@ pub record IsDesignFor (limits : Limits) (gives : Gives) (def : List ℕ) (lefs 
 -- why the work on a floor is not finished: it is stopped, and no text is put; or all is done but that the state is not saved
 abbrev pub IsUnfinished : Option (List ℕ) → Option (List ℕ) → Lines → FloorState → List ℕ → Document → Fault → Streams → Type 0
 IsUnfinished save export lines begin text document fault io =
-    (IsWorkFault save export (IsFault lines begin) (IsDone lines begin) fault io × (io.new_puts ≡ io.old_puts))
-    ⊎ (IsSaveFault save fault × IsFinished (IsDone lines begin) None export text document io)
+    (IsWorkFault save export (IsFault lines begin) (AreAnswered lines begin) fault io × (io.new_puts ≡ io.old_puts))
+    ⊎ (IsSaveFault save fault × IsFinished (AreAnswered lines begin) None export text document io)
 
 -- why the work on the design of a text is not finished: there is no floor with which it begins, and no text is put; or there is
 abbrev pub IsUnworked : Gives → Option (List ℕ) → Option (List ℕ) → Option (List ℕ) → Lines → Loaded → List ℕ → Document → Fault → Streams → Type 0

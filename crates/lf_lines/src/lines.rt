@@ -1,9 +1,9 @@
 //! Answering the lines of a source.
 
-ghost use Rattle.std.specs.Prelude.{◌≡◌, ◌≢◌, ◌*◌, false, true};
+ghost use Rattle.std.specs.Prelude.{◌≡◌, ◌≢◌, false, true};
 ghost use Rattle.lf_rules.specs.Legalizer.{Legalizer};
 ghost use Rattle.lf_lines.specs.Faults.{ending_fault};
-ghost use Rattle.lf_lines.specs.Lines.{IsServed, ReadsFail};
+ghost use Rattle.lf_lines.specs.Lines.{IsServed, ReadsFail, reads_for};
 
 use lf_designs::Fault;
 use lf_devices::{Sink, Source};
@@ -21,7 +21,7 @@ const READS: u64 = 4_200;
 /// The limits on a session of this many lines.
 pub(crate) fn limits_of(lines: u32) -> ServeLimits
     ensures lines { result.lines ≡ lines }
-    ensures reads { result.reads ≡ lines * 4200 }
+    ensures reads { result.reads ≡ reads_for lines }
 {
     ServeLimits {
         lines: u64::from(lines),

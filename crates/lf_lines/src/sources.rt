@@ -1,13 +1,13 @@
 //! Where the lines of a design come from, and how they are answered: those of the reader, or of connections to a port.
 
-ghost use Rattle.std.specs.Prelude.{◌≡◌, ◌*◌, IfErr, OnOk, false, true};
+ghost use Rattle.std.specs.Prelude.{◌≡◌, IfErr, OnOk, false, true};
 ghost use Rattle.lf_designs.specs.Faults.{Blames};
 ghost use Rattle.lf_lines.specs.Exits.{IsAnswered, IsBrokenOff, IsOffered, IsServiceFault};
 ghost use Rattle.lf_lines.specs.Faults.{BlamesStreams};
-ghost use Rattle.lf_lines.specs.Lines.{most_lines};
+ghost use Rattle.lf_lines.specs.Lines.{most_lines, reads_for};
 ghost use Rattle.lf_lines.specs.Services.{Offers};
 ghost use Rattle.lf_lines.specs.Surroundings.{IsReady, IsSound, Keeps, io_of};
-ghost use Rattle.lf_lines.specs.Work.{BlamesIn, IsDone, IsFault, IsLeft, IsOfferFor};
+ghost use Rattle.lf_lines.specs.Work.{AreAnswered, BlamesIn, IsFault, IsLeft, IsOfferFor};
 
 use crate::lines::{answer_lines, ending_fault};
 use crate::services::{Services, local_offer};
@@ -63,7 +63,7 @@ fn offer<'a, V: Services, W: Sink>(
     writer: &mut W,
 ) -> Result<(), Fault<'a>>
     requires lines { offer.now.limits.lines ≡ most_lines }
-    requires reads { offer.now.limits.reads ≡ most_lines * 4200 }
+    requires reads { offer.now.limits.reads ≡ reads_for most_lines }
     ensures ok { OnOk result (IsOffered floor.old floor.new offer.now.connections (W.contents writer.old) (W.contents writer.new)
         (V.accepted services.old) (V.accepted services.new)) }
     ensures components { floor.new.components ≡ floor.old.components }
@@ -96,7 +96,7 @@ pub(crate) fn answer<'a, T, E: Exports, V: Services, R: Source, W: Sink, F, P>(
     lines: Lines,
 ) -> Result<(), Fault<'a>>
     requires ready { IsReady R.has_failed R.reads W.has_failed around.old.reader around.old.writer }
-    ensures ok { OnOk result (IsDone lines floor.old floor.new (io_of R.remaining W.contents E.puts V.accepted around.old around.new)) }
+    ensures ok { OnOk result (AreAnswered lines floor.old floor.new (io_of R.remaining W.contents E.puts V.accepted around.old around.new)) }
     ensures components { floor.new.components ≡ floor.old.components }
     ensures err { IfErr result (λ fault.
         IsFault lines floor.old fault (io_of R.remaining W.contents E.puts V.accepted around.old around.new)

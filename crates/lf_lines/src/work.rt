@@ -15,7 +15,7 @@ ghost use Rattle.lf_lines.specs.Exits.{IsAnswered, IsFinished, IsLinesFault, IsU
 ghost use Rattle.lf_lines.specs.Faults.{BlamesStreams};
 ghost use Rattle.lf_lines.specs.Lines.{most_lines};
 ghost use Rattle.lf_lines.specs.Surroundings.{IsReady, Keeps, io_of};
-ghost use Rattle.lf_lines.specs.Work.{BlamesIn, IsDesignFor, IsDone, IsFault, IsOfOriginal, IsUnfinished, IsUnworked, Leaves};
+ghost use Rattle.lf_lines.specs.Work.{AreAnswered, BlamesIn, IsDesignFor, IsFault, IsOfOriginal, IsUnfinished, IsUnworked, Leaves};
 
 use crate::lines::MOST_LINES;
 use crate::services::Services;
@@ -88,7 +88,7 @@ fn work_on_floor<'a, T, E: Exports, V: Services, R: Source, W: Sink, F, P>(
     requires fits { (s : FloorState) (places : List (ℕ × Option Place)) → s.components ≡ floor.old.components → AreCommittedPlaces s places
         → CanBePut (option_copied original) places }
     ensures ok { (text : List ℕ) (document : Document) → AreKept (option_copied original.entry) text document
-        → IfOk result (λ status. (status ≡ 0) × IsFinished (IsDone lines floor.old) (path_of outputs.entry.save) (path_of outputs.entry.export)
+        → IfOk result (λ status. (status ≡ 0) × IsFinished (AreAnswered lines floor.old) (path_of outputs.entry.save) (path_of outputs.entry.export)
         text document (io_of R.remaining W.contents E.puts V.accepted around.old around.new)) }
     ensures err { (text : List ℕ) (document : Document) → AreKept (option_copied original.entry) text document
         → IfErr result (λ fault. IsUnfinished (path_of outputs.entry.save) (path_of outputs.entry.export) lines floor.old
@@ -118,7 +118,7 @@ fn work_on_design<'a, T: Texts, E: Exports, V: Services, R: Source, W: Sink, F, 
     requires loads { IsOfOriginal design.original design.loaded }
     ensures ok { (text : List ℕ) (document : Document) → AreKept design.original text document
         → IfOk result (λ status. (status ≡ 0) × ((begin : FloorState) × IsBegun (T.gives around.old.texts) (path_of state.entry) (opening design.loaded) begin
-        × IsFinished (IsDone lines begin) (path_of outputs.entry.save) (path_of outputs.entry.export)
+        × IsFinished (AreAnswered lines begin) (path_of outputs.entry.save) (path_of outputs.entry.export)
         text document (io_of R.remaining W.contents E.puts V.accepted around.old around.new))) }
     ensures err { (text : List ℕ) (document : Document) → AreKept design.original text document
         → IfErr result (λ fault. IsUnworked (T.gives around.old.texts) (path_of state.entry) (path_of outputs.entry.save) (path_of outputs.entry.export) lines
@@ -150,11 +150,11 @@ pub fn work_on_files<'a, T: Texts, E: Exports, V: Services, R: Source, W: Sink, 
     requires ready { IsReady R.has_failed R.reads W.has_failed around.old.reader around.old.writer }
     ensures ok { IfOk result (λ status. IsWorked inputs.entry.limits (T.gives around.old.texts)
         inputs.entry.def.now (map (λ lef. lef.now) inputs.entry.lefs.now)
-        (path_of inputs.entry.state) (path_of outputs.entry.save) (path_of outputs.entry.export) (IsDone lines)
+        (path_of inputs.entry.state) (path_of outputs.entry.save) (path_of outputs.entry.export) (AreAnswered lines)
         (io_of R.remaining W.contents E.puts V.accepted around.old around.new) × (status ≡ 0)) }
     ensures err { IfErr result (λ fault. IsUndone inputs.entry.limits (T.gives around.old.texts)
         inputs.entry.def.now (map (λ lef. lef.now) inputs.entry.lefs.now)
-        (path_of inputs.entry.state) (path_of outputs.entry.save) (path_of outputs.entry.export) (IsFault lines) (IsDone lines) fault
+        (path_of inputs.entry.state) (path_of outputs.entry.save) (path_of outputs.entry.export) (IsFault lines) (AreAnswered lines) fault
         (io_of R.remaining W.contents E.puts V.accepted around.old around.new)
         × BlamesIn E.has_failed V.has_failed R.has_failed R.reads W.has_failed lines around.old around.new fault) }
     ensures leaves { Leaves E.puts V.offers lines (path_of outputs.entry.save) (path_of outputs.entry.export) result around.old around.new }
