@@ -39,7 +39,7 @@ def beside(path: Path) -> Iterator[Path]:
     try:
         partial = _made_beside(target)
     except OSError as error:
-        why = "there is no such folder" if isinstance(error, FileNotFoundError) else error.strerror
+        why = error.strerror if target.parent.exists() else "there is no such folder"
         raise Fault(FAILED, f"{path} cannot be written: {why}") from None
     try:
         yield partial

@@ -58,7 +58,7 @@ class JournalTool(HubCase):
     def test_lines_and_journals_come_out_of_it(self) -> None:
         self.assertEqual(self.told("export", self.journal), self.lines)
         made = self.folder / "f1.journal"
-        self.told("export", self.journal, "--team", "f1", "--output", made)
+        self.told("export", self.journal, "--team", "f1", "-o", made)
         self.assertEqual(list(read_records(made)), [each for each in read_records(self.journal) if b"f1" in each.line.split()])
         self.journal.rename(self.folder / "old")
         (self.folder / "journal.texts").rename(self.folder / "old.texts")

@@ -65,6 +65,8 @@ class RepairsThere(HubCase):
         told = f"lefence-repair: {self.design} has other cells of team f1 than the design there\n"
         self.assertEqual((done.returncode, done.stderr.decode()), (1, told))
         self.assertEqual(self.repair(f"f{TEAMS}").returncode, 3)
+        done = self.tool("lefence-repair", "t.def", "t.lef", "--socket", "t.def", "--program", PROGRAM)
+        self.assertEqual((done.returncode, done.stderr), (3, b"lefence-repair: t.def: it is no socket\n"))
         done = self.repair("operator", "--team", "Z")
         self.assertEqual((done.returncode, b"Traceback" in done.stderr), (1, False), done.stderr)
 
