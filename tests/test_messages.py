@@ -3,11 +3,13 @@
 from __future__ import annotations
 
 import os
+import shutil
+import subprocess
 import tempfile
 import unittest
 from pathlib import Path
 
-from program import DEF, DESIGN, LEF, Start, free_port, run
+from program import DEF, DESIGN, LEF, TESTS, Start, free_port, run
 
 W_DEF, W_LEF = DESIGN
 USAGE = "lefence: usage"
@@ -239,6 +241,30 @@ class Help(unittest.TestCase):
     def test_help_that_cannot_be_written(self) -> None:
         with open("/dev/full", "wb") as full:
             self.assertEqual(run(["--help"], start=Start(stdout=full)), (3, "", "lefence: Output\n"))
+
+
+class Wrapper(unittest.TestCase):
+    """./lefence, where it cannot prove and build the program."""
+
+    def test_what_is_lacking_is_told(self) -> None:
+        with tempfile.TemporaryDirectory() as folder:
+            top, program = Path(folder), Path(folder, "crates/lefence/out/lefence")
+            shutil.copy(TESTS.parent / "lefence", top)
+            program.parent.mkdir(parents=True)
+            (top / "crates.txt").touch()
+            for tool in ("dirname", "find", "head"):
+                (top / tool).symlink_to(shutil.which(tool) or "")
+
+            def told() -> tuple[int, str]:
+                done = subprocess.run([top / "lefence"], env={"PATH": folder}, capture_output=True, text=True)
+                return done.returncode, done.stderr.partition("\n")[0]
+
+            lacking = "takes rt, which is not on the PATH"
+            self.assertEqual(told(), (70, f"lefence: the program is not built, and to build it {lacking}"))
+            program.touch(0o755)
+            os.utime(program, (0, 0))
+            newer = f"lefence: the sources are newer than the program, and to build it anew {lacking}"
+            self.assertEqual(told(), (70, f"{newer}; crates/lefence/out/lefence is the program as it was built"))
 
 
 class Recipes(unittest.TestCase):

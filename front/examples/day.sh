@@ -1,6 +1,7 @@
 #!/usr/bin/env bash
 # A day of two teams: from a DEF text of another tool to one that is fully legal. Run it in an empty folder. What a command prints, on
-# both streams, stands below it behind `#> `; front/tests/test_day.py runs the script and compares.
+# both streams, stands below it behind `#> `; front/tests/test_day.py runs the script and compares. Two steps need KLayout
+# (`apt install klayout`).
 front=$(cd -- "$(dirname -- "$0")/.." && pwd)
 export PATH="$front/bin:$PATH:${front%/*}"
 cp "$front"/tests/data/day* .
@@ -75,7 +76,7 @@ kill $!; wait $!; tail -n 1 second.log
 #> lefence-hub: ended
 
 # A repair does the rest, and KLayout reads the result.
-lefence-repair new.def day.lef --out done.def
+lefence-repair new.def day.lef -o done.def
 #> lefence-repair: team B: 2 moved, 0 turned, 0 newly placed, 2 stay, 0 left; moved by 0.225 microns on average, 0.400 at most, which is 0.400 or more in any repair
 #> lefence-repair: team -: 0 moved, 0 turned, 1 newly placed, 1 stay, 0 left
 #> lefence-repair: team all: 2 moved, 0 turned, 1 newly placed, 7 stay, 0 left; moved by 0.225 microns on average, 0.400 at most, which is 0.400 or more in any repair

@@ -206,7 +206,7 @@ class Connection:
         except BlockingIOError:
             pass
         except (BrokenPipeError, ConnectionResetError) as error:
-            raise ConnectionLost(f"the connection is lost: {error}") from None
+            raise ConnectionLost(f"the connection is lost: {error.strerror}") from None
 
 
 def answer_of(request: Request[T], reply: bytes) -> T:

@@ -16,6 +16,7 @@ from functools import cached_property, lru_cache
 from pathlib import Path
 from typing import cast
 
+from .faults import REFUSED, Fault
 from .protocol import GROUND
 
 # White space and comments; then a token, a quoted text or a word. Each is an atomic group, which keeps what it took, so matching is
@@ -240,3 +241,20 @@ class Design:
     def cells_of(self, team: bytes) -> list[bytes]:
         """The names of a team's cells, in loading order."""
         return [component.name for component in self.entries(b"COMPONENTS") if self.team_of(component) == team]
+
+
+def refuse_other_text(path: Path, text: bytes) -> None:
+    """A fault where the text of a file is no DEF text."""
+    if not any(statement.keyword == b"DESIGN" for statement in statements_in(text)):
+        compressed = ", but compressed by gzip" if text[:2] == b"\x1f\x8b" else ""
+        raise Fault(REFUSED, f"{path} has no DESIGN: it is no DEF text{compressed}")
+
+
+def whole_design(path: Path, text: bytes) -> Design:
+    """The design of the text of a file; a fault where that is no DEF text, or is cut off."""
+    refuse_other_text(path, text)
+    design = Design(text)
+    last = design.statements[-1]
+    if [*words_in(text[last.start : last.stop])] != [b"END", b"DESIGN"]:
+        raise Fault(REFUSED, f"{path} ends without END DESIGN: it is cut off")
+    return design

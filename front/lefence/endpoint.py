@@ -2,6 +2,7 @@
 
 from __future__ import annotations
 
+import os
 import re
 import socket
 import subprocess
@@ -40,7 +41,7 @@ def connect_to(where: str) -> Endpoint:
             return Endpoint(connect(found[1], int(found[2])), [])
         return Endpoint(connect(where), _teams_at(Path(where)))
     except (OSError, OverflowError) as error:
-        reason = error.strerror if isinstance(error, OSError) else None
+        reason = "it is no socket" if os.path.isfile(where) else error.strerror if isinstance(error, OSError) else None
         raise Fault(FAILED, f"{where}: {reason or error}") from None
 
 

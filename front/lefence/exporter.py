@@ -7,7 +7,7 @@ import os
 from collections.abc import Callable
 from pathlib import Path
 
-from .faults import FAILED, Fault
+from .faults import FAILED, Fault, words_of
 from .journal import Journal
 from .segments import Place
 from .server import Server, ServerLost
@@ -74,5 +74,5 @@ class Exporter:
                     await self._second.write(place, export=str(partial))
                 return None
             except (Fault, OSError, ServerLost) as fault:
-                self._say(f"export: {fault}")
-                return str(fault)
+                self._say(f"export: {words_of(fault)}")
+                return words_of(fault)

@@ -24,7 +24,7 @@ from typing import BinaryIO
 
 from .client import connect
 from .design import Design, shown
-from .faults import DONE, FAILED, REFUSED, Fault, log
+from .faults import DONE, FAILED, REFUSED, Fault, log, words_of
 from .frames import sum_of
 from .merge import merge
 from .program import Program
@@ -107,8 +107,9 @@ def run_team(work: Path, number: int) -> int:
         refuse_another_slice(own, plan)
         (_run_command if plan.command else _repair)(plan, own, plan.teams[number - 1])
     except (Fault, OSError) as fault:
-        (own / "failed").write_text(f"{fault}\n", errors="backslashreplace")
-        raise Fault(fault.status if isinstance(fault, Fault) else FAILED, f"team {plan.teams[number - 1]}: {fault}") from None
+        why = words_of(fault)
+        (own / "failed").write_text(f"{why}\n", errors="backslashreplace")
+        raise Fault(fault.status if isinstance(fault, Fault) else FAILED, f"team {plan.teams[number - 1]}: {why}") from None
     with whole_file(own / "done") as file:
         file.write(b"done\n")
     _remove_texts(own / "journal")

@@ -13,7 +13,7 @@ from contextlib import ExitStack
 from pathlib import Path
 from typing import NamedTuple
 
-from .design import Design, mapped
+from .design import Design, mapped, whole_design
 from .farm import TOOL, Plan, begin, collect, run_team, teams_of
 from .faults import DONE, FAILED, USAGE, Fault, Parser, log, run_tool
 from .frames import sum_of
@@ -133,7 +133,7 @@ def parser() -> Parser:
     )
     add = made.add_argument
     add("work", metavar="WORK", type=Path, help="a folder that all machines see, made if it is missing")
-    add("texts", metavar="DEF LEF...", type=Path, nargs="*", help="the design, and its LEF texts in the order of the program")
+    add("texts", metavar="DEF LEF..", type=Path, nargs="*", default=[], help="the design, and its LEF texts in the order of the program")
     add("--engine", choices=ENGINES, default="local", help="what runs the teams: this machine (local), Slurm or LSF")
     add("--processes", metavar="N", type=int, default=0, help="at most so many teams at once (local: one for each processor)")
     add("--option", metavar="WORD", action="append", default=[], help="a word for sbatch or bsub, as --option=--mem=2G; again for more")
@@ -143,6 +143,7 @@ def parser() -> Parser:
     add("--task", metavar="I", type=int, help="do the work of team number I of WORK")
     add("--collect", action="store_true", help="bring the work of the teams of WORK that are done into one design")
     made.add_program()
+    made.usage = f"{TOOL} [OPTION ..] WORK [DEF LEF ..] [-- COMMAND]"
     return made
 
 
@@ -163,6 +164,8 @@ def main() -> int:
     command = words[at + 1 :]
 
     def work() -> int:
+        if (options.collect or options.task is not None) and not (options.work / "farm.json").exists():
+            raise Fault(FAILED, f"{options.work} is no work folder of {TOOL}")
         options.work = options.work.resolve()
         if options.task is not None:
             return run_team(options.work, options.task)
@@ -173,7 +176,7 @@ def main() -> int:
         if options.export:
             refuse_inputs(options.export, options.texts)
         with ExitStack() as stack:
-            design = Design(mapped(options.texts[0], stack))
+            design = whole_design(options.texts[0], mapped(options.texts[0], stack))
             plan = plan_of(options, command, design)
             options.work.mkdir(parents=True, exist_ok=True)
             begin(options.work, plan, design)

@@ -49,6 +49,13 @@ def printable(text: str) -> str:
     return "".join(sign if sign.isprintable() or sign in "\n\t" else sign.encode("unicode_escape").decode() for sign in text)
 
 
+def words_of(error: Exception) -> str:
+    """What an exception says; of one of the system the file's name and the reason, without its number."""
+    if not isinstance(error, OSError) or error.strerror is None:
+        return str(error)
+    return error.strerror if error.filename is None else f"{error.filename}: {error.strerror}"
+
+
 def log(tool: str, text: str) -> None:
     """A line on standard error, whatever bytes a name in it has; one that cannot be written is no fault."""
     try:
@@ -71,7 +78,7 @@ def run_tool(tool: str, work: Callable[[], int]) -> int:
         os.dup2(os.open(os.devnull, os.O_WRONLY), 1)
         return FAILED
     except OSError as error:
-        log(tool, str(error))
+        log(tool, words_of(error))
         return FAILED
     except KeyboardInterrupt:
         return 130

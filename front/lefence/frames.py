@@ -218,7 +218,7 @@ class Reader:
         while offset < end:
             frame = self.frame(offset)
             if not frame:
-                raise Fault(FAILED, f"{self.path}: no whole frame at byte {offset} any more")
+                raise Fault(FAILED, f"{self.path}: no whole batch at byte {offset} any more")
             yield frame
             offset = frame.end
 
@@ -248,4 +248,4 @@ def refuse_damage(reader: Reader, end: int) -> None:
     """A fault where whole frames stand behind the end of those that follow each other."""
     if reader.next_start(end) is not None:
         ways = f"`lefence-journal check {reader.path}` tells more, and `lefence-journal cut` makes it one that a hub takes"
-        raise Fault(REFUSED, f"{reader.path}: damaged at byte {end}, and whole frames follow; {ways}")
+        raise Fault(REFUSED, f"{reader.path}: damaged at byte {end}, and whole batches follow; {ways}")

@@ -214,7 +214,8 @@ class Journal:
                 self._state = state
                 return useless
             if state:
-                self._say(f"{state.path} is not the state that the journal names; what stands before it is answered again")
+                what = "is not the state that the journal names" if state.path.exists() else "is not there"
+                self._say(f"{state.path} {what}; what stands before it is answered again")
             useless.append(first.number)
             if first.number == 1:
                 return useless
@@ -233,7 +234,7 @@ class Journal:
     def _cut(self, last: Frame | None) -> None:
         """Cuts off what stands behind the last whole frame."""
         if tail := self._reader.tail(self.end):
-            self._say(f"{self.path}: a torn frame of {tail} bytes cut off at byte {self.end}")
+            self._say(f"{self.path}: a torn batch of {tail} bytes (a write that was cut off) removed at byte {self.end}")
         if last:
             # Its hub may not have synced it, or in vain, after which the system takes the page for written: it is written anew.
             os.pwrite(self._fd, os.pread(self._fd, last.end - last.start, last.start), last.start)
@@ -349,7 +350,7 @@ class Journal:
                 if error.errno not in _NOT_OFFERED:
                     if error.errno in _NO_ROOM:
                         return False
-                    raise Fault(FAILED, f"{self.path}: {error}") from error
+                    raise Fault(FAILED, f"{self.path}: {error.strerror}") from error
             self._reserved = need + _STEP
         return True
 
@@ -373,7 +374,7 @@ class Journal:
             step()
         except OSError as error:
             self._is_broken = True
-            raise Fault(FAILED, f"{self.path}: {error}; nothing of this was acknowledged") from error
+            raise Fault(FAILED, f"{self.path}: {error.strerror}; nothing of this was acknowledged") from error
 
     def _refuse_brokenness(self) -> None:
         if self._is_broken:

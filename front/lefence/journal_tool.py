@@ -73,8 +73,9 @@ def check(path: Path, readers: list[Reader]) -> int:
             print(f"segment {header.number}, behind {header.changes} changes: {reader.path}")
             state = Past(path).state_named(header.number, reader.notes())
             if state:
-                print(f"it begins with the state {state.path}: {'whole' if state.is_whole() else 'damaged'}")
-                status = status if state.is_whole() else REFUSED
+                told = state.in_a_word()
+                print(f"it begins with the state {state.path}: {told}")
+                status = status if told == "whole" else REFUSED
         status = max(status, _check_segment(reader, path, behind.header().bytes if behind else None))
     return status
 
@@ -84,7 +85,7 @@ def _check_segment(reader: Reader, path: Path, size: int | None) -> int:
     status, found = DONE, list(stretches(reader))
     copied = "" if size is None else f"copied to {path}, "
     for stretch, behind in zip(found, [*found[1:], None]):
-        print(f"whole from byte {stretch.start} to {stretch.end}: {stretch.changes} changes in {stretch.frames} frames")
+        print(f"whole from byte {stretch.start} to {stretch.end}: {stretch.changes} changes in {stretch.frames} batches")
         if behind:
             status = REFUSED
             way = f"{copied}`cut --at {stretch.end}` makes a journal of what stands before"
@@ -94,7 +95,7 @@ def _check_segment(reader: Reader, path: Path, size: int | None) -> int:
         status = REFUSED
         print(f"damaged from byte {end} to {size}, where it ended when the next segment was begun: {copied}it ends there")
     elif tail := reader.tail(end):
-        print(f"torn: {tail} bytes at byte {end} are no whole frame; a start cuts them off")
+        print(f"torn: {tail} bytes at byte {end} are no whole batch (a write that was cut off); a start removes them")
     return status
 
 
@@ -129,7 +130,7 @@ def is_of(record: Record, team: str | None) -> bool:
 
 
 def cut(path: Path, at: int | None, takes_over: bool) -> int:
-    """Cuts a journal off at the end of a frame, or before its first damage; the whole of it is kept beside it first."""
+    """Cuts a journal off at the end of a batch, or before its first damage; the whole of it is kept beside it first."""
     with open(path, "r+b") as file:
         lock(file.fileno(), path)
         reader = Reader(file.fileno(), path)
@@ -138,7 +139,7 @@ def cut(path: Path, at: int | None, takes_over: bool) -> int:
         first = next(stretches(reader))
         at = first.end if at is None else at
         if at not in (first.start, *(frame.end for frame in reader.frames(first.start))):
-            raise Fault(REFUSED, f"{path}: no frame of its first whole stretch, from byte {first.start} to {first.end}, ends at byte {at}")
+            raise Fault(REFUSED, f"{path}: no batch of its first whole stretch, from byte {first.start} to {first.end}, ends at byte {at}")
         aside = path.with_name(f"{path.name}.before-cut-at-{at}")
         if aside.exists():
             raise Fault(FAILED, f"{aside} is there already")
@@ -232,13 +233,13 @@ def parser() -> Parser:
     verb("check", "tell what is whole, torn or damaged, and whether the texts are kept")
     added = verb("list", "tell number, time (UTC), uid, pid, line and reply of each change")
     added.add_argument("--team", metavar="NAME", help=one_team)
-    added = verb("cut", "cut its last segment off at the end of a frame; as it was it is kept beside it")
+    added = verb("cut", "cut its last segment off at the end of a batch; as it was it is kept beside it")
     added.add_argument("--at", metavar="BYTE", type=int, help="where (before the first damage)")
     added.add_argument("--takeover", action="store_true", help="also that of a hub of another host, which is gone for certain")
-    added = verb("export", "write the lines of all whole frames")
+    added = verb("export", "write the lines of all whole batches")
     added.add_argument("--team", metavar="NAME", help=one_team)
-    added.add_argument("--from", dest="start", metavar="BYTE", type=int, default=0, help="from the frame on that begins there")
-    added.add_argument("--output", metavar="FILE", type=Path, help="write a journal of them for lefence-push")
+    added.add_argument("--from", dest="start", metavar="BYTE", type=int, default=0, help="from the batch on that begins there")
+    added.add_argument("-o", "--output", metavar="FILE", type=Path, help="write a journal of them for lefence-push")
     added = verb("verify", "have the program answer the changes behind the last state, and compare each reply")
     added.add_argument("texts", metavar="TEXT", type=Path, nargs="*", help="DEF and LEF texts (those that are kept)")
     added.add_argument("--all", action="store_true", help="the changes behind the first state that is kept, or all")

@@ -10,7 +10,7 @@ from dataclasses import dataclass
 from pathlib import Path
 
 from .description import Box, Description, Facts, Total
-from .design import shown
+from .design import refuse_other_text, shown
 from .faults import DONE, REFUSED, USAGE, Fault, Parser, log, run_tool
 from .lef import Site, sites_of
 from .look import Remark, line_of, remarks_of
@@ -161,7 +161,9 @@ def main() -> int:
         if options.output is None:
             raise Fault(USAGE, "--output FILE says where the prepared text is written; --look writes none")
         refuse_inputs(options.output, (options.design, *options.libraries))
-        preparation = Preparation(options.design.read_bytes())
+        text = options.design.read_bytes()
+        refuse_other_text(options.design, text)
+        preparation = Preparation(text)
         wanted = wanted_of(options, preparation.units)
         prepare(preparation, wanted, [path.read_bytes() for path in options.libraries], options.site)
         for line in preparation.said:
@@ -183,6 +185,7 @@ def look(program: str, options: argparse.Namespace) -> int:
     if options.output or options.rows or options.site or options.core or options.margin or options.fillers or options.fence or options.group:
         raise Fault(USAGE, "--look tells of the text as it is: it goes with no option that prepares or writes one")
     text = options.design.read_bytes()
+    refuse_other_text(options.design, text)
     judged = judge(program, text, options.libraries, str(options.design))
     lines = [_located(options.design, text, remark.place, remark.text) for remark in judged.remarks]
     if not Preparation(text).has_rows:

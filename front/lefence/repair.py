@@ -28,32 +28,34 @@ NOT_LEGAL = 4
 
 def repair_design(options: argparse.Namespace) -> int:
     """Repairs what a command line asks for; the exit status."""
-    if options.out:
-        refuse_inputs(options.out, options.libraries)
+    if options.output:
+        refuse_inputs(options.output, options.libraries)
     teams, program = options.team or [], Program(find_program(options.program), [options.design, *options.libraries])
     words = [f"--{option}" for option in ("keep", "all") if getattr(options, option)]
     if options.socket:
-        return _end_of(repair_there(TOOL, options.socket, teams, program, words).every, is_written=True)
+        repair = repair_there(TOOL, options.socket, teams, program, words)
+        return _end_of(repair.every, is_written=True, team=repair.teams[0]["team"])
     words += [f"--team={team}" for team in teams]
-    file: AbstractContextManager[BinaryIO | None] = whole_file(options.out) if options.out else nullcontext()
+    file: AbstractContextManager[BinaryIO | None] = whole_file(options.output) if options.output else nullcontext()
     with file as output, tempfile.TemporaryDirectory(prefix=TOOL) as folder:
         repair = Mended(TOOL, program, words, Path(folder), is_exported=bool(output))
         moves = repair.moves(is_all=not output)
         if output:
             repair.write(output, moves)
-    if not options.out:
+    if not options.output:
         tell_moves(moves, repair.left)
     repair.tell(moves)
-    return _end_of(repair.every, is_written=bool(options.out))
+    return _end_of(repair.every, is_written=bool(options.output))
 
 
-def _end_of(every: dict[str, Any], is_written: bool) -> int:
-    """Tells how it ends; the exit status."""
+def _end_of(every: dict[str, Any], is_written: bool, team: str | None = None) -> int:
+    """Tells how it ends, of all teams or of one that is committed where no cell of it is left; the exit status."""
     is_idle = not (every["moved"] or every["turned"] or every["placed"] or every["left_cells"])
     if is_idle:
-        log(TOOL, "nothing moves")
+        log(TOOL, "nothing moves" + (f"; team {team} is committed" if team else ""))
     if every["legal"]:
-        log(TOOL, "every cell is legal" if is_written or is_idle else "every cell would be legal")
+        cells = f"every cell of team {team}" if team else "every cell"
+        log(TOOL, f"{cells} {'is' if is_written or is_idle else 'would be'} legal")
         return DONE
     left = every["left_cells"]
     others = "other teams have cells that break a rule or have no place"
@@ -67,12 +69,12 @@ def parser() -> Parser:
         "Gives each cell that is unplaced or breaks a rule a legal place near where it stood, by `lefence repair`, and writes\n"
         "the DEF text with these places, or has a hub take them. The status is 4 if a cell found no place: it is named, and\n"
         "has none in the text.",
-        f"{TOOL} chip.def tech.lef cells.lef --out new.def\n{TOOL} chip.def tech.lef cells.lef --dry-run --team A",
+        f"{TOOL} chip.def tech.lef cells.lef --output new.def\n{TOOL} chip.def tech.lef cells.lef --dry-run --team A",
     )
     made.add_design()
     add = made.add_argument
     to = made.add_mutually_exclusive_group(required=True)
-    to.add_argument("--out", "--output", metavar="FILE", type=Path, help="what is written; it may be the DEF text that is read")
+    to.add_argument("-o", "--output", "--out", metavar="FILE", type=Path, help="what is written; it may be the DEF text that is read")
     to.add_argument("--dry-run", action="store_true", help="tell what would move, and write no file")
     to.add_argument("--socket", metavar="SOCKET", help="repair the team of a hub's socket as it stands there, by changes of a session")
     add("--team", metavar="NAME", action="append", help="repair this team alone; may be given again (all teams)")

@@ -10,14 +10,14 @@ from collections.abc import Iterator
 from pathlib import Path
 
 from .client import Session
-from .design import Design, shown
+from .design import Design, shown, whole_design
 from .endpoint import Endpoint, connect_to
 from .faults import FAILED, REFUSED, USAGE, Fault, log
 from .mended import Mended
 from .program import Program
 from .push import Push, Record
 from .refusals import Refusal
-from .slice import refuse_other_text, slice_of
+from .slice import part_of
 from .splice import Spot, with_spots
 
 
@@ -53,9 +53,7 @@ def _team_of(there: Endpoint, teams: list[str]) -> str:
 
 def _slice_there(design: Path, session: Session) -> bytes:
     """The slice of the session's team, with its cells as they stand there."""
-    text = design.read_bytes()
-    refuse_other_text(text)
-    part = slice_of(text, session.team)
+    part = part_of(whole_design(design, design.read_bytes()), session.team)
     cells = session.cells()
     if [cell.name for cell in cells] != [shown(name) for name in Design(part).cells_of(session.team.encode())]:
         raise Fault(REFUSED, f"{design} has other cells of team {session.team} than the design there")

@@ -45,6 +45,10 @@ class State(NamedTuple):
             return self.path.stat().st_size == self.size and sum_of(self.path) == self.sum
         return False
 
+    def in_a_word(self) -> str:
+        """Whether they are, in words."""
+        return "whole" if self.is_whole() else "damaged" if self.path.exists() else "not there"
+
 
 class Place(NamedTuple):
     """The end of a frame: the number of its segment, and the byte."""

@@ -2,6 +2,7 @@
 
 from __future__ import annotations
 
+import argparse
 import cmd
 import io
 import os
@@ -12,9 +13,9 @@ from pathlib import Path
 
 from .client import Connection, Session
 from .endpoint import Endpoint, connect_to, start_program
-from .faults import DONE, FAILED, REFUSED, Fault, Parser, printable, run_tool
+from .faults import DONE, FAILED, REFUSED, USAGE, Fault, Parser, printable, run_tool, words_of
 from .protocol import OPENACCESS, ORIENTS, VERBS
-from .refusals import NoPlace, Refusal, broken_in_words
+from .refusals import BadRequest, NoPlace, Refusal, broken_in_words
 from .verbs import Legalized, Place, ProtocolError, Report, Tidied
 
 TOOL = "lefence-shell"
@@ -23,6 +24,8 @@ _NAME_IN_ENTRY = re.compile(rb"^- (\S+)", re.M)
 _WAY_OUT = "nothing has moved; cells that break a rule may stand where there is room: `check` names them, `unplace` takes one away"
 # The most rows of a report that are printed.
 _MOST_ROWS = 200
+# The greatest padding (docs/PROTOCOL.md, "Lines and fields").
+_MOST_PADDING = 16
 
 OWN = {
     "team": ("NAME", "opens a session of the team, or goes back to the one that is open; the verbs are for it"),
@@ -114,12 +117,18 @@ class Shell(cmd.Cmd):
             raw = line.split(maxsplit=1)[1:] or [""]
             self._print(self._connection.ask_line(os.fsencode(raw[0])).decode("ascii", "backslashreplace").splitlines())
         elif verb == "export" and len(fields) == 1:
-            self._connection.export(fields[0])
-            self._print(["written"])
+            self._export(fields[0])
         elif verb in VERBS and verb not in _HIDDEN:
             self._verb(verb, fields)
         else:
             self._print([f"no such command: {verb}; `help` lists them"])
+
+    def _export(self, path: str) -> None:
+        try:
+            self._connection.export(path)
+        except BadRequest:
+            raise ValueError("export is for the operator's socket") from None
+        self._print(["written"])
 
     def _use(self, fields: list[str]) -> None:
         if len(fields) != 1:
@@ -213,6 +222,8 @@ def _value(kind: str, field: str) -> str | int:
         return field
     if not re.fullmatch(r"-?[0-9]+", field, re.ASCII):
         raise ValueError(f"{field} is no whole number{' of database units' if kind != 'P' else ''}")
+    if kind == "P" and not 0 <= int(field) <= _MOST_PADDING:
+        raise ValueError(f"pad takes 0 to {_MOST_PADDING} core sites")
     return int(field)
 
 
@@ -275,6 +286,16 @@ def parser() -> Parser:
     return made
 
 
+def _endpoint_of(options: argparse.Namespace) -> Endpoint:
+    """What a command line is to be connected to."""
+    first, *more = options.where
+    if more:
+        return start_program(options.program, [Path(word) for word in options.where])
+    if os.path.isfile(first):
+        raise Fault(USAGE, f"{first} is no socket; a design takes its LEF texts too: {TOOL} chip.def tech.lef ..")
+    return connect_to(first)
+
+
 def main() -> int:
     options = parser().parse_args()
     for stream in (sys.stdin, sys.stdout):
@@ -283,10 +304,7 @@ def main() -> int:
             stream.reconfigure(errors="surrogateescape")
 
     def work() -> int:
-        if len(options.where) == 1:
-            endpoint = connect_to(options.where[0])
-        else:
-            endpoint = start_program(options.program, [Path(word) for word in options.where])
+        endpoint = _endpoint_of(options)
         shell = Shell(endpoint)
         try:
             if options.raw:
@@ -298,7 +316,7 @@ def main() -> int:
         except OSError as error:
             if isinstance(error, BrokenPipeError):
                 raise
-            raise Fault(FAILED, str(error)) from None
+            raise Fault(FAILED, words_of(error)) from None
         finally:
             endpoint.close()
         return DONE

@@ -15,7 +15,7 @@ from itertools import zip_longest
 from pathlib import Path
 
 from .description import Cell, Description
-from .design import Design, Entry, Statement, section_parts, statements_in
+from .design import Design, Entry, Statement, section_parts, whole_design
 from .faults import DONE, REFUSED, Fault, Parser, log, run_tool
 from .program import find_program
 from .protocol import GROUND
@@ -29,21 +29,19 @@ _DROPPED = frozenset(b"PINS PINPROPERTIES SLOTS FILLS SPECIALNETS NETS SCANCHAIN
 
 
 def slice_of(text: bytes, team: str) -> bytes:
-    """The slice of a DEF text for a team; a fault where it has no such team.
+    """The slice of a DEF text for a team; a fault where it has no such team."""
+    return part_of(Design(text), team)
+
+
+def part_of(design: Design, team: str) -> bytes:
+    """The same of a design.
 
     The rows, regions, blockages, FIXED and COVER components and the small statements stay as they are, byte for byte.
     """
-    design = Design(text)
     name = os.fsencode(team)
     if team != GROUND and name not in design.fences:
         raise Fault(REFUSED, f"no team: {team}")
     return b"".join(next(slices_of(design, [name])))
-
-
-def refuse_other_text(text: bytes) -> None:
-    """A fault where a text is no DEF text."""
-    if not any(statement.keyword == b"DESIGN" for statement in statements_in(text)):
-        raise Fault(REFUSED, "the file has no DESIGN: it is no DEF text" + (", but compressed by gzip" if text[:2] == b"\x1f\x8b" else ""))
 
 
 def slices_of(design: Design, teams: list[bytes]) -> Iterator[Iterator[bytes]]:
@@ -138,9 +136,9 @@ def parser() -> Parser:
         f"{TOOL} chip.def tech.lef cells.lef --team A --output A.def\nlefence replay A.def tech.lef cells.lef < session.txt",
     )
     made.add_argument("design", metavar="DEF", type=Path, help="the whole design")
-    made.add_argument("libraries", metavar="LEF", type=Path, nargs="*", help="its LEF texts; without them nothing is compared")
+    made.add_argument("libraries", metavar="LEF", type=Path, nargs="*", default=[], help="its LEF texts; without them nothing is compared")
     made.add_argument("--team", metavar="NAME", required=True, help="a FENCE region, or - for the ground outside all fences")
-    made.add_argument("--output", metavar="FILE", type=Path, help="where the slice is written (standard output)")
+    made.add_argument("-o", "--output", metavar="FILE", type=Path, help="where the slice is written (standard output)")
     made.add_program()
     return made
 
@@ -152,8 +150,7 @@ def main() -> int:
         if options.output is not None:
             refuse_inputs(options.output, [options.design, *options.libraries])
         text = options.design.read_bytes()
-        refuse_other_text(text)
-        made = slice_of(text, options.team)
+        made = part_of(whole_design(options.design, text), options.team)
         if options.libraries:
             refuse_difference(find_program(options.program), options.design, made, options.libraries, options.team)
         else:

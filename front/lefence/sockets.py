@@ -65,7 +65,7 @@ def bound_socket(path: Path, mode: int, keeps_mode: bool, group: int | None) -> 
         path.chmod(mode)
     except OSError as error:
         listener.close()
-        raise Fault(FAILED, f"{path}: {error}") from None
+        raise Fault(FAILED, f"{path}: {error.strerror or error}") from None
     except Fault:
         listener.close()
         raise

@@ -15,7 +15,7 @@ from collections.abc import Callable
 from pathlib import Path
 from typing import BinaryIO
 
-from .faults import FAILED, REFUSED, Fault
+from .faults import FAILED, REFUSED, Fault, words_of
 from .frames import Text, sum_of
 from .journal import texts_in
 from .whole_file import sync_folder, whole_file
@@ -59,7 +59,7 @@ def _settle_text(journal: Path, text: Text, given: Path, say: Callable[[str], No
         is_same = sum_of(given) == text.sum
     except OSError as error:
         is_same = False
-        say(str(error))
+        say(words_of(error))
     kept = kept_text(journal, text)
     if is_same:
         return kept or _keep(journal, text, given)

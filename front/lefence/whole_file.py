@@ -9,7 +9,7 @@ from itertools import count
 from pathlib import Path
 from typing import BinaryIO
 
-from .faults import USAGE, Fault
+from .faults import FAILED, USAGE, Fault
 
 
 @contextlib.contextmanager
@@ -33,10 +33,14 @@ def beside(path: Path) -> Iterator[Path]:
     """A new file beside (`FILE.partial0`, or the next free number), which takes the name and the mode at the end of the block.
 
     Who writes it sees to it that the disk has it; the disk has its name at the end. After any exception of the block it is gone, and
-    the file stays as it was. Links are followed.
+    the file stays as it was. Links are followed. A fault where it cannot be made.
     """
     target = Path(os.path.realpath(path))
-    partial = _made_beside(target)
+    try:
+        partial = _made_beside(target)
+    except OSError as error:
+        why = error.strerror if target.parent.exists() else "there is no such folder"
+        raise Fault(FAILED, f"{path} cannot be written: {why}") from None
     try:
         yield partial
         if target.exists():

@@ -222,13 +222,21 @@ class Farms(FarmCase):
         done = self.tool("lefence-farm", "work", "t.def", "t.lef", "--program", PROGRAM, "--merge", "--", "./nothing")
         self.assertEqual(done.returncode, 4, done.stderr)
         for team in TEAMS:
-            self.assertIn(f"team {team} is not in it: [Errno 2] No such file or directory: './nothing'; ", done.stderr.decode())
+            self.assertIn(f"team {team} is not in it: ./nothing: No such file or directory; ", done.stderr.decode())
         self.assertEqual((self.work / "new.def").read_text(), TEXT)
 
     def test_words_that_lack_something(self) -> None:
         for words in (("work",), ("work", "t.def"), ("work", "t.def", "--", "true")):
             done = self.tool("lefence-farm", *words)
             self.assertEqual((done.returncode, done.stdout), (2, b""), done.stderr)
+        done = self.tool("lefence-farm", "work", "--collect")
+        self.assertEqual((done.returncode, done.stderr), (3, b"lefence-farm: work is no work folder of lefence-farm\n"))
+
+    def test_a_text_that_is_cut_off_is_refused_at_once(self) -> None:
+        self.design.write_text(TEXT[: TEXT.index("- a2")])
+        done = self.farm()
+        told = "lefence-farm: t.def ends without END DESIGN: it is cut off\n"
+        self.assertEqual((done.returncode, done.stderr, self.work.exists()), (1, told, False))
 
 
 @unittest.skipIf(cluster.lacking(), f"a real cluster cannot be started: it lacks {cluster.lacking()} (Debian: slurm-wlm, munge)")

@@ -396,7 +396,7 @@ class Ends(HubCase):
         self.assertEqual(self.hub.process.returncode, 1)
         self.journal.write_bytes(kept[: kept.rindex(b"batch") - 4])
         self.start()
-        self.assertIn("torn frame", self.hub.told())
+        self.assertIn("torn batch", self.hub.told())
         self.assertIn("ready", self.hub.told())
 
     def test_the_number_of_sessions_is_that_of_the_journal(self) -> None:

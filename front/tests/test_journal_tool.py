@@ -58,7 +58,7 @@ class JournalTool(HubCase):
     def test_lines_and_journals_come_out_of_it(self) -> None:
         self.assertEqual(self.told("export", self.journal), self.lines)
         made = self.folder / "f1.journal"
-        self.told("export", self.journal, "--team", "f1", "--output", made)
+        self.told("export", self.journal, "--team", "f1", "-o", made)
         self.assertEqual(list(read_records(made)), [each for each in read_records(self.journal) if b"f1" in each.line.split()])
         self.journal.rename(self.folder / "old")
         (self.folder / "journal.texts").rename(self.folder / "old.texts")
@@ -91,7 +91,8 @@ class JournalTool(HubCase):
     def test_what_is_torn_or_answered_otherwise_is_told(self) -> None:
         whole = self.journal.read_bytes()
         self.journal.write_bytes(whole + b"batch 1")
-        self.assertIn(f"torn: 7 bytes at byte {len(whole)} are no whole frame; a start cuts them off", self.told("check", self.journal))
+        told = self.told("check", self.journal)
+        self.assertIn(f"torn: 7 bytes at byte {len(whole)} are no whole batch (a write that was cut off); a start removes them", told)
         (self.folder / "journal.texts").rename(self.folder / "away")
         self.assertIn("not kept", self.told("check", self.journal, status=1)[0])
         program = ("--program", PROGRAM)
@@ -174,7 +175,9 @@ class Segments(HubCase):
         self.assertIn(f"{self.past.state(3)}: damaged", self.told("check", self.journal, status=1)[0])
         self.assertIn("5 changes behind a state of 4 are answered", self.told("verify", self.journal, "--program", PROGRAM)[1])
         self.past.state(2).unlink()
+        self.assertIn(f"{self.past.state(2)}: not there", self.told("check", self.journal, status=1)[0])
         said = self.start()
+        self.assertIn(f"{self.past.state(2)} is not there; what stands before it is answered again", said)
         self.assertEqual(("1.journal: damaged at byte" in said, self.hub.process.wait()), (True, 1))
         shutil.copy(self.past.segment(1), self.journal)
         # (what was cut off at its end were notes)

@@ -2,6 +2,7 @@
 
 from __future__ import annotations
 
+import gzip
 import subprocess
 import unittest
 from pathlib import Path
@@ -120,6 +121,14 @@ class Looks(FrontCase):
         done = self.run_on("--look")
         told = b"there is no ROW; a run with --output makes rows\nit does not load: 9 NoRows t; t.def, line 1: DESIGN t ;\n"
         self.assertEqual((done.returncode, done.stdout), (1, told))
+
+    def test_what_is_no_def_text_is_told_so(self) -> None:
+        for text, told in ((b"", ""), (self.lef.read_bytes(), ""), (gzip.compress(TEXT.encode()), ", but compressed by gzip")):
+            self.design.write_bytes(text)
+            for words in (("--look",), ("-o", "x.def")):
+                done = self.run_on(*words)
+                said = f"lefence-prepare: t.def has no DESIGN: it is no DEF text{told}\n"
+                self.assertEqual((done.returncode, done.stdout, done.stderr.decode()), (1, b"", said))
 
     def test_a_look_goes_with_nothing_that_prepares(self) -> None:
         for words in (("--output", "x"), ("--rows",), ("--fence", "A", *"0011"), ("--fillers", "x"), ("--group", "A", "x")):

@@ -207,8 +207,9 @@ class Repairs(FrontCase):
             done = self.repair("--out", self.target)
             self.assertEqual((done.returncode, told in done.stderr), (1, True), done.stderr)
             self.assertEqual([path.name for path in sorted(self.folder.iterdir())], ["t.def", "t.lef"])
-        for target in ("nowhere/new.def", "."):
-            self.assertEqual(self.repair("--out", target).returncode, 3)
+        for target, why in (("nowhere/x", " cannot be written: there is no such folder"), (".", ": Is a directory")):
+            done = self.repair("-o", target)
+            self.assertEqual((done.returncode, done.stderr.decode()), (3, f"lefence-repair: {target}{why}\n"))
 
     def fails(self, script: str, told: bytes, *words: str) -> None:
         """A repair by a program that this script of a shell stands for is told so, and no file is left."""

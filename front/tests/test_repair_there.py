@@ -41,7 +41,8 @@ class RepairsThere(HubCase):
         placed = [each.name for each in exported.entries(b"COMPONENTS") if each.has(b"PLACED")]
         self.assertEqual(placed, exported.cells_of(b"f1"))
         done = self.repair("f1")
-        self.assertEqual((done.returncode, b"lefence-repair: nothing moves\n" in done.stderr), (0, True), done.stderr)
+        told = b"lefence-repair: nothing moves; team f1 is committed\nlefence-repair: every cell of team f1 is legal\n"
+        self.assertEqual((done.returncode, done.stderr.endswith(told)), (0, True), done.stderr)
 
     def test_the_operator_names_one_team(self) -> None:
         for words in ((), ("--team", "f1", "--team", "-")):
@@ -64,6 +65,8 @@ class RepairsThere(HubCase):
         told = f"lefence-repair: {self.design} has other cells of team f1 than the design there\n"
         self.assertEqual((done.returncode, done.stderr.decode()), (1, told))
         self.assertEqual(self.repair(f"f{TEAMS}").returncode, 3)
+        done = self.tool("lefence-repair", "t.def", "t.lef", "--socket", "t.def", "--program", PROGRAM)
+        self.assertEqual((done.returncode, done.stderr), (3, b"lefence-repair: t.def: it is no socket\n"))
         done = self.repair("operator", "--team", "Z")
         self.assertEqual((done.returncode, b"Traceback" in done.stderr), (1, False), done.stderr)
 

@@ -50,7 +50,8 @@ class Words(HubCase):
             "place f0c1 0 0 MX": "no: MX is no orientation of DEF, which calls it FS: N W S E FN FW FS FE",
             "raw open f0": "ok 1 4",
             "raw nonsense": "no 1 BadRequest",
-            "export /tmp/x": "no: that is no request",
+            "pad 17": "no: pad takes 0 to 16 core sites",
+            "export /tmp/x": "no: export is for the operator's socket",
             "frobnicate": "no such command: frobnicate; `help` lists them",
             "close": "done",
             "team f0 ": "session 0 of team f0, revision 4",
@@ -110,6 +111,9 @@ class Words(HubCase):
             done = self.tool("lefence-shell", where)
             self.assertEqual((done.returncode, done.stdout), (3, b""), done.stderr)
             self.assertNotIn(b"Traceback", done.stderr)
+        done = self.tool("lefence-shell", "t.def")
+        told = b"lefence-shell: t.def is no socket; a design takes its LEF texts too: lefence-shell chip.def tech.lef ..\n"
+        self.assertEqual((done.returncode, done.stderr), (2, told))
         done = self.tool("lefence-shell", self.design, self.lef, "--program", PROGRAM, "--team", "Z")
         self.assertEqual((done.returncode, done.stdout), (1, b"no: there is no such team here\n"))
         self.lef.write_text("")

@@ -117,7 +117,13 @@ class Slices(HubCase):
         for other, told in ((LEF.encode(), "it is no DEF text"), (gzip.compress(text), "it is no DEF text, but compressed by gzip")):
             self.design.write_bytes(other)
             done = self.tool("lefence-slice", self.design, "--team", "f0")
-            self.assertEqual((done.returncode, done.stderr.decode()), (1, f"lefence-slice: the file has no DESIGN: {told}\n"))
+            self.assertEqual((done.returncode, done.stderr.decode()), (1, f"lefence-slice: {self.design} has no DESIGN: {told}\n"))
+
+    def test_a_text_that_is_cut_off_is_refused(self) -> None:
+        self.design.write_bytes(self.design.read_bytes().partition(b"- f3c0")[0])
+        done = self.tool("lefence-slice", "t.def", "--team", "f0", "-o", "f0.def")
+        told = b"lefence-slice: t.def ends without END DESIGN: it is cut off\n"
+        self.assertEqual((done.returncode, done.stderr, (self.folder / "f0.def").exists()), (1, told, False))
 
     def test_what_the_program_does_not_find_alike_is_refused(self) -> None:
         whole = self.design.read_bytes()

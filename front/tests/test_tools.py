@@ -40,6 +40,10 @@ class Tools(FrontCase):
                 self.assertEqual((done.returncode, done.stdout), (2, b""))
                 self.assertNotIn(b"Traceback", done.stderr)
 
+    def test_a_lef_text_that_is_not_needed_is_not_asked_for(self) -> None:
+        self.assertIn(b"the following arguments are required: DEF\n", self.tool("lefence-slice", "--team", "f0").stderr)
+        self.assertIn(b"usage: lefence-farm [OPTION ..] WORK [DEF LEF ..] [-- COMMAND]\n", self.tool("lefence-farm", "--help").stdout)
+
     def test_files_that_are_not_there_end_with_3(self) -> None:
         sockets = ("--sockets", "s", "--journal", "j", "--program", PROGRAM)
         commands: tuple[tuple[str, tuple[str | bytes, ...]], ...] = (
