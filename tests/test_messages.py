@@ -55,6 +55,10 @@ class Mistakes(unittest.TestCase):
             (["check", W_DEF], ["the following required arguments were not provided:", "<lef>..."]),
             (["repair", *DESIGN, "--keep", "--all"], ["the argument '--keep' cannot be used with '--all'"]),
             (["replay", *DESIGN, "--save", "a", "--save", "b"], ["the argument '--save <save>' cannot be used multiple times"]),
+            (["replay", "chip.def", "a.lef", "--save", "chip.def"], ["the argument '--save' names the file of another argument: 'chip.def'"]),
+            (["replay", "chip.def", "a.lef", "--export=a.lef"], ["the argument '--export' names the file of another argument: 'a.lef'"]),
+            (["replay", *DESIGN, "--save", "x", "--export", "x"], ["the argument '--export' names the file of another argument: 'x'"]),
+            (["repair", "chip.def", "a.lef", "--lines", "a.lef"], ["the argument '--lines' names the file of another argument: 'a.lef'"]),
         ):
             with self.subTest(" ".join(words)):
                 status, written, said = run(words)
@@ -62,6 +66,29 @@ class Mistakes(unittest.TestCase):
                 lines = said.split("\n")
                 self.assertEqual(lines[: len(told) + 1], [USAGE, *(f"lefence: {line}" for line in told)])
                 self.assertTrue(lines[len(told) + 1].startswith("  lefence [demo] "), said)
+
+    def test_a_text_that_is_read_is_not_written_over(self) -> None:
+        with tempfile.TemporaryDirectory() as folder:
+            texts = {f"{folder}/{name}": Path(path).read_bytes() for name, path in (("w.def", W_DEF), ("w.lef", W_LEF))}
+            for path, text in texts.items():
+                Path(path).write_bytes(text)
+            chip, cells = texts
+            again = f"{folder}/again"
+            service = ["serve", chip, cells, "--port", str(free_port()), "--connections", "1"]
+            for words in (
+                ["replay", chip, cells, "--export", cells],
+                ["replay", chip, cells, "--save", cells],
+                ["replay", chip, cells, "--save", chip],
+                ["replay", chip, cells, "--save", again, "--export", again],
+                [*service, "--export", cells],
+                [*service, "--save", chip],
+                ["repair", chip, cells, "--export", cells],
+                ["repair", chip, cells, "--lines", chip],
+                ["repair", chip, cells, "--export", again, "--lines", again],
+            ):
+                self.said(words, 2, USAGE)
+                self.assertEqual({path: Path(path).read_bytes() for path in texts}, texts)
+                self.assertEqual(sorted(os.listdir(folder)), ["w.def", "w.lef"])
 
     def test_words_in_the_wrong_order(self) -> None:
         self.said([*DESIGN, "check"], 2, USAGE)

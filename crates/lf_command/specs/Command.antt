@@ -1,8 +1,8 @@
 -- The command line as it is declared to the argument parser, and the jobs that its words name.
-use Rattle.std.specs.Prelude.{◌&&◌, ℕ, Bool, true, false, List, [], ◌∷◌, fold, length, map, nat_le, nat_lt, position, slice_get, Option, Some, None}
-use Rattle.std.specs.Prelude.{option_map, option_and_then, unwrap_or, bytes_eq, codes, if◌then◌else◌}
+use Rattle.std.specs.Prelude.{◌&&◌, ◌||◌, ℕ, Bool, true, false, List, [], ◌∷◌, fold, length, map, nat_le, nat_lt, position, slice_get, Option, Some, None}
+use Rattle.std.specs.Prelude.{is_some, option_map, option_and_then, unwrap_or, bytes_eq, codes, if◌then◌else◌}
 use Rattle.std.specs.Char.{digit_value}
-use Rattle.std.specs.List.{list_all}
+use Rattle.std.specs.List.{list_all, list_any}
 use Rattle.std.specs.Option.{option_map_or}
 use Rattle.std.specs.Str.Parse.{digits_value, without_leading_plus}
 use Rattle.clap.specs.Faults.{fault_of}
@@ -118,6 +118,34 @@ pub data Job : Type 0 where
   -- the teams, all of them if none is named; what may be done with legal cells; the paths of the text and of the lines
   repair : Text → List Text → List Text → LegalCells → Option Text → Option Text → Job
 
+-- ---- the files of a job
+
+-- both paths are given, and they are the same
+abbrev pub is_same : Option Text → Option Text → Bool
+is_same (Some one) (Some other) = bytes_eq one other
+is_same _ _ = false
+
+-- the path is given, and is one of these
+abbrev pub is_among : Option Text → List Text → Bool
+is_among None paths = false
+is_among (Some path) paths = list_any (bytes_eq path) paths
+
+-- of a job that reads a DEF text, LEF texts and a state, and that saves and exports: the option, of which the one that saves is given,
+-- whose text would take the place of one that the job reads, or of the other that it writes. The exported text may replace the DEF
+-- text that it was read from, and the saved state the state that was read. Paths are compared as they are written: other spellings of
+-- a path, and links, are not seen
+abbrev pub clash_among : Text → Text → List Text → Option Text → Option Text → Option Text → Option Text
+clash_among saves def lefs state save export =
+    if is_same save (Some def) || is_among save lefs then Some saves
+    else if is_same export state || (is_same export save || is_among export lefs) then Some (codes "export") else None
+
+-- the option of a job whose text would take the place of another of its texts
+abbrev pub clash_of : Job → Option Text
+clash_of (replay def lefs state slots lines save export) = clash_among (codes "save") def lefs state save export
+clash_of (serve def lefs state slots port connections save export) = clash_among (codes "save") def lefs state save export
+clash_of (repair def lefs teams legal export lines) = clash_among (codes "lines") def lefs None lines export
+clash_of _ = None
+
 -- ---- numbers
 
 -- the text is a number: digits, one at least, which may follow '+' and begin with zeros
@@ -207,10 +235,18 @@ is_demo _ = false
 abbrev pub job_by : Subcommand → List Row → Option Job
 job_by chosen rows = if is_demo chosen then Some demo else job_over chosen (first_of (codes "def") rows) (values_of (codes "lef") rows) rows
 
--- the job where the parser finds this subcommand; where it finds none it is the demo
+-- what is asked for where the parser finds this subcommand; where it finds none it is the demo
+abbrev pub job_asked : Option (Text × List Row) → Option Job
+job_asked None = Some demo
+job_asked (Some (word, rows)) = option_and_then (λ chosen. job_by chosen rows) (subcommand_named word)
+
+-- the job, where no option of it writes over another of its texts
+abbrev pub unless_clash : Job → Option Job
+unless_clash job = if is_some (clash_of job) then None else Some job
+
+-- the job where the parser finds this subcommand
 abbrev pub job_found : Option (Text × List Row) → Option Job
-job_found None = Some demo
-job_found (Some (word, rows)) = option_and_then (λ chosen. job_by chosen rows) (subcommand_named word)
+job_found found = option_and_then unless_clash (job_asked found)
 
 -- the job, if the parser finds no fault
 abbrev pub unless_fault : Kinds → Option Job → Option Job

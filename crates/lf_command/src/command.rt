@@ -1,12 +1,14 @@
 //! The words of the command line.
 
-ghost use Rattle.std.specs.Prelude.{◌≡◌, ◌≤◌, None, Some, codes, map, IfErr, IfOk, IfSome, option_map};
+ghost use Rattle.std.specs.Prelude.{◌≡◌, ◌≤◌, None, Some, bytes_eq, codes, map, IfErr, IfOk, IfSome, option_map};
+ghost use Rattle.std.specs.List.{list_any};
 ghost use Rattle.clap.specs.Matches.{found_of};
 ghost use Rattle.clap.specs.Simple.{subcommand_rows_of};
 ghost use Rattle.clap.specs.Walk.{all_of, first_of, rows_of};
 ghost use Rattle.lf_command.specs.declared.subcommand.Subcommand.TheVariants.{Check, Describe, Repair, Replay, Serve};
 ghost use Rattle.lf_command.specs.declared.command.UsageFault.TheVariants.{Usage};
-ghost use Rattle.lf_command.specs.Command.{as_job, is_demo, is_set, job_by, job_found, job_of, job_on, legal_cells, most_lines, number_in, service_of, slots_among, values_of};
+ghost use Rattle.lf_command.specs.Command.{as_job, clash_among, clash_of, is_among, is_demo, is_same, is_set, job_asked, job_by, job_found, job_of, job_on};
+ghost use Rattle.lf_command.specs.Command.{legal_cells, most_lines, number_in, service_of, slots_among, unless_clash, values_of};
 
 use crate::slots::{MOST_SLOTS, Slots};
 use crate::subcommand::{MOST_CONNECTIONS, Subcommand, command_line, subcommand_named};
@@ -18,6 +20,9 @@ use thiserror::Error;
 
 /// The most lines that are answered if none is asked for.
 const USUAL_LINES: u32 = 1_000_000;
+
+/// The highest port.
+const MOST_PORT: u32 = 65_535;
 
 /// What a repair does with cells that stand legally.
 #[derive(Clone, Copy, Debug, PartialEq, Eq)]
@@ -106,57 +111,12 @@ pub enum UsageFault {
     OutOfMemory,
 }
 
-/// The port that the text writes.
+/// The number that the text writes: from 1 to this one.
 #[tactic(auto, using(crate::proofs::Numbers::number_none, crate::proofs::Numbers::number_some, crate::proofs::Numbers::number_out))]
-fn port_of(text: &str) -> Option<u16>
-    ensures { result ≡ number_in 1 65535 text.now }
-{
-    let Ok(port) = text.parse::<u16>() else {
-        return None;
-    };
-    if port == 0 {
-        return None;
-    }
-    Some(port)
-}
-
-/// The number of connections that the text writes.
-#[tactic(auto, using(crate::proofs::Numbers::number_none, crate::proofs::Numbers::number_some, crate::proofs::Numbers::number_out))]
-fn connections_of(text: &str) -> Option<u32>
-    ensures { result ≡ number_in 1 1000000 text.now }
-{
-    let Ok(connections) = text.parse::<u32>() else {
-        return None;
-    };
-    if connections == 0 {
-        return None;
-    }
-    if connections > MOST_CONNECTIONS {
-        return None;
-    }
-    Some(connections)
-}
-
-/// The bound on lines that the text writes.
-#[tactic(auto, using(crate::proofs::Numbers::number_none, crate::proofs::Numbers::number_some, crate::proofs::Numbers::number_out))]
-fn lines_of(text: &str) -> Option<u32>
-    ensures { result ≡ number_in 1 4294967295 text.now }
-{
-    let Ok(lines) = text.parse::<u32>() else {
-        return None;
-    };
-    if lines == 0 {
-        return None;
-    }
-    Some(lines)
-}
-
-/// The number of session slots that the text writes.
-#[tactic(auto, using(crate::proofs::Numbers::number_none, crate::proofs::Numbers::number_some, crate::proofs::Numbers::number_out))]
-fn slot_number(text: &str) -> Option<u32>
-    ensures number { result ≡ number_in 1 64 text.now }
+fn number_in(text: &str, most: u32) -> Option<u32>
+    ensures number { result ≡ number_in 1 most text.now }
     ensures least { IfSome result (λ number. 1 ≤ number) }
-    ensures most { IfSome result (λ number. number ≤ 64) }
+    ensures most { IfSome result (λ number. number ≤ most) }
 {
     let Ok(number) = text.parse::<u32>() else {
         return None;
@@ -164,17 +124,25 @@ fn slot_number(text: &str) -> Option<u32>
     if number == 0 {
         return None;
     }
-    if number > MOST_SLOTS {
+    if number > most {
         return None;
     }
     Some(number)
+}
+
+/// The port that the text writes.
+fn port_in(text: &str) -> Option<u16>
+    ensures { result ≡ number_in 1 65535 text.now }
+{
+    let number = number_in(text, MOST_PORT)?;
+    Some(number as u16)
 }
 
 /// The session slots that the text writes.
 fn slots_in(text: &str) -> Option<Slots>
     ensures { option_map (λ slots. slots.number) result ≡ number_in 1 64 text.now }
 {
-    let number = slot_number(text)?;
+    let number = number_in(text, MOST_SLOTS)?;
     Some(Slots { number })
 }
 
@@ -221,7 +189,7 @@ fn most_lines(matches: &ArgMatches<'_>) -> Option<u32>
     ensures { result ≡ most_lines (first_of (codes "lines") (rows_of (found_of matches.now))) }
 {
     match value_of(matches, "lines") {
-        Some(text) => lines_of(text),
+        Some(text) => number_in(text, u32::MAX),
         None => Some(USUAL_LINES),
     }
 }
@@ -240,8 +208,8 @@ fn slots_of(matches: &ArgMatches<'_>) -> Option<Slots>
 fn service_of(matches: &ArgMatches<'_>) -> Option<(u16, u32)>
     ensures { result ≡ service_of (rows_of (found_of matches.now)) }
 {
-    let port = port_of(value_of(matches, "port")?)?;
-    let connections = connections_of(value_of(matches, "connections")?)?;
+    let port = port_in(value_of(matches, "port")?)?;
+    let connections = number_in(value_of(matches, "connections")?, MOST_CONNECTIONS)?;
     Some((port, connections))
 }
 
@@ -414,9 +382,9 @@ fn subcommand_found<'m, 'a>(matches: &'m ArgMatches<'a>) -> Option<(&'a str, &'m
     matches.subcommand()
 }
 
-/// The task of what `clap` found.
-fn task_of<'a>(alloc: Global, matches: &ArgMatches<'a>) -> Result<Option<Task<'a>>, AllocError>
-    ensures { IfOk result (λ task. option_map as_job task ≡ job_found (subcommand_rows_of matches.now)) }
+/// The task that is asked for by what `clap` found.
+fn task_asked<'a>(alloc: Global, matches: &ArgMatches<'a>) -> Result<Option<Task<'a>>, AllocError>
+    ensures { IfOk result (λ task. option_map as_job task ≡ job_asked (subcommand_rows_of matches.now)) }
 {
     let Some((word, inner)) = subcommand_found(matches) else {
         return Ok(Some(Task::Demo));
@@ -424,6 +392,107 @@ fn task_of<'a>(alloc: Global, matches: &ArgMatches<'a>) -> Result<Option<Task<'a
     match subcommand_named(word) {
         Some(chosen) => task_over(alloc, chosen, inner),
         None => Ok(None),
+    }
+}
+
+/// Whether both paths are given, and are the same.
+fn is_same(one: Option<&str>, other: Option<&str>) -> bool
+    ensures { result ≡ is_same (option_map (λ path. path.now) one.entry) (option_map (λ path. path.now) other.entry) }
+{
+    match (one, other) {
+        (Some(one), Some(other)) => one == other,
+        _ => false,
+    }
+}
+
+/// Whether the path is one of these.
+fn is_listed(path: &str, paths: &[&str]) -> bool
+    ensures { result ≡ list_any (λ other. bytes_eq path.now other.now) paths.now }
+{
+    paths.iter().any(|other| path == *other)
+}
+
+/// Whether the path is given, and is one of these.
+fn is_among(path: Option<&str>, paths: &[&str]) -> bool
+    ensures { result ≡ is_among (option_map (λ path. path.now) path.entry) (map (λ other. other.now) paths.now) }
+{
+    match path {
+        Some(path) => is_listed(path, paths),
+        None => false,
+    }
+}
+
+/// The option whose text would take the place of another of these: the one of that name, which saves, or that of an export.
+fn clash_among(
+    saves: &'static str,
+    def: &str,
+    lefs: &[&str],
+    state: Option<&str>,
+    save: Option<&str>,
+    export: Option<&str>,
+) -> Option<&'static str>
+    ensures { option_map (λ word. word.now) result ≡ clash_among saves.now def.now (map (λ lef. lef.now) lefs.now)
+        (option_map (λ path. path.now) state.entry) (option_map (λ path. path.now) save.entry) (option_map (λ path. path.now) export.entry) }
+{
+    if is_same(save, Some(def)) || is_among(save, lefs) {
+        return Some(saves);
+    }
+    if is_same(export, state) || is_same(export, save) || is_among(export, lefs) {
+        return Some("export");
+    }
+    None
+}
+
+/// The option whose text would take the place of another text of the task, in time linear in the number of LEF texts.
+fn clash_of(task: &Task<'_>) -> Option<&'static str>
+    ensures { option_map (λ word. word.now) result ≡ clash_of (as_job task.now) }
+{
+    match task {
+        Task::Replay {
+            def,
+            lefs,
+            state,
+            save,
+            export,
+            ..
+        } => clash_among("save", *def, lefs.as_slice(), *state, *save, *export),
+        Task::Serve {
+            def,
+            lefs,
+            state,
+            save,
+            export,
+            ..
+        } => clash_among("save", *def, lefs.as_slice(), *state, *save, *export),
+        Task::Repair {
+            def,
+            lefs,
+            export,
+            lines,
+            ..
+        } => clash_among("lines", *def, lefs.as_slice(), None, *lines, *export),
+        _ => None,
+    }
+}
+
+/// The task, where no option of it writes over another of its texts.
+fn unless_clash<'a>(task: Task<'a>) -> Option<Task<'a>>
+    ensures { option_map as_job result ≡ unless_clash (as_job task.entry) }
+{
+    if clash_of(&task).is_some() {
+        return None;
+    }
+    Some(task)
+}
+
+/// The task of what `clap` found.
+fn task_of<'a>(alloc: Global, matches: &ArgMatches<'a>) -> Result<Option<Task<'a>>, AllocError>
+    ensures { IfOk result (λ task. option_map as_job task ≡ job_found (subcommand_rows_of matches.now)) }
+{
+    match task_asked(alloc, matches) {
+        Ok(Some(task)) => Ok(unless_clash(task)),
+        Ok(None) => Ok(None),
+        Err(error) => Err(error),
     }
 }
 
@@ -449,7 +518,8 @@ fn matches_of<'a>(alloc: Global, words: &'a [&'a str]) -> Result<ArgMatches<'a>,
 /// `--connections N`, from 1 to 1,000,000; `replay` may have `--lines N`, from 1 to 4,294,967,295; both may have
 /// `--save FILE` and `--export FILE`, and they, `check` and `describe` may have `--state FILE` and `--sessions N`, from 1 to 64.
 /// `repair` may have `--export FILE`, `--lines FILE`, `--keep` or `--all`, and `--team NAME` any number of times; each other
-/// option stands once at most.
+/// option stands once at most. No FILE that is written may be one that is read, or be written twice, by paths as they are written; but
+/// `--export` may name the DEF text, and `--save` the FILE of `--state`.
 /// Numbers are digits; `+` in front and leading zeros are allowed. Options are before, between or after
 /// the paths, with the value after `=` or as the next word, which may not begin with
 /// '-' unless it is '-'. After `--` each word is a path. Words for help and for the version are usage
@@ -477,10 +547,30 @@ fn said_by(alloc: Global, error: &clap::Error) -> Result<Option<String>, AllocEr
     Ok(Some(text))
 }
 
-/// What is said of words in which `clap` finds no fault: they name a task, or hold options that exclude each other.
-fn excluded_in(alloc: Global, matches: &ArgMatches<'_>) -> Result<Option<String>, AllocError> {
-    if task_of(alloc, matches)?.is_some() {
+/// What is said of a task: which of its options would write over another of its texts, if one would.
+fn clash_in(
+    alloc: Global,
+    matches: &ArgMatches<'_>,
+    task: &Task<'_>,
+) -> Result<Option<String>, AllocError> {
+    let Some(option) = clash_of(task) else {
         return Ok(None);
+    };
+    let path = match subcommand_found(matches) {
+        Some((_, inner)) => value_of(inner, option).unwrap_or(""),
+        None => "",
+    };
+    let text = format!(in alloc;
+        "error: the argument '--{option}' names the file of another argument: '{path}'"
+    )?;
+    Ok(Some(text))
+}
+
+/// What is said of words in which `clap` finds no fault: they name a task, or hold options that exclude each other, or one that would
+/// write over a text of another.
+fn excluded_in(alloc: Global, matches: &ArgMatches<'_>) -> Result<Option<String>, AllocError> {
+    if let Some(task) = task_asked(alloc, matches)? {
+        return clash_in(alloc, matches, &task);
     }
     let text = format!(in alloc; "error: the argument '--keep' cannot be used with '--all'")?;
     Ok(Some(text))

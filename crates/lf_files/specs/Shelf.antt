@@ -1,5 +1,9 @@
 -- Texts that were put into files.
 use Rattle.std.specs.Prelude.{◌≡◌, ℕ, Bool, List, ◌∷◌, Option, Some, None, Result, Ok, Err, false, true}
+use Rattle.std.specs.IoError.{error_kind}
+use Rattle.std.specs.declared.io.Error.{Error}
+use Rattle.std.specs.declared.io.ErrorKind.{ErrorKind}
+use Rattle.std.specs.declared.io.ErrorKind.TheVariants as kind
 use Rattle.lf_files.specs.declared.exports.Unwritten.{Unwritten}
 use Rattle.lf_files.specs.declared.exports.Unwritten.TheVariants.{File, OutOfMemory}
 
@@ -22,3 +26,13 @@ is_file OutOfMemory = false
 abbrev pub is_of_file : {T : Type 0} → Result T Unwritten → Bool
 is_of_file (Ok value) = false
 is_of_file (Err why) = is_file why
+
+-- why a file was not written, by the kind of the error
+abbrev pub unwritten_of : ErrorKind → Unwritten
+unwritten_of kind.OutOfMemory = OutOfMemory
+unwritten_of _ = File
+
+-- what is told of a text that was written, or was not, or of a path that was tried
+abbrev pub told_of : Result (Unit {0}) Error → Result (Unit {0}) Unwritten
+told_of (Ok value) = Ok value
+told_of (Err error) = Err (unwritten_of (error_kind error))

@@ -1,8 +1,8 @@
 //! Where exported texts go.
 
-ghost use Rattle.std.specs.Prelude.{◌≡◌, ◌↔◌, ◌||◌, ℕ, Bool, List, Option, None, IfErr, IsOk, OnErr, OnOk, false, true};
+ghost use Rattle.std.specs.Prelude.{◌≡◌, ◌||◌, ℕ, Bool, List, Option, None, OnErr, OnOk, false, true};
 ghost use Rattle.std.specs.IoError.{error_kind};
-ghost use Rattle.lf_files.specs.Shelf.{Put, Puts, is_of_file};
+ghost use Rattle.lf_files.specs.Shelf.{Put, Puts, is_of_file, told_of, unwritten_of};
 
 use crate::pieces::Pieces;
 use crate::replacing::{is_special, replace, try_path, write_through};
@@ -10,7 +10,8 @@ use std::io;
 use std::io::ErrorKind;
 use std::rt::Files;
 
-/// Why a text was not put into its file, which is unchanged.
+/// Why a text was not put into its file. A regular file is then unchanged; a pipe, a device, or the file that standard output goes to
+/// may hold a front of the text.
 #[derive(Clone, Copy, Debug, PartialEq, Eq)]
 pub enum Unwritten {
     /// The file cannot be written.
@@ -21,17 +22,17 @@ pub enum Unwritten {
 
 /// Why a file was not written.
 fn unwritten_of(error: &io::Error) -> Unwritten
-    ensures { result ≡ Unwritten.OutOfMemory ↔ error_kind error.now ≡ ErrorKind.OutOfMemory }
+    ensures { result ≡ unwritten_of (error_kind error.now) }
 {
-    if error.kind() == ErrorKind::OutOfMemory {
-        return Unwritten::OutOfMemory;
+    match error.kind() {
+        ErrorKind::OutOfMemory => Unwritten::OutOfMemory,
+        _ => Unwritten::File,
     }
-    Unwritten::File
 }
 
 /// The result for a text that was written, or was not, or for a path that was tried.
 fn put_result(written: io::Result<()>) -> Result<(), Unwritten>
-    ensures { IsOk result ↔ IsOk written }
+    ensures { result ≡ told_of written }
 {
     match written {
         Ok(()) => Ok(()),
@@ -61,8 +62,8 @@ pub trait Exports {
         ensures unput { puts self.new ≡ puts self.old }
         ensures failed { has_failed self.new ≡ (is_of_file result || has_failed self.old) };
 
-    /// Puts the whole text into the file of that path, in place of what was there, and nothing else; `Err` if it could not, and
-    /// then nothing was put.
+    /// Puts the whole text into the file of that path, in place of what was there, and nothing else; `Err` if it could not: a regular
+    /// file is then unchanged, and a pipe, a device, or the file that standard output goes to may hold a front of the text.
     fn put<P: Pieces>(&mut self, path: &str, text: &P) -> Result<(), Unwritten>
         ensures ok { OnOk result (Puts (puts self.old) (puts self.new) path.now (P.text text.now)) }
         ensures err { OnErr result (puts self.new ≡ puts self.old) }
@@ -88,9 +89,10 @@ impl<'a, T: Files + AllocGlobal> FileExports<'a, T> {
     }
 }
 
-/// Notes whether a file could not be written.
+/// The result for a text that was written, or was not, or for a path that was tried; it is noted whether a file could not be written.
 fn noted(failed: &mut bool, written: io::Result<()>) -> Result<(), Unwritten>
-    ensures { failed.new ≡ (is_of_file result || failed.old) }
+    ensures told { result ≡ told_of written }
+    ensures noted { failed.new ≡ (is_of_file result || failed.old) }
 {
     let result = put_result(written);
     if let Err(Unwritten::File) = result {

@@ -414,6 +414,72 @@ fn words_name_the_files_of_states(rt: HostRuntime) -> Result<(), Fail> {
     Ok(())
 }
 
+/// The exported text may take the place of the DEF text, and the saved state, above, that of the one that was read.
+#[test]
+fn an_exported_text_may_replace_the_def_text(rt: HostRuntime) -> Result<(), Fail> {
+    let replay = Named::Replay {
+        def: "a",
+        lefs: &["b"],
+        state: Some("s"),
+        sessions: 8,
+        lines: 1_000_000,
+        save: Some("s"),
+        export: Some("a"),
+    };
+    assert!(rt;
+        names(
+            rt.alloc(),
+            "lefence replay a b --state s --save s --export a",
+            &replay
+        )?
+    );
+    let repair = Named::Repair {
+        def: "a",
+        lefs: &["b"],
+        teams: &[],
+        legal: LegalCells::MoveAsNeeded,
+        export: Some("a"),
+        lines: Some("x"),
+    };
+    assert!(rt;
+        names(
+            rt.alloc(),
+            "lefence repair a b --export a --lines x",
+            &repair
+        )?
+    );
+    Ok(())
+}
+
+/// Nothing is written over another text that is read, nor twice into one file.
+#[test]
+fn files_of_other_arguments_are_not_written(rt: HostRuntime) -> Result<(), Fail> {
+    let lines = [
+        "lefence replay a b c --export b",
+        "lefence replay a b c --export c",
+        "lefence replay a b c --state s --export s",
+        "lefence replay a b c --save a",
+        "lefence replay a b c --save b",
+        "lefence replay a b c --save=c --state=s",
+        "lefence replay a b --state a --save a",
+        "lefence replay a b --save x --export x",
+        "lefence replay a b --state s --save s --export s",
+        "lefence serve a b c --port 80 --connections 3 --export c",
+        "lefence serve a b c --port 80 --connections 3 --state s --export s",
+        "lefence serve a b --port 80 --connections 3 --save a",
+        "lefence serve a b --port 80 --connections 3 --save b",
+        "lefence serve a b --port 80 --connections 3 --save x --export x",
+        "lefence repair a b --export b",
+        "lefence repair a b --lines a",
+        "lefence repair a b c --lines c",
+        "lefence repair a b --export x --lines x",
+        "lefence repair a b --export a --lines a",
+    ];
+    let nothing = Named::Nothing(UsageFault::Usage);
+    assert!(rt; all_name(rt.alloc(), lines.as_slice(), &nothing)?);
+    Ok(())
+}
+
 #[test]
 fn other_words_are_refused(rt: HostRuntime) -> Result<(), Fail> {
     let lines = [

@@ -1,6 +1,0 @@
-use Rattle.std.proofs.Common.{arith}
-use Rattle.lf_command.proofs.Numbers.{number_none}
-use Rattle.lf_command.proofs.command.port_of.Goals as goal
-
-pub returns-in_default : goal.returns-in_default
-returns-in_default c = number_none 1 65535 16 c.args.text.now c.in_default.ensures.value.0 (omega arith)
