@@ -429,7 +429,8 @@ fn repair_opened<'a, E: Exports, W: Sink, P: Progress>(
 /// Repairs the teams of the design of a DEF file over LEF files by the floor's own commands, writes what became of each as JSON Lines and
 /// then the files that are asked for, and returns the exit status: 0, or 4 if the committed design is not fully legal. `Err` is the first
 /// fault of: the files, LEF before DEF; the design; a name that is no team's; the paths of the files that are asked for; memory; the
-/// writer; those files, the exported text before the lines. No file is written if another than the lines' is at fault.
+/// writer; those files, the exported text before the lines. No file is written if another than the lines' is at fault; of the report a
+/// front is if the writer is, and all of it if a file is once the repair is done.
 pub fn repair<'a, T: Texts, E: Exports, W: Sink, P: Progress>(
     alloc: Global,
     texts: &T,
