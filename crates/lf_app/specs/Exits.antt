@@ -105,7 +105,7 @@ IsJobFaultWithin limits gives (check def lefs state slots) fault io =
 IsJobFaultWithin limits gives (describe def lefs state slots) fault io =
     IsDesignFault limits gives def lefs fault ⊎ IsOpenUndescribed limits gives def lefs state io.before io.after fault
 IsJobFaultWithin limits gives (repair def lefs teams legal export lines) fault io =
-    IsNotRepaired limits gives def lefs teams export lines io.before io.after io.old_puts io.new_puts fault
+    IsNotRepaired limits gives def lefs teams legal export lines io.before io.after io.old_puts io.new_puts fault
 
 -- why a job is not done
 abbrev pub IsJobFault : Gives → Job → Fault → Streams → Type 0

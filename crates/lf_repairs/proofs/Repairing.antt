@@ -1,6 +1,6 @@
 -- Runs of repairs, one after the other, and what they leave.
 use Rattle.std.proofs.Common.{◌≡◌, ◌≢◌, ◌⊎◌, inl, inr, ⊎_elim, ℕ, zero, suc, ◌+◌, ◌<◌, List, [], ◌∷◌, ◌++◌, length, Bool, true, false, map, Option, Some, None, cond, is_some, refl, ap, sym, ◌∙◌, subst, append-nil, arith}
-use Rattle.std.specs.Prelude.{◌≤◌, ◌==◌, ◌||◌, Err, IfOk, MatchBool, Ok, OnOk, Result, bytes_eq, option_and_then, position, slice_get, slice_set}
+use Rattle.std.specs.Prelude.{◌≤◌, ◌==◌, ◌||◌, Err, IfErr, IfOk, MatchBool, Ok, OnOk, Result, bytes_eq, option_and_then, position, slice_get, slice_set}
 use Rattle.std.specs.Borrow.{Bor}
 use Rattle.std.specs.List.{position_from}
 use Rattle.std.specs.Io.KnownBytes.{Appends}
@@ -27,14 +27,11 @@ use Rattle.lf_teams.specs.Runs.{Run}
 use Rattle.lf_teams.specs.VerbLaws.{is_granted}
 use Rattle.lf_mend.specs.Mending.{IsLegalIn, LegalStay, place_in}
 use Rattle.lf_mend.specs.Runs.{IsWrittenRun, line_of, lines_of}
-use Rattle.lf_files.specs.Shelf.{Put}
 use Rattle.lf_floorplan.specs.declared.frame.Frame.{Frame}
 use Rattle.lf_designs.specs.declared.faults.Fault.{Fault}
 use Rattle.lf_designs.specs.declared.faults.Fault.TheVariants.{Refused, File, NoState, NoTeam, ReadFault, WriteFault, TooManyLines, OutOfMemory, Output, Bind, Accept, Unwritten, Unsaved, Unlisted, NoMemory, NoRoom}
 use Rattle.lf_designs.specs.Faults.{Blames, IsEarly, IsOfWriter}
-use Rattle.lf_work.specs.Faults.{IsExportFault}
-use Rattle.lf_repairs.specs.Exits.{IsNotPut, IsUnrepaired}
-use Rattle.lf_repairs.specs.Repairs.{IsLinesFileFault, AllLegalStay, IsKeptRun, IsRepairFault, IsUnknown, OnlyAsked, is_asked}
+use Rattle.lf_repairs.specs.Repairs.{IsLinesFileFault, AllLegalStay, IsKeptRun, IsUnknown, OnlyAsked, is_asked}
 
 -- ---- runs
 
@@ -273,22 +270,7 @@ pub ok_and : {A E : Type 0} (r : Result A E) (P R : A → Type 0) (Q : Type 0) �
 ok_and (Ok value) P R Q is also gives = gives value is also
 ok_and (Err fault) P R Q is also gives = tt
 
--- a fault of what is put is one of the whole
-pub unput_as : (export lines before after : Option (List ℕ)) (old new : Option (List Put)) (fault : Fault) → ((bytes : List ℕ) × Appends before after bytes)
-    → (IsExportFault export fault × (new ≡ old)) ⊎ IsLinesFileFault lines fault → IsNotPut export lines before after old new fault
-unput_as export lines before after old new fault front (inl unexported) = record { why = inl unexported.0; front = front; unput = inl unexported.1 }
-unput_as export lines before after old new fault front (inr unlisted) = record { why = inr (inl unlisted); front = front; unput = inr unlisted }
-
--- and so is one of the repair
-pub unrepaired_as : (teams : List (List ℕ)) (export lines : Option (List ℕ)) (begin : FloorState) (before after : Option (List ℕ)) (old new : Option (List Put))
-    (fault : Fault) → IsNotPut export lines before after old new fault → IsUnrepaired teams export lines begin before after old new fault
-unrepaired_as teams export lines begin before after old new fault is = record { why = by is.why; front = is.front; unput = is.unput } where
-  by : IsExportFault export fault ⊎ (IsLinesFileFault lines fault ⊎ (fault ≡ Output)) → IsRepairFault begin.frame teams export lines fault
-  by (inl exported) = inr (inl exported)
-  by (inr (inl listed)) = inr (inr (inl listed))
-  by (inr (inr written)) = inr (inr (inr (inr written)))
-
--- nothing is written, and nothing put
-pub untouched : (teams : List (List ℕ)) (export lines : Option (List ℕ)) (begin : FloorState) (bytes : Option (List ℕ)) (old new : Option (List Put)) (fault : Fault)
-    → new ≡ old → IsRepairFault begin.frame teams export lines fault → IsUnrepaired teams export lines begin bytes bytes old new fault
-untouched teams export lines begin bytes old new fault unput why = record { why = why; front = ([], kept_bytes_stay bytes); unput = inl unput }
+-- what holds of a fault, and what also holds of it, give what is asked of it
+pub err_and : {A E : Type 0} (r : Result A E) (P Q R : E → Type 0) → IfErr r P → IfErr r Q → ((fault : E) → P fault → Q fault → R fault) → IfErr r R
+err_and (Ok value) P Q R is also gives = tt
+err_and (Err fault) P Q R is also gives = gives fault is also

@@ -1,5 +1,5 @@
 -- How repairs end.
-use Rattle.std.specs.Prelude.{◌≡◌, ◌⊎◌, ℕ, List, Option, None}
+use Rattle.std.specs.Prelude.{◌≡◌, ◌⊎◌, ℕ, List, Option, None, take}
 use Rattle.std.specs.Io.KnownBytes.{Appends}
 use Rattle.lf_floorplan.specs.declared.limits.Limits.{Limits}
 use Rattle.lf_floorplan.specs.declared.loaded.Loaded.{Loaded}
@@ -15,7 +15,7 @@ use Rattle.lf_designs.specs.declared.faults.Fault.TheVariants.{Output}
 use Rattle.lf_designs.specs.Designs.{Gives, IsOpened}
 use Rattle.lf_work.specs.Exits.{IsExported}
 use Rattle.lf_work.specs.Faults.{IsExportFault}
-use Rattle.lf_work.specs.States.{IsFloorFault, IsFloorOf}
+use Rattle.lf_work.specs.States.{IsFloorFault}
 use Rattle.lf_repairs.specs.Repairs.{AllLegalStay, AreKnown, IsJudged, IsKeptRun, IsLinesFileFault, IsListed, IsRepairFault, OnlyAsked, begun_lines}
 use Rattle.lf_repairs.specs.Telling.{AreBounds, IsReport}
 
@@ -27,21 +27,26 @@ pub record IsPut (export lines : Option (List ℕ)) (text : List ℕ) (document 
   pub exports : IsExported export text document floor old_puts between
   pub lists : IsListed lines kept between new_puts
 
--- each name that was asked for is a team's; the floor went from the one that was begun with to this one by commands that were each
--- accepted, which are the lines that are kept; only teams that were asked for changed, and no cell that stood legally if these are to
--- stay; a report was written, which tells of each team that was asked for with these bounds and with what is left of it, and whether
--- the committed design is then fully legal; the exported text was put where one was asked for, and then the lines; and the status says
--- the same of the design
-pub record IsRepaired (teams : List (List ℕ)) (legal : LegalCells) (export lines : Option (List ℕ)) (text : List ℕ) (document : Document)
-    (bounds : List ℕ) (begin : FloorState) (before after : Option (List ℕ)) (old_puts new_puts : Option (List Put)) (status : ℕ) : Type 0 where
-  pub floor : FloorState
-  pub kept : Option (List ℕ)
+-- the floor that was begun with is repaired to this one: each name that was asked for is a team's; the floor went there by commands that
+-- were each accepted, which are the lines that are kept; only teams that were asked for changed, and no cell that stood legally if these
+-- are to stay; and the report tells of each team that was asked for with these bounds and with what is left of it, and whether the
+-- committed design is then fully legal
+pub record IsRepair (teams : List (List ℕ)) (legal : LegalCells) (lines : Option (List ℕ)) (bounds : List ℕ) (begin floor : FloorState)
+    (kept : Option (List ℕ)) (report : List ℕ) : Type 0 where
   pub known : AreKnown begin.frame teams
   pub run : (l : Legalizer) → IsKeptRun l begin (begun_lines lines) kept floor
   pub only : OnlyAsked teams begin floor
   pub stay : legal ≡ Stay → AllLegalStay begin floor
-  pub report : List ℕ
   pub tells : IsReport teams bounds floor report
+
+-- the floor that was begun with was repaired; the report was written; the exported text was put where one was asked for, and then the
+-- lines; and the status says whether the committed design is fully legal
+pub record IsRepaired (teams : List (List ℕ)) (legal : LegalCells) (export lines : Option (List ℕ)) (text : List ℕ) (document : Document)
+    (bounds : List ℕ) (begin : FloorState) (before after : Option (List ℕ)) (old_puts new_puts : Option (List Put)) (status : ℕ) : Type 0 where
+  pub floor : FloorState
+  pub kept : Option (List ℕ)
+  pub report : List ℕ
+  pub repair : IsRepair teams legal lines bounds begin floor kept report
   pub put : IsPut export lines text document floor kept report before after old_puts new_puts
   pub judged : IsJudged floor status
 
@@ -58,23 +63,42 @@ pub record IsOpenRepaired (limits : Limits) (gives : Gives) (def : List ℕ) (le
 
 -- ---- faults
 
--- a report is not written, or only a front of it, or what is asked for is not put: then no text is, unless the lines alone are not put
-pub record IsNotPut (export lines before after : Option (List ℕ)) (old_puts new_puts : Option (List Put)) (fault : Fault) : Type 0 where
-  pub why : IsExportFault export fault ⊎ (IsLinesFileFault lines fault ⊎ (fault ≡ Output))
-  pub front : (bytes : List ℕ) × Appends before after bytes
-  pub unput : (new_puts ≡ old_puts) ⊎ IsLinesFileFault lines fault
+-- the files that are asked for are not put: the exported text is not, and then no file is; or it is, where it is asked for, and nothing
+-- else: the lines are not
+abbrev pub AreNotPut : Option (List ℕ) → Option (List ℕ) → List ℕ → Document → FloorState → Option (List Put) → Option (List Put) → Fault → Type 0
+AreNotPut export lines text document floor old new fault =
+    (IsExportFault export fault × (new ≡ old)) ⊎ (IsLinesFileFault lines fault × IsExported export text document floor old new)
 
--- teams are not repaired, or it is not told or put: at most a front of a report was written; and no text was put, unless the lines alone are
--- not put
-pub record IsUnrepaired (teams : List (List ℕ)) (export lines : Option (List ℕ)) (begin : FloorState) (before after : Option (List ℕ))
-    (old_puts new_puts : Option (List Put)) (fault : Fault) : Type 0 where
-  pub why : IsRepairFault begin.frame teams export lines fault
-  pub front : (bytes : List ℕ) × Appends before after bytes
-  pub unput : (new_puts ≡ old_puts) ⊎ IsLinesFileFault lines fault
-
--- there is no floor of the design, and nothing was put; or there is, and its teams are not repaired
-abbrev pub IsNotRepaired : Limits → Gives → List ℕ → List (List ℕ) → List (List ℕ) → Option (List ℕ) → Option (List ℕ) → Option (List ℕ) → Option (List ℕ)
+-- the report is not written, or only a front of it, and no file is put; or it is written, and the files that are asked for are not put
+abbrev pub IsNotPut : Option (List ℕ) → Option (List ℕ) → List ℕ → Document → FloorState → List ℕ → Option (List ℕ) → Option (List ℕ)
     → Option (List Put) → Option (List Put) → Fault → Type 0
-IsNotRepaired limits gives def lefs teams export lines before after old_puts new_puts fault =
-    (IsFloorFault limits gives def lefs None fault × (new_puts ≡ old_puts))
-    ⊎ ((begin : FloorState) × IsFloorOf limits gives def lefs None begin × IsUnrepaired teams export lines begin before after old_puts new_puts fault)
+IsNotPut export lines text document floor report before after old new fault =
+    ((fault ≡ Output) × ((n : ℕ) × Appends before after (take n report)) × (new ≡ old))
+    ⊎ (Appends before after report × AreNotPut export lines text document floor old new fault)
+
+-- the floor that was begun with is not repaired, and nothing is written and no file put; or it is, and the report is not written, or the
+-- files are not put
+abbrev pub IsUnrepaired : List (List ℕ) → LegalCells → Option (List ℕ) → Option (List ℕ) → List ℕ → Document → List ℕ → FloorState
+    → Option (List ℕ) → Option (List ℕ) → Option (List Put) → Option (List Put) → Fault → Type 0
+IsUnrepaired teams legal export lines text document bounds begin before after old new fault =
+    (IsRepairFault begin.frame teams export lines fault × (after ≡ before) × (new ≡ old))
+    ⊎ ((floor : FloorState) × (kept : Option (List ℕ)) × (report : List ℕ) × IsRepair teams legal lines bounds begin floor kept report
+    × IsNotPut export lines text document floor report before after old new fault)
+
+-- the design was opened, and is not repaired so
+pub record IsOpenUnrepaired (limits : Limits) (gives : Gives) (def : List ℕ) (lefs teams : List (List ℕ)) (legal : LegalCells) (export lines : Option (List ℕ))
+    (before after : Option (List ℕ)) (old_puts new_puts : Option (List Put)) (fault : Fault) : Type 0 where
+  pub text : List ℕ
+  pub document : Document
+  pub loaded : Loaded
+  pub opened : IsOpened limits gives def lefs text document loaded
+  pub bounds : List ℕ
+  pub least : AreBounds loaded bounds
+  pub unrepaired : IsUnrepaired teams legal export lines text document bounds (opening loaded) before after old_puts new_puts fault
+
+-- there is no floor of the design, and nothing is written and no file put; or there is, and it is not repaired so
+abbrev pub IsNotRepaired : Limits → Gives → List ℕ → List (List ℕ) → List (List ℕ) → LegalCells → Option (List ℕ) → Option (List ℕ) → Option (List ℕ)
+    → Option (List ℕ) → Option (List Put) → Option (List Put) → Fault → Type 0
+IsNotRepaired limits gives def lefs teams legal export lines before after old new fault =
+    (IsFloorFault limits gives def lefs None fault × (after ≡ before) × (new ≡ old))
+    ⊎ IsOpenUnrepaired limits gives def lefs teams legal export lines before after old new fault

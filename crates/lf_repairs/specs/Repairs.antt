@@ -5,6 +5,10 @@ use Rattle.lf_floorplan.specs.declared.frame.Frame.{Frame}
 use Rattle.lf_floorplan.specs.declared.place.Place.{Place}
 use Rattle.lf_rules.specs.Legalizer.{Legalizer}
 use Rattle.lf_files.specs.Shelf.{Put, Puts}
+use Rattle.lf_command.specs.declared.command.LegalCells.{LegalCells}
+use Rattle.lf_command.specs.declared.command.LegalCells.TheVariants.{Stay, MoveAsNeeded, Move}
+use Rattle.lf_plans.specs.declared.start.How.{How}
+use Rattle.lf_plans.specs.declared.start.How.TheVariants.{Keep, AsNeeded, All as AllCells}
 use Rattle.lf_proto.specs.declared.request.Command.{Command}
 use Rattle.lf_proto.specs.declared.reply.Reply.{Reply}
 use Rattle.lf_teams.specs.States.{FloorState}
@@ -15,7 +19,7 @@ use Rattle.lf_teams.specs.Committed.{IsCommittedLegal}
 use Rattle.lf_mend.specs.Runs.{lines_of}
 use Rattle.lf_mend.specs.Mending.{LegalStay}
 use Rattle.lf_designs.specs.declared.faults.Fault.{Fault}
-use Rattle.lf_designs.specs.declared.faults.Fault.TheVariants.{NoMemory, NoRoom, NoTeam, Output, Unlisted}
+use Rattle.lf_designs.specs.declared.faults.Fault.TheVariants.{NoMemory, NoRoom, NoTeam, Unlisted}
 use Rattle.lf_designs.specs.Faults.{Blames}
 use Rattle.lf_work.specs.Faults.{IsDone, IsExportFault}
 use Rattle.lf_repairs.specs.declared.kept_lines.KeptLines.{KeptLines}
@@ -25,6 +29,12 @@ use Rattle.lf_repairs.specs.declared.kept_lines.KeptLines.{KeptLines}
 -- the team of that name is to be repaired: it is one of these, or none is named
 abbrev pub is_asked : List (List ℕ) → List ℕ → Bool
 is_asked teams name = (length teams == 0) || is_some (position (λ team. bytes_eq team name) teams)
+
+-- which of a team's cells may be moved
+abbrev pub how_of : LegalCells → How
+how_of Stay = Keep
+how_of MoveAsNeeded = AsNeeded
+how_of Move = AllCells
 
 -- each of the names is a team's
 abbrev pub AreKnown : Frame → List (List ℕ) → Type 0
@@ -96,11 +106,11 @@ abbrev pub IsLinesFileFault : Option (List ℕ) → Fault → Type 0
 IsLinesFileFault None fault = ⊥
 IsLinesFileFault (Some path) fault = (fault ≡ NoRoom) ⊎ IsNotListed path fault
 
--- why a repair on this frame is not done, or is not told or put: a name that is asked for is no team's, or a file that is asked for cannot
--- be written; an allocation fails; or the writer does
+-- why no repair is done on this frame: a name that is asked for is no team's; a file that is asked for cannot be written; or an allocation
+-- fails
 abbrev pub IsRepairFault : Frame → List (List ℕ) → Option (List ℕ) → Option (List ℕ) → Fault → Type 0
 IsRepairFault f teams export lines fault =
-    IsUnknown f teams fault ⊎ (IsExportFault export fault ⊎ (IsLinesFileFault lines fault ⊎ ((fault ≡ NoMemory) ⊎ (fault ≡ Output))))
+    IsUnknown f teams fault ⊎ (IsExportFault export fault ⊎ (IsLinesFileFault lines fault ⊎ (fault ≡ NoMemory)))
 
 -- what a fault says where only a writer and files are worked on, each of which had failed before or not, and has now or not
 abbrev pub BlamesOutputs : Fault → Type 0 → Bool → Bool → Bool → Bool → Type 0

@@ -39,7 +39,7 @@ pub struct TimedProgress<'a, T, W> {
     clock: &'a T,
     writer: W,
     pause: Duration,
-    /// When the last line was written, or none yet; none if nothing more is told.
+    /// When the last line was written, or `new` if none was; `None` if nothing more is told.
     since: Option<Instant>,
     /// The name of the team.
     team: Vec<u8>,

@@ -1,7 +1,7 @@
 //! The repair of the teams of a design: the floor's own commands give their cells legal places.
 
 ghost use Rattle.std.specs.Prelude.{◌≡◌, ◌≢◌, ◌⊎◌, ◌+◌, ℕ, All, List, None, Option, Some, IfErr, IfOk, IsTrue, OnErr, OnOk};
-ghost use Rattle.std.specs.Prelude.{bytes_eq, false, length, map, position, true};
+ghost use Rattle.std.specs.Prelude.{bytes_eq, is_some, length, map, position, take, true};
 ghost use Rattle.std.specs.Io.KnownBytes.{Appends};
 ghost use Rattle.lf_command.specs.declared.command.LegalCells.TheVariants.{Stay};
 ghost use Rattle.lf_def.specs.Document.{Document};
@@ -24,9 +24,9 @@ ghost use Rattle.lf_designs.specs.Designs.{IsKept};
 ghost use Rattle.lf_work.specs.Exits.{IsExported};
 ghost use Rattle.lf_work.specs.Faults.{ExportFails, IsDone, IsExportFault};
 ghost use Rattle.lf_work.specs.Inputs.{path_of};
-ghost use Rattle.lf_repairs.specs.Exits.{IsNotPut, IsNotRepaired, IsOpenRepaired, IsPut, IsRepaired, IsUnrepaired};
+ghost use Rattle.lf_repairs.specs.Exits.{AreNotPut, IsNotPut, IsNotRepaired, IsOpenRepaired, IsPut, IsRepaired, IsUnrepaired};
 ghost use Rattle.lf_repairs.specs.Repairs.{AllLegalStay, AreKnown, BlamesOutputs, IsJudged, IsKeptRun, IsLinesFileFault, IsListed, IsUnknown, OnlyAsked};
-ghost use Rattle.lf_repairs.specs.Repairs.{begun_lines, is_asked, kept_text};
+ghost use Rattle.lf_repairs.specs.Repairs.{begun_lines, how_of, is_asked, kept_text};
 ghost use Rattle.lf_repairs.specs.Telling.{AreBounds, AreToldMore, IsReport, IsToldLast, asked_at, asked_names};
 
 use crate::kept_lines::{KeptLines, lines_to, try_lines};
@@ -68,7 +68,7 @@ pub struct RepairAsked<'a> {
 
 /// Which of a team's cells may be moved.
 fn how_of(legal: LegalCells) -> How
-    ensures { legal ≡ Stay → result ≡ Keep }
+    ensures { result ≡ how_of legal }
 {
     match legal {
         LegalCells::Stay => How::Keep,
@@ -96,13 +96,9 @@ fn is_asked(teams: &[&str], name: &[u8]) -> bool
 
 /// Whether the name is that of a team.
 fn is_known(floor: &Floor<IndexSeeker>, name: &[u8]) -> bool
-    ensures known { IsTrue result → team_number floor.now.frame name.now ≢ None }
-    ensures unknown { result ≡ false → team_number floor.now.frame name.now ≡ None }
+    ensures { result ≡ is_some (team_number floor.now.frame name.now) }
 {
-    match floor.number_of(name) {
-        Some(_) => true,
-        None => false,
-    }
+    floor.number_of(name).is_some()
 }
 
 /// Makes sure that each of the names is that of a team.
@@ -266,7 +262,7 @@ fn repaired<'a, P: Progress>(
 fn put_report<'f, W: Sink>(writer: &mut W, report: &RepairReport) -> Result<(), Fault<'f>>
     ensures ok { OnOk result (Appends (W.contents writer.old) (W.contents writer.new) report.now.text.items) }
     ensures healthy { OnOk result (W.has_failed writer.new ≡ W.has_failed writer.old) }
-    ensures front { OnErr result ((bytes : List ℕ) × Appends (W.contents writer.old) (W.contents writer.new) bytes) }
+    ensures front { OnErr result ((n : ℕ) × Appends (W.contents writer.old) (W.contents writer.new) (take n report.now.text.items)) }
     ensures err { IfErr result (λ fault. fault ≡ Output) }
     ensures failed { OnErr result (W.has_failed writer.new ≡ true) }
     ensures held { W.holds writer.new ≡ W.holds writer.old }
@@ -303,8 +299,9 @@ fn put_files<'a, E: Exports>(
         → OnOk result ((between : Option (List Put))
         × IsExported (path_of asked.now.export) original.now.text.items document floor.now (E.puts exports.old) between
         × IsListed (path_of asked.now.lines) (kept_text lines.now) between (E.puts exports.new)) }
-    ensures err { IfErr result (λ fault. (IsExportFault (path_of asked.now.export) fault × (E.puts exports.new ≡ E.puts exports.old))
-        ⊎ IsLinesFileFault (path_of asked.now.lines) fault) }
+    ensures err { (document : Document) → original.now.clauses ≡ map (clause_of original.now.text.items) document.components
+        → IfErr result (AreNotPut (path_of asked.now.export) (path_of asked.now.lines) original.now.text.items document floor.now
+        (E.puts exports.old) (E.puts exports.new)) }
     ensures fails { IfErr result (λ fault. ExportFails fault (E.has_failed exports.old) (E.has_failed exports.new)) }
     ensures sound { OnOk result (E.has_failed exports.new ≡ E.has_failed exports.old) }
     ensures unput { path_of asked.now.lines ≡ None → OnErr result (E.puts exports.new ≡ E.puts exports.old) }
@@ -329,9 +326,10 @@ fn put_all<'a, E: Exports, W: Sink>(
     ensures ok { (document : Document) → original.now.clauses ≡ map (clause_of original.now.text.items) document.components
         → OnOk result (IsPut (path_of asked.now.export) (path_of asked.now.lines) original.now.text.items document floor.now (kept_text done.now.lines)
         done.now.report.text.items (W.contents writer.old) (W.contents writer.new) (E.puts exports.old) (E.puts exports.new)) }
-    ensures err { IfErr result (λ fault. IsNotPut (path_of asked.now.export) (path_of asked.now.lines)
-        (W.contents writer.old) (W.contents writer.new) (E.puts exports.old) (E.puts exports.new) fault
-        × BlamesOutputs fault (writer.new ≡ writer.old) (W.has_failed writer.old) (W.has_failed writer.new)
+    ensures err { (document : Document) → original.now.clauses ≡ map (clause_of original.now.text.items) document.components
+        → IfErr result (IsNotPut (path_of asked.now.export) (path_of asked.now.lines) original.now.text.items document floor.now
+        done.now.report.text.items (W.contents writer.old) (W.contents writer.new) (E.puts exports.old) (E.puts exports.new)) }
+    ensures blames { IfErr result (λ fault. BlamesOutputs fault (writer.new ≡ writer.old) (W.has_failed writer.old) (W.has_failed writer.new)
         (E.has_failed exports.old) (E.has_failed exports.new)) }
     ensures unput { path_of asked.now.lines ≡ None → OnErr result (E.puts exports.new ≡ E.puts exports.old) }
     ensures unasked { path_of asked.now.lines ≡ None → path_of asked.now.export ≡ None → exports.new ≡ exports.old }
@@ -369,9 +367,11 @@ fn repair_on_floor<'a, E: Exports, W: Sink, P: Progress>(
         → IfOk result (IsRepaired (map (λ team. team.now) asked.now.teams.now) asked.now.legal (path_of asked.now.export) (path_of asked.now.lines)
         before.old.original.text.items document before.old.least.items floor.old
         (W.contents writer.old) (W.contents writer.new) (E.puts exports.old) (E.puts exports.new)) }
-    ensures err { IfErr result (λ fault. IsUnrepaired (map (λ team. team.now) asked.now.teams.now) (path_of asked.now.export) (path_of asked.now.lines)
-        floor.old (W.contents writer.old) (W.contents writer.new) (E.puts exports.old) (E.puts exports.new) fault
-        × BlamesOutputs fault (writer.new ≡ writer.old) (W.has_failed writer.old) (W.has_failed writer.new)
+    ensures err { (document : Document) → before.old.original.clauses ≡ map (clause_of before.old.original.text.items) document.components
+        → IfErr result (IsUnrepaired (map (λ team. team.now) asked.now.teams.now) asked.now.legal (path_of asked.now.export) (path_of asked.now.lines)
+        before.old.original.text.items document before.old.least.items floor.old
+        (W.contents writer.old) (W.contents writer.new) (E.puts exports.old) (E.puts exports.new)) }
+    ensures blames { IfErr result (λ fault. BlamesOutputs fault (writer.new ≡ writer.old) (W.has_failed writer.old) (W.has_failed writer.new)
         (E.has_failed exports.old) (E.has_failed exports.new)) }
     ensures unput { path_of asked.now.lines ≡ None → OnErr result (E.puts exports.new ≡ E.puts exports.old) }
     ensures unasked { path_of asked.now.lines ≡ None → path_of asked.now.export ≡ None → exports.new ≡ exports.old }
@@ -399,10 +399,14 @@ fn repair_opened<'a, E: Exports, W: Sink, P: Progress>(
         × IsRepaired (map (λ team. team.now) asked.now.teams.now) asked.now.legal (path_of asked.now.export) (path_of asked.now.lines)
         opened.original.text.items document bounds (opening opened.loaded)
         (W.contents writer.old) (W.contents writer.new) (E.puts exports.old) (E.puts exports.new) status) }
-    ensures err { IfErr result (λ fault. (((fault ≡ NoMemory) × (E.puts exports.new ≡ E.puts exports.old))
-        ⊎ IsUnrepaired (map (λ team. team.now) asked.now.teams.now) (path_of asked.now.export) (path_of asked.now.lines)
-        (opening opened.loaded) (W.contents writer.old) (W.contents writer.new) (E.puts exports.old) (E.puts exports.new) fault)
-        × BlamesOutputs fault (writer.new ≡ writer.old) (W.has_failed writer.old) (W.has_failed writer.new)
+    ensures err { (document : Document) → opened.original.clauses ≡ map (clause_of opened.original.text.items) document.components
+        → IfErr result (λ fault.
+        ((fault ≡ NoMemory) × (W.contents writer.new ≡ W.contents writer.old) × (E.puts exports.new ≡ E.puts exports.old))
+        ⊎ ((bounds : List ℕ) × AreBounds opened.loaded bounds
+        × IsUnrepaired (map (λ team. team.now) asked.now.teams.now) asked.now.legal (path_of asked.now.export) (path_of asked.now.lines)
+        opened.original.text.items document bounds (opening opened.loaded)
+        (W.contents writer.old) (W.contents writer.new) (E.puts exports.old) (E.puts exports.new) fault)) }
+    ensures blames { IfErr result (λ fault. BlamesOutputs fault (writer.new ≡ writer.old) (W.has_failed writer.old) (W.has_failed writer.new)
         (E.has_failed exports.old) (E.has_failed exports.new)) }
     ensures unput { path_of asked.now.lines ≡ None → OnErr result (E.puts exports.new ≡ E.puts exports.old) }
     ensures unasked { path_of asked.now.lines ≡ None → path_of asked.now.export ≡ None → exports.new ≡ exports.old }
@@ -425,7 +429,8 @@ fn repair_opened<'a, E: Exports, W: Sink, P: Progress>(
 /// Repairs the teams of the design of a DEF file over LEF files by the floor's own commands, writes what became of each as JSON Lines and
 /// then the files that are asked for, and returns the exit status: 0, or 4 if the committed design is not fully legal. `Err` is the first
 /// fault of: the files, LEF before DEF; the design; a name that is no team's; the paths of the files that are asked for; memory; the
-/// writer; those files, the exported text before the lines. No file is written if another than the lines' is at fault.
+/// writer; those files, the exported text before the lines. No file is written if another than the lines' is at fault; of the report a
+/// front is if the writer is, and all of it if a file is once the repair is done.
 pub fn repair<'a, T: Texts, E: Exports, W: Sink, P: Progress>(
     alloc: Global,
     texts: &T,
@@ -438,7 +443,7 @@ pub fn repair<'a, T: Texts, E: Exports, W: Sink, P: Progress>(
         (map (λ team. team.now) asked.now.teams.now) asked.now.legal (path_of asked.now.export) (path_of asked.now.lines)
         (W.contents writer.old) (W.contents writer.new) (E.puts exports.old) (E.puts exports.new)) }
     ensures err { IfErr result (λ fault. IsNotRepaired asked.now.limits (T.gives texts.now) asked.now.def.now (map (λ lef. lef.now) asked.now.lefs.now)
-        (map (λ team. team.now) asked.now.teams.now) (path_of asked.now.export) (path_of asked.now.lines)
+        (map (λ team. team.now) asked.now.teams.now) asked.now.legal (path_of asked.now.export) (path_of asked.now.lines)
         (W.contents writer.old) (W.contents writer.new) (E.puts exports.old) (E.puts exports.new) fault
         × BlamesOutputs fault (writer.new ≡ writer.old) (W.has_failed writer.old) (W.has_failed writer.new)
         (E.has_failed exports.old) (E.has_failed exports.new)) }

@@ -1,4 +1,4 @@
-use Rattle.std.proofs.Common.{List, None, subst}
+use Rattle.std.proofs.Common.{◌≡◌, ◌∙◌, List, None, Option, ap, false, is_some, subst, sym, true}
 use Rattle.std.specs.Prelude.{◌≢◌, ℕ, All}
 use Rattle.std.specs.Borrow.{Bor}
 use Rattle.std.proofs.lemmas.List.{take_all}
@@ -6,11 +6,16 @@ use Rattle.std.proofs.lemmas.List.Elements.{All-map, All-more}
 use Rattle.lf_teams.specs.Teams.{team_number}
 use Rattle.lf_repairs.proofs.repairs.all_known.Goals as goal
 
+some_there : (o : Option ℕ) → is_some o ≡ true → o ≢ None
+some_there o is none = clash (sym is ∙ ap is_some none) where
+  clash : true ≡ false → ⊥
+  clash e = cc
+
 pub loop-team-preserved : goal.loop-team-preserved
 loop-team-preserved c =
     let frame = c.args.floor.now.frame in
     All-more (λ (t : Bor (List ℕ)). team_number frame t.now ≢ None) c.args.teams.now c.loop-team.team-index _ c.loop-team-test.true c.loop-team.invariant
-    (subst (λ (name : List ℕ). team_number frame name ≢ None) c.as_bytes.ensures.value (c.is_known.ensures.known c.if-not-is_known.false))
+    (subst (λ (name : List ℕ). team_number frame name ≢ None) c.as_bytes.ensures.value (some_there _ (sym c.is_known.ensures ∙ c.if-not-is_known.false)))
 
 pub returns-clause-ok : goal.returns-clause-ok
 returns-clause-ok c =

@@ -1,6 +1,7 @@
 use Rattle.std.proofs.Common.{inl, inr, map, refl}
-use Rattle.std.proofs.lemmas.Result.{IfErr-weaker, IfOk-weaker, err_from_is_err_and}
+use Rattle.std.proofs.lemmas.Result.{IfOk-weaker, err_from_is_err_and}
 use Rattle.lf_work.proofs.WorkSteps.{design_early, design_opened, early_blames}
+use Rattle.lf_repairs.proofs.Repairing.{err_and}
 use Rattle.lf_repairs.proofs.repairs.repair.Goals as goal
 
 pub repair_opened-requires : goal.repair_opened-requires
@@ -21,15 +22,22 @@ returns-clause-err g c =
     let opened = c.in_ok-opened.opened in
     let of = c.in_ok-opened.ensures.ok in
     let design = design_opened _ _ _ _ _ of.0 opened.loaded of.1 in
-    IfErr-weaker c.repair_opened.result _ _
-    (λ fault both. (
-      elim both.0 [
-        | inl memory ↦ inl (inr (opened.loaded, design, inl memory.0), memory.1)
-        | inr unrepaired ↦ inr (_, (opened.loaded, design, refl), unrepaired)
+    err_and c.repair_opened.result _ _ _ (c.repair_opened.ensures.err of.0 of.2) c.repair_opened.ensures.blames
+    (λ fault why blames. (
+      elim why [
+        | inl memory ↦ inl (inr (opened.loaded, design, inl memory.0), memory.1, memory.2)
+        | inr unrepaired ↦ inr (record {
+          text = opened.original.text.items;
+          document = of.0;
+          loaded = opened.loaded;
+          opened = of.1;
+          bounds = unrepaired.0;
+          least = unrepaired.1;
+          unrepaired = unrepaired.2;
+        })
       ],
-      both.1,
+      blames,
     ))
-    c.repair_opened.ensures.err
 
 pub returns-in_err-opened-clause-err : goal.returns-in_err-opened-clause-err
 returns-in_err-opened-clause-err g c =
@@ -38,4 +46,4 @@ returns-in_err-opened-clause-err g c =
     let def = c.args.asked.now.def.now in
     let lefs = map (λ lef. lef.now) c.args.asked.now.lefs.now in
     let why = c.in_err-opened.ensures.err in
-    rw (p.1, p.2) (inl (inl why, refl), early_blames _ _ _ _ _ _ _ refl (refl, refl) (design_early c.args.asked.now.limits gives def lefs _ why))
+    rw (p.1, p.2) (inl (inl why, refl, refl), early_blames _ _ _ _ _ _ _ refl (refl, refl) (design_early c.args.asked.now.limits gives def lefs _ why))

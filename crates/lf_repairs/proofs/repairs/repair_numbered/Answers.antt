@@ -2,7 +2,7 @@ use Rattle.std.proofs.Common.{◌≡◌, ◌∙◌, List, ℕ, Some, ap, false, 
 use Rattle.std.specs.Prelude.{slice_get}
 use Rattle.std.proofs.lemmas.Result.{on_ok_weaker}
 use Rattle.lf_teams.specs.Teams.{team_names, team_number}
-use Rattle.lf_repairs.specs.Repairs.{is_asked}
+use Rattle.lf_repairs.specs.Repairs.{how_of, is_asked}
 use Rattle.lf_repairs.proofs.Named.{numbered}
 use Rattle.lf_repairs.proofs.Repairing.{stay_alike}
 use Rattle.lf_repairs.proofs.Telling.{one_told}
@@ -29,7 +29,7 @@ pub returns-clause-kept : goal.returns-clause-kept
 returns-clause-kept g c = λ to_stay team named.
     let there : slice_get (team_names c.args.floor.now.frame) c.args.number ≡ Some c.as_slice-name.result.now = search rules in
     stay_alike team c.as_slice-name.result.now c.args.floor.now c.repair_named.new.floor c.repair_named.ensures.only.frame
-    (named ∙ sym (numbered c.args.floor.now.frame c.args.number c.as_slice-name.result.now there)) (c.repair_named.ensures.kept (c.how_of.ensures to_stay))
+    (named ∙ sym (numbered c.args.floor.now.frame c.args.number c.as_slice-name.result.now there)) (c.repair_named.ensures.kept (c.how_of.ensures ∙ ap how_of to_stay))
 
 pub returns-clause-others : goal.returns-clause-others
 returns-clause-others g c = λ team differ.

@@ -5,7 +5,7 @@ use Rattle.lf_repairs.specs.Exits.{IsNotPut, IsPut}
 use Rattle.lf_repairs.specs.Repairs.{IsJudged, kept_text}
 use Rattle.lf_repairs.specs.Telling.{IsReport}
 use Rattle.lf_work.specs.Inputs.{path_of}
-use Rattle.lf_repairs.proofs.Repairing.{memory_early, ok_and, unknown_early, unrepaired_as, untouched}
+use Rattle.lf_repairs.proofs.Repairing.{memory_early, ok_and, unknown_early}
 use Rattle.lf_work.proofs.WorkSteps.{blames_as, early_blames, export_blames}
 use Rattle.lf_repairs.proofs.repairs.repair_on_floor.Goals as goal
 
@@ -16,64 +16,92 @@ pub returns-clause-ok : goal.returns-clause-ok
 returns-clause-ok g c = λ document kept.
     let floor = c.repaired.new.floor in
     let lines = kept_text c.in_ok-done.done.lines in
+    let report = c.in_ok-done.done.report.text.items in
     let asked = c.args.asked.now in
     ok_and c.put_all.result _ _ _ c.put_all.ensures.status (c.put_all.ensures.ok document kept)
     (λ status is put. record {
       floor = floor;
       kept = lines;
-      known = c.in_ok-all_known.ensures.ok;
-      run = λ l. c.in_ok-done.ensures.run l;
-      only = c.in_ok-done.ensures.only;
-      stay = λ to_stay. c.in_ok-done.ensures.kept to_stay;
-      report = c.in_ok-done.done.report.text.items;
-      tells = subst (λ (bounds : List ℕ). IsReport (map (λ team. team.now) asked.teams.now) bounds floor c.in_ok-done.done.report.text.items)
-          c.deref.ensures.value c.in_ok-done.ensures.told;
+      report = report;
+      repair = record {
+        known = c.in_ok-all_known.ensures.ok;
+        run = λ l. c.in_ok-done.ensures.run l;
+        only = c.in_ok-done.ensures.only;
+        stay = λ to_stay. c.in_ok-done.ensures.kept to_stay;
+        tells = subst (λ (bounds : List ℕ). IsReport (map (λ team. team.now) asked.teams.now) bounds floor report) c.deref.ensures.value c.in_ok-done.ensures.told;
+      };
       put = subst (λ (puts : Option (List Put)). IsPut (path_of asked.export) (path_of asked.lines) c.args.before.now.original.text.items document floor lines
-          c.in_ok-done.done.report.text.items (g.W.Sink.contents c.args.writer.now) (g.W.Sink.contents c.put_all.new.writer) puts (g.E.Exports.puts c.put_all.new.exports)) c.try_files.ensures.unput put;
+          report (g.W.Sink.contents c.args.writer.now) (g.W.Sink.contents c.put_all.new.writer) puts (g.E.Exports.puts c.put_all.new.exports)) c.try_files.ensures.unput put;
       judged = subst (λ (n : ℕ). IsJudged floor n) (sym is) c.in_ok-done.ensures.judged;
     })
 
 pub returns-clause-err : goal.returns-clause-err
-returns-clause-err g c =
+returns-clause-err g c = λ document kept.
+    let floor = c.repaired.new.floor in
+    let lines = kept_text c.in_ok-done.done.lines in
+    let report = c.in_ok-done.done.report.text.items in
     let asked = c.args.asked.now in
-    let before = g.W.Sink.contents c.args.writer.now in
-    let after = g.W.Sink.contents c.put_all.new.writer in
-    let new = g.E.Exports.puts c.put_all.new.exports in
     IfErr-weaker c.put_all.result _ _
-    (λ fault both. (
-      unrepaired_as (map (λ team. team.now) asked.teams.now) (path_of asked.export) (path_of asked.lines) c.args.floor.now before after
-          (g.E.Exports.puts c.args.exports.now) new fault
-          (subst (λ (puts : Option (List Put)). IsNotPut (path_of asked.export) (path_of asked.lines) before after puts new fault) c.try_files.ensures.unput both.0),
-      blames_as fault _ _ _ _ _ _ _ _ _ _ _ _ both.1 (λ k. k) (λ r. r) (λ w. w) (λ e. e) (λ s. s)
-          (λ sound. (sound.0, sound.1 ∙ c.in_ok-try_files.ensures.sound)),
+    (λ fault unput. inr (
+      floor,
+      lines,
+      report,
+      record {
+        known = c.in_ok-all_known.ensures.ok;
+        run = λ l. c.in_ok-done.ensures.run l;
+        only = c.in_ok-done.ensures.only;
+        stay = λ to_stay. c.in_ok-done.ensures.kept to_stay;
+        tells = subst (λ (bounds : List ℕ). IsReport (map (λ team. team.now) asked.teams.now) bounds floor report) c.deref.ensures.value c.in_ok-done.ensures.told;
+      },
+      subst (λ (puts : Option (List Put)). IsNotPut (path_of asked.export) (path_of asked.lines) c.args.before.now.original.text.items document floor
+          report (g.W.Sink.contents c.args.writer.now) (g.W.Sink.contents c.put_all.new.writer) puts (g.E.Exports.puts c.put_all.new.exports) fault)
+          c.try_files.ensures.unput unput,
     ))
-    c.put_all.ensures.err
+    (c.put_all.ensures.err document kept)
+
+pub returns-clause-blames : goal.returns-clause-blames
+returns-clause-blames g c =
+    IfErr-weaker c.put_all.result _ _
+    (λ fault blames. blames_as fault _ _ _ _ _ _ _ _ _ _ _ _ blames (λ k. k) (λ r. r) (λ w. w) (λ e. e) (λ s. s)
+    (λ sound. (sound.0, sound.1 ∙ c.in_ok-try_files.ensures.sound)))
+    c.put_all.ensures.blames
 
 pub returns-in_err-all_known-clause-err : goal.returns-in_err-all_known-clause-err
-returns-in_err-all_known-clause-err g c =
+returns-in_err-all_known-clause-err g c = λ document kept.
     let p = err_from_is_err_and c.from_residual.result c.from_residual.ensures.1 in
-    let unknown = c.in_err-all_known.ensures.err in
+    rw (p.1, p.2) (inl (inl c.in_err-all_known.ensures.err, refl, refl))
+
+pub returns-in_err-all_known-clause-blames : goal.returns-in_err-all_known-clause-blames
+returns-in_err-all_known-clause-blames g c =
+    let p = err_from_is_err_and c.from_residual.result c.from_residual.ensures.1 in
     rw (p.1, p.2) (
-      untouched _ _ _ c.args.floor.now _ _ _ _ refl (inl unknown),
-      early_blames _ _ _ _ _ _ _ refl (refl, refl) (unknown_early c.args.floor.now.frame (map (λ team. team.now) c.args.asked.now.teams.now) _ unknown),
+    early_blames _ _ _ _ _ _ _ refl (refl, refl)
+    (unknown_early c.args.floor.now.frame (map (λ team. team.now) c.args.asked.now.teams.now) _ c.in_err-all_known.ensures.err)
     )
 
 pub returns-in_err-try_files-clause-err : goal.returns-in_err-try_files-clause-err
-returns-in_err-try_files-clause-err g c =
+returns-in_err-try_files-clause-err g c = λ document kept.
     let p = err_from_is_err_and c.from_residual-in_err-try_files.result c.from_residual-in_err-try_files.ensures.1 in
-    rw (p.1, p.2) (
-      untouched _ _ _ c.args.floor.now _ _ _ _ c.try_files.ensures.unput (elim c.in_err-try_files.ensures.err [
+    rw (p.1, p.2) (inl (
+      elim c.in_err-try_files.ensures.err [
         | inl exported ↦ inr (inl exported)
         | inr listed ↦ inr (inr (inl listed))
-      ]),
-      export_blames _ _ _ _ _ _ _ _ _ c.in_err-try_files.ensures.fails (λ fails. fails) (λ same. (refl, same)),
-    )
+      ],
+      refl,
+      c.try_files.ensures.unput,
+    ))
+
+pub returns-in_err-try_files-clause-blames : goal.returns-in_err-try_files-clause-blames
+returns-in_err-try_files-clause-blames g c =
+    let p = err_from_is_err_and c.from_residual-in_err-try_files.result c.from_residual-in_err-try_files.ensures.1 in
+    rw (p.1, p.2) (export_blames _ _ _ _ _ _ _ _ _ c.in_err-try_files.ensures.fails (λ fails. fails) (λ same. (refl, same)))
 
 pub returns-in_err-done-clause-err : goal.returns-in_err-done-clause-err
-returns-in_err-done-clause-err g c =
+returns-in_err-done-clause-err g c = λ document kept.
     let p = err_from_is_err_and c.from_residual-in_err-done.result c.from_residual-in_err-done.ensures.1 in
-    let memory = c.in_err-done.ensures.err in
-    rw (p.1, p.2) (
-      untouched _ _ _ c.args.floor.now _ _ _ _ c.try_files.ensures.unput (inr (inr (inr (inl memory)))),
-      early_blames _ _ _ _ _ _ _ refl (refl, c.in_ok-try_files.ensures.sound) (memory_early _ memory),
-    )
+    rw (p.1, p.2) (inl (inr (inr (inr c.in_err-done.ensures.err)), refl, c.try_files.ensures.unput))
+
+pub returns-in_err-done-clause-blames : goal.returns-in_err-done-clause-blames
+returns-in_err-done-clause-blames g c =
+    let p = err_from_is_err_and c.from_residual-in_err-done.result c.from_residual-in_err-done.ensures.1 in
+    rw (p.1, p.2) (early_blames _ _ _ _ _ _ _ refl (refl, c.in_ok-try_files.ensures.sound) (memory_early _ c.in_err-done.ensures.err))

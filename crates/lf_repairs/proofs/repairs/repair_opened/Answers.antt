@@ -28,14 +28,27 @@ returns-clause-ok g c = λ document kept.
     (rw c.in_ok-floor.ensures at (c.repair_on_floor.ensures.ok document kept))
 
 pub returns-clause-err : goal.returns-clause-err
-returns-clause-err g c = IfErr-weaker c.repair_on_floor.result _ _ (λ fault both. (inr (rw c.in_ok-floor.ensures at both.0), both.1)) c.repair_on_floor.ensures.err
+returns-clause-err g c = λ document kept.
+    IfErr-weaker c.repair_on_floor.result _ _
+    (λ fault is. inr (c.in_ok-least.least.items, record { many = c.in_ok-least.ensures.many; each = c.in_ok-least.ensures.each }, is))
+    (rw c.in_ok-floor.ensures at (c.repair_on_floor.ensures.err document kept))
 
 pub returns-in_err-floor-clause-err : goal.returns-in_err-floor-clause-err
-returns-in_err-floor-clause-err g c =
+returns-in_err-floor-clause-err g c = λ document kept.
     let p = err_from_is_err_and c.from_residual-in_err-floor.result c.from_residual-in_err-floor.ensures.1 in
-    rw (p.1, p.2) (inl (refl, refl), early_blames _ _ _ _ _ _ _ refl (refl, refl) (memory_early _ refl))
+    rw (p.1, p.2) (inl (refl, refl, refl))
+
+pub returns-in_err-floor-clause-blames : goal.returns-in_err-floor-clause-blames
+returns-in_err-floor-clause-blames g c =
+    let p = err_from_is_err_and c.from_residual-in_err-floor.result c.from_residual-in_err-floor.ensures.1 in
+    rw (p.1, p.2) (early_blames _ _ _ _ _ _ _ refl (refl, refl) (memory_early _ refl))
 
 pub returns-in_err-least-clause-err : goal.returns-in_err-least-clause-err
-returns-in_err-least-clause-err g c =
+returns-in_err-least-clause-err g c = λ document kept.
     let p = err_from_is_err_and c.from_residual.result c.from_residual.ensures.1 in
-    rw (p.1, p.2) (inl (refl, refl), early_blames _ _ _ _ _ _ _ refl (refl, refl) (memory_early _ refl))
+    rw (p.1, p.2) (inl (refl, refl, refl))
+
+pub returns-in_err-least-clause-blames : goal.returns-in_err-least-clause-blames
+returns-in_err-least-clause-blames g c =
+    let p = err_from_is_err_and c.from_residual.result c.from_residual.ensures.1 in
+    rw (p.1, p.2) (early_blames _ _ _ _ _ _ _ refl (refl, refl) (memory_early _ refl))
