@@ -203,6 +203,12 @@ files_fail limits gives path lefs state library before after fault is (inr work)
   unshown = work.2.2.2;
 }
 
+-- what is said of a fault, and what holds where there is one, give what is asked of it
+pub fails_and : {A : Type 0} (r : Result A Fault) (P R : Fault → Type 0) (Q : Type 0) → IfErr r P → OnErr r Q → ((fault : Fault) → P fault → Q → R fault)
+    → IfErr r R
+fails_and (Ok value) P R Q is also gives = tt
+fails_and (Err fault) P R Q is also gives = gives fault is also
+
 -- where no fault can be there is none
 pub never_fails : {A : Type 0} (r : Result A Fault) (P : Fault → Type 0) (Q : Type 0) → IfErr r P → ((fault : Fault) → P fault → ⊥) → OnErr r Q
 never_fails (Ok value) P Q is none = tt
