@@ -1,7 +1,9 @@
 //! Where the texts of a design are read from.
 
 ghost use Rattle.std.specs.Prelude.{◌≡◌, ℕ, List, Option, Some, None, ⊤, IfOk, IfErr};
+ghost use Rattle.std.specs.IoError.{error_kind};
 ghost use Rattle.lf_state.specs.Pieces.{joined};
+ghost use Rattle.lf_designs.specs.Texts.{unread_of};
 
 use std::alloc::Global;
 use std::collections::VecDeque;
@@ -79,7 +81,9 @@ impl<'a, T> FileTexts<'a, T> {
 }
 
 /// Why a file was not read, by what the system says.
-fn unread_of(error: &io::Error) -> Unread {
+fn unread_of(error: &io::Error) -> Unread
+    ensures { result ≡ unread_of (error_kind error.now) }
+{
     match error.kind() {
         io::ErrorKind::OutOfMemory => Unread::OutOfMemory,
         io::ErrorKind::NotFound => Unread::File(Unreadable::Missing),
