@@ -72,7 +72,8 @@ fn tall_of(
     Ok(marks)
 }
 
-/// The cells that are held fast at first: those that stand legally, or with `All` those of them that are of several rows.
+/// The cells that are held fast at first: those that stand legally, or with `All` those of them that are of several rows, unless all stand
+/// legally: then none goes anywhere.
 ///
 /// `Err` if an allocation fails.
 pub fn marks_of(
@@ -87,7 +88,8 @@ pub fn marks_of(
     match how {
         How::Keep => copied(alloc, legal),
         How::AsNeeded => copied(alloc, legal),
-        How::All => tall_of(alloc, placement, number, legal),
+        How::All if legal.contains(&false) => tall_of(alloc, placement, number, legal),
+        How::All => copied(alloc, legal),
     }
 }
 

@@ -252,12 +252,13 @@ fn a_team_stands_whole(rt: HostRuntime) -> Result<(), Fail> {
 /// The lines that a repair is to write.
 #[derive(Clone, Copy)]
 struct Writes {
+    how: How,
     lines: &'static [u8],
 }
 
 impl Asked for Writes {
     fn holds(&self, alloc: Global, floor: &mut Floor<PlainSeeker>) -> bool {
-        let told = repair_within(alloc, floor, How::Keep, usize::MAX);
+        let told = repair_within(alloc, floor, self.how, usize::MAX);
         told.repaired.is_ok() && told.lines.as_slice() == self.lines
     }
 }
@@ -266,15 +267,18 @@ impl Asked for Writes {
 fn a_legal_team_is_committed_and_no_cell_of_it_is_named(rt: HostRuntime) -> Result<(), Fail> {
     let def = def_of(rt.alloc(), &LEGAL)?;
     let lines = b"open A\ncommit A 0\nclose A 0\n";
-    assert!(rt; holds(rt.alloc(), &def, &Writes { lines })?);
+    for how in [How::Keep, How::AsNeeded, How::All] {
+        assert!(rt; holds(rt.alloc(), &def, &Writes { how, lines })?);
+    }
     Ok(())
 }
 
 #[test]
 fn a_team_with_cells_left_is_not_committed(rt: HostRuntime) -> Result<(), Fail> {
     let def = narrow_def_of(rt.alloc(), &LEGAL)?;
+    let how = How::Keep;
     let lines = b"open A\nunplace A 0 a2\nunplace A 0 a3\nclose A 0\n";
-    assert!(rt; holds(rt.alloc(), &def, &Writes { lines })?);
+    assert!(rt; holds(rt.alloc(), &def, &Writes { how, lines })?);
     Ok(())
 }
 
@@ -324,7 +328,8 @@ fn each_byte_of_the_lines_may_find_no_room(rt: HostRuntime) -> Result<(), Fail> 
             "{left} bytes"
         );
     }
-    assert!(rt; holds(rt.alloc(), &def, &Writes { lines: LINES })?);
+    let (how, lines) = (How::Keep, LINES);
+    assert!(rt; holds(rt.alloc(), &def, &Writes { how, lines })?);
     Ok(())
 }
 
