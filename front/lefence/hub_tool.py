@@ -164,10 +164,12 @@ async def run(options: argparse.Namespace) -> None:
         if options.export:
             hub.exporter.refuse(options.export)
         await serve(hub, options, stopped)
-        if told := uncommitted_text(hub):
-            say(told)
         await hub.server.kill()
-        await hub.checkpoints.make_last(hub.crowd, hub.figures, options.roll)
+        if hub.teams:
+            # (a start that was cut short knows no more than a part of who has a session)
+            if told := uncommitted_text(hub):
+                say(told)
+            await hub.checkpoints.make_last(hub.crowd, hub.figures, options.roll)
         if options.roll and journal.tail_changes:
             raise Fault(FAILED, "the state that --roll is for is not made")
         if options.export and await hub.exporter.write(options.export, journal.place) is not None:
