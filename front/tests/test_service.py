@@ -326,6 +326,34 @@ class Shares(unittest.TestCase):
 
         self.assertEqual(asyncio.run(judge()), [False, False, True])
 
+    def test_who_goes_and_reads_no_more_is_dropped(self) -> None:
+        self.hub.patience = 0.1
+
+        async def part(unread: int, read: int) -> None:
+            near, far = socket.socketpair()
+            near.setsockopt(socket.SOL_SOCKET, socket.SO_SNDBUF, 4096)
+            near.setblocking(False)
+            far.setblocking(False)
+            with contextlib.suppress(BlockingIOError):
+                while near.send(bytes(1 << 10)):
+                    pass
+            with far:
+                _, client = await asyncio.get_running_loop().connect_accepted_socket(lambda: Client(self.hub, b"f0"), near)
+                client.replies.append(bytes(unread))
+                client.flush()
+                client.part()
+                while client.is_clogged and read:
+                    with contextlib.suppress(BlockingIOError):
+                        far.recv(read)
+                    await asyncio.sleep(0)
+                async with asyncio.timeout(PATIENCE):
+                    while self.hub.crowd.clients:
+                        await asyncio.sleep(0.01)
+
+        # What is left is little from the first on, or once the client has read some of it.
+        asyncio.run(part(1000, 0))
+        asyncio.run(part(100_000, 1 << 12))
+
 
 class Faults(FrontCase):
     def test_behind_a_fault_nothing_more_is_answered(self) -> None:
