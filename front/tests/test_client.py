@@ -8,6 +8,7 @@ import gc
 import inspect
 import io
 import os
+import pickle
 import signal
 import socket
 import threading
@@ -83,6 +84,9 @@ class Verbs(HubCase):
             with self.assertRaises(error):
                 ask()
         self.assertEqual(session.undo(), 2)
+        for refusal in (illegal, unplaced.exception):
+            same = pickle.loads(pickle.dumps(refusal))
+            self.assertEqual((type(same), same.fields, str(same)), (type(refusal), refusal.fields, str(refusal)))
         with self.assertRaises(lefence.NothingToUndo):
             session.undo()
         rest = [session.connection.session("f0").open() for _ in range(7)]
