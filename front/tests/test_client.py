@@ -14,7 +14,7 @@ import socket
 import threading
 import time
 import unittest
-from collections.abc import Awaitable, Callable
+from collections.abc import Callable
 from decimal import Decimal
 from typing import assert_type, cast
 from unittest import mock
@@ -391,20 +391,32 @@ class Others(HubCase):
             with self.assertRaisesRegex(lefence.ProtocolError, "abc"):
                 session.def_text()
 
-    def aio_connection(self, end: socket.socket) -> Awaitable[lefence.aio.Connection]:
-        """A connection of asyncio that times out, and is to be made where its loop runs."""
+    def test_a_session_whose_units_are_not_told_is_closed_again(self) -> None:
+        near, far = socket.socketpair()
+        asked: list[bytes] = []
 
-        async def connect() -> lefence.aio.Connection:
-            return lefence.aio.Connection(*await asyncio.open_connection(sock=end), 0.5)
+        def answer() -> None:
+            with far, far.makefile("rb") as lines:
+                for reply in (b"ok 3 0\n", b"hello\n", b"ok\n"):
+                    asked.append(lines.readline())
+                    far.sendall(reply)
 
-        return connect()
+        answering = threading.Thread(target=answer)
+        answering.start()
+        with lefence.Connection(near, timeout=5) as connection, self.assertRaisesRegex(lefence.ProtocolError, "hello"):
+            connection.session("A", microns=True).open()
+        answering.join()
+        self.assertEqual(asked, [b"open A\n", b"units\n", b"close A 3\n"])
+
+    async def aio_connection(self, end: socket.socket, timeout: float) -> lefence.aio.Connection:
+        return lefence.aio.Connection(*await asyncio.open_connection(sock=end), timeout)
 
     def test_asyncio_tells_all_that_wait_where_an_end_talks_otherwise_or_reads_nothing(self) -> None:
         async def ask(reply: bytes, line: bytes, *errors: type[Exception]) -> None:
             near, far = socket.socketpair()
             with far:
                 asyncio.get_running_loop().call_later(0.1, far.sendall, reply)
-                async with asyncio.timeout(PATIENCE), await self.aio_connection(near) as connection:
+                async with asyncio.timeout(PATIENCE), await self.aio_connection(near, 1) as connection:
                     told = await asyncio.gather(*(connection.ask_line(line) for _ in range(200)), return_exceptions=True)
                     self.assertEqual([type(each) for each in told[:2]], [*errors])
 
@@ -417,7 +429,7 @@ class Others(HubCase):
         async def cancel(is_late: bool) -> None:
             near, far = socket.socketpair()
             asyncio.get_running_loop().set_exception_handler(lambda loop, context: said.append(context))
-            connection = await self.aio_connection(near)
+            connection = await self.aio_connection(near, PATIENCE)
             with far:
                 opening = asyncio.create_task(connection.session("A", microns=True).__aenter__())
                 await asyncio.sleep(0.05)
