@@ -216,7 +216,7 @@ class Farms(FarmCase):
         self.assertEqual([ranges_of(numbers) for numbers in ([7], [1, 2, 3, 5, 8, 9], [*range(1, 5001)])], ["7", "1-3,5,8-9", "1-5000"])
 
     def test_a_signal_ends_the_teams_at_work(self) -> None:
-        words = ["work", "t.def", "t.lef", "--program", PROGRAM, "--", "sleep", "60"]
+        words = ["work", "t.def", "t.lef", "--program", PROGRAM, "--processes", "3", "--", "sleep", "60"]
         with subprocess.Popen([*tool_words("lefence-farm"), *words], cwd=self.folder, stderr=subprocess.DEVNULL) as farm:
             last = time.monotonic() + PATIENCE
             while not all((self.work / str(number) / "journal").exists() for number in (1, 2, 3)):
