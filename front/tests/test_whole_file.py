@@ -61,7 +61,7 @@ class WholeFiles(FrontCase):
             self.assertEqual(sorted(os.listdir(self.folder)), ["t.def", "t.lef", "x.svg"])
 
     def test_a_tool_that_is_told_to_end_leaves_nothing_behind(self) -> None:
-        words = ["t.def", "t.lef", "--output", "x", "--program", self.describing("exec sleep 60")]
+        words = ["t.def", "t.lef", "--output", "x", "--program", self.describing("exec sleep 10")]
         before = sorted(os.listdir(self.folder))
         with subprocess.Popen([*tool_words("lefence-markers"), *words], cwd=self.folder) as tool:
             last = time.monotonic() + PATIENCE
