@@ -101,6 +101,16 @@ def build(room: Path, folder: Path) -> None:
     with open(folder / "built", "wb") as said:
         environment = {**os.environ, "TMPDIR": str(folder)}
         trying = subprocess.Popen(words, cwd=room / "crates/lefence", stdout=said, stderr=said, env=environment)
+    try:
+        keep_program(trying, room, folder)
+    finally:
+        # (whatever ends this tool ends it too)
+        trying.terminate()
+        trying.wait()
+
+
+def keep_program(trying: subprocess.Popen[bytes], room: Path, folder: Path) -> None:
+    """Waits for the program that is built and serves, and puts it where the tests look for it."""
     end = time.monotonic() + PATIENCE
     while (found := words_of_program(folder)) is None:
         if trying.poll() is not None or time.monotonic() > end:
@@ -114,8 +124,6 @@ def build(room: Path, folder: Path) -> None:
     kept.write_bytes(Path(found[-1]).read_bytes())
     kept.chmod(0o755)
     launcher([*found[:-1], str(kept)], target)
-    trying.send_signal(signal.SIGTERM)
-    trying.wait()
 
 
 def passes(room: Path, test: str) -> bool:

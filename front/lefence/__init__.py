@@ -15,6 +15,7 @@ from typing import TYPE_CHECKING
 
 from .cells import Cell
 from .client import Connection, ConnectionLost, Pending, Pipeline, Session, connect
+from .protocol import ProtocolError
 from .refusals import (
     BadRequest,
     Illegal,
@@ -31,7 +32,7 @@ from .refusals import (
     Stale,
     Unplaced,
 )
-from .verbs import Legalized, Place, ProtocolError, Report, Tidied, Violation
+from .verbs import Legalized, Place, Report, Tidied, Violation
 
 if TYPE_CHECKING:
     from . import aio

@@ -17,8 +17,8 @@ from typing import TypeVar
 
 from . import verbs
 from .cells import Cell, cells_in
-from .client import ConnectionLost, answer_of, named
-from .protocol import text_length
+from .client import ConnectionLost, answer_of, named, refuse_port
+from .protocol import ProtocolError, is_accepted, text_length
 from .refusals import BadRequest, Refusal, Stale
 from .session import BaseSession, Wishes
 from .verbs import Request
@@ -36,6 +36,7 @@ async def connect(where: str | os.PathLike[str], port: int | None = None, timeou
     use. Raises OSError, which names the path or HOST:PORT, where nobody listens.
     """
     place = os.fspath(where)
+    refuse_port(port)
     try:
         async with asyncio.timeout(timeout):
             if port is not None:
@@ -56,7 +57,8 @@ class Connection:
         self._count = 0
         self._is_told = False
         self._waiting: deque[tuple[bytes, asyncio.Future[bytes]]] = deque()
-        self._lost: ConnectionLost | None = None
+        # Why the connection is lost.
+        self._lost: str | None = None
         self._reading = asyncio.create_task(self._read())
 
     async def __aenter__(self) -> Connection:
@@ -82,21 +84,33 @@ class Connection:
             raise ValueError("a line has no line feed in it")
         try:
             return await self._ask_line(line)
-        except (ConnectionLost, TimeoutError):
+        except (ConnectionLost, TimeoutError, ProtocolError):
             self._is_told = True
             raise
 
     async def _ask_line(self, line: bytes) -> bytes:
+        # (that a sender waits for its reply bounds what is unsent)
+        reply = self._send(line)
+        try:
+            return await self._within(reply)
+        except BaseException:
+            if not reply.cancel() and not reply.cancelled() and not reply.exception():
+                # (it came when its caller was cancelled already)
+                self._close_unheard(line, reply.result())
+            raise
+
+    def _send(self, line: bytes) -> asyncio.Future[bytes]:
         if self._lost:
-            raise self._lost
+            raise ConnectionLost(self._lost)
         reply: asyncio.Future[bytes] = asyncio.get_running_loop().create_future()
         self._waiting.append((line, reply))
         self._writer.write(line + b"\n")
-        try:
-            await self._writer.drain()
-        except OSError as error:
-            self._lose(f"the connection is lost: {error}")
-        return await self._within(reply)
+        return reply
+
+    def send_unheard(self, line: bytes) -> None:
+        """Sends a line to whose reply nobody listens, where the connection is not lost."""
+        if not self._lost:
+            self._send(line).cancel()
 
     async def _within(self, reply: asyncio.Future[bytes]) -> bytes:
         """The reply, as long as some reply comes within the timeout."""
@@ -106,7 +120,6 @@ class Connection:
             if done:
                 break
             if count == self._count:
-                reply.cancel()
                 raise TimeoutError(f"no reply for {self._timeout} seconds")
         return await reply
 
@@ -126,6 +139,9 @@ class Connection:
     async def close(self) -> None:
         """Ends the connection; a hub then frees its sessions."""
         self._reading.cancel()
+        if self._lost or self._is_told or self._writer.transport.get_write_buffer_size():
+            # (nobody may be there who reads the rest)
+            self._writer.transport.abort()
         self._writer.close()
         try:
             await self._writer.wait_closed()
@@ -145,33 +161,54 @@ class Connection:
                 self._count += 1
                 if not waits.done():
                     waits.set_result(reply)
+                else:
+                    self._close_unheard(line, reply)
             self._lose("the connection was ended by the other end")
-        except (OSError, asyncio.IncompleteReadError) as error:
+        except ProtocolError as error:
+            _, waits = self._waiting.popleft()
+            if not waits.done():
+                waits.set_exception(error)
+            self._lose(f"the connection is lost: {error}")
+        except Exception as error:
             self._lose(f"the connection is lost: {error}")
 
+    def _close_unheard(self, line: bytes, reply: bytes) -> None:
+        """Closes a session whose opener was cancelled, so that its slot is free again."""
+        words, told = line.split(), reply.split()
+        if words[:1] == [b"open"] and len(words) == 2 and is_accepted(reply) and len(told) > 1:
+            self.send_unheard(b"close %b %b" % (words[1], told[1]))
+
     def _lose(self, text: str) -> None:
-        self._lost = self._lost or ConnectionLost(text)
+        self._lost = self._lost or text
         while self._waiting:
             _, waits = self._waiting.popleft()
             if not waits.done():
-                waits.set_exception(self._lost)
+                waits.set_exception(ConnectionLost(self._lost))
 
 
 class Session(BaseSession[Connection]):
     """A session of a team: each method is a coroutine that sends a verb and returns what its reply says, or raises its refusal."""
 
     async def open(self) -> Session:
-        """Opens the session. Refused by NoTeam, SessionsFull."""
+        """Opens the session, which is not open. Refused by NoTeam, SessionsFull."""
+        self._refuse_open()
         number, self.first_revision = await self.connection.ask(verbs.open_session(self.team))
         self._begin(number)
-        if self._lacks_units:
-            try:
-                units = await self.connection.ask(verbs.units())
-            except BadRequest:
-                units = verbs.units_in(await self.def_text())
-            self._per_micron = units
-            self._begin(number)
+        try:
+            if self._lacks_units:
+                self._per_micron = await self._units()
+                self._begin(number)
+        except BaseException:
+            scope, self._scope = self.scope, None
+            self.connection.send_unheard(verbs.close_session(scope).line)
+            raise
         return self
+
+    async def _units(self) -> int:
+        try:
+            return await self.connection.ask(verbs.units())
+        except BadRequest:
+            return verbs.units_in(await self.def_text())
 
     async def close(self) -> None:
         """Frees the session. Refused by NoSession."""
@@ -192,7 +229,7 @@ class Session(BaseSession[Connection]):
             return
         try:
             await self.close()
-        except (Refusal, OSError):
+        except (Refusal, OSError, ProtocolError):
             # What went wrong in the block counts more than that the session is gone already.
             if kind is None:
                 raise

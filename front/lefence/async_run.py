@@ -27,6 +27,8 @@ async def start_run(words: list[str], is_asked: bool) -> AsyncRun:
         stdout=pipe,
         stderr=said,
         start_new_session=True,
+        # (a file that it writes is private until it takes its mode)
+        umask=0o077,
         limit=PIECE if is_asked else _LONGEST,
     )
     return AsyncRun(process, said)

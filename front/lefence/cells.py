@@ -12,7 +12,8 @@ from typing import cast
 
 from .design import Entry, entries, shown, statements
 from .lef import sizes_of
-from .verbs import Length, Place, ProtocolError, Scope, units_in
+from .protocol import ProtocolError
+from .verbs import Length, Place, Scope, units_in
 
 # Orientations in which a macro lies on its side.
 _TURNED = frozenset("E W FE FW R90 R270 MXR90 MYR90".split())

@@ -14,6 +14,7 @@ from __future__ import annotations
 import os
 import selectors
 import socket
+import time
 from collections import deque
 from dataclasses import dataclass
 from types import TracebackType
@@ -21,15 +22,16 @@ from typing import Any, Generic, TypeVar
 
 from . import verbs
 from .cells import Cell, cells_in
-from .protocol import text_length
+from .protocol import ProtocolError, text_length
 from .refusals import BadRequest, Refusal, Stale, refusal_of
 from .session import BaseSession, Verbs, Wishes
-from .verbs import ProtocolError, Request, Scope, read_reply
+from .verbs import Request, Scope, read_reply
 
 T = TypeVar("T")
 
 # Bytes that are read at a time, and that may wait to be sent before a sender reads what came.
 _PIECE = 1 << 16
+_MOST_PORT = 65535
 
 
 class ConnectionLost(ConnectionError):
@@ -42,10 +44,17 @@ def connect(where: str | os.PathLike[str], port: int | None = None, timeout: flo
     With a timeout in seconds, a reply that takes longer raises TimeoutError, after which the connection is of no use. Raises
     OSError, which names the path or HOST:PORT, where nobody listens.
     """
+    refuse_port(port)
     try:
         return Connection(_end_at(os.fspath(where), port, timeout), timeout)
     except OSError as error:
         raise named(error, os.fspath(where), port) from None
+
+
+def refuse_port(port: int | None) -> None:
+    """ValueError of a number that is no port: the system would take another one for it."""
+    if port is not None and not 0 <= port <= _MOST_PORT:
+        raise ValueError(f"{port} is no port, which is a number up to {_MOST_PORT}")
 
 
 def _end_at(where: str, port: int | None, timeout: float | None) -> socket.socket:
@@ -74,7 +83,7 @@ def named(error: OSError, where: str, port: int | None) -> OSError:
 
 @dataclass
 class Sent:
-    """A line that was sent, and its whole reply, once it has been read."""
+    """A line that was sent or waits to be, and its whole reply, once it has been read."""
 
     line: bytes
     reply: bytes | None = None
@@ -146,7 +155,7 @@ class Connection:
         return answer_of(request, self.ask_line(request.line))
 
     def send(self, line: bytes) -> Sent:
-        """Sends a line and waits for nothing; `wait` gives its reply."""
+        """Queues a line and waits for nothing; it goes out once somebody waits or flushes, or many are queued. `wait` gives its reply."""
         if b"\n" in line:
             raise ValueError("a line has no line feed in it")
         sent = Sent(line)
@@ -156,53 +165,70 @@ class Connection:
             self._turn(waits=False)
         return sent
 
+    def flush(self) -> None:
+        """Sends all lines that are queued."""
+        last = self._deadline()
+        while self._out:
+            self._turn(last)
+
     def wait(self, sent: Sent) -> bytes:
         """The whole reply to a line that was sent; those to earlier ones come before it and are kept."""
         while sent.reply is None:
             first = self._unanswered[0]
-            first.reply = self._next_reply(first.line)
+            try:
+                first.reply = self._next_reply(first.line, self._deadline())
+            except ProtocolError:
+                # (where the next reply begins is not known)
+                self._is_lost = True
+                raise
             self._unanswered.popleft()
         return sent.reply
 
-    def _next_reply(self, line: bytes) -> bytes:
+    def _deadline(self) -> float | None:
+        """By when a reply must be there."""
+        return None if self._timeout is None else time.monotonic() + self._timeout
+
+    def _next_reply(self, line: bytes, last: float | None) -> bytes:
         begin = 0
         while (end := self._in.find(b"\n", begin)) < 0:
             begin = len(self._in)
-            self._turn()
+            self._turn(last)
         end += 1
         length = text_length(line, bytes(self._in[:end])) if line.lstrip().startswith(b"def") else 0
         while len(self._in) < end + length:
-            self._turn()
+            self._turn(last)
         reply = bytes(self._in[: end + length])
         del self._in[: end + length]
         return reply
 
-    def _turn(self, waits: bool = True) -> None:
+    def _turn(self, last: float | None = None, waits: bool = True) -> None:
         """Sends and reads what goes; both, so that neither end waits for the other."""
         if not self._is_open:
             raise ConnectionLost("the connection is closed")
         try:
-            self._exchange(waits)
+            self._exchange(last, waits)
         except (TimeoutError, ConnectionLost):
             self._is_lost = True
             raise
 
-    def _exchange(self, waits: bool) -> None:
+    def _exchange(self, last: float | None, waits: bool) -> None:
         events = selectors.EVENT_READ | (selectors.EVENT_WRITE if self._out else 0)
         if events != self._events:
             self._selector.modify(self._end, events)
             self._events = events
-        ready = self._selector.select(self._timeout if waits else 0)
+        left = None if last is None else max(0, last - time.monotonic())
+        ready = self._selector.select(left if waits else 0)
         if not ready and waits:
             raise TimeoutError(f"no reply for {self._timeout} seconds")
         try:
-            if ready and ready[0][1] & selectors.EVENT_WRITE:
-                del self._out[: self._end.send(self._out[:_PIECE])]
+            # (what came is read first: where the other end is gone, nothing can be sent, and its last replies are there all the same)
             if ready and ready[0][1] & selectors.EVENT_READ:
                 piece = self._end.recv(_PIECE)
                 if not piece:
                     raise ConnectionLost("the connection was ended by the other end")
                 self._in += piece
+            elif ready:
+                del self._out[: self._end.send(self._out[:_PIECE])]
         except BlockingIOError:
             pass
         except (BrokenPipeError, ConnectionResetError) as error:
@@ -221,7 +247,7 @@ def answer_of(request: Request[T], reply: bytes) -> T:
 
 
 class Pending(Generic[T]):
-    """A request in flight."""
+    """A request that was sent, or is queued behind others."""
 
     def __init__(self, pipeline: Pipeline, request: Request[T]) -> None:
         self.request = request
@@ -246,7 +272,11 @@ class Pending(Generic[T]):
     @property
     def refusal(self) -> Refusal | None:
         """Its refusal, if its reply is one; the reply is waited for."""
-        return refusal_of(self._reply())
+        try:
+            self.result()
+        except Refusal as refusal:
+            return refusal
+        return None
 
     def _reply(self) -> bytes:
         reply = self._pipeline.settled(self)
@@ -258,16 +288,24 @@ class Session(BaseSession[Connection]):
     """A session of a team: each method sends a verb, waits for its reply and returns what it says, or raises its refusal."""
 
     def open(self) -> Session:
-        """Opens the session. Refused by NoTeam, SessionsFull."""
+        """Opens the session, which is not open. Refused by NoTeam, SessionsFull."""
+        self._refuse_open()
         number, self.first_revision = self.connection.ask(verbs.open_session(self.team))
         self._begin(number)
-        if self._lacks_units:
-            try:
-                self._per_micron = self.connection.ask(verbs.units())
-            except BadRequest:
-                self._per_micron = verbs.units_in(self.def_text())
-            self._begin(number)
+        try:
+            if self._lacks_units:
+                self._per_micron = self._units()
+                self._begin(number)
+        except Exception as error:
+            self.__exit__(type(error), error, None)
+            raise
         return self
+
+    def _units(self) -> int:
+        try:
+            return self.connection.ask(verbs.units())
+        except BadRequest:
+            return verbs.units_in(self.def_text())
 
     def cells(self, *libraries: str | os.PathLike[str]) -> list[Cell]:
         """The team's cells in loading order, with their macros and working places; with the LEF texts also their sizes.
@@ -291,7 +329,7 @@ class Session(BaseSession[Connection]):
             return
         try:
             self.close()
-        except (Refusal, OSError):
+        except (Refusal, OSError, ProtocolError):
             # What went wrong in the block counts more than that the session is gone already.
             if kind is None:
                 raise
@@ -306,7 +344,7 @@ class Session(BaseSession[Connection]):
         return self.connection.ask(request)
 
     def pipeline(self, *, raises: bool = True) -> Pipeline:
-        """Many lines in flight: in its block each method of the pipeline sends its verb and returns a `Pending` at once.
+        """Many lines in flight: in its block each method of the pipeline queues its verb and returns a `Pending` at once.
 
         The end of the block waits for all replies and raises the first refusal of which the block was not told; with `raises`
         False none, so that the caller asks each `Pending`.
@@ -353,7 +391,7 @@ class Pipeline(Verbs):
         untold = [pending for pending in self._begun if not pending.is_told]
         try:
             refusals = [pending.refusal for pending in untold]
-        except OSError:
+        except (OSError, ProtocolError):
             if kind is None:
                 raise
             return
@@ -362,7 +400,7 @@ class Pipeline(Verbs):
             raise first
 
     def ask(self, request: Request[T]) -> Pending[T]:
-        """Sends a request, and waits for nothing."""
+        """Queues a request, which goes out as `Connection.send` says, and waits for nothing."""
         pending = Pending(self, request)
         self._begun.append(pending)
         return pending

@@ -77,7 +77,8 @@ class Crowd:
         if fields[0] == b"open":
             self.holders[fields[1], int(reply.split()[1])] = Holder(client, time.time())
         elif fields[0] == b"close":
-            del self.holders[fields[1], int(fields[2])]
+            # (a journal of before may lack who had it)
+            self.holders.pop((fields[1], int(fields[2])), None)
 
     def above_share(self, batch: list[Entry]) -> list[Entry]:
         """The lines of the batch by which a user would open more sessions of a team than one may have."""

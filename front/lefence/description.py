@@ -40,6 +40,10 @@ class Box(NamedTuple):
     def height(self) -> int:
         return self.top - self.bottom
 
+    @property
+    def area(self) -> int:
+        return self.width * self.height
+
 
 class Facts(NamedTuple):
     """The design's name, its database units in a micron, and the core site."""

@@ -11,7 +11,7 @@ from pathlib import Path
 
 from .client import Connection, connect
 from .description import take_team
-from .faults import FAILED, REFUSED, Fault
+from .faults import FAILED, REFUSED, USAGE, Fault
 from .program import Program, Run, find_program
 from .protocol import GROUND, team_of_socket
 
@@ -40,8 +40,10 @@ def connect_to(where: str) -> Endpoint:
         if found and not Path(where).exists():
             return Endpoint(connect(found[1], int(found[2])), [])
         return Endpoint(connect(where), _teams_at(Path(where)))
-    except (OSError, OverflowError) as error:
-        reason = "it is no socket" if os.path.isfile(where) else error.strerror if isinstance(error, OSError) else None
+    except ValueError as error:
+        raise Fault(USAGE, f"{where}: {error}") from None
+    except OSError as error:
+        reason = "it is no socket" if os.path.isfile(where) else error.strerror
         raise Fault(FAILED, f"{where}: {reason or error}") from None
 
 

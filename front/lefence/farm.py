@@ -24,7 +24,7 @@ from typing import BinaryIO
 
 from .client import connect
 from .design import Design, shown
-from .faults import DONE, FAILED, REFUSED, Fault, log, words_of
+from .faults import DONE, FAILED, REFUSED, USAGE, Fault, log, words_of
 from .frames import sum_of
 from .merge import merge
 from .program import Program
@@ -65,7 +65,11 @@ class Plan:
 
     @staticmethod
     def load(work: Path) -> Plan:
-        return Plan(**json.loads((work / "farm.json").read_bytes()))
+        path = work / "farm.json"
+        try:
+            return Plan(**json.loads(path.read_bytes()))
+        except (TypeError, ValueError):
+            raise Fault(REFUSED, f"{path} is no plan of this version of {TOOL}: give another folder, or remove {work}") from None
 
     def numbers_left(self, work: Path) -> list[int]:
         """The numbers of the teams that are not done."""
@@ -99,6 +103,8 @@ def begin(work: Path, plan: Plan, design: Design) -> None:
 def run_team(work: Path, number: int) -> int:
     """The work of one team: the command beside a hub over the slice, or a repair of it. Its status, which is kept in `done` or `failed`."""
     plan, own = Plan.load(work), work / str(number)
+    if not 1 <= number <= len(plan.teams):
+        raise Fault(USAGE, f"{work} has no team number {number}: they are 1 to {len(plan.teams)}")
     if (own / "done").exists():
         return DONE
     (own / "failed").unlink(missing_ok=True)

@@ -48,24 +48,46 @@ def _script(farm: Farm, name: str, *words: str, variable: str = "") -> Path:
     return path
 
 
+def ranges_of(numbers: list[int]) -> str:
+    """Numbers that increase as an engine takes them, `1-4,7`: a word of a command line has a bound."""
+    runs: list[list[int]] = []
+    for number in numbers:
+        if runs and runs[-1][-1] == number - 1:
+            runs[-1][1:] = [number]
+        else:
+            runs.append([number])
+    return ",".join("-".join(map(str, run)) for run in runs)
+
+
 def local(farm: Farm, numbers: list[int]) -> int:
     """The teams one after another, as many at once as there are to be processes; then what they did."""
 
+    running: list[subprocess.Popen[bytes]] = []
+
     def run(number: int) -> int:
+        words = task_words(farm.work, "--task", str(number))
         with open(farm.work / str(number) / "log", "ab") as told:
-            words = task_words(farm.work, "--task", str(number))
-            return subprocess.run(words, stdin=subprocess.DEVNULL, stdout=told, stderr=subprocess.STDOUT).returncode
+            task = subprocess.Popen(words, stdin=subprocess.DEVNULL, stdout=told, stderr=subprocess.STDOUT)
+        running.append(task)
+        return task.wait()
 
     with ThreadPoolExecutor(farm.most or os.cpu_count() or 1) as pool:
         teams = Plan.load(farm.work).teams
-        for number, status in zip(numbers, pool.map(run, numbers)):
-            log(TOOL, f"team {teams[number - 1]}: {'done' if status == DONE else f'ended with {status}'}")
+        try:
+            for number, status in zip(numbers, pool.map(run, numbers)):
+                log(TOOL, f"team {teams[number - 1]}: {'done' if status == DONE else f'ended with {status}'}")
+        except SystemExit:
+            # (by a signal, which the teams at work have not had)
+            pool.shutdown(wait=False, cancel_futures=True)
+            for task in running:
+                task.terminate()
+            raise
     return collect(farm.work)
 
 
 def slurm(farm: Farm, numbers: list[int]) -> int:
     """A job array of Slurm with a task for each team, and a job behind it that collects what they did."""
-    array = ",".join(map(str, numbers)) + (f"%{farm.most}" if farm.most else "")
+    array = ranges_of(numbers) + (f"%{farm.most}" if farm.most else "")
     task = _script(farm, "task.sh", "--task", variable="SLURM_ARRAY_TASK_ID")
     last = _script(farm, "collect.sh", "--collect")
     common = ["sbatch", "--parsable", *farm.words]
@@ -80,7 +102,7 @@ def slurm(farm: Farm, numbers: list[int]) -> int:
 
 def lsf(farm: Farm, numbers: list[int]) -> int:
     """The same by LSF."""
-    array = f"lefence[{','.join(map(str, numbers))}]" + (f"%{farm.most}" if farm.most else "")
+    array = f"lefence[{ranges_of(numbers)}]" + (f"%{farm.most}" if farm.most else "")
     task = _script(farm, "task.sh", "--task", variable="LSB_JOBINDEX")
     last = _script(farm, "collect.sh", "--collect")
     waits = []
@@ -153,7 +175,15 @@ def plan_of(options: argparse.Namespace, command: list[str], design: Design) -> 
     export = str((options.export or options.work / "new.def").resolve())
     teams = teams_of(design)
     return Plan(
-        texts[0], texts[1:], sum_of(options.texts[0]), teams, command, os.getcwd(), find_program(options.program), export, options.merge
+        design=texts[0],
+        libraries=texts[1:],
+        sum=sum_of(options.texts[0]),
+        teams=teams,
+        command=command,
+        folder=os.getcwd(),
+        program=find_program(options.program),
+        export=export,
+        is_merged=options.merge,
     )
 
 

@@ -4,10 +4,13 @@ from __future__ import annotations
 
 import argparse
 import os
+import signal
 import sys
+import threading
 import traceback
 from collections.abc import Callable
 from pathlib import Path
+from types import FrameType
 
 from . import __version__
 
@@ -64,8 +67,14 @@ def log(tool: str, text: str) -> None:
         pass
 
 
+def _end(number: int, frame: FrameType | None) -> None:
+    sys.exit(128 + number)
+
+
 def run_tool(tool: str, work: Callable[[], int]) -> int:
-    """The exit status of a tool's work; a fault is told on standard error."""
+    """The exit status of a tool's work; a fault is told on standard error, and SIGTERM leaves nothing behind."""
+    if threading.current_thread() is threading.main_thread() and signal.getsignal(signal.SIGTERM) == signal.SIG_DFL:
+        signal.signal(signal.SIGTERM, _end)
     try:
         status = work()
         sys.stdout.flush()

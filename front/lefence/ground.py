@@ -25,11 +25,11 @@ def areas_of(frame: Frame) -> dict[str, int]:
         rows.sort()
         inside = fences.between(bottom, top)
         taken = sorted((part, "") for part, _ in _meetings(rows, obstacles.between(bottom, top)))
-        areas[GROUND] += sum(map(_area, rows)) - sum(_area(part) for part, _ in taken)
+        areas[GROUND] += sum(row.area for row in rows) - sum(part.area for part, _ in taken)
         for sign, boxes in ((1, rows), (-1, [part for part, _ in taken])):
             for part, team in _meetings(boxes, inside):
-                areas[team] += sign * _area(part)
-                areas[GROUND] -= sign * _area(part)
+                areas[team] += sign * part.area
+                areas[GROUND] -= sign * part.area
     return areas
 
 
@@ -52,10 +52,6 @@ class _Sweep:
         for box, owner in self._here:
             parts[owner].append(Box(box.left, max(box.bottom, bottom), box.right, min(box.top, top)))
         return sorted((box, owner) for owner, boxes in parts.items() for box in _apart(boxes))
-
-
-def _area(box: Box) -> int:
-    return box.width * box.height
 
 
 def _apart(boxes: list[Box]) -> Iterator[Box]:

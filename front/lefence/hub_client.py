@@ -161,6 +161,9 @@ class Client(asyncio.BufferedProtocol):
                 if not os.read(self.transport.get_extra_info("socket").fileno(), _BUFFER):
                     break
         self.transport.close()
+        if self._timer is None and self.transport.get_write_buffer_size():
+            # (the transport waits for ever for one that reads nothing)
+            self._judge(sys.maxsize)
 
     def pause_writing(self) -> None:
         self.is_clogged = True
@@ -184,8 +187,10 @@ class Client(asyncio.BufferedProtocol):
     def resume_writing(self) -> None:
         self.is_clogged = False
         self.host.unclog(self)
-        if self._timer is not None:
+        # (what is left for one that is done must be read to its end)
+        if self._timer is not None and not self.is_done:
             self._timer.cancel()
+            self._timer = None
         self.host.wake(self)
 
     def connection_lost(self, error: Exception | None) -> None:

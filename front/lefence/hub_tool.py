@@ -29,7 +29,7 @@ from .protocol import MOST_SLOTS, socket_name
 from .server import Server
 from .sockets import bound_socket, groups_of, take_folder
 from .status import ask_status, uncommitted_text
-from .texts import settle_texts
+from .texts import remove_partial_texts, settle_texts
 
 TOOL = "lefence-hub"
 # Connections of a socket that may wait to be taken in, and how many asyncio takes in at a time: where no descriptor is left, it
@@ -151,7 +151,9 @@ async def run(options: argparse.Namespace) -> None:
     program = find_program(options.program)
     take_folder(options.sockets)
     texts, kept = settle_texts(options.journal, paths, say)
-    journal = Journal(options.journal, texts, say, not options.no_sync, own(program), options.takeover, options.sessions)
+    journal = Journal(options.journal, texts, say, own(program), options.takeover, options.sessions)
+    journal.is_synced = not options.no_sync
+    remove_partial_texts(options.journal)
     bounds = Bounds(options.patience, options.idle, options.deadline, Limits(options.tail_bytes, options.tail_seconds, options.keep))
     hub = Hub(Server(Program(program, kept, journal.header.slots), [text.sum for text in texts]), journal, bounds, say)
     hub.exporter.given = paths
@@ -164,10 +166,12 @@ async def run(options: argparse.Namespace) -> None:
         if options.export:
             hub.exporter.refuse(options.export)
         await serve(hub, options, stopped)
-        if told := uncommitted_text(hub):
-            say(told)
         await hub.server.kill()
-        await hub.checkpoints.make_last(hub.crowd, hub.figures, options.roll)
+        if hub.teams:
+            # (a start that was cut short knows no more than a part of who has a session)
+            if told := uncommitted_text(hub):
+                say(told)
+            await hub.checkpoints.make_last(hub.crowd, hub.figures, options.roll)
         if options.roll and journal.tail_changes:
             raise Fault(FAILED, "the state that --roll is for is not made")
         if options.export and await hub.exporter.write(options.export, journal.place) is not None:
@@ -206,12 +210,12 @@ def parser() -> Parser:
     add("--export", metavar="FILE", help="where the committed places are exported at the end")
     add("--team", metavar="NAME", action="append", default=[], help="a team to serve, and no others than those so named")
     add("--group", metavar="TEAM=GROUP", action="append", default=[], help="the group of a team's socket")
-    add("--patience", metavar="S", type=float, default=60.0, help="seconds for which a client may read nothing (60)")
-    add("--idle", metavar="S", type=float, default=900.0, help="seconds for which one without a session may say nothing (900)")
-    add("--deadline", metavar="S", type=float, default=600.0, help="seconds of silence after which the program hangs (600)")
-    add("--grace", metavar="S", type=float, default=240.0, help="seconds within which SIGTERM ends it, exports and all (240)")
-    add("--tail-bytes", metavar="B", type=int, default=16 << 20, help="bytes of changes behind which a state is made (16777216; 0: none)")
-    add("--tail-seconds", metavar="S", type=float, default=20.0, help="seconds of the program's work behind which one is made (20)")
+    add("--patience", metavar="S", type=second_count, default=60.0, help="seconds for which a client may read nothing (60)")
+    add("--idle", metavar="S", type=second_count, default=900.0, help="seconds for which one without a session may say nothing (900)")
+    add("--deadline", metavar="S", type=second_count, default=600.0, help="seconds of silence after which the program hangs (600)")
+    add("--grace", metavar="S", type=second_count, default=240.0, help="seconds within which SIGTERM ends it, exports and all (240)")
+    add("--tail-bytes", metavar="B", type=byte_count, default=16 << 20, help="bytes of changes behind which a state is made (16777216; 0: none)")
+    add("--tail-seconds", metavar="S", type=second_count, default=20.0, help="seconds of the program's work behind which one is made (20)")
     add("--keep", metavar="N", type=state_count, default=2, help="how many states are kept, with the journal from the first on (2; 0: all)")
     add("--sessions", metavar="N", type=slot_count, help="session slots of each team, 1 to 64 (those of the journal; 8 in a new one)")
     add("--roll", action="store_true", help="make a state of the journal, serve nobody, and end")
@@ -228,7 +232,7 @@ def state_count(word: str) -> int:
     """The value of --keep: one state is too few, since a program may be on its way from it while the next is made."""
     number = int(word)
     if number < 0 or number == 1:
-        raise ValueError
+        raise argparse.ArgumentTypeError(f"{word}: 0, or 2 or more")
     return number
 
 
@@ -236,7 +240,23 @@ def slot_count(word: str) -> int:
     """The value of --sessions, as the program takes it."""
     number = int(word)
     if not 1 <= number <= MOST_SLOTS:
-        raise ValueError
+        raise argparse.ArgumentTypeError(f"{word}: 1 to {MOST_SLOTS}")
+    return number
+
+
+def byte_count(word: str) -> int:
+    """The value of an option in bytes."""
+    number = int(word)
+    if number < 0:
+        raise argparse.ArgumentTypeError(f"{word}: 0 or more")
+    return number
+
+
+def second_count(word: str) -> float:
+    """The value of an option in seconds, for which the system can wait."""
+    number = float(word)
+    if not 0 <= number <= threading.TIMEOUT_MAX:
+        raise argparse.ArgumentTypeError(f"{word}: a number of seconds, 0 or more")
     return number
 
 

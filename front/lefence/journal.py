@@ -76,7 +76,6 @@ class Journal:
         path: Path,
         texts: list[Text],
         say: Callable[[str], None],
-        is_synced: bool = True,
         owner: Owner | None = None,
         takes_over: bool = False,
         slots: int | None = None,
@@ -89,7 +88,7 @@ class Journal:
         it; then the file stays as it was.
         """
         self.path = path
-        self.is_synced = is_synced
+        self.is_synced = True
         self.past = Past(path)
         # How long the disk took for the last frame, and when the last change was made, in seconds since 1970.
         self.seconds = self.last = 0.0

@@ -126,7 +126,7 @@ def _print(*words: str) -> None:
 
 def is_of(record: Record, team: str | None) -> bool:
     """Whether the change is that of a team, or of any."""
-    return team is None or record.line.split()[1] == team.encode()
+    return team is None or record.line.split()[1] == os.fsencode(team)
 
 
 def cut(path: Path, at: int | None, takes_over: bool) -> int:
@@ -143,9 +143,8 @@ def cut(path: Path, at: int | None, takes_over: bool) -> int:
         aside = path.with_name(f"{path.name}.before-cut-at-{at}")
         if aside.exists():
             raise Fault(FAILED, f"{aside} is there already")
-        with whole_file(aside) as copy:
+        with whole_file(aside, 0o600) as copy:
             shutil.copyfileobj(file, copy, 1 << 20)
-        aside.chmod(0o600)
         os.ftruncate(file.fileno(), at)
         os.fsync(file.fileno())
         sync_folder(path.absolute().parent)

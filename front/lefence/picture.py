@@ -18,6 +18,7 @@ from .faults import DONE, FAILED, USAGE, Fault, Parser, log, run_tool
 from .progress import Progress
 from .program import find_program
 from .scene import LIMIT, Scene
+from .whole_file import refuse_inputs, whole_file
 
 TOOL = "lefence-picture"
 # The most arrows.
@@ -126,13 +127,6 @@ def parser() -> Parser:
     return made
 
 
-def refuse_inputs(output: Path, inputs: list[Path]) -> None:
-    """A fault where a file that is to be written is one of those that are read."""
-    for path in inputs:
-        if output.exists() and path.exists() and output.samefile(path):
-            raise Fault(USAGE, f"{output} is read, and not written")
-
-
 def main() -> int:
     options = parser().parse_args()
 
@@ -149,10 +143,10 @@ def main() -> int:
             sys.stdout.buffer.writelines(piece.encode() for piece in drawing.svg())
             sys.stdout.buffer.flush()
         for output in outputs:
-            if output.suffix.lower() == ".png":
-                output.write_bytes(png_of(drawing, klayout))
-            else:
-                with open(output, "wb") as file:
+            with whole_file(output) as file:
+                if output.suffix.lower() == ".png":
+                    file.write(png_of(drawing, klayout))
+                else:
                     file.writelines(piece.encode() for piece in drawing.svg())
             log(TOOL, f"{output}: {output.stat().st_size} bytes")
         return DONE

@@ -25,7 +25,13 @@ OPENACCESS = {"R0": "N", "R90": "W", "R180": "S", "R270": "E", "MY": "FN", "MXR9
 GROUND = "-"
 
 _LINE_BYTES = bytes([9, 32, *range(33, 127)])
+# The most digits of a text's length.
+_MOST_DIGITS = 18
 _PLAIN_BYTES = (string.ascii_letters + string.digits + "_-").encode()
+
+
+class ProtocolError(Exception):
+    """A reply that is not of the form that PROTOCOL gives it; the other end is no lefence, or one of another version."""
 
 
 @dataclass(frozen=True)
@@ -84,8 +90,12 @@ def is_change(fields: list[bytes], reply: bytes) -> bool:
 
 def text_length(line: bytes, reply: bytes) -> int:
     """How many bytes of a text follow the line feed of a reply to this line: those of `def` alone, where it was accepted."""
-    has_text = line.split(maxsplit=1)[:1] == [b"def"] and reply.startswith(b"ok ")
-    return int(reply[3:]) if has_text else 0
+    if line.split(maxsplit=1)[:1] != [b"def"] or not reply.startswith(b"ok "):
+        return 0
+    length = reply[3:].strip()
+    if not length.isdigit() or len(length) > _MOST_DIGITS:
+        raise ProtocolError(f"{line!r} was answered {reply!r}")
+    return int(length)
 
 
 def socket_name(team: str | None) -> str:

@@ -41,6 +41,9 @@ class Refusal(Exception):
         self.fields = tuple(fields)
         super().__init__(f"{self.number} {self.name}: {self.words()}")
 
+    def __reduce__(self) -> tuple[type[Refusal], tuple[tuple[str, ...]]]:
+        return type(self), (self.fields,)
+
     @property
     def name(self) -> str:
         """The refusal's name, as the protocol has it."""

@@ -6,12 +6,9 @@ It holds no rule of legality: the program finds the places, and tells which cell
 from __future__ import annotations
 
 import argparse
-import signal
-import sys
 import tempfile
 from contextlib import AbstractContextManager, nullcontext
 from pathlib import Path
-from types import FrameType
 from typing import Any, BinaryIO
 
 from .drawing import number
@@ -85,12 +82,6 @@ def parser() -> Parser:
     return made
 
 
-def _end(number: int, frame: FrameType | None) -> None:
-    sys.exit(128 + number)
-
-
 def main() -> int:
     options = parser().parse_args()
-    # Nothing is left behind then either.
-    signal.signal(signal.SIGTERM, _end)
     return run_tool(TOOL, lambda: repair_design(options))

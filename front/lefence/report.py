@@ -21,7 +21,6 @@ from .description import Box, Cell, Description, Frame, Obstacle
 from .drawing import number, shortened, text_of
 from .faults import DONE, Parser, log, run_tool
 from .ground import areas_of
-from .picture import refuse_inputs
 from .program import find_program
 from .progress import Progress
 from .protocol import GROUND, RULES
@@ -29,6 +28,7 @@ from .refusals import broken_in_words
 from .report_moves import Since, data_of, legend_of, section_of, since
 from .scene import BROKEN, LIMIT, SHADES, Bins, Scene, colour_of, row_blocks
 from .summary_tool import refuse_other_units
+from .whole_file import refuse_inputs, whole_file
 
 TOOL = "lefence-report"
 # How many violations are listed, if nothing else is asked for.
@@ -345,7 +345,8 @@ def main() -> int:
             sys.stdout.buffer.write(page)
             sys.stdout.buffer.flush()
         else:
-            options.output.write_bytes(page)
+            with whole_file(options.output) as file:
+                file.write(page)
             log(TOOL, f"{options.output}: {len(page)} bytes")
         return DONE
 

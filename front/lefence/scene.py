@@ -59,10 +59,6 @@ def row_blocks(frame: Frame) -> list[Box]:
     return blocks
 
 
-def _area(box: Box) -> int:
-    return box.width * box.height
-
-
 @dataclass
 class Tally:
     """Of a team: its cells, how many are unplaced, how many break which rule, and their area in square database units."""
@@ -160,12 +156,12 @@ class Scene:
         self._small: list[Obstacle] = []
         least = self.broken_map.side**2
         if len(frame.obstacles) > limit:
-            large = [obstacle for obstacle in frame.obstacles if _area(obstacle.box) >= least]
+            large = [obstacle for obstacle in frame.obstacles if obstacle.box.area >= least]
             self.obstacles = large[:limit]
-            self._small = [obstacle for obstacle in frame.obstacles if _area(obstacle.box) < least] + large[limit:]
+            self._small = [obstacle for obstacle in frame.obstacles if obstacle.box.area < least] + large[limit:]
             self._begin_map()
         if len(frame.soft) > limit:
-            self.soft = [box for box in frame.soft if _area(box) >= least][:limit]
+            self.soft = [box for box in frame.soft if box.area >= least][:limit]
 
     def take(self, cell: Cell) -> None:
         """One more cell of the design."""

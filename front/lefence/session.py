@@ -115,6 +115,11 @@ class BaseSession(Verbs, Generic[C]):
         """Whether lengths are microns, and how many database units one has is not known."""
         return self._wishes.microns and self._per_micron is None
 
+    def _refuse_open(self) -> None:
+        """ValueError where the session is open: its slot would be forgotten."""
+        if self._scope is not None:
+            raise ValueError("the session is open already")
+
     def _begin(self, number: int) -> None:
         """The session is open, with all that its wishes need."""
         self._scope = Scope(self.team, number, self._per_micron, self._wishes.openaccess)

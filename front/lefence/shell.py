@@ -14,9 +14,9 @@ from pathlib import Path
 from .client import Connection, Session
 from .endpoint import Endpoint, connect_to, start_program
 from .faults import DONE, FAILED, REFUSED, USAGE, Fault, Parser, printable, run_tool, words_of
-from .protocol import OPENACCESS, ORIENTS, VERBS
+from .protocol import OPENACCESS, ORIENTS, VERBS, ProtocolError
 from .refusals import BadRequest, NoPlace, Refusal, broken_in_words
-from .verbs import Legalized, Place, ProtocolError, Report, Tidied
+from .verbs import Legalized, Place, Report, Tidied
 
 TOOL = "lefence-shell"
 _NAME_IN_ENTRY = re.compile(rb"^- (\S+)", re.M)

@@ -19,7 +19,7 @@ from .design import Design, Entry, Statement, section_parts, whole_design
 from .faults import DONE, REFUSED, Fault, Parser, log, run_tool
 from .program import find_program
 from .protocol import GROUND
-from .whole_file import refuse_inputs
+from .whole_file import refuse_inputs, whole_file
 
 TOOL = "lefence-slice"
 # Sections of which a slice has the entries of a team.
@@ -159,7 +159,8 @@ def main() -> int:
             sys.stdout.buffer.write(made)
             sys.stdout.buffer.flush()
         else:
-            options.output.write_bytes(made)
+            with whole_file(options.output) as file:
+                file.write(made)
         log(TOOL, f"team {options.team}: {len(made)} of {len(text)} bytes")
         return DONE
 

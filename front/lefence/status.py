@@ -19,6 +19,8 @@ if TYPE_CHECKING:
 
 # Teams that a line of the log names.
 _MOST_TEAMS = 50
+# Seconds for which a hub may say nothing when it is asked.
+_PATIENCE = 10
 
 
 def status_text(hub: Hub) -> bytes:
@@ -79,7 +81,7 @@ def ask_status(folder: Path) -> dict[str, Any]:
     """The status of the hub that has its sockets in a folder; a fault where none listens there."""
     path = folder / "operator.sock"
     try:
-        with connect(path) as connection:
+        with connect(path, timeout=_PATIENCE) as connection:
             words = connection.ask_line(b"status")
     except OSError as error:
         raise Fault(FAILED, f"{path}: {error.strerror or error}") from None

@@ -71,6 +71,13 @@ def _settle_text(journal: Path, text: Text, given: Path, say: Callable[[str], No
     return kept
 
 
+def remove_partial_texts(journal: Path) -> None:
+    """Removes copies that were not made to their end, once the journal is held, so that no other hub goes on with it."""
+    for path in texts_folder(journal).glob("*/*"):
+        if _PARTIAL.search(path.name):
+            path.unlink(missing_ok=True)
+
+
 def _keep(journal: Path, text: Text, given: Path) -> Path:
     """Makes the copy of a text, which is on the disk when this returns."""
     folder = texts_folder(journal)

@@ -16,17 +16,13 @@ from decimal import Decimal, InvalidOperation
 from typing import Generic, TypeVar
 
 from . import design
-from .protocol import OPENACCESS
+from .protocol import OPENACCESS, ProtocolError
 
 T = TypeVar("T")
 Length = int | float | Decimal
 
 _NAME = re.compile(r"[!-~]+")
 _OPENACCESS_OF = {orient: other for other, orient in reversed(OPENACCESS.items())}
-
-
-class ProtocolError(Exception):
-    """A reply that is not of the form that PROTOCOL gives it; the other end is no lefence, or one of another version."""
 
 
 @dataclass(frozen=True)
@@ -283,4 +279,6 @@ def pad(scope: Scope, padding: int) -> Request[int]:
 
     Refused by NoSession, Stale, RevisionsSpent, and BadRequest of more than 16.
     """
+    if not float(padding).is_integer():
+        raise ValueError(f"{padding} is no whole number of core sites")
     return Request(scope.line("pad", str(int(padding))), _revision)

@@ -13,7 +13,7 @@ from .faults import FAILED, USAGE, Fault
 
 
 @contextlib.contextmanager
-def whole_file(path: Path) -> Iterator[BinaryIO]:
+def whole_file(path: Path, mode: int = 0o666) -> Iterator[BinaryIO]:
     """A new file beside, which takes the name and the mode at the end of the block, as `beside` says.
 
     The disk has it before it has the name. What is no regular file, as a pipe, is written to as it is.
@@ -22,22 +22,23 @@ def whole_file(path: Path) -> Iterator[BinaryIO]:
         with open(path, "wb") as file:
             yield file
         return
-    with beside(path) as partial, open(partial, "wb") as file:
+    with beside(path, mode) as partial, open(partial, "wb") as file:
         yield file
         file.flush()
         os.fsync(file.fileno())
 
 
 @contextlib.contextmanager
-def beside(path: Path) -> Iterator[Path]:
+def beside(path: Path, mode: int = 0o666) -> Iterator[Path]:
     """A new file beside (`FILE.partial0`, or the next free number), which takes the name and the mode at the end of the block.
 
+    Where there is no file yet it has the mode given; else nobody else may read it before the end.
     Who writes it sees to it that the disk has it; the disk has its name at the end. After any exception of the block it is gone, and
     the file stays as it was. Links are followed. A fault where it cannot be made.
     """
     target = Path(os.path.realpath(path))
     try:
-        partial = _made_beside(target)
+        partial = _made_beside(target, 0o600 if target.exists() else mode)
     except OSError as error:
         why = error.strerror if target.parent.exists() else "there is no such folder"
         raise Fault(FAILED, f"{path} cannot be written: {why}") from None
@@ -67,12 +68,12 @@ def sync_folder(path: Path) -> None:
         os.close(folder)
 
 
-def _made_beside(target: Path) -> Path:
+def _made_beside(target: Path, mode: int) -> Path:
     """A new file in the same folder."""
     for number in count():
         partial = Path(f"{target}.partial{number}")
         with contextlib.suppress(FileExistsError):
-            os.close(os.open(partial, os.O_CREAT | os.O_EXCL | os.O_WRONLY, 0o666))
+            os.close(os.open(partial, os.O_CREAT | os.O_EXCL | os.O_WRONLY, mode))
             return partial
     raise AssertionError
 

@@ -146,14 +146,27 @@ proc lefence::Name {word} {
     return $word
 }
 
-# A length of the caller's in whole database units.
+# A length of the caller's in whole database units, of which each digit counts.
 proc lefence::Whole {length units} {
-    set exact [expr {$units ? $length * double($units) : $length}]
-    set whole [expr {round($exact)}]
-    if {abs($exact - $whole) > 1e-6} {
-        throw {LEFENCE BadLength} "$length is no whole number of database units"
+    if {![regexp {^([-+]?)([0-9]*)(?:\.([0-9]*))?(?:[eE]([-+]?[0-9]{1,3}))?$} [string trim $length] - sign whole part power] || "$whole$part" eq ""} {
+        throw {LEFENCE BadLength} "$length is no length"
     }
-    return $whole
+    set digits [expr {[Decimal $whole$part] * ($units ? $units : 1)}]
+    set shift [expr {[Decimal $power] - [string length $part]}]
+    if {$shift >= 0} {
+        set digits [expr {$digits * 10 ** $shift}]
+    } elseif {$digits % 10 ** -$shift} {
+        throw {LEFENCE BadLength} "$length is no whole number of database units"
+    } else {
+        set digits [expr {$digits / 10 ** -$shift}]
+    }
+    return [expr {$sign eq "-" ? -$digits : $digits}]
+}
+
+# The decimal number that digits are, with a sign or none: Tcl takes one that begins with 0 for an octal one.
+proc lefence::Decimal {digits} {
+    regexp {^([-+]?)0*([0-9]*)$} $digits - sign rest
+    return [expr {$rest eq "" ? 0 : "$sign$rest"}]
 }
 
 # An orientation of the caller's as DEF spells it.

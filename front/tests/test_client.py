@@ -4,11 +4,15 @@ from __future__ import annotations
 
 import asyncio
 import contextlib
+import gc
 import inspect
 import io
 import os
+import pickle
 import signal
 import socket
+import threading
+import time
 import unittest
 from collections.abc import Callable
 from decimal import Decimal
@@ -19,6 +23,8 @@ from support import CELLS, FRONT, PATIENCE, WIDTH, HubCase
 
 import lefence
 from lefence import Legalized, Pending, Place, Report, Tidied, Violation, verbs
+from lefence.endpoint import connect_to
+from lefence.faults import Fault
 from lefence.protocol import REFUSALS, VERBS
 from lefence.refusals import refusal_of
 
@@ -78,6 +84,9 @@ class Verbs(HubCase):
             with self.assertRaises(error):
                 ask()
         self.assertEqual(session.undo(), 2)
+        for refusal in (illegal, unplaced.exception):
+            same = pickle.loads(pickle.dumps(refusal))
+            self.assertEqual((type(same), same.fields, str(same)), (type(refusal), refusal.fields, str(refusal)))
         with self.assertRaises(lefence.NothingToUndo):
             session.undo()
         rest = [session.connection.session("f0").open() for _ in range(7)]
@@ -354,7 +363,11 @@ class Others(HubCase):
                 connection.ask(verbs.close_session(session.scope))
                 with self.assertRaises(lefence.NoSession):
                     session.sync()
+                with self.assertRaises(lefence.NoSession):
+                    session.close()
                 session.open()
+                with self.assertRaisesRegex(ValueError, "open already"):
+                    session.open()
 
             async def work() -> Place:
                 async with await lefence.aio.connect("127.0.0.1", port) as connection:
@@ -370,6 +383,118 @@ class Others(HubCase):
                 far.sendall(reply)
                 with self.assertRaises(lefence.ProtocolError):
                     connection.session("A").open()
+        near, far = socket.socketpair()
+        far.sendall(b"ok 0 0\nhello\nok abc\n")
+        with far, lefence.Connection(near, timeout=5) as connection, connection.session("A") as session:
+            with self.assertRaisesRegex(lefence.ProtocolError, "hello"), session.pipeline() as pipeline:
+                pipeline.place("u", 0, 0, "N")
+            with self.assertRaisesRegex(lefence.ProtocolError, "abc"):
+                session.def_text()
+
+    def test_a_session_whose_units_are_not_told_is_closed_again(self) -> None:
+        near, far = socket.socketpair()
+        asked: list[bytes] = []
+
+        def answer() -> None:
+            with far, far.makefile("rb") as lines:
+                for reply in (b"ok 3 0\n", b"hello\n", b"ok\n"):
+                    asked.append(lines.readline())
+                    far.sendall(reply)
+
+        answering = threading.Thread(target=answer)
+        answering.start()
+        with lefence.Connection(near, timeout=5) as connection, self.assertRaisesRegex(lefence.ProtocolError, "hello"):
+            connection.session("A", microns=True).open()
+        answering.join()
+        self.assertEqual(asked, [b"open A\n", b"units\n", b"close A 3\n"])
+
+    async def aio_connection(self, end: socket.socket, timeout: float) -> lefence.aio.Connection:
+        return lefence.aio.Connection(*await asyncio.open_connection(sock=end), timeout)
+
+    def test_asyncio_tells_all_that_wait_where_an_end_talks_otherwise_or_reads_nothing(self) -> None:
+        async def ask(reply: bytes, line: bytes, *errors: type[Exception]) -> None:
+            near, far = socket.socketpair()
+            with far:
+                asyncio.get_running_loop().call_later(0.1, far.sendall, reply)
+                async with asyncio.timeout(PATIENCE), await self.aio_connection(near, 1) as connection:
+                    told = await asyncio.gather(*(connection.ask_line(line) for _ in range(200)), return_exceptions=True)
+                    self.assertEqual([type(each) for each in told[:2]], [*errors])
+
+        asyncio.run(ask(b"ok abc\n", b"def A 0", lefence.ProtocolError, lefence.ConnectionLost))
+        asyncio.run(ask(b"", b"x" * 4000, TimeoutError, TimeoutError))
+
+    def test_one_that_is_cancelled_leaves_no_session_open_and_hears_of_no_loss(self) -> None:
+        said: list[object] = []
+
+        async def cancel(is_late: bool) -> None:
+            near, far = socket.socketpair()
+            asyncio.get_running_loop().set_exception_handler(lambda loop, context: said.append(context))
+            connection = await self.aio_connection(near, PATIENCE)
+            with far:
+                opening = asyncio.create_task(connection.session("A", microns=True).__aenter__())
+                await asyncio.sleep(0.05)
+                if is_late:
+                    far.sendall(b"ok 3 0\n")
+                    await asyncio.sleep(0.05)
+                opening.cancel()
+                await asyncio.sleep(0.05)
+                if not is_late:
+                    far.sendall(b"ok 3 0\n")
+                await asyncio.sleep(0.05)
+                self.assertEqual(far.recv(100), b"open A\n" + b"units\n" * is_late + b"close A 3\n")
+            await asyncio.sleep(0.05)
+            with self.assertRaises(lefence.ConnectionLost):
+                await connection.ask_line(b"")
+            await connection.close()
+
+        asyncio.run(cancel(False))
+        asyncio.run(cancel(True))
+        gc.collect()
+        self.assertEqual(said, [])
+
+    def test_what_an_end_that_is_gone_has_answered_is_told(self) -> None:
+        near, far = socket.socketpair()
+        with lefence.Connection(near, timeout=PATIENCE) as connection:
+            sent = [connection.send(b"sync A 0") for _ in range(3)]
+            connection.flush()
+            self.assertEqual(far.recv(100), b"sync A 0\n" * 3)
+            far.sendall(b"ok 1\nok 2\nok 3\n")
+            far.close()
+            connection.send(b"sync A 0")
+            self.assertEqual([connection.wait(each) for each in sent], [b"ok 1\n", b"ok 2\n", b"ok 3\n"])
+
+    def test_a_reply_that_drips_takes_too_long(self) -> None:
+        near, far = socket.socketpair()
+
+        def drip() -> None:
+            with contextlib.suppress(OSError):
+                for at in range(20):
+                    far.sendall(b"%d" % (at % 10))
+                    time.sleep(0.1)
+            far.close()
+
+        with lefence.Connection(near, timeout=0.5) as connection:
+            dripping = threading.Thread(target=drip)
+            dripping.start()
+            self.addCleanup(dripping.join)
+            with self.assertRaises(TimeoutError):
+                connection.ask_line(b"sync A 0")
+
+    def test_a_number_that_is_none_is_refused_before_it_is_sent(self) -> None:
+        for pad in (1.9, float("inf")):
+            with self.assertRaises(ValueError):
+                verbs.pad(verbs.Scope("A", 0), cast(int, pad))
+        with socket.socket() as listener:
+            listener.bind(("127.0.0.1", 0))
+            listener.listen()
+            port = listener.getsockname()[1] + 65536
+            with self.assertRaisesRegex(ValueError, "is no port"):
+                lefence.connect("127.0.0.1", port)
+            with self.assertRaisesRegex(ValueError, "is no port"):
+                asyncio.run(lefence.aio.connect("127.0.0.1", port))
+            with self.assertRaisesRegex(Fault, "is no port") as refused:
+                connect_to("127.0.0.1:65536")
+            self.assertEqual(refused.exception.status, 2)
 
 
 if __name__ == "__main__":

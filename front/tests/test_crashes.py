@@ -13,6 +13,7 @@ from collections.abc import Callable
 
 from support import CELLS, PATIENCE, PROGRAM, TURNS, Hub, HubCase, Talker, spot, wait_gone
 
+from lefence.crowd import Crowd
 from lefence.segments import Past
 
 # Changes that each of four teams has in flight at a crash.
@@ -172,12 +173,23 @@ class Programs(HubCase):
         self.assertIn("2 changes are restored", self.hub.told())
 
     def test_a_signal_while_it_is_restored_ends_the_hub(self) -> None:
+        self.start("--tail-bytes", "0")
+        self.assertEqual(self.talk("f0").ask("open f0", "open f0", "place f0 0 f0c1 0 0 N"), ["ok 0 0", "ok 1 0", "ok 1"])
+        self.hub.kill()
         self.wrap("sleep 20")
-        hub = Hub(self.folder, self.words())
-        self.addCleanup(hub.kill)
-        while not (self.folder / "starts").exists():
-            time.sleep(0.01)
-        self.assertEqual(hub.end(), 0)
+        for words, status in ((("--tail-bytes", "1"), 0), (("--roll",), 3)):
+            (self.folder / "starts").unlink(missing_ok=True)
+            hub = Hub(self.folder, self.words(*words))
+            self.addCleanup(hub.kill)
+            while not (self.folder / "starts").exists():
+                time.sleep(0.01)
+            self.assertEqual((hub.end(), Past(self.journal).numbers("state")), (status, []))
+        self.program = PROGRAM
+        # The sessions of the killed hub are known, and closed.
+        self.start()
+        self.assertEqual(self.talk("f0").ask("open f0", "close f0 1", "sync f0 0"), ["ok 0 1", "no 3 NoSession", "ok 1"])
+        # One of which a journal does not tell who had it may be closed too.
+        Crowd(8).note([b"close", b"f0", b"0"], b"ok\n", None)
 
 
 if __name__ == "__main__":

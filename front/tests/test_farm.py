@@ -4,8 +4,10 @@ from __future__ import annotations
 
 import io
 import os
+import signal
 import subprocess
 import sys
+import time
 import unittest
 from dataclasses import replace
 from unittest import mock
@@ -15,6 +17,7 @@ from support import CELLS, FRONT, PATIENCE, PROGRAM, FrontCase, tool_words
 
 from lefence.design import Design
 from lefence.farm import teams_of
+from lefence.farm_tool import ranges_of
 from lefence.faults import Fault
 from lefence.journal import Journal, texts_in
 from lefence.merge import merge
@@ -63,7 +66,8 @@ while words and words[0].startswith("-"):
     if lsf and word in ("-J", "-o", "-w"):
         name, value = word, words.pop(0)
     if name in ("--array", "-J"):
-        array = re.sub(r"%\\d+$|[^\\d,]", "", value if not lsf else value.partition("%")[0]).split(",")
+        ranges = re.sub(r"%\\d+$|[^\\d,-]", "", value if not lsf else value.partition("%")[0]).split(",")
+        array = [str(at) for each in ranges for at in range(int(each.split("-")[0]), int(each.split("-")[-1]) + 1)]
     elif name in ("--output", "-o"):
         output = value
     elif name in ("--dependency", "-w"):
@@ -207,6 +211,30 @@ class Farms(FarmCase):
         told = self.by_engine("bsub", "lsf", "-q", "--wait")
         self.assertIn("3 teams are submitted; the job that collects what they did is waited for\n", told)
         self.assertIn("the work of 3 of 3 teams\n", told)
+
+    def test_the_numbers_of_many_teams_are_a_short_word(self) -> None:
+        self.assertEqual([ranges_of(numbers) for numbers in ([7], [1, 2, 3, 5, 8, 9], [*range(1, 5001)])], ["7", "1-3,5,8-9", "1-5000"])
+
+    def test_a_signal_ends_the_teams_at_work(self) -> None:
+        words = ["work", "t.def", "t.lef", "--program", PROGRAM, "--processes", "3", "--", "sleep", "60"]
+        with subprocess.Popen([*tool_words("lefence-farm"), *words], cwd=self.folder, stderr=subprocess.DEVNULL) as farm:
+            last = time.monotonic() + PATIENCE
+            while not all((self.work / str(number) / "journal").exists() for number in (1, 2, 3)):
+                self.assertLess(time.monotonic(), last)
+                time.sleep(0.01)
+            farm.terminate()
+        self.assertEqual(farm.returncode, 128 + signal.SIGTERM)
+        self.assertEqual({(self.work / str(number) / "failed").read_text() for number in (1, 2, 3)}, {"ended by signal 15\n"})
+
+    def test_a_team_or_a_plan_that_is_none_is_refused(self) -> None:
+        self.assertEqual(self.farm("--merge").returncode, 0)
+        for number in ("0", "4", "-1"):
+            done = self.tool("lefence-farm", "work", f"--task={number}")
+            self.assertEqual((done.returncode, f"has no team number {number}: they are 1 to 3\n".encode() in done.stderr), (2, True), done.stderr)
+        for text in ('{"design": "t.def"}', "[]", "{"):
+            (self.work / "farm.json").write_text(text)
+            done = self.tool("lefence-farm", "work", "--collect")
+            self.assertEqual((done.returncode, done.stderr.count(b"is no plan of this version")), (1, 1), done.stderr)
 
     def test_an_engine_that_is_not_there_or_refuses_is_told(self) -> None:
         done = self.farm("--engine", "slurm", folder="nowhere") if subprocess.run(["which", "sbatch"], capture_output=True).returncode else None

@@ -29,7 +29,7 @@ class JournalTool(HubCase):
             self.assertRegex(talker.ask(line)[0], "^ok")
         self.assertEqual(self.hub.end(), 0)
 
-    def told(self, *words: str | Path, status: int = 0) -> list[str]:
+    def told(self, *words: str | Path | bytes, status: int = 0) -> list[str]:
         done = self.tool("lefence-journal", *words)
         self.assertEqual(done.returncode, status, done.stderr)
         return done.stdout.decode().splitlines()
@@ -73,6 +73,7 @@ class JournalTool(HubCase):
         self.assertIn(f"damaged from byte {start} to {end}: `cut --at {start}` makes a journal of what stands before", told)
         # What stands behind the damage can be read, listed and brought out.
         self.assertEqual(self.told("export", self.journal), [self.lines[0], *self.lines[2:]])
+        self.assertEqual(self.told("list", self.journal, "--team", b"\xff"), [])
         self.assertEqual(self.told("export", self.journal, "--from", str(end)), self.lines[2:])
         before = self.journal.read_bytes()
         self.told("cut", self.journal, "--at", str(start + 1), status=1)

@@ -200,7 +200,7 @@ class Pictures(FrontCase):
 
     def test_what_is_read_is_not_overwritten(self) -> None:
         done = self.tool("lefence-picture", "t.def", "t.lef", "--program", self.program, "-o", "t.lef")
-        self.assertEqual((done.returncode, done.stderr), (2, b"lefence-picture: t.lef is read, and not written\n"))
+        self.assertEqual((done.returncode, done.stderr), (2, b"lefence-picture: t.lef is read, and would be written over\n"))
         done = self.tool("lefence-picture", "t.def", "t.lef", "--program", self.program, "-o", "x.jpg")
         self.assertEqual((done.returncode, (self.folder / "x.jpg").exists()), (2, False), done.stderr)
 

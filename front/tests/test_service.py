@@ -6,6 +6,7 @@ import argparse
 import asyncio
 import contextlib
 import grp
+import io
 import itertools
 import json
 import os
@@ -26,7 +27,7 @@ from unittest import mock
 
 from support import FRONT, PATIENCE, PROGRAM, FrontCase, Hub as RunningHub, HubCase, design_text, tool_words
 
-from lefence import crowd, exporter, hub_tool, whole_file
+from lefence import crowd, exporter, hub_tool, status, whole_file
 from lefence.calm import Calm
 from lefence.faults import Fault
 from lefence.frames import sum_of
@@ -81,6 +82,8 @@ class Texts(HubCase):
             copies = [path for path in (self.folder / "journal.texts").rglob("*") if path.is_file()]
             self.assertEqual(sorted(path.name for path in copies), ["t.def", "t.lef"])
             for path in copies:
+                # Nor does one stay that a hub was killed at.
+                path.with_name(f"{path.name}.partial0").write_bytes(b"x")
                 path.chmod(0o600)
                 spoil(path)
             self.assertIn("ready", self.start())
@@ -326,6 +329,34 @@ class Shares(unittest.TestCase):
 
         self.assertEqual(asyncio.run(judge()), [False, False, True])
 
+    def test_who_goes_and_reads_no_more_is_dropped(self) -> None:
+        self.hub.patience = 0.1
+
+        async def part(unread: int, read: int) -> None:
+            near, far = socket.socketpair()
+            near.setsockopt(socket.SOL_SOCKET, socket.SO_SNDBUF, 4096)
+            near.setblocking(False)
+            far.setblocking(False)
+            with contextlib.suppress(BlockingIOError):
+                while near.send(bytes(1 << 10)):
+                    pass
+            with far:
+                _, client = await asyncio.get_running_loop().connect_accepted_socket(lambda: Client(self.hub, b"f0"), near)
+                client.replies.append(bytes(unread))
+                client.flush()
+                client.part()
+                while client.is_clogged and read:
+                    with contextlib.suppress(BlockingIOError):
+                        far.recv(read)
+                    await asyncio.sleep(0)
+                async with asyncio.timeout(PATIENCE):
+                    while self.hub.crowd.clients:
+                        await asyncio.sleep(0.01)
+
+        # What is left is little from the first on, or once the client has read some of it.
+        asyncio.run(part(1000, 0))
+        asyncio.run(part(100_000, 1 << 12))
+
 
 class Faults(FrontCase):
     def test_behind_a_fault_nothing_more_is_answered(self) -> None:
@@ -398,13 +429,13 @@ class Operator(HubCase):
             talker = self.talk("f0")
             talker.ask("open f0", "place f0 0 f0c1 0 0 N", "place f0 0 f0c2 2000 0 N")
             self.talk("f1").ask("open f1", "tidy f1 0", "commit f1 0")
-            status = json.loads(self.ask_hub("--status"))
-            teams = {each["team"]: each for each in status["teams"]}
+            told_of = json.loads(self.ask_hub("--status"))
+            teams = {each["team"]: each for each in told_of["teams"]}
             self.assertEqual([teams["f0"][key] for key in ("revision", "uncommitted", "clients")], [2, 2, 1])
             [session] = teams["f0"]["sessions"]
             self.assertEqual((session["number"], session["uid"], session["pid"]), (0, os.geteuid(), os.getpid()))
-            self.assertEqual((teams["f1"]["revision"], teams["f1"]["uncommitted"], status["changes_total"]), (2, 0, 6))
-            self.assertTrue(status["sync_seconds_p99"] > 0 and status["program_bytes"] > 1 << 20 and status["journal_bytes"] > 300)
+            self.assertEqual((teams["f1"]["revision"], teams["f1"]["uncommitted"], told_of["changes_total"]), (2, 0, 6))
+            self.assertTrue(told_of["sync_seconds_p99"] > 0 and told_of["program_bytes"] > 1 << 20 and told_of["journal_bytes"] > 300)
             metrics = self.ask_hub("--metrics")
             self.assertIn('lefence_team_revision{team="f0"} 2\n', metrics)
             for line in metrics.splitlines():
@@ -419,9 +450,32 @@ class Operator(HubCase):
             listener.join()
         self.assertEqual([b"READY=1\nSTATUS=ready" in words, b"STOPPING=1" in words], [True] * 2)
         self.assertIn("changes that are not committed: 2 of f0\n", self.hub.told())
-        done = subprocess.run([*tool_words("lefence-hub"), "--status", str(self.folder / "s")], capture_output=True, timeout=PATIENCE)
+
+    def test_status_of_a_hub_that_is_gone_or_does_not_answer(self) -> None:
+        self.start()
+        self.hub.end()
+        done = self.tool("lefence-hub", "--status", self.folder / "s")
         refusal = f"lefence-hub: {self.folder / 's/operator.sock'}: Connection refused\n"
         self.assertEqual((done.returncode, done.stderr.decode()), (3, refusal))
+        with socket.socket(socket.AF_UNIX) as silent, mock.patch.object(status, "_PATIENCE", 0.2):
+            silent.bind(str(self.folder / "operator.sock"))
+            silent.listen()
+            with self.assertRaisesRegex(Fault, "no reply for 0.2 seconds"):
+                status.ask_status(self.folder)
+
+    def test_numbers_that_a_hub_cannot_go_by_are_refused(self) -> None:
+        needed = ["t.def", "t.lef", "--sockets", "s", "--journal", "j"]
+        seconds, least = "a number of seconds, 0 or more", "0 or more"
+        for option, value, told in (
+            *((option, value, seconds) for option in ("--grace", "--idle", "--patience", "--deadline") for value in ("nan", "-3", "inf")),
+            ("--tail-seconds", "1e300", seconds),
+            ("--tail-bytes", "-5", least),
+            ("--keep", "1", "0, or 2 or more"),
+            ("--sessions", "99", "1 to 64"),
+        ):
+            with contextlib.redirect_stderr(io.StringIO()) as said, self.assertRaises(SystemExit) as ended:
+                hub_tool.parser().parse_args([*needed, option, value])
+            self.assertEqual((ended.exception.code, f"argument {option}: {value}: {told}\n" in said.getvalue()), (2, True), said.getvalue())
 
     def test_a_program_that_hangs_is_restored_and_cannot_hold_the_end(self) -> None:
         self.start("--deadline", "2", "--idle", "2", "--grace", "1")

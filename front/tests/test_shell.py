@@ -107,9 +107,9 @@ class Words(HubCase):
             self.assertEqual(self.say("team f0", "tidy", words=(f"127.0.0.1:{port}",))[1:], ["10 cells moved; revision 1"])
 
     def test_an_end_that_is_not_there_is_told(self) -> None:
-        for where in ("nowhere.sock", "127.0.0.1:1", "a" * 300, "x:99999"):
+        for where, status in (("nowhere.sock", 3), ("127.0.0.1:1", 3), ("a" * 300, 3), ("x:99999", 2)):
             done = self.tool("lefence-shell", where)
-            self.assertEqual((done.returncode, done.stdout), (3, b""), done.stderr)
+            self.assertEqual((done.returncode, done.stdout), (status, b""), done.stderr)
             self.assertNotIn(b"Traceback", done.stderr)
         done = self.tool("lefence-shell", "t.def")
         told = b"lefence-shell: t.def is no socket; a design takes its LEF texts too: lefence-shell chip.def tech.lef ..\n"

@@ -96,6 +96,13 @@ class Tcl(HubCase):
         # No channel is left open but that of the connection.
         self.assertEqual(told[-2], told[-1])
 
+    def test_each_digit_of_a_length_counts(self) -> None:
+        lengths = ("010 0", "007.25 1000", "-0.4 1000", "1e-3 1000", "9007199254740993 1", "0.0000000004 1000", "0x10 0", "abc 0", "NaN 0")
+        script = "package require lefence; foreach {length units} [lindex $argv 0] {catch {lefence::Whole $length $units} told options\n"
+        script += "puts [expr {[dict exists $options -errorcode] ? [dict get $options -errorcode] : $told}]}"
+        refused = ["LEFENCE BadLength"] * 4
+        self.assertEqual(self.run_tcl(script, " ".join(lengths)), ["10", "7250", "-400", "1", "9007199254740993", *refused])
+
     def test_microns_and_retries_where_asked(self) -> None:
         self.start()
         script = """package require lefence
