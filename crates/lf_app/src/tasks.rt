@@ -219,17 +219,18 @@ fn outcome<'a, T: Texts, E: Exports, V: Services, R: Source, W: Sink, F, P: Prog
 }
 
 /// Does the task and returns how it ended: with status 0 if it is done, 1 if a text or the design was refused, a team is not one of
-/// it, or an allocation failed before the first line, for the report, for a repair, for the exported text or for the state, 3 if a
-/// file, the reader, the writer, the port or a connection failed, too many lines came, or an allocation for the lines failed; 4 if
-/// a check, a description or a repair is done and the design is not fully legal. A fault is told once, here: in a line of its own,
-/// and then in a second line that names the file and its line, the path, the port or the team that is at fault, and why, where that
-/// is known.
+/// it, or an allocation failed before the first line, for the report, for a line of a description, for a repair or its lines, for the
+/// exported text or for the state, 3 if a file, the reader, the writer, the port or a connection failed, too many lines came, or an
+/// allocation for the lines failed; 4 if a check, a description or a repair is done and the design is not fully legal. A fault is
+/// told once, here: in a line of its own, and then in a second line that names the file and its line, the path, the port or the team
+/// that is at fault, and why, where that is known.
 ///
 /// The LEF files are read in the order of the words, then the DEF file, then the design is loaded, then the saved state is read and
 /// its floor restored, then the paths of the exported text and of the state at the end are tried, then the port is listened on, up
-/// to the first fault; only then is the first line read, or the report made. A check, a description and a repair read no line. After
-/// all that has ended without a fault the exported text is written, and then the state, or the lines of a repair, to `exports`: no
-/// other text ever is. What is served is the port of this machine that is asked for, and nothing else.
+/// to the first fault; only then is the first line read, or the report made. A check, a description and a repair read no line, and
+/// none of them nor a service reads from the reader. After all that has ended without a fault the exported text is written, and then
+/// the state, or the lines of a repair, to `exports`: no other text ever is. What is served is the port of this machine that is asked
+/// for, and nothing else.
 pub fn perform_over<T: Texts, E: Exports, V: Services, R: Source, W: Sink, F: Sink, P: Progress>(
     alloc: Global,
     around: &mut Surroundings<T, E, V, R, W, F, P>,
