@@ -355,7 +355,10 @@ class Checkpoints(HubCase):
             time.sleep(0.01)
         # Nobody else reads it before its end, nor what the program writes beside it.
         self.assertEqual([path.stat().st_mode & 0o777 for path in self.folder.glob("new.def.partial*")], [0o600])
-        self.assertIn("Umask:\t0077\n", Path(f"/proc/{self.hub.children()[-1]}/status").read_text())
+        # (the program may not be begun yet)
+        while "Umask:\t0077\n" not in Path(f"/proc/{self.hub.children()[-1]}/status").read_text():
+            self.assertLess(time.monotonic(), last, self.hub.told())
+            time.sleep(0.01)
         time.sleep(0.2)
         wait_gone(self.hub.kill_alone())
         self.assertEqual(target.read_text(), "older")
