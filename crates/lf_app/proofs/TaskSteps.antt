@@ -24,9 +24,9 @@ failing OutOfMemory status is = inr is
 failing Output status is = inr is
 failing (Bind port why) status is = inr is
 failing Accept status is = inr is
-failing (Unwritten path) status is = inr is
-failing (Unsaved path) status is = inr is
-failing (Unlisted path) status is = inr is
+failing (Unwritten path why) status is = inr is
+failing (Unsaved path why) status is = inr is
+failing (Unlisted path why) status is = inr is
 failing NoMemory status is = inl is
 failing NoRoom status is = inl is
 

@@ -31,9 +31,9 @@ refused_as kind path text P Q OutOfMemory is gives = absurd is
 refused_as kind path text P Q Output is gives = absurd is
 refused_as kind path text P Q (Bind port why) is gives = absurd is
 refused_as kind path text P Q Accept is gives = absurd is
-refused_as kind path text P Q (Unwritten its_path) is gives = absurd is
-refused_as kind path text P Q (Unsaved its_path) is gives = absurd is
-refused_as kind path text P Q (Unlisted its_path) is gives = absurd is
+refused_as kind path text P Q (Unwritten its_path why) is gives = absurd is
+refused_as kind path text P Q (Unsaved its_path why) is gives = absurd is
+refused_as kind path text P Q (Unlisted its_path why) is gives = absurd is
 refused_as kind path text P Q NoMemory is gives = absurd is
 refused_as kind path text P Q NoRoom is gives = absurd is
 

@@ -23,6 +23,8 @@ use Rattle.lf_designs.specs.declared.refusals.Refusal.{Refusal}
 use Rattle.lf_designs.specs.declared.refusals.StateRefusal.{StateRefusal}
 use Rattle.lf_designs.specs.declared.texts.Unreadable.{Unreadable}
 use Rattle.lf_designs.specs.declared.texts.Unreadable.TheVariants as unreadable
+use Rattle.lf_files.specs.declared.exports.Unwritable.{Unwritable}
+use Rattle.lf_files.specs.declared.exports.Unwritable.TheVariants as unwritable
 use Rattle.lf_designs.specs.declared.texts.Unread.{Unread}
 use Rattle.lf_designs.specs.declared.texts.Unread.TheVariants as unread
 
@@ -93,9 +95,9 @@ fault_text OutOfMemory = codes "OutOfMemory"
 fault_text Output = codes "Output"
 fault_text (Bind port why) = codes "Bind"
 fault_text Accept = codes "Accept"
-fault_text (Unwritten path) = codes "File"
-fault_text (Unsaved path) = codes "File"
-fault_text (Unlisted path) = codes "File"
+fault_text (Unwritten path why) = codes "File"
+fault_text (Unsaved path why) = codes "File"
+fault_text (Unlisted path why) = codes "File"
 fault_text NoMemory = codes "24 OutOfMemory"
 fault_text NoRoom = codes "24 OutOfMemory"
 
@@ -217,9 +219,9 @@ refusal_words file refusal =
 -- the file, the path, the port or the team that is at fault
 abbrev pub subject_words : Fault → List ℕ
 subject_words (File file why) = file_words file
-subject_words (Unwritten path) = export_words path.now
-subject_words (Unsaved path) = state_words path.now
-subject_words (Unlisted path) = lines_words path.now
+subject_words (Unwritten path why) = export_words path.now
+subject_words (Unsaved path why) = state_words path.now
+subject_words (Unlisted path why) = lines_words path.now
 subject_words (NoTeam name) = team_words name.now
 subject_words (Bind port why) = port_words port
 subject_words _ = []
@@ -227,9 +229,9 @@ subject_words _ = []
 -- what is wrong with it
 abbrev pub complaint_words : Fault → List ℕ
 complaint_words (File file why) = codes " cannot be read"
-complaint_words (Unwritten path) = codes " cannot be written"
-complaint_words (Unsaved path) = codes " cannot be written"
-complaint_words (Unlisted path) = codes " cannot be written"
+complaint_words (Unwritten path why) = codes " cannot be written"
+complaint_words (Unsaved path why) = codes " cannot be written"
+complaint_words (Unlisted path why) = codes " cannot be written"
 complaint_words (NoTeam name) = codes " is not in the design"
 complaint_words (Bind port why) = codes " cannot be listened on"
 complaint_words _ = []
@@ -247,9 +249,21 @@ unbound_words unbound.InUse = codes ": it is in use"
 unbound_words unbound.Denied = codes ": permission denied"
 unbound_words unbound.Other = []
 
+-- why a file cannot be written
+abbrev pub unwritable_words : Unwritable → List ℕ
+unwritable_words unwritable.NoFolder = codes ": there is no such folder"
+unwritable_words unwritable.Folder = codes ": it is a folder"
+unwritable_words unwritable.Denied = codes ": permission denied"
+unwritable_words unwritable.ReadOnly = codes ": its file system is read-only"
+unwritable_words unwritable.Full = codes ": there is no room left"
+unwritable_words unwritable.Other = []
+
 -- why that is so, where the system says it
 abbrev pub reason_words : Fault → List ℕ
 reason_words (File file why) = unreadable_words why
+reason_words (Unwritten path why) = unwritable_words why
+reason_words (Unsaved path why) = unwritable_words why
+reason_words (Unlisted path why) = unwritable_words why
 reason_words (Bind port why) = unbound_words why
 reason_words _ = []
 
@@ -262,9 +276,9 @@ abbrev pub second_line : Fault → List ℕ
 second_line (Refused file refusal) = refusal_words file refusal
 second_line (File file why) = complaint_line (File file why)
 second_line (NoState path refusal) = state_line path.now refusal
-second_line (Unwritten path) = complaint_line (Unwritten path)
-second_line (Unsaved path) = complaint_line (Unsaved path)
-second_line (Unlisted path) = complaint_line (Unlisted path)
+second_line (Unwritten path why) = complaint_line (Unwritten path why)
+second_line (Unsaved path why) = complaint_line (Unsaved path why)
+second_line (Unlisted path why) = complaint_line (Unlisted path why)
 second_line (NoTeam name) = complaint_line (NoTeam name)
 second_line (Bind port why) = complaint_line (Bind port why)
 second_line _ = []
@@ -327,9 +341,9 @@ IsOfWriter _ = ⊥
 
 -- the faults of the file of the exported text, of that of the state and of that of the lines of a repair
 abbrev pub IsOfExport : Fault → Type 0
-IsOfExport (Unwritten path) = Unit {0}
-IsOfExport (Unsaved path) = Unit {0}
-IsOfExport (Unlisted path) = Unit {0}
+IsOfExport (Unwritten path why) = Unit {0}
+IsOfExport (Unsaved path why) = Unit {0}
+IsOfExport (Unlisted path why) = Unit {0}
 IsOfExport _ = ⊥
 
 -- the faults of a service

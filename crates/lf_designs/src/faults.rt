@@ -11,6 +11,7 @@ use crate::refusals::{Refusal, StateRefusal};
 use crate::texts::{Unread, Unreadable};
 use itoa::Buffer;
 use lf_devices::{DeviceFault, Sink, send};
+use lf_files::Unwritable;
 use lf_lex::FaultNumber;
 use lf_state::FaultNumber as StateNumber;
 use std::alloc::AllocError;
@@ -59,7 +60,7 @@ pub enum Fault<'a> {
     NoState(&'a str, StateRefusal),
     /// No team of the design has this name.
     NoTeam(&'a str),
-    /// Standard input could not be read.
+    /// The reader of lines could not be read, or was read as often as it may be.
     ReadFault,
     /// A reply could not be written.
     WriteFault,
@@ -67,21 +68,21 @@ pub enum Fault<'a> {
     TooManyLines,
     /// An allocation for the lines failed.
     OutOfMemory,
-    /// A report, or the line that the port is listened on, could not be written.
+    /// A report, a description, or the line that the port is listened on, could not be written.
     Output,
     /// This port could not be listened on.
     Bind(u16, Unbound),
     /// A connection could not be accepted.
     Accept,
     /// The file of that path could not be written; it was to get the exported text.
-    Unwritten(&'a str),
+    Unwritten(&'a str, Unwritable),
     /// The file of that path could not be written; it was to get the state.
-    Unsaved(&'a str),
+    Unsaved(&'a str, Unwritable),
     /// The file of that path could not be written; it was to get the lines of a repair.
-    Unlisted(&'a str),
-    /// An allocation failed before the first line, or for a report.
+    Unlisted(&'a str, Unwritable),
+    /// An allocation failed before the first line, for a report, or for a repair.
     NoMemory,
-    /// An allocation for the exported text, for the state, for a line of a description, or for a repair, failed.
+    /// An allocation for the exported text, for the state, for a line of a description, or for the lines of a repair, failed.
     NoRoom,
 }
 
@@ -213,9 +214,9 @@ fn put_fault<W: Sink>(sink: &mut W, fault: &Fault<'_>) -> Result<(), DeviceFault
         Fault::Output => send(sink, b"Output"),
         Fault::Bind(_, _) => send(sink, b"Bind"),
         Fault::Accept => send(sink, b"Accept"),
-        Fault::Unwritten(_) => send(sink, b"File"),
-        Fault::Unsaved(_) => send(sink, b"File"),
-        Fault::Unlisted(_) => send(sink, b"File"),
+        Fault::Unwritten(_, _) => send(sink, b"File"),
+        Fault::Unsaved(_, _) => send(sink, b"File"),
+        Fault::Unlisted(_, _) => send(sink, b"File"),
         Fault::NoMemory => send(sink, b"24 OutOfMemory"),
         Fault::NoRoom => send(sink, b"24 OutOfMemory"),
     }

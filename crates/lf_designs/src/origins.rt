@@ -6,7 +6,7 @@ ghost use Rattle.std.specs.Char.{digit_char};
 ghost use Rattle.lf_designs.specs.Faults.{bytes_words, complaint_line, complaint_words, earlier_words, export_words, fence_words, file_words, first_words};
 ghost use Rattle.lf_designs.specs.Faults.{hint_words, is_memory, lines_words, met_words, number_words, one_met_words, port_words, reason_words, refusal_words};
 ghost use Rattle.lf_designs.specs.Faults.{second_line, shown, shown_byte, shown_line, standing_words, state_line, state_words, subject_words, team_words};
-ghost use Rattle.lf_designs.specs.Faults.{two_met_words, unbound_words, unreadable_words};
+ghost use Rattle.lf_designs.specs.Faults.{two_met_words, unbound_words, unreadable_words, unwritable_words};
 
 use crate::faults::{Fault, TextFile, TextKind, Unbound};
 use crate::hints::Hint;
@@ -14,6 +14,7 @@ use crate::refusals::{FenceLine, Refusal, StateRefusal};
 use crate::texts::Unreadable;
 use itoa::Buffer;
 use lf_devices::{DeviceFault, Sink, send};
+use lf_files::Unwritable;
 use lf_lex::FaultNumber;
 
 /// The hex digit of a number below 16.
@@ -315,9 +316,9 @@ fn put_subject<W: Sink>(sink: &mut W, fault: &Fault<'_>) -> Result<(), DeviceFau
 {
     match fault {
         Fault::File(file, _) => put_file(sink, file),
-        Fault::Unwritten(path) => put_export_path(sink, path),
-        Fault::Unsaved(path) => put_state_path(sink, path),
-        Fault::Unlisted(path) => put_lines_path(sink, path),
+        Fault::Unwritten(path, _) => put_export_path(sink, path),
+        Fault::Unsaved(path, _) => put_state_path(sink, path),
+        Fault::Unlisted(path, _) => put_lines_path(sink, path),
         Fault::NoTeam(name) => put_team(sink, name),
         Fault::Bind(port, _) => put_port(sink, *port),
         _ => Ok(()),
@@ -330,9 +331,9 @@ fn complaint_of(fault: &Fault<'_>) -> &'static [u8]
 {
     match fault {
         Fault::File(_, _) => b" cannot be read",
-        Fault::Unwritten(_) => b" cannot be written",
-        Fault::Unsaved(_) => b" cannot be written",
-        Fault::Unlisted(_) => b" cannot be written",
+        Fault::Unwritten(_, _) => b" cannot be written",
+        Fault::Unsaved(_, _) => b" cannot be written",
+        Fault::Unlisted(_, _) => b" cannot be written",
         Fault::NoTeam(_) => b" is not in the design",
         Fault::Bind(_, _) => b" cannot be listened on",
         _ => b"",
@@ -348,6 +349,20 @@ fn unreadable_words(why: Unreadable) -> &'static [u8]
         Unreadable::Folder => b": it is a folder",
         Unreadable::Denied => b": permission denied",
         Unreadable::Other => b"",
+    }
+}
+
+/// Why a file cannot be written.
+fn unwritable_words(why: Unwritable) -> &'static [u8]
+    ensures { result.now ≡ unwritable_words why }
+{
+    match why {
+        Unwritable::NoFolder => b": there is no such folder",
+        Unwritable::Folder => b": it is a folder",
+        Unwritable::Denied => b": permission denied",
+        Unwritable::ReadOnly => b": its file system is read-only",
+        Unwritable::Full => b": there is no room left",
+        Unwritable::Other => b"",
     }
 }
 
@@ -368,6 +383,9 @@ fn reason_of(fault: &Fault<'_>) -> &'static [u8]
 {
     match fault {
         Fault::File(_, why) => unreadable_words(*why),
+        Fault::Unwritten(_, why) => unwritable_words(*why),
+        Fault::Unsaved(_, why) => unwritable_words(*why),
+        Fault::Unlisted(_, why) => unwritable_words(*why),
         Fault::Bind(_, why) => unbound_words(*why),
         _ => b"",
     }
@@ -396,9 +414,9 @@ pub(crate) fn put_second<W: Sink>(sink: &mut W, fault: &Fault<'_>) -> Result<(),
         Fault::Refused { file, refusal } => put_refused(sink, file, refusal),
         Fault::File(_, _) => put_complaint(sink, fault),
         Fault::NoState(path, refusal) => put_no_state(sink, path, refusal),
-        Fault::Unwritten(_) => put_complaint(sink, fault),
-        Fault::Unsaved(_) => put_complaint(sink, fault),
-        Fault::Unlisted(_) => put_complaint(sink, fault),
+        Fault::Unwritten(_, _) => put_complaint(sink, fault),
+        Fault::Unsaved(_, _) => put_complaint(sink, fault),
+        Fault::Unlisted(_, _) => put_complaint(sink, fault),
         Fault::NoTeam(_) => put_complaint(sink, fault),
         Fault::Bind(_, _) => put_complaint(sink, fault),
         _ => Ok(()),

@@ -6,6 +6,7 @@ use Rattle.std.specs.declared.io.ErrorKind.{ErrorKind}
 use Rattle.std.specs.declared.io.ErrorKind.TheVariants as kind
 use Rattle.lf_files.specs.declared.exports.Unwritten.{Unwritten}
 use Rattle.lf_files.specs.declared.exports.Unwritten.TheVariants.{File, OutOfMemory}
+use Rattle.lf_files.specs.declared.exports.Unwritable.TheVariants.{NoFolder, Folder, Denied, ReadOnly, Full, Other}
 
 -- a path, and the text that was put there
 pub record Put : Type 0 where
@@ -19,7 +20,7 @@ Puts (Some old) new path text = new ≡ Some (record { path = path; text = text 
 
 -- the file cannot be written
 abbrev pub is_file : Unwritten → Bool
-is_file File = true
+is_file (File why) = true
 is_file OutOfMemory = false
 
 -- it is not done, since the file cannot be written
@@ -30,7 +31,12 @@ is_of_file (Err why) = is_file why
 -- why a file was not written, by the kind of the error
 abbrev pub unwritten_of : ErrorKind → Unwritten
 unwritten_of kind.OutOfMemory = OutOfMemory
-unwritten_of _ = File
+unwritten_of kind.NotFound = File NoFolder
+unwritten_of kind.IsADirectory = File Folder
+unwritten_of kind.PermissionDenied = File Denied
+unwritten_of kind.ReadOnlyFilesystem = File ReadOnly
+unwritten_of kind.StorageFull = File Full
+unwritten_of _ = File Other
 
 -- what is told of a text that was written, or was not, or of a path that was tried
 abbrev pub told_of : Result (Unit {0}) Error → Result (Unit {0}) Unwritten

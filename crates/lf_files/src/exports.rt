@@ -10,12 +10,29 @@ use std::io;
 use std::io::ErrorKind;
 use std::rt::Files;
 
+/// Why a file cannot be written, where the system says it.
+#[derive(Clone, Copy, Debug, PartialEq, Eq)]
+pub enum Unwritable {
+    /// There is no such folder.
+    NoFolder,
+    /// A folder has its path.
+    Folder,
+    /// This user may not write it.
+    Denied,
+    /// What holds it can only be read.
+    ReadOnly,
+    /// There is no room for it.
+    Full,
+    /// Another reason.
+    Other,
+}
+
 /// Why a text was not put into its file. A regular file is then unchanged; a pipe, a device, or the file that standard output goes to
 /// may hold a front of the text.
 #[derive(Clone, Copy, Debug, PartialEq, Eq)]
 pub enum Unwritten {
     /// The file cannot be written.
-    File,
+    File(Unwritable),
     /// An allocation failed.
     OutOfMemory,
 }
@@ -26,7 +43,12 @@ fn unwritten_of(error: &io::Error) -> Unwritten
 {
     match error.kind() {
         ErrorKind::OutOfMemory => Unwritten::OutOfMemory,
-        _ => Unwritten::File,
+        ErrorKind::NotFound => Unwritten::File(Unwritable::NoFolder),
+        ErrorKind::IsADirectory => Unwritten::File(Unwritable::Folder),
+        ErrorKind::PermissionDenied => Unwritten::File(Unwritable::Denied),
+        ErrorKind::ReadOnlyFilesystem => Unwritten::File(Unwritable::ReadOnly),
+        ErrorKind::StorageFull => Unwritten::File(Unwritable::Full),
+        _ => Unwritten::File(Unwritable::Other),
     }
 }
 
@@ -95,7 +117,7 @@ fn noted(failed: &mut bool, written: io::Result<()>) -> Result<(), Unwritten>
     ensures noted { failed.new ≡ (is_of_file result || failed.old) }
 {
     let result = put_result(written);
-    if let Err(Unwritten::File) = result {
+    if let Err(Unwritten::File(_)) = result {
         *failed = true;
     }
     result

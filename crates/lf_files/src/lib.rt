@@ -18,5 +18,5 @@ mod exports;
 mod pieces;
 mod replacing;
 
-pub use exports::{Exports, FileExports, Unwritten};
+pub use exports::{Exports, FileExports, Unwritable, Unwritten};
 pub use pieces::Pieces;

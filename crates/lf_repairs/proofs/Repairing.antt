@@ -243,9 +243,9 @@ unknown_early f teams OutOfMemory is = absurd is
 unknown_early f teams Output is = absurd is
 unknown_early f teams (Bind port why) is = absurd is
 unknown_early f teams Accept is = absurd is
-unknown_early f teams (Unwritten path) is = absurd is
-unknown_early f teams (Unsaved path) is = absurd is
-unknown_early f teams (Unlisted path) is = absurd is
+unknown_early f teams (Unwritten path why) is = absurd is
+unknown_early f teams (Unsaved path why) is = absurd is
+unknown_early f teams (Unlisted path why) is = absurd is
 unknown_early f teams NoMemory is = absurd is
 unknown_early f teams NoRoom is = absurd is
 

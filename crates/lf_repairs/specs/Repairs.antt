@@ -1,10 +1,13 @@
 -- Teams of a design that are repaired.
 use Rattle.std.specs.Prelude.{◌≡◌, ◌≢◌, ◌==◌, ◌||◌, ◌⊎◌, ℕ, Bool, true, false, All, List, [], Contains, Option, Some, None, bytes_eq, is_some, length, option_map, position, unwrap_or}
+use Rattle.std.specs.Borrow.{Bor}
 use Rattle.std.specs.Io.KnownBytes.{Appends}
 use Rattle.lf_floorplan.specs.declared.frame.Frame.{Frame}
 use Rattle.lf_floorplan.specs.declared.place.Place.{Place}
 use Rattle.lf_rules.specs.Legalizer.{Legalizer}
 use Rattle.lf_files.specs.Shelf.{Put, Puts}
+use Rattle.lf_files.specs.declared.exports.Unwritten.{Unwritten as NotWritten}
+use Rattle.lf_files.specs.declared.exports.Unwritten.TheVariants as not_written
 use Rattle.lf_command.specs.declared.command.LegalCells.{LegalCells}
 use Rattle.lf_command.specs.declared.command.LegalCells.TheVariants.{Stay, MoveAsNeeded, Move}
 use Rattle.lf_plans.specs.declared.start.How.{How}
@@ -96,9 +99,14 @@ IsListed (Some path) kept old new = Puts old new path (kept_bytes kept)
 
 -- ---- faults
 
+-- the fault of lines that are not put into the file of that path
+abbrev pub lines_fault : Bor (List ℕ) → NotWritten → Fault
+lines_fault path (not_written.File why) = Unlisted path why
+lines_fault path not_written.OutOfMemory = NoRoom
+
 -- the lines of a repair are not written to that path
 abbrev pub IsNotListed : List ℕ → Fault → Type 0
-IsNotListed path (Unlisted its) = its.now ≡ path
+IsNotListed path (Unlisted its why) = its.now ≡ path
 IsNotListed path _ = ⊥
 
 -- why the lines that were asked for are not put into their file: an allocation for them failed, or the file cannot be written

@@ -5,7 +5,7 @@ ghost use Rattle.std.specs.Io.KnownBytes.{Appends, Keeps};
 ghost use Rattle.lf_files.specs.Shelf.{is_file};
 ghost use Rattle.lf_work.specs.Faults.{ExportFails};
 ghost use Rattle.lf_work.specs.Inputs.{path_of};
-ghost use Rattle.lf_repairs.specs.Repairs.{IsLinesFileFault, IsListed, begun_lines, kept_bytes, kept_text};
+ghost use Rattle.lf_repairs.specs.Repairs.{IsLinesFileFault, IsListed, begun_lines, kept_bytes, kept_text, lines_fault};
 
 use lf_designs::Fault;
 use lf_devices::{DeviceFault, Sink};
@@ -101,11 +101,12 @@ impl<'a> Pieces for WholeText<'a> {
 
 /// The fault of lines that are not put into their file.
 fn lines_fault<'f>(path: &'f str, unwritten: Unwritten) -> Fault<'f>
+    ensures told { result ≡ lines_fault path.entry unwritten }
     ensures fault { IsLinesFileFault (Some path.now) result }
     ensures fails { (before now : Bool) → now ≡ (is_file unwritten || before) → ExportFails result before now }
 {
     match unwritten {
-        Unwritten::File => Fault::Unlisted(path),
+        Unwritten::File(why) => Fault::Unlisted(path, why),
         Unwritten::OutOfMemory => Fault::NoRoom,
     }
 }

@@ -230,7 +230,7 @@ fn a_path_that_takes_no_state_is_told_before_the_first_line(rt: HostRuntime) -> 
         run.is(
             3,
             "",
-            "lefence: File\nlefence: state file w.state cannot be written\n"
+            "lefence: File\nlefence: state file w.state cannot be written: permission denied\n"
         )
     );
     Ok(())

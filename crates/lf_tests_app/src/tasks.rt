@@ -11,7 +11,7 @@ use lf_app::{
 };
 use lf_def::W_DEF;
 use lf_devices::{DeviceFault, FromRead, ToWrite};
-use lf_files::{Exports, Pieces, Unwritten};
+use lf_files::{Exports, Pieces, Unwritable, Unwritten};
 use lf_lef::W_LEF;
 use lf_server::ServeLimits;
 use lf_tests_texts::with_line;
@@ -64,7 +64,7 @@ impl<'a> Exports for Kept<'a> {
     fn try_path(&mut self, path: &str) -> Result<(), Unwritten> {
         if self.path != Some(path) {
             self.failed = true;
-            return Err(Unwritten::File);
+            return Err(Unwritten::File(Unwritable::Denied));
         }
         Ok(())
     }
@@ -73,7 +73,7 @@ impl<'a> Exports for Kept<'a> {
         self.asked = self.asked.saturating_add(1);
         if self.is_full || self.path != Some(path) {
             self.failed = true;
-            return Err(Unwritten::File);
+            return Err(Unwritten::File(Unwritable::Denied));
         }
         let mut kept = Vec::new(self.alloc);
         match text.write_to(&mut kept) {
@@ -824,7 +824,7 @@ fn an_export_that_cannot_be_written_is_a_fault(rt: HostRuntime) -> Result<(), Fa
     exports.is_full = true;
     let mut reader = b"open A\n".as_slice();
     let run = exporting(&rt, &files_of(W_DEF), &mut exports, &task, &mut reader);
-    let fault = "lefence: File\nlefence: export file new.def cannot be written\n";
+    let fault = "lefence: File\nlefence: export file new.def cannot be written: permission denied\n";
     assert!(rt; run.is_put(3, "ok 0 0\n", fault));
     Ok(())
 }
@@ -835,7 +835,7 @@ fn a_path_that_takes_no_export_is_a_fault_before_the_first_line(
 ) -> Result<(), Fail> {
     let task = exporting_replay(rt.alloc())?;
     let run = done(&rt, &files_of(W_DEF), &task, "open A\n");
-    let fault = "lefence: File\nlefence: export file new.def cannot be written\n";
+    let fault = "lefence: File\nlefence: export file new.def cannot be written: permission denied\n";
     assert!(rt; run.is(3, "", fault));
     Ok(())
 }

@@ -36,9 +36,9 @@ IsRoom NoRoom = Unit {0}
 IsRoom _ = ⊥
 
 abbrev IsPath : Fault → Type 0
-IsPath (Unwritten path) = Unit {0}
-IsPath (Unsaved path) = Unit {0}
-IsPath (Unlisted path) = Unit {0}
+IsPath (Unwritten path why) = Unit {0}
+IsPath (Unsaved path why) = Unit {0}
+IsPath (Unlisted path why) = Unit {0}
 IsPath _ = ⊥
 
 -- what more is said of the same fault
@@ -85,9 +85,9 @@ early_blames kept reader writer export service sound OutOfMemory keeps sounds ea
 early_blames kept reader writer export service sound Output keeps sounds early = absurd early
 early_blames kept reader writer export service sound (Bind port why) keeps sounds early = absurd early
 early_blames kept reader writer export service sound Accept keeps sounds early = absurd early
-early_blames kept reader writer export service sound (Unwritten path) keeps sounds early = absurd early
-early_blames kept reader writer export service sound (Unsaved path) keeps sounds early = absurd early
-early_blames kept reader writer export service sound (Unlisted path) keeps sounds early = absurd early
+early_blames kept reader writer export service sound (Unwritten path why) keeps sounds early = absurd early
+early_blames kept reader writer export service sound (Unsaved path why) keeps sounds early = absurd early
+early_blames kept reader writer export service sound (Unlisted path why) keeps sounds early = absurd early
 early_blames kept reader writer export service sound NoMemory keeps sounds early =
     record { early = λ _. keeps; reading = λ same. absurd (subst IsEarly same tt); writing = λ of. absurd of; exporting = λ of. absurd of; serving = λ of. absurd of; sparing = λ _. sounds }
 early_blames kept reader writer export service sound NoRoom keeps sounds early = absurd early
@@ -106,11 +106,11 @@ export_blames kept reader writer export service sound OutOfMemory before now is 
 export_blames kept reader writer export service sound Output before now is fails sounds = absurd is
 export_blames kept reader writer export service sound (Bind port why) before now is fails sounds = absurd is
 export_blames kept reader writer export service sound Accept before now is fails sounds = absurd is
-export_blames kept reader writer export service sound (Unwritten path) before now is fails sounds =
+export_blames kept reader writer export service sound (Unwritten path why) before now is fails sounds =
     record { early = λ of. absurd of; reading = λ same. absurd (subst IsPath same tt); writing = λ of. absurd of; exporting = λ _. fails is; serving = λ of. absurd of; sparing = λ of. absurd of }
-export_blames kept reader writer export service sound (Unsaved path) before now is fails sounds =
+export_blames kept reader writer export service sound (Unsaved path why) before now is fails sounds =
     record { early = λ of. absurd of; reading = λ same. absurd (subst IsPath same tt); writing = λ of. absurd of; exporting = λ _. fails is; serving = λ of. absurd of; sparing = λ of. absurd of }
-export_blames kept reader writer export service sound (Unlisted path) before now is fails sounds =
+export_blames kept reader writer export service sound (Unlisted path why) before now is fails sounds =
     record { early = λ of. absurd of; reading = λ same. absurd (subst IsPath same tt); writing = λ of. absurd of; exporting = λ _. fails is; serving = λ of. absurd of; sparing = λ of. absurd of }
 export_blames kept reader writer export service sound NoMemory before now is fails sounds = absurd is
 export_blames kept reader writer export service sound NoRoom before now is fails sounds =
@@ -129,9 +129,9 @@ refused_early kind path text why OutOfMemory is = absurd is
 refused_early kind path text why Output is = absurd is
 refused_early kind path text why (Bind port cause) is = absurd is
 refused_early kind path text why Accept is = absurd is
-refused_early kind path text why (Unwritten its_path) is = absurd is
-refused_early kind path text why (Unsaved its_path) is = absurd is
-refused_early kind path text why (Unlisted its_path) is = absurd is
+refused_early kind path text why (Unwritten its_path its_why) is = absurd is
+refused_early kind path text why (Unsaved its_path its_why) is = absurd is
+refused_early kind path text why (Unlisted its_path its_why) is = absurd is
 refused_early kind path text why NoMemory is = absurd is
 refused_early kind path text why NoRoom is = absurd is
 
@@ -148,9 +148,9 @@ unread_early gives kind path OutOfMemory is = absurd is
 unread_early gives kind path Output is = absurd is
 unread_early gives kind path (Bind port why) is = absurd is
 unread_early gives kind path Accept is = absurd is
-unread_early gives kind path (Unwritten its_path) is = absurd is
-unread_early gives kind path (Unsaved its_path) is = absurd is
-unread_early gives kind path (Unlisted its_path) is = absurd is
+unread_early gives kind path (Unwritten its_path its_why) is = absurd is
+unread_early gives kind path (Unsaved its_path its_why) is = absurd is
+unread_early gives kind path (Unlisted its_path its_why) is = absurd is
 unread_early gives kind path NoMemory is = tt
 unread_early gives kind path NoRoom is = absurd is
 
@@ -227,9 +227,9 @@ refused_state_early path text why OutOfMemory is = absurd is
 refused_state_early path text why Output is = absurd is
 refused_state_early path text why (Bind port cause) is = absurd is
 refused_state_early path text why Accept is = absurd is
-refused_state_early path text why (Unwritten its_path) is = absurd is
-refused_state_early path text why (Unsaved its_path) is = absurd is
-refused_state_early path text why (Unlisted its_path) is = absurd is
+refused_state_early path text why (Unwritten its_path its_why) is = absurd is
+refused_state_early path text why (Unsaved its_path its_why) is = absurd is
+refused_state_early path text why (Unlisted its_path its_why) is = absurd is
 refused_state_early path text why NoMemory is = tt
 refused_state_early path text why NoRoom is = absurd is
 

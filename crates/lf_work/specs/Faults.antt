@@ -1,5 +1,8 @@
 -- Faults of the files that a task writes, the exit statuses of tasks, and who is to blame.
 use Rattle.std.specs.Prelude.{◌≡◌, ◌⊎◌, ℕ, Bool, true, List, Option, Some, None}
+use Rattle.std.specs.Borrow.{Bor}
+use Rattle.lf_files.specs.declared.exports.Unwritten.{Unwritten as NotWritten}
+use Rattle.lf_files.specs.declared.exports.Unwritten.TheVariants as not_written
 use Rattle.lf_designs.specs.declared.faults.Fault.{Fault}
 use Rattle.lf_designs.specs.declared.faults.Fault.TheVariants.{Unwritten, Unsaved, Unlisted, NoRoom}
 use Rattle.lf_designs.specs.Faults.{IsReportFault}
@@ -20,9 +23,18 @@ IsDone status = (status ≡ 0) ⊎ (status ≡ 4)
 abbrev pub IsDescriptionFault : Fault → Type 0
 IsDescriptionFault fault = IsReportFault fault ⊎ (fault ≡ NoRoom)
 
+-- the fault of the exported text that is not put into the file of that path, and of the state
+abbrev pub export_fault : Bor (List ℕ) → NotWritten → Fault
+export_fault path (not_written.File why) = Unwritten path why
+export_fault path not_written.OutOfMemory = NoRoom
+
+abbrev pub save_fault : Bor (List ℕ) → NotWritten → Fault
+save_fault path (not_written.File why) = Unsaved path why
+save_fault path not_written.OutOfMemory = NoRoom
+
 -- the exported text of that path is not written
 abbrev pub IsUnwritten : List ℕ → Fault → Type 0
-IsUnwritten path (Unwritten its) = its.now ≡ path
+IsUnwritten path (Unwritten its why) = its.now ≡ path
 IsUnwritten path _ = ⊥
 
 -- why the exported text that was asked for is not put into its file: an allocation for it failed, or the file cannot be written
@@ -32,7 +44,7 @@ IsExportFault (Some path) fault = (fault ≡ NoRoom) ⊎ IsUnwritten path fault
 
 -- the state is not written to that path
 abbrev pub IsNotSaved : List ℕ → Fault → Type 0
-IsNotSaved path (Unsaved its) = its.now ≡ path
+IsNotSaved path (Unsaved its why) = its.now ≡ path
 IsNotSaved path _ = ⊥
 
 -- why the state that was asked for is not put into its file: an allocation for it failed, or the file cannot be written
@@ -44,8 +56,8 @@ IsSaveFault (Some path) fault = (fault ≡ NoRoom) ⊎ IsNotSaved path fault
 
 -- the file of the exported text, of the state or of the lines has failed if it is not written for its own fault, and not if memory ran out
 abbrev pub ExportFails : Fault → Bool → Bool → Type 0
-ExportFails (Unwritten path) before now = now ≡ true
-ExportFails (Unsaved path) before now = now ≡ true
-ExportFails (Unlisted path) before now = now ≡ true
+ExportFails (Unwritten path why) before now = now ≡ true
+ExportFails (Unsaved path why) before now = now ≡ true
+ExportFails (Unlisted path why) before now = now ≡ true
 ExportFails NoRoom before now = now ≡ before
 ExportFails _ before now = ⊥

@@ -7,7 +7,7 @@ ghost use Rattle.lf_floorplan.specs.declared.place.Place.{Place};
 ghost use Rattle.lf_teams.specs.Places.{AreCommittedPlaces};
 ghost use Rattle.lf_write.specs.Export.{CanBeRenewed, clause_of, renewed};
 ghost use Rattle.lf_work.specs.Exits.{IsExported};
-ghost use Rattle.lf_work.specs.Faults.{ExportFails, IsExportFault};
+ghost use Rattle.lf_work.specs.Faults.{ExportFails, IsExportFault, export_fault};
 
 use lf_designs::{Fault, Original};
 use lf_files::{Exports, Pieces, Unwritten};
@@ -80,11 +80,12 @@ fn exported_text<'a>(
 
 /// The fault of a text that is not put into its file.
 fn export_fault<'f>(path: &'f str, unwritten: Unwritten) -> Fault<'f>
+    ensures told { result ≡ export_fault path.entry unwritten }
     ensures fault { IsExportFault (Some path.now) result }
     ensures fails { (before now : Bool) → now ≡ (is_file unwritten || before) → ExportFails result before now }
 {
     match unwritten {
-        Unwritten::File => Fault::Unwritten(path),
+        Unwritten::File(why) => Fault::Unwritten(path, why),
         Unwritten::OutOfMemory => Fault::NoRoom,
     }
 }

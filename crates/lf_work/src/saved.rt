@@ -4,7 +4,7 @@ ghost use Rattle.std.specs.Prelude.{◌≡◌, ◌||◌, Bool, None, Some, IfErr
 ghost use Rattle.std.specs.Io.KnownBytes.{Appends};
 ghost use Rattle.lf_files.specs.Shelf.{is_file};
 ghost use Rattle.lf_floor.specs.Saving.{text_of};
-ghost use Rattle.lf_work.specs.Faults.{ExportFails, IsSaveFault};
+ghost use Rattle.lf_work.specs.Faults.{ExportFails, IsSaveFault, save_fault};
 ghost use Rattle.lf_work.specs.States.{IsSaved};
 ghost use Rattle.lf_work.specs.Inputs.{path_of};
 
@@ -80,11 +80,12 @@ impl<'a> Pieces for StateText<'a> {
 
 /// The fault of a state that is not put into its file.
 fn save_fault<'f>(path: &'f str, unwritten: Unwritten) -> Fault<'f>
+    ensures told { result ≡ save_fault path.entry unwritten }
     ensures fault { IsSaveFault (Some path.now) result }
     ensures fails { (before now : Bool) → now ≡ (is_file unwritten || before) → ExportFails result before now }
 {
     match unwritten {
-        Unwritten::File => Fault::Unsaved(path),
+        Unwritten::File(why) => Fault::Unsaved(path, why),
         Unwritten::OutOfMemory => Fault::NoRoom,
     }
 }
