@@ -27,9 +27,12 @@ EXPORTED = (
 DONE = (0, REPLIES, "")
 
 
-def unwritten(target: Path | str) -> str:
+NO_FOLDER = ": there is no such folder"
+
+
+def unwritten(target: Path | str, why: str) -> str:
     """What is told of a path that no text can be written to."""
-    return f"lefence: File\nlefence: export file {target} cannot be written\n"
+    return f"lefence: File\nlefence: export file {target} cannot be written{why}\n"
 
 
 class Exports(InFolder):
@@ -165,24 +168,24 @@ class Exported(Exports):
 class NotExported(Exports):
     """Exports that are not written: what was there stays as it was, and nothing is left beside it."""
 
-    def refused(self, target: Path | str, start: Start = Start()) -> None:
+    def refused(self, target: Path | str, why: str = "", start: Start = Start()) -> None:
         """It shows only when the text is written."""
-        self.assertEqual(self.export(target, start), (3, REPLIES, unwritten(target)))
+        self.assertEqual(self.export(target, start), (3, REPLIES, unwritten(target, why)))
 
-    def refused_early(self, target: Path | str, start: Start = Start()) -> None:
+    def refused_early(self, target: Path | str, why: str = "") -> None:
         """It shows before the first line is read."""
-        self.assertEqual(self.export(target, start), (3, "", unwritten(target)))
+        self.assertEqual(self.export(target), (3, "", unwritten(target, why)))
 
     def test_into_a_folder_that_is_missing(self) -> None:
         missing = self.folder / "missing" / "new.def"
-        self.refused_early(missing)
+        self.refused_early(missing, NO_FOLDER)
         bounds = ["--port", str(free_port()), "--connections", "1"]
-        self.assertEqual(run(["serve", *DESIGN, *bounds, "--export", str(missing)]), (3, "", unwritten(missing)))
+        self.assertEqual(run(["serve", *DESIGN, *bounds, "--export", str(missing)]), (3, "", unwritten(missing, NO_FOLDER)))
         self.assertEqual(self.names(), [])
 
     def test_to_a_folder(self) -> None:
         self.target.mkdir()
-        self.refused_early(self.target)
+        self.refused_early(self.target, ": it is a folder")
         self.assertEqual((self.names(), os.listdir(self.target)), (["new.def"], []))
 
     def test_through_links_that_go_round(self) -> None:
@@ -192,32 +195,33 @@ class NotExported(Exports):
         self.assertEqual((os.readlink(self.target), self.names()), ("second.def", ["new.def", "second.def"]))
 
     def test_into_a_folder_where_no_file_can_be_made(self) -> None:
-        self.refused_early("/proc/new.def")
+        # (so the system says)
+        self.refused_early("/proc/new.def", NO_FOLDER)
 
     @unittest.skipIf(os.geteuid() == 0, "root may write to any folder")
     def test_into_a_folder_without_write_permission(self) -> None:
         self.target.write_text("older")
         self.folder.chmod(0o555)
         try:
-            self.refused_early(self.target)
-            self.refused_early(self.folder / "other.def")
+            self.refused_early(self.target, ": permission denied")
+            self.refused_early(self.folder / "other.def", ": permission denied")
         finally:
             self.folder.chmod(0o755)
         self.assertEqual((self.target.read_text(), self.names()), ("older", ["new.def"]))
 
     def test_beyond_a_limit_on_file_size(self) -> None:
-        self.refused(self.target, Start(first=small_files))
+        self.refused(self.target, start=Start(first=small_files))
         self.assertEqual(self.names(), [])
         for older in ("older", "older\n" * 1_000):
             with self.subTest(len(older)):
                 self.target.write_text(older)
                 self.target.chmod(0o640)
-                self.refused(self.target, Start(first=small_files))
+                self.refused(self.target, start=Start(first=small_files))
                 self.assertEqual((self.target.read_text(), self.mode(self.target)), (older, 0o640))
                 self.assertEqual(self.names(), ["new.def"])
 
     def test_to_a_device_that_is_full(self) -> None:
-        self.refused("/dev/full")
+        self.refused("/dev/full", ": there is no room left")
 
     def test_after_a_fault_of_the_replies(self) -> None:
         self.target.write_text("older")

@@ -183,7 +183,7 @@ class Repairs(InFolder):
         missing = self.folder / "no" / "file"
         for option, word in (("--export", "export"), ("--lines", "lines")):
             words = ["repair", str(self.text), str(LEF), option, str(missing)]
-            said = f"lefence: File\nlefence: {word} file {missing} cannot be written\n"
+            said = f"lefence: File\nlefence: {word} file {missing} cannot be written: there is no such folder\n"
             self.assertEqual(run(words), (3, "", said))
         self.assertEqual(self.names(), ["old.def"])
 

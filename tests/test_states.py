@@ -260,21 +260,22 @@ class Saved(States):
 class NotSaved(States):
     """States that are not written: what was there stays as it was."""
 
-    def unsaved(self, target: Path | str) -> str:
-        return f"lefence: File\nlefence: state file {target} cannot be written\n"
+    def unsaved(self, target: Path | str, why: str = "") -> str:
+        return f"lefence: File\nlefence: state file {target} cannot be written{why}\n"
 
     def test_into_a_folder_that_is_missing(self) -> None:
         missing = self.folder / "missing" / "w.state"
         words = [*DESIGN, "--save", str(missing)]
-        self.assertEqual(run(["replay", *words], "open A\n"), (3, "", self.unsaved(missing)))
+        said = self.unsaved(missing, ": there is no such folder")
+        self.assertEqual(run(["replay", *words], "open A\n"), (3, "", said))
         bounds = ["--port", str(free_port()), "--connections", "1"]
-        self.assertEqual(run(["serve", *words, *bounds]), (3, "", self.unsaved(missing)))
+        self.assertEqual(run(["serve", *words, *bounds]), (3, "", said))
         self.assertEqual(self.names(), [])
 
     def test_the_export_path_is_tried_first(self) -> None:
         export, save = self.folder / "missing" / "new.def", self.folder / "missing" / "w.state"
         ran = run(["replay", *DESIGN, "--save", str(save), "--export", str(export)], "open A\n")
-        self.assertEqual(ran, (3, "", f"lefence: File\nlefence: export file {export} cannot be written\n"))
+        self.assertEqual(ran, (3, "", f"lefence: File\nlefence: export file {export} cannot be written: there is no such folder\n"))
 
     def test_beyond_a_limit_on_file_size(self) -> None:
         self.state.write_text("older")
@@ -284,7 +285,7 @@ class NotSaved(States):
     def test_where_the_device_is_full_the_text_is_exported(self) -> None:
         export = self.folder / "new.def"
         ran = run(["replay", *DESIGN, "--save", "/dev/full", "--export", str(export)], "open A\n")
-        self.assertEqual(ran, (3, "ok 0 0\n", self.unsaved("/dev/full")))
+        self.assertEqual(ran, (3, "ok 0 0\n", self.unsaved("/dev/full", ": there is no room left")))
         self.assertEqual(export.read_bytes(), DEF.read_bytes())
 
     def test_after_a_fault_of_the_lines(self) -> None:

@@ -433,19 +433,12 @@ fn an_exported_text_may_replace_the_def_text(rt: HostRuntime) -> Result<(), Fail
             &replay
         )?
     );
-    let repair = Named::Repair {
-        def: "a",
-        lefs: &["b"],
-        teams: &[],
-        legal: LegalCells::MoveAsNeeded,
-        export: Some("a"),
-        lines: Some("x"),
-    };
+    let nothing = Named::Nothing(UsageFault::Usage);
     assert!(rt;
-        names(
+        !names(
             rt.alloc(),
             "lefence repair a b --export a --lines x",
-            &repair
+            &nothing
         )?
     );
     Ok(())
