@@ -824,7 +824,8 @@ fn an_export_that_cannot_be_written_is_a_fault(rt: HostRuntime) -> Result<(), Fa
     exports.is_full = true;
     let mut reader = b"open A\n".as_slice();
     let run = exporting(&rt, &files_of(W_DEF), &mut exports, &task, &mut reader);
-    let fault = "lefence: File\nlefence: export file new.def cannot be written: permission denied\n";
+    let fault =
+        "lefence: File\nlefence: export file new.def cannot be written: permission denied\n";
     assert!(rt; run.is_put(3, "ok 0 0\n", fault));
     Ok(())
 }
@@ -835,7 +836,8 @@ fn a_path_that_takes_no_export_is_a_fault_before_the_first_line(
 ) -> Result<(), Fail> {
     let task = exporting_replay(rt.alloc())?;
     let run = done(&rt, &files_of(W_DEF), &task, "open A\n");
-    let fault = "lefence: File\nlefence: export file new.def cannot be written: permission denied\n";
+    let fault =
+        "lefence: File\nlefence: export file new.def cannot be written: permission denied\n";
     assert!(rt; run.is(3, "", fault));
     Ok(())
 }
