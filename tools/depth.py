@@ -51,7 +51,7 @@ class Depth(NamedTuple):
 
 
 def place_of(path: str) -> tuple[str, str]:
-    """The crate and the file of a path as `lf_teams.specs.Runs`; of a type of the code, or of its variants, the type's path."""
+    """The crate and the file of a path as `lf_floor_model.specs.Runs`; of a type of the code, or of its variants, the type's path."""
     crate, _, inside = path.partition(".specs.")
     return crate, inside.removesuffix(VARIANTS) if inside.startswith(DECLARED) else inside.partition(".")[0]
 

@@ -9,13 +9,13 @@ A quote is a comment that names what is quoted, and the fenced block behind it:
     <!-- crates/lf_floor/src/floor.rt: pub fn step -->                  the signature and all clauses
     <!-- crates/lf_floor/src/floor.rt: pub fn step: step, others -->    the signature and these clauses
     <!-- crates/lf_cells/src/cell.rt: pub struct Cell -->               a type, or likewise some of its fields
-    <!-- crates/lf_teams/specs/Runs.antt: own_replies, own_state -->    definitions, with the comments above them
+    <!-- crates/lf_floor_model/specs/Runs.antt: own_replies, own_state -->    definitions, with the comments above them
 
 A row of the table says how many definitions a statement rests on, and how many of them the page quotes.
 What the statement is made of stands in a comment above the table, one for each row; behind a + beside that of the row before:
 
-    <!-- depth: one command: lf_teams.Steps.Step -->
-    <!-- depth: the headline: + lf_teams.Runs.Run, lf_teams.Runs.IsIsolated -->
+    <!-- depth: one command: lf_floor_model.Steps.Step -->
+    <!-- depth: the headline: + lf_floor_model.Runs.Run, lf_floor_model.Runs.IsIsolated -->
 """
 
 from __future__ import annotations

@@ -5,8 +5,8 @@ A row is made of a verb's name, the fields of its shape, and the comment at its 
 That comment says what the verb does, then its reply and the numbers of its refusals. The rows are in the order of VERBS; the row of
 open is before them and the row of bye after them, and these two are made of the comments in src/request.rt.
 
-front/lefence/tables.py has the verbs of the same sources: one changes the floor if it is no look by `is_look` of lf_teams, and
-makes a revision if it is a Change; the refusals of src/reply.rt, with the numbers and names of src/text.rt; the rules of lf_rules,
+front/lefence/tables.py has the verbs of the same sources: one changes the floor if it is no look by `is_query` of lf_floor_model, and
+makes a revision if it is a Change; the refusals of src/reply.rt, with the numbers and names of src/reply_words.rt; the rules of lf_rules,
 and the orientations. front/tcl/tables.tcl has the verbs for Tcl.
 
 usage: tools/verbs.py            (from the top) prints the table
@@ -27,7 +27,7 @@ from pathlib import Path
 SOURCES = Path("crates/lf_proto/src")
 RULES = Path("crates/lf_rules/src/rule.rt")
 ORIENTS = Path("crates/lf_orient/src/lib.rt")
-LOOKS = Path("crates/lf_teams/specs/Journals.antt")
+LOOKS = Path("crates/lf_floor_model/specs/Journals.antt")
 PAGE = Path("docs/PROTOCOL.md")
 TABLES = Path("front/lefence/tables.py")
 TCL = Path("front/tcl/tables.tcl")
@@ -39,8 +39,8 @@ VARIANT = re.compile(r"    (\w+)\b")
 ANSWERS = re.compile(r"Reply: (.*?)\.(?: Refusals: ([\d, ]+)\.)?")
 # The words behind `ok` of a reply.
 WORDS = re.compile(r"`ok((?: [A-Z]+)*)`")
-# A line of is_look: a command of a session, with its operands in names, is a look.
-LOOK = re.compile(r"is_look \(To team \(Within session \(?(\w+)(?: \w+)*\)?\)\) = true")
+# A line of is_query: a command of a session, with its operands in names, is a look.
+LOOK = re.compile(r"is_query \(To team \(Within session \(?(\w+)(?: \w+)*\)?\)\) = true")
 # The number and the name of a refusal, as put_refusal has them.
 NUMBERED = re.compile(r'b"(\d+)"\)?,\s*(?:Word::Text\()?b"(\w+)"')
 HEADING = '''"""The verbs, refusals, rules and orientations of the program.
@@ -113,23 +113,23 @@ def table() -> list[str]:
     text = (SOURCES / "verb.rt").read_text(encoding="utf-8")
     request = (SOURCES / "request.rt").read_text(encoding="utf-8")
     said = comments(text, "Action") | comments(text, "Change")
-    rows = [row("open TEAM", comments(request, "Order").get("Open", [""]))]
+    rows = [row("open TEAM", comments(request, "TeamCommand").get("Open", [""]))]
     rows += [row(f"{verb.name} TEAM N{verb.fields}", said.get(verb.variant, [""])) for verb in verbs_of(text)]
     return [*HEAD, *rows, row("bye", comments(request, "Command").get("Bye", [""]))]
 
 
 def looks(text: str) -> set[str]:
-    """The variants of Action that change nothing, by the lines of is_look, each of which must be of a form that is known."""
-    lines = re.findall(r"^is_look .*", text, flags=re.M)
+    """The variants of Action that change nothing, by the lines of is_query, each of which must be of a form that is known."""
+    lines = re.findall(r"^is_query .*", text, flags=re.M)
     found = {look[1] for line in lines if (look := LOOK.fullmatch(line))}
-    if len(found) != len(lines) - 2 or lines[0] != "is_look Bye = true" or lines[-1] != "is_look _ = false":
-        raise NotThere(f"lines of is_look in {LOOKS} are of a form that is not known")
+    if len(found) != len(lines) - 2 or lines[0] != "is_query Bye = true" or lines[-1] != "is_query _ = false":
+        raise NotThere(f"lines of is_query in {LOOKS} are of a form that is not known")
     return found
 
 
 def front_verbs(request: str, verb_text: str) -> list[str]:
     """The lines of the verbs in the front's table."""
-    changes, actions, orders = (comments(text, name) for text, name in ((verb_text, "Change"), (verb_text, "Action"), (request, "Order")))
+    changes, actions, orders = (comments(text, name) for text, name in ((verb_text, "Change"), (verb_text, "Action"), (request, "TeamCommand")))
     unchanging = looks(LOOKS.read_text(encoding="utf-8"))
     if not unchanging <= actions.keys() - {"Change"}:
         raise NotThere(f"a look of {LOOKS} is no action that changes nothing")
@@ -166,9 +166,9 @@ def listed(words: list[str]) -> str:
 def refusals() -> dict[int, str]:
     """The refusals of the program by their numbers, which go from 1 on without a gap."""
     variants = list(comments((SOURCES / "reply.rt").read_text(encoding="utf-8"), "Refusal"))
-    found = {int(number): name for number, name in NUMBERED.findall((SOURCES / "text.rt").read_text(encoding="utf-8"))}
+    found = {int(number): name for number, name in NUMBERED.findall((SOURCES / "reply_words.rt").read_text(encoding="utf-8"))}
     if [found[number] for number in sorted(found)] != variants or sorted(found) != list(range(1, len(found) + 1)):
-        raise NotThere("the refusals of reply.rt are not those that text.rt numbers")
+        raise NotThere("the refusals of reply.rt are not those that reply_words.rt numbers")
     return dict(sorted(found.items()))
 
 

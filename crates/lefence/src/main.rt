@@ -9,8 +9,8 @@ mod help;
 
 use crate::help::{USAGE, texts_of};
 use lf_app::{
-    Exit, FileExports, FileTexts, FromRead, Help, NetServices, Surroundings, Task, TimedProgress,
-    ToWrite, UsageFault, perform_over,
+    Environment, FromRead, FsInputFiles, FsOutputFiles, Help, NetListener, Task, TaskExit,
+    TimedProgress, ToWrite, UsageFault, perform_over,
 };
 use std::alloc::{AllocError, Global};
 use std::io;
@@ -74,7 +74,7 @@ fn show(rt: &HostRuntime, help: Help) -> u8 {
 /// Says which word is wrong, or which is missing, and what it may be: of what the parser of the words says, the lines before its
 /// own usage.
 fn complain(rt: &HostRuntime, words: &[&str]) {
-    let Ok(Some(said)) = lf_app::complaint_of(rt.alloc(), words) else {
+    let Ok(Some(said)) = lf_app::usage_message(rt.alloc(), words) else {
         return;
     };
     for line in said.as_str().lines() {
@@ -104,14 +104,14 @@ fn answer(rt: &HostRuntime, words: &[&str], fault: UsageFault) -> u8 {
 const PAUSE: u64 = 2;
 
 /// Does the task over the files, the network and the standard streams.
-fn perform(rt: &HostRuntime, task: &Task<'_>) -> Exit {
+fn perform(rt: &HostRuntime, task: &Task<'_>) -> TaskExit {
     let mut reader = rt.reader();
     let mut writer = io::writer(rt);
     let mut faults = rt.stderr();
-    let mut around = Surroundings {
-        texts: FileTexts::new(rt),
-        exports: FileExports::new(rt),
-        services: NetServices::new(rt),
+    let mut around = Environment {
+        texts: FsInputFiles::new(rt),
+        exports: FsOutputFiles::new(rt),
+        services: NetListener::new(rt),
         reader: FromRead::new(&mut reader),
         writer: ToWrite::new(&mut writer),
         faults: ToWrite::new(&mut faults),

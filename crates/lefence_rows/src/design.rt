@@ -5,29 +5,29 @@ ghost use Rattle.lf_floorplan.specs.declared.limits.Limits.{Limits as TheLimits}
 ghost use Rattle.lf_floorplan.specs.declared.place.Place.{Place};
 ghost use Rattle.lf_frame.specs.Loads.{IsLoadedFrom};
 ghost use Rattle.lf_lef.specs.Contents.{Contents};
-ghost use Rattle.lf_refusals.specs.Findings.{inputs};
-ghost use Rattle.lf_teams.specs.Places.{AreCommittedPlaces};
-ghost use Rattle.lf_teams.specs.States.{FloorState};
-ghost use Rattle.lf_write.specs.Export.{CanBeGiven};
+ghost use Rattle.lf_frame_checks.specs.Findings.{inputs};
+ghost use Rattle.lf_floor_model.specs.Places.{AreCommittedPlaces};
+ghost use Rattle.lf_floor_model.specs.States.{FloorState};
+ghost use Rattle.lf_write.specs.Export.{AreExportable};
 
-use crate::reading::{put_document, put_library};
-use crate::running::put_run;
-use crate::shipped;
-use crate::shipped::RowTexts;
-use lf_app::{Fault, Refusal, TextFile, TextKind, answer_lines, write_fault};
-use lf_def::{DefDoc, W_DEF, read_def};
-use lf_devices::{FromRead, ToWrite};
+use crate::print_texts::{put_document, put_library};
+use crate::run_requests::put_run;
+use crate::shipped_program;
+use crate::shipped_program::RowTexts;
+use lf_app::{Fault, TextFile, TextKind, TextRefusal, serve_lines_within, write_fault};
+use lf_def::{DEMO_DEF, DefDoc, read_def};
 use lf_floor::Floor;
+use lf_floor_model::places_follow_design;
 use lf_frame::{Limits, Loaded, load};
-use lf_lef::{Library, W_LEF, read_lef};
+use lf_io::{FromRead, ToWrite};
+use lf_laws_roundtrip::loaded_cells_are_exportable;
+use lf_lef::{DEMO_LEF, Library, read_lef};
 use lf_legalize::{IndexSeeker, PlainSeeker, Seeker};
 use lf_lex::LoadFault;
 use lf_proto::report_json;
 use lf_reports::check_all;
-use lf_reread::loaded_cells_can_be_given;
 use lf_server::Ending;
-use lf_teams::places_follow_design;
-use lf_tests_texts::with_line;
+use lf_tests_support::with_line;
 use lf_write::export;
 use std::alloc::{AllocError, Global};
 use std::io;
@@ -92,7 +92,7 @@ fn put_fault<W: Write>(alloc: Global, writer: &mut W, refusal: &LoadFault<'_>) -
             kind: TextKind::Def,
             path: "row",
         },
-        refusal: Refusal::new(alloc, TextKind::Def, b"", refusal),
+        refusal: TextRefusal::new(alloc, TextKind::Def, b"", refusal),
     };
     match write_fault(&mut ToWrite::new(writer), &fault) {
         Ok(()) => Ok(()),
@@ -105,8 +105,8 @@ impl Design {
     pub fn new(alloc: Global) -> Result<Design, AllocError> {
         Ok(Design {
             alloc,
-            lef: Vec::from_slice(alloc, W_LEF)?,
-            def: Vec::from_slice(alloc, W_DEF)?,
+            lef: Vec::from_slice(alloc, DEMO_LEF)?,
+            def: Vec::from_slice(alloc, DEMO_DEF)?,
             limits: Limits::standard(),
             is_limited: false,
         })
@@ -215,7 +215,7 @@ impl Design {
         if self.is_limited {
             return writer.write_all(&report);
         }
-        let shipped = shipped::report(&self.texts())?;
+        let shipped = shipped_program::report(&self.texts())?;
         put_both(writer, &shipped, b"but by check_all\n", &report)
     }
 
@@ -230,7 +230,7 @@ impl Design {
         if self.is_limited || !asked.is_exported {
             return writer.write_all(replies);
         }
-        let shipped = shipped::replay(&self.texts(), asked.lines)?;
+        let shipped = shipped_program::replay(&self.texts(), asked.lines)?;
         let mut text = shipped.written;
         put_lines(&mut text, &shipped.exported)?;
         put_both(writer, &text, b"but by export\n", replies)
@@ -294,7 +294,7 @@ fn exported<S: Seeker + Drop>(
     floor: &Floor<S>,
     document: &DefDoc<'_>,
 ) -> Result<Vec<u8>, AllocError>
-    requires fits { (places : List (ℕ × Option Place)) → AreCommittedPlaces floor.now places → CanBeGiven document.now.components places }
+    requires fits { (places : List (ℕ × Option Place)) → AreCommittedPlaces floor.now places → AreExportable document.now.components places }
 {
     let places = floor.committed_places()?;
     export(alloc, document, &places)
@@ -317,7 +317,7 @@ fn put_export<S: Seeker + Drop>(
     document: &DefDoc<'_>,
     replies: &mut Vec<u8>,
 ) -> Result<(), AllocError>
-    requires fits { (places : List (ℕ × Option Place)) → AreCommittedPlaces floor.now places → CanBeGiven document.now.components places }
+    requires fits { (places : List (ℕ × Option Place)) → AreCommittedPlaces floor.now places → AreExportable document.now.components places }
 {
     let text = exported(alloc, floor, document)?;
     put_lines(replies, &text)
@@ -338,7 +338,7 @@ fn put_answers<S: Seeker + Drop>(
     let mut reader = asked.lines;
     let mut source = FromRead::new(&mut reader);
     let mut sink = ToWrite::new(replies);
-    match answer_lines(alloc, floor, &mut source, &mut sink, MOST_LINES) {
+    match serve_lines_within(alloc, floor, &mut source, &mut sink, MOST_LINES) {
         // (a list of replies fails only for want of memory)
         Ending::OutOfMemory | Ending::WriteFault => Err(AllocError),
         _ => Ok(()),
@@ -354,7 +354,7 @@ fn put_replies<S: Seeker + Drop>(
     replies: &mut Vec<u8>,
 ) -> Result<(), AllocError>
     requires fits { (s : FloorState) (places : List (ℕ × Option Place)) → s.components ≡ floor.old.components → AreCommittedPlaces s places
-        → CanBeGiven document.now.components places }
+        → AreExportable document.now.components places }
 {
     put_answers(alloc, floor, asked, replies)?;
     if !asked.is_exported {
@@ -374,7 +374,7 @@ fn replies_by<S: Seeker + Drop>(
 ) -> Result<Vec<u8>, AllocError>
     requires loads { (library : Contents) × (limits : TheLimits) × IsLoadedFrom (inputs library document.now limits) loaded }
 {
-    loaded_cells_can_be_given();
+    loaded_cells_are_exportable();
     places_follow_design();
     let mut floor = Floor::start(alloc, loaded, seeker)?;
     let mut replies = Vec::new(alloc);

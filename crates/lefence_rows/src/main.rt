@@ -32,10 +32,10 @@
 #![tactic(auto)]
 
 mod design;
-mod reading;
+mod print_texts;
 mod row;
-mod running;
-mod shipped;
+mod run_requests;
+mod shipped_program;
 
 use row::{Row, is_heading};
 use std::io;

@@ -1,18 +1,18 @@
 -- A task over std's reader and writers, which its devices hold.
 use Rattle.std.proofs.Common.{◌≡◌, Bool, ℕ, List, Option, ap, false, not, sym}
-use Rattle.lf_command.specs.Command.{Job}
-use Rattle.lf_designs.specs.declared.faults.Exit.{Exit}
-use Rattle.lf_designs.specs.Designs.{Gives}
-use Rattle.lf_designs.specs.Faults.{Blames, IsEarly}
-use Rattle.lf_app.specs.Exits.{Ends, IsJobFault, IsOutcome}
-use Rattle.lf_lines.specs.Exits.{alone}
+use Rattle.lf_cli.specs.Command.{Job}
+use Rattle.lf_task_designs.specs.declared.faults.TaskExit.{TaskExit}
+use Rattle.lf_task_designs.specs.Designs.{ReadsFile}
+use Rattle.lf_task_designs.specs.Faults.{BlamesDevices, IsEarly}
+use Rattle.lf_app.specs.Exits.{EndsTask, IsJobFault, IsOutcome}
+use Rattle.lf_task_serve.specs.Exits.{alone}
 
 -- a fault of a job over devices is one over what they hold
-pub std_fault : (gives : Gives) (job : Job) (a a' b b' c c' d d' e e' f f' : Option (List ℕ)) (kept kept' reader writer export service sound : Type 0)
-    (failed : Bool) (exit : Exit)
-    → Ends (λ fault. IsJobFault gives job fault (alone a b c d) × Blames fault kept reader writer export service sound) e f failed exit
+pub std_fault : (gives : ReadsFile) (job : Job) (a a' b b' c c' d d' e e' f f' : Option (List ℕ)) (kept kept' reader writer export service sound : Type 0)
+    (failed : Bool) (exit : TaskExit)
+    → EndsTask (λ fault. IsJobFault gives job fault (alone a b c d) × BlamesDevices fault kept reader writer export service sound) e f failed exit
     → a ≡ a' → b ≡ b' → c ≡ c' → d ≡ d' → e ≡ e' → f ≡ f' → (kept → kept')
-    → Ends (λ fault. IsJobFault gives job fault (alone a' b' c' d') × (IsEarly fault → kept')) e' f' (not exit.is_told) exit
+    → EndsTask (λ fault. IsJobFault gives job fault (alone a' b' c' d') × (IsEarly fault → kept')) e' f' (not exit.is_told) exit
 std_fault gives job a a' b b' c c' d d' e e' f f' kept kept' reader writer export service sound failed exit ends a_is b_is c_is d_is e_is f_is keeps = (
   ends.0,
   (rw (sym a_is, sym b_is, sym c_is, sym d_is) ends.1.0, λ early. keeps (ends.1.1.early early)),
@@ -20,15 +20,15 @@ std_fault gives job a a' b b' c c' d d' e e' f f' kept kept' reader writer expor
 )
 
 -- an outcome over devices is one over what they hold
-pub std_outcome : (gives : Gives) (job : Job) (a a' b b' c c' d d' : Option (List ℕ)) (status : ℕ) → IsOutcome gives job (alone a b c d) status
+pub std_outcome : (gives : ReadsFile) (job : Job) (a a' b b' c c' d d' : Option (List ℕ)) (status : ℕ) → IsOutcome gives job (alone a b c d) status
     → a ≡ a' → b ≡ b' → c ≡ c' → d ≡ d' → IsOutcome gives job (alone a' b' c' d') status
 std_outcome gives job a a' b b' c c' d d' status is a_is b_is c_is d_is = rw (sym a_is, sym b_is, sym c_is, sym d_is) is
 
 -- and so is a fault
-pub std_ends : (gives : Gives) (job : Job) (a a' b b' c c' d d' e e' f f' : Option (List ℕ)) (kept kept' : Type 0) (failed : Bool) (exit : Exit)
-    → Ends (λ fault. IsJobFault gives job fault (alone a b c d) × (IsEarly fault → kept)) e f failed exit
+pub std_ends : (gives : ReadsFile) (job : Job) (a a' b b' c c' d d' e e' f f' : Option (List ℕ)) (kept kept' : Type 0) (failed : Bool) (exit : TaskExit)
+    → EndsTask (λ fault. IsJobFault gives job fault (alone a b c d) × (IsEarly fault → kept)) e f failed exit
     → a ≡ a' → b ≡ b' → c ≡ c' → d ≡ d' → e ≡ e' → f ≡ f' → (kept → kept')
-    → Ends (λ fault. IsJobFault gives job fault (alone a' b' c' d') × (IsEarly fault → kept')) e' f' failed exit
+    → EndsTask (λ fault. IsJobFault gives job fault (alone a' b' c' d') × (IsEarly fault → kept')) e' f' failed exit
 std_ends gives job a a' b b' c c' d d' e e' f f' kept kept' failed exit ends a_is b_is c_is d_is e_is f_is keeps = (
   ends.0,
   (rw (sym a_is, sym b_is, sym c_is, sym d_is) ends.1.0, λ early. keeps (ends.1.1 early)),

@@ -1,15 +1,15 @@
 -- Tasks over a design that is loaded.
 use Rattle.std.proofs.Common.{◌≡◌, arith, inl, inr, ℕ}
-use Rattle.lf_command.specs.declared.command.Task.{Task}
-use Rattle.lf_command.specs.declared.command.Task.TheVariants.{Demo, Replay, Serve, Check, Describe, Repair}
-use Rattle.lf_command.specs.Command.{Job, ReadsNone, as_job, check, demo, describe, repair, replay, serve}
-use Rattle.lf_designs.specs.declared.faults.Fault.{Fault}
-use Rattle.lf_designs.specs.declared.faults.Fault.TheVariants.{Refused, File, NoState, NoTeam, ReadFault, WriteFault, TooManyLines, OutOfMemory, Output, Bind, Accept, Unwritten, Unsaved, Unlisted, NoMemory, NoRoom}
-use Rattle.lf_designs.specs.Designs.{Gives}
-use Rattle.lf_designs.specs.Faults.{status_of}
+use Rattle.lf_cli.specs.declared.parse.Task.{Task}
+use Rattle.lf_cli.specs.declared.parse.Task.TheVariants.{Demo, Replay, Serve, Check, Describe, Repair}
+use Rattle.lf_cli.specs.Command.{Job, ReadsNone, as_job, check, demo, describe, repair, replay, serve}
+use Rattle.lf_task_designs.specs.declared.faults.Fault.{Fault}
+use Rattle.lf_task_designs.specs.declared.faults.Fault.TheVariants.{Refused, File, NoState, NoTeam, ReadFault, WriteFault, TooManyLines, OutOfMemory, Output, Bind, Accept, Unwritten, Unsaved, Unlisted, NoMemory, NoRoom}
+use Rattle.lf_task_designs.specs.Designs.{ReadsFile}
+use Rattle.lf_task_designs.specs.Faults.{status_of}
 use Rattle.lf_app.specs.Exits.{IsOutcome}
-use Rattle.lf_lines.specs.Exits.{Streams}
-use Rattle.lf_work.specs.Faults.{IsDone, IsFailure}
+use Rattle.lf_task_serve.specs.Exits.{Streams}
+use Rattle.lf_task_files.specs.Faults.{IsDone, IsFailure}
 
 -- the status of a fault is one of a task that was not done
 pub failing : (fault : Fault) (status : ℕ) → status ≡ status_of fault → IsFailure status
@@ -38,7 +38,7 @@ not_both status (inr is) (inl fails) = omega (arith, is, fails)
 not_both status (inr is) (inr fails) = omega (arith, is, fails)
 
 -- the status of the outcome of a job is one of a task that was done
-pub succeeds : (gives : Gives) (job : Job) (io : Streams) (status : ℕ) → IsOutcome gives job io status → IsDone status
+pub succeeds : (gives : ReadsFile) (job : Job) (io : Streams) (status : ℕ) → IsOutcome gives job io status → IsDone status
 succeeds gives demo io status (limits, slots, is) = inl is.3
 succeeds gives (replay def lefs state number lines save export) io status (limits, slots, is) = inl is.1
 succeeds gives (serve def lefs state number port connections save export) io status (limits, slots, is) = inl is.1
@@ -47,7 +47,7 @@ succeeds gives (describe def lefs state number) io status (limits, slots, is) = 
 succeeds gives (repair def lefs teams legal export lines) io status (limits, slots, is) = is.repaired.judged.done
 
 -- 4 is the status of a check, a description or a repair alone
-pub checked : (gives : Gives) (task : Task) (io : Streams) (status : ℕ) → IsOutcome gives (as_job task) io status → status ≡ 4 → ReadsNone task
+pub checked : (gives : ReadsFile) (task : Task) (io : Streams) (status : ℕ) → IsOutcome gives (as_job task) io status → status ≡ 4 → ReadsNone task
 checked gives Demo io status (limits, slots, is) four = let zero : status ≡ 0 = is.3 in absurd (omega (arith, zero, four))
 checked gives (Replay def lefs state number lines save export) io status (limits, slots, is) four =
     let zero : status ≡ 0 = is.1 in absurd (omega (arith, zero, four))

@@ -2,27 +2,27 @@
 use Rattle.std.specs.Prelude.{◌≡◌, ◌⊎◌, ℕ, Bool, List, Option, None}
 use Rattle.lf_floorplan.specs.declared.limits.Limits.{Limits}
 use Rattle.lf_floorplan.specs.declared.loaded.Loaded.{Loaded}
-use Rattle.lf_lef.specs.declared.sample.TheConstants.{W_LEF}
-use Rattle.lf_def.specs.declared.sample.TheConstants.{W_DEF}
-use Rattle.lf_teams.specs.States.{FloorState}
-use Rattle.lf_teams.specs.Designs.{opening}
-use Rattle.lf_command.specs.Command.{Job, demo, replay, serve, check, describe, repair}
-use Rattle.lf_designs.specs.declared.faults.Fault.{Fault}
-use Rattle.lf_designs.specs.declared.faults.Exit.{Exit}
-use Rattle.lf_designs.specs.Checks.{IsUnreported}
-use Rattle.lf_designs.specs.Designs.{AreWithSlots, Gives, IsDesignFault, IsTextDesign, IsTextFault}
-use Rattle.lf_designs.specs.Faults.{EndsWith}
-use Rattle.lf_lines.specs.Lines.{most_lines}
-use Rattle.lf_work.specs.States.{IsFloorFault, IsSeenOf}
-use Rattle.lf_work.specs.Exits.{IsOpenDescribed}
-use Rattle.lf_lines.specs.Exits.{IsAnswered, IsBrokenOff, IsJobStop, IsLinesFault, IsOffered}
-use Rattle.lf_repairs.specs.Exits.{IsNotRepaired, IsOpenRepaired}
-use Rattle.lf_work.specs.Exits.{IsOpenUndescribed, IsReported}
-use Rattle.lf_lines.specs.Exits.{IsServiceFault, IsUndone, IsWorked, Streams}
+use Rattle.lf_lef.specs.declared.built_in.TheConstants.{DEMO_LEF}
+use Rattle.lf_def.specs.declared.built_in.TheConstants.{DEMO_DEF}
+use Rattle.lf_floor_model.specs.States.{FloorState}
+use Rattle.lf_floor_model.specs.Designs.{initial_floor}
+use Rattle.lf_cli.specs.Command.{Job, demo, replay, serve, check, describe, repair}
+use Rattle.lf_task_designs.specs.declared.faults.Fault.{Fault}
+use Rattle.lf_task_designs.specs.declared.faults.TaskExit.{TaskExit}
+use Rattle.lf_task_designs.specs.Checks.{IsNotReported}
+use Rattle.lf_task_designs.specs.Designs.{AreWithSlots, ReadsFile, IsDesignFault, IsTextDesign, IsTextFault}
+use Rattle.lf_task_designs.specs.Faults.{EndsWith}
+use Rattle.lf_task_serve.specs.Lines.{most_lines}
+use Rattle.lf_task_files.specs.States.{IsFloorFault, IsViewedDesignOf}
+use Rattle.lf_task_files.specs.Exits.{IsOpenDescribed}
+use Rattle.lf_task_serve.specs.Exits.{IsAnswered, EndsWithFault, IsJobStop, IsLinesFault, IsOffered}
+use Rattle.lf_task_repair.specs.Exits.{IsNotRepaired, IsOpenRepaired}
+use Rattle.lf_task_files.specs.Exits.{IsOpenUndescribed, IsReported}
+use Rattle.lf_task_serve.specs.Exits.{IsServiceFault, IsUndone, IsServedDesign, Streams}
 
 -- a task ends with a fault of this kind
-abbrev pub Ends : (Fault → Type 0) → Option (List ℕ) → Option (List ℕ) → Bool → Exit → Type 0
-Ends why old new failed exit = (fault : Fault) × why fault × EndsWith fault old new failed exit
+abbrev pub EndsTask : (Fault → Type 0) → Option (List ℕ) → Option (List ℕ) → Bool → TaskExit → Type 0
+EndsTask why old new failed exit = (fault : Fault) × why fault × EndsWith fault old new failed exit
 
 -- a job that asks for no state at the end, and for no lines of a repair: nothing is put behind the exported text
 abbrev pub AsksForNoState : Job → Type 0
@@ -63,50 +63,50 @@ reads_of (replay def lefs state slots lines save export) = lines
 reads_of _ = most_lines
 
 -- the outcome of a job that is done on a design within these limits, with this status
-abbrev pub IsOutcomeWithin : Limits → Gives → Job → Streams → ℕ → Type 0
+abbrev pub IsOutcomeWithin : Limits → ReadsFile → Job → Streams → ℕ → Type 0
 IsOutcomeWithin limits gives demo io status =
-    (loaded : Loaded) × IsTextDesign limits W_DEF.now W_LEF.now loaded
-    × ((floor : FloorState) × IsAnswered most_lines (opening loaded) floor io.input io.left io.before io.after)
+    (loaded : Loaded) × IsTextDesign limits DEMO_DEF.now DEMO_LEF.now loaded
+    × ((floor : FloorState) × IsAnswered most_lines (initial_floor loaded) floor io.input io.left io.before io.after)
     × (status ≡ 0)
 IsOutcomeWithin limits gives (replay def lefs state slots lines save export) io status =
-    IsWorked limits gives def lefs state save export (λ begin floor io. IsAnswered lines begin floor io.input io.left io.before io.after) io × (status ≡ 0)
+    IsServedDesign limits gives def lefs state save export (λ begin floor io. IsAnswered lines begin floor io.input io.left io.before io.after) io × (status ≡ 0)
 IsOutcomeWithin limits gives (serve def lefs state slots port connections save export) io status =
-    IsWorked limits gives def lefs state save export
+    IsServedDesign limits gives def lefs state save export
     (λ begin floor io. IsOffered begin floor connections io.before io.after io.old_accepted io.new_accepted) io × (status ≡ 0)
 IsOutcomeWithin limits gives (check def lefs state slots) io status =
-    (seen : Loaded) × IsSeenOf limits gives def lefs state seen × IsReported seen io.before io.after status
+    (seen : Loaded) × IsViewedDesignOf limits gives def lefs state seen × IsReported seen io.before io.after status
 IsOutcomeWithin limits gives (describe def lefs state slots) io status = IsOpenDescribed limits gives def lefs state io.before io.after status
 IsOutcomeWithin limits gives (repair def lefs teams legal export lines) io status =
     IsOpenRepaired limits gives def lefs teams legal export lines io.before io.after io.old_puts io.new_puts status
 
 -- the outcome of a job that is done, with this status
-abbrev pub IsOutcome : Gives → Job → Streams → ℕ → Type 0
+abbrev pub IsOutcome : ReadsFile → Job → Streams → ℕ → Type 0
 IsOutcome gives job io status = (limits : Limits) × AreWithSlots (slots_of job) limits × IsOutcomeWithin limits gives job io status
 
 -- ---- faults
 
 -- why a job on a design within these limits is not done: there is no design, or no floor in the state that was asked for; or there is,
 -- and the lines, the service, what is put, the report, the description or the repair fails
-abbrev pub IsJobFaultWithin : Limits → Gives → Job → Fault → Streams → Type 0
+abbrev pub IsJobFaultWithin : Limits → ReadsFile → Job → Fault → Streams → Type 0
 IsJobFaultWithin limits gives demo fault io =
-    IsJobStop (IsTextFault limits W_DEF.now W_LEF.now) (IsTextDesign limits W_DEF.now W_LEF.now)
-    (λ loaded fault io. IsLinesFault most_lines (opening loaded) fault io.input io.left io.before io.after) fault io
+    IsJobStop (IsTextFault limits DEMO_DEF.now DEMO_LEF.now) (IsTextDesign limits DEMO_DEF.now DEMO_LEF.now)
+    (λ loaded fault io. IsLinesFault most_lines (initial_floor loaded) fault io.input io.left io.before io.after) fault io
 IsJobFaultWithin limits gives (replay def lefs state slots lines save export) fault io =
     IsUndone limits gives def lefs state save export
-    (λ begin fault io. IsBrokenOff lines begin fault io.input io.left io.before io.after)
+    (λ begin fault io. EndsWithFault lines begin fault io.input io.left io.before io.after)
     (λ begin floor io. IsAnswered lines begin floor io.input io.left io.before io.after) fault io
 IsJobFaultWithin limits gives (serve def lefs state slots port connections save export) fault io =
     IsUndone limits gives def lefs state save export
     (λ begin fault io. IsServiceFault port connections begin fault io.before io.after io.old_accepted io.new_accepted)
     (λ begin floor io. IsOffered begin floor connections io.before io.after io.old_accepted io.new_accepted) fault io
 IsJobFaultWithin limits gives (check def lefs state slots) fault io =
-    IsJobStop (IsFloorFault limits gives def lefs state) (IsSeenOf limits gives def lefs state)
-    (λ seen fault io. IsUnreported seen io.before io.after fault) fault io
+    IsJobStop (IsFloorFault limits gives def lefs state) (IsViewedDesignOf limits gives def lefs state)
+    (λ seen fault io. IsNotReported seen io.before io.after fault) fault io
 IsJobFaultWithin limits gives (describe def lefs state slots) fault io =
     IsDesignFault limits gives def lefs fault ⊎ IsOpenUndescribed limits gives def lefs state io.before io.after fault
 IsJobFaultWithin limits gives (repair def lefs teams legal export lines) fault io =
     IsNotRepaired limits gives def lefs teams legal export lines io.before io.after io.old_puts io.new_puts fault
 
 -- why a job is not done
-abbrev pub IsJobFault : Gives → Job → Fault → Streams → Type 0
+abbrev pub IsJobFault : ReadsFile → Job → Fault → Streams → Type 0
 IsJobFault gives job fault io = (limits : Limits) × AreWithSlots (slots_of job) limits × IsJobFaultWithin limits gives job fault io

@@ -1,10 +1,10 @@
 -- Services that jobs offer.
 use Rattle.std.specs.Prelude.{◌≡◌, List, Option}
-use Rattle.lf_command.specs.Command.{Job, serve}
-use Rattle.lf_server.specs.declared.accepting.Offer.{Offer}
-use Rattle.lf_lines.specs.Services.{OffersLocal}
+use Rattle.lf_cli.specs.Command.{Job, serve}
+use Rattle.lf_server.specs.declared.acceptor.ServiceConfig.{ServiceConfig}
+use Rattle.lf_task_serve.specs.Services.{OffersLocal}
 
 -- what a job offers: the service that it is, and nothing if it is none
-abbrev pub IsOfferOf : Job → Option (List Offer) → Option (List Offer) → Type 0
+abbrev pub IsOfferOf : Job → Option (List ServiceConfig) → Option (List ServiceConfig) → Type 0
 IsOfferOf (serve def lefs state slots port connections save export) old new = OffersLocal port connections old new
 IsOfferOf _ old new = new ≡ old

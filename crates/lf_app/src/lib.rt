@@ -1,10 +1,10 @@
 //! The program: what it does for each command.
 //!
 //! `perform` does a `Task` over the files and the network of a runtime. `perform_over` does it over any
-//! files that are read (`Texts`) and written (`Exports`), services (`Services`) and devices, and its contract says of each what was
-//! done. `Task`, `UsageFault`, `command_of`, `Help` and `help_of` are those of `lf_command`; `Texts`, `Fault` and `Exit` are those of
-//! `lf_designs`, which reads and loads designs and tells faults; `Services` and `answer_lines` are those of `lf_lines`, and
-//! `Progress` is that of `lf_repairs`.
+//! files that are read (`InputFiles`) and written (`Exports`), services (`PortListener`) and devices, and its contract says of each what was
+//! done. `Task`, `UsageFault`, `command_of`, `Help` and `help_of` are those of `lf_cli`; `InputFiles`, `Fault` and `TaskExit` are those of
+//! `lf_task_designs`, which reads and loads designs and tells faults; `PortListener` and `serve_lines_within` are those of `lf_task_serve`, and
+//! `Progress` is that of `lf_task_repair`.
 //!
 //! Status 0 or 4: the task is done, and no fault is written. The design is that of the LEF texts, in the order of the words, and of
 //! the DEF text, within the standard limits but for the number of session slots, where one is asked for; a demo has the built-in
@@ -19,7 +19,7 @@
 //! Status 1 or 3: there is one fault (`Fault`), whose status it is. It is the first of: the files and texts, LEF before DEF; what
 //! loading finds; the saved state; a team to be repaired that is none; the paths of what is to be put; the port; how the lines, the
 //! service or the repair ended; the report or the description; what is put at the end. Its one or two lines are written to `faults`,
-//! unless that has failed (`Exit::is_told`). If a text, the design, a file or memory for them is the fault, nothing was written to
+//! unless that has failed (`TaskExit::is_told`). If a text, the design, a file or memory for them is the fault, nothing was written to
 //! the writer.
 //!
 //! Of the files and the network of a runtime contracts know nothing; so of `perform` they say nothing of texts, exports and services.
@@ -32,16 +32,16 @@
 
 mod tasks;
 
-pub use lf_command::{
-    Help, LegalCells, Slots, Subcommand, Task, UsageFault, command_of, complaint_of, help_of,
+pub use lf_cli::{
+    Help, LegalCells, Slots, Subcommand, Task, UsageFault, command_of, help_of, usage_message,
 };
-pub use lf_designs::{
-    Exit, Fault, FenceLine, FileTexts, Hint, Refusal, StateRefusal, TextFile, TextKind, Texts,
-    Unbound, Unread, Unreadable, one_piece, status_of, write_fault,
+pub use lf_io::{FromRead, ToWrite};
+pub use lf_io_files::FsOutputFiles;
+pub use lf_server::{Acceptor, ClientReader, ClientWriter, Connection, ServiceConfig};
+pub use lf_task_designs::{
+    BindFailure, Fault, FenceLine, FsInputFiles, Hint, InputFiles, ReadFailure, ReadFailureKind,
+    StateRefusal, TaskExit, TextFile, TextKind, TextRefusal, single_chunk, status_of, write_fault,
 };
-pub use lf_devices::{FromRead, ToWrite};
-pub use lf_files::FileExports;
-pub use lf_lines::{NetServices, Services, Surroundings, answer_lines};
-pub use lf_repairs::{Progress, Silent, TimedProgress};
-pub use lf_server::{Acceptor, ClientReader, ClientWriter, Connection, Offer};
+pub use lf_task_repair::{NoProgress, Progress, TimedProgress};
+pub use lf_task_serve::{Environment, NetListener, PortListener, serve_lines_within};
 pub use tasks::{perform, perform_over};

@@ -1,31 +1,35 @@
 //! What the program does for a task.
 
 ghost use Rattle.std.specs.Prelude.{◌≡◌, ◌⊎◌, false, not, ⊤, IfErr, IfOk, IsTrue, OnErr, OnOk};
-ghost use Rattle.lf_command.specs.Command.{ReadsNone, as_job};
+ghost use Rattle.lf_cli.specs.Command.{ReadsNone, as_job};
 ghost use Rattle.lf_floorplan.specs.declared.loaded.Loaded.{Loaded};
-ghost use Rattle.lf_teams.specs.Designs.{opening};
-ghost use Rattle.lf_teams.specs.States.{FloorState};
-ghost use Rattle.lf_designs.specs.Designs.{IsTextDesign, IsTextFault};
-ghost use Rattle.lf_designs.specs.Faults.{IsEarly};
-ghost use Rattle.lf_lines.specs.Exits.{IsAnswered, IsJobStop, IsLinesFault, alone};
-ghost use Rattle.lf_work.specs.Faults.{IsDone, IsFailure};
-ghost use Rattle.lf_lines.specs.Faults.{BlamesStreams};
-ghost use Rattle.lf_lines.specs.Lines.{most_lines};
-ghost use Rattle.lf_lines.specs.Surroundings.{BlamesOver, IsReady, Keeps, io_of};
-ghost use Rattle.lf_app.specs.Exits.{AsksForNoFile, AsksForNoState, Ends, IsJobFault, IsJobFaultWithin, IsOutcome, IsOutcomeWithin, ReadsNoInput, RepairsNothing};
+ghost use Rattle.lf_floor_model.specs.Designs.{initial_floor};
+ghost use Rattle.lf_floor_model.specs.States.{FloorState};
+ghost use Rattle.lf_task_designs.specs.Designs.{IsTextDesign, IsTextFault};
+ghost use Rattle.lf_task_designs.specs.Faults.{IsEarly};
+ghost use Rattle.lf_task_serve.specs.Exits.{IsAnswered, IsJobStop, IsLinesFault, alone};
+ghost use Rattle.lf_task_files.specs.Faults.{IsDone, IsFailure};
+ghost use Rattle.lf_task_serve.specs.Faults.{BlamesStreams};
+ghost use Rattle.lf_task_serve.specs.Lines.{most_lines};
+ghost use Rattle.lf_task_serve.specs.Surroundings.{BlamesEnvironment, IsReady, KeepsDevices, io_of};
+ghost use Rattle.lf_app.specs.Exits.{AsksForNoFile, AsksForNoState, EndsTask, IsJobFault, IsJobFaultWithin, IsOutcome, IsOutcomeWithin, ReadsNoInput, RepairsNothing};
 ghost use Rattle.lf_app.specs.Exits.{reads_of, slots_of};
 ghost use Rattle.lf_app.specs.Offers.{IsOfferOf};
 
-use lf_command::{Slots, Task};
-use lf_def::W_DEF;
-use lf_designs::{Exit, Fault, FileTexts, Texts, design_of_texts, done, limits_with, tell};
-use lf_devices::{FromRead, Sink, Source, ToWrite};
-use lf_files::{Exports, FileExports};
+use lf_cli::{Slots, Task};
+use lf_def::DEMO_DEF;
 use lf_frame::Limits;
-use lf_lef::W_LEF;
-use lf_lines::{Lines, NetServices, Services, Surroundings, answer_over, work_on_files};
-use lf_repairs::{Progress, RepairAsked, Silent, repair};
-use lf_work::{Inputs, Outputs, check, describe_files};
+use lf_io::{FromRead, Sink, Source, ToWrite};
+use lf_io_files::{FsOutputFiles, OutputFiles};
+use lf_lef::DEMO_LEF;
+use lf_task_designs::{
+    Fault, FsInputFiles, InputFiles, TaskExit, exit_with, limits_for, load_texts, report_fault,
+};
+use lf_task_files::{DesignInput, OutputPaths, check, describe_files};
+use lf_task_repair::{NoProgress, Progress, RepairJob, repair};
+use lf_task_serve::{
+    Environment, LineSource, NetListener, PortListener, serve_files, serve_loaded,
+};
 use std::alloc::Global;
 use std::io::{Read, Write};
 use std::net::Net;
@@ -40,25 +44,34 @@ fn demo<'a, R: Source, W: Sink>(
 ) -> Result<u8, Fault<'a>>
     requires ready { IsReady R.has_failed R.reads W.has_failed reader.old writer.old }
     ensures ok { IfOk result (λ status. (loaded : Loaded) × IsTextDesign limits W_DEF.now W_LEF.now loaded × ((floor : FloorState)
-        × IsAnswered most_lines (opening loaded) floor (R.remaining reader.old) (R.remaining reader.new) (W.contents writer.old) (W.contents writer.new))
+        × IsAnswered most_lines (initial_floor loaded) floor (R.remaining reader.old) (R.remaining reader.new) (W.contents writer.old) (W.contents writer.new))
         × (status ≡ 0)) }
     ensures err { IfErr result (λ fault.
         IsJobStop (IsTextFault limits W_DEF.now W_LEF.now) (IsTextDesign limits W_DEF.now W_LEF.now)
-        (λ loaded fault io. IsLinesFault most_lines (opening loaded) fault io.input io.left io.before io.after) fault
+        (λ loaded fault io. IsLinesFault most_lines (initial_floor loaded) fault io.input io.left io.before io.after) fault
         (alone (R.remaining reader.old) (R.remaining reader.new) (W.contents writer.old) (W.contents writer.new))
         × BlamesStreams most_lines fault (writer.new ≡ writer.old) (R.has_failed reader.new) (R.reads reader.old) (R.reads reader.new)
         (W.has_failed writer.new)) }
     ensures reader_held { R.holds reader.new ≡ R.holds reader.old }
     ensures writer_held { W.holds writer.new ≡ W.holds writer.old }
 {
-    let loaded = design_of_texts(alloc, limits, W_DEF, W_LEF)?;
-    answer_over(alloc, loaded, reader, writer)
+    let loaded = load_texts(alloc, limits, DEMO_DEF, DEMO_LEF)?;
+    serve_loaded(alloc, loaded, reader, writer)
 }
 
 /// Does the task on a design within these limits, and returns its exit status.
-fn outcome_within<'a, T: Texts, E: Exports, V: Services, R: Source, W: Sink, F, P: Progress>(
+fn outcome_within<
+    'a,
+    T: InputFiles,
+    E: OutputFiles,
+    V: PortListener,
+    R: Source,
+    W: Sink,
+    F,
+    P: Progress,
+>(
     alloc: Global,
-    around: &mut Surroundings<T, E, V, R, W, F, P>,
+    around: &mut Environment<T, E, V, R, W, F, P>,
     task: &'a Task<'_>,
     limits: Limits,
 ) -> Result<u8, Fault<'a>>
@@ -67,7 +80,7 @@ fn outcome_within<'a, T: Texts, E: Exports, V: Services, R: Source, W: Sink, F, 
         (io_of R.remaining W.contents E.puts V.accepted around.old around.new)) }
     ensures err { IfErr result (λ fault. IsJobFaultWithin limits (T.gives around.old.texts) (as_job task.now) fault
         (io_of R.remaining W.contents E.puts V.accepted around.old around.new)
-        × BlamesOver E.has_failed V.has_failed R.has_failed R.reads W.has_failed (reads_of (as_job task.now)) around.old around.new fault) }
+        × BlamesEnvironment E.has_failed V.has_failed R.has_failed R.reads W.has_failed (reads_of (as_job task.now)) around.old around.new fault) }
     ensures unread { ReadsNoInput (as_job task.now) → around.new.reader ≡ around.old.reader }
     ensures unput { AsksForNoState (as_job task.now) → OnErr result (E.puts around.new.exports ≡ E.puts around.old.exports) }
     ensures unasked { AsksForNoFile (as_job task.now) → around.new.exports ≡ around.old.exports }
@@ -75,7 +88,7 @@ fn outcome_within<'a, T: Texts, E: Exports, V: Services, R: Source, W: Sink, F, 
     ensures unoffered { (V.offers around.new.services ≡ V.offers around.old.services)
         ⊎ IsOfferOf (as_job task.now) (V.offers around.old.services) (V.offers around.new.services) }
     ensures silent { RepairsNothing (as_job task.now) → around.new.progress ≡ around.old.progress }
-    ensures keeps { Keeps R.holds W.holds around.old around.new }
+    ensures keeps { KeepsDevices R.holds W.holds around.old around.new }
 {
     match task {
         Task::Demo => demo(alloc, limits, &mut around.reader, &mut around.writer),
@@ -88,18 +101,18 @@ fn outcome_within<'a, T: Texts, E: Exports, V: Services, R: Source, W: Sink, F, 
             export,
             ..
         } => {
-            let inputs = Inputs {
+            let inputs = DesignInput {
                 def: *def,
                 lefs: lefs.as_slice(),
                 state: *state,
                 limits,
             };
-            let lines = Lines::Stream { most: *lines };
-            let outputs = Outputs {
+            let lines = LineSource::Stream { most: *lines };
+            let outputs = OutputPaths {
                 export: *export,
                 save: *save,
             };
-            work_on_files(alloc, around, inputs, lines, outputs)
+            serve_files(alloc, around, inputs, lines, outputs)
         }
         Task::Serve {
             def,
@@ -111,21 +124,21 @@ fn outcome_within<'a, T: Texts, E: Exports, V: Services, R: Source, W: Sink, F, 
             export,
             ..
         } => {
-            let inputs = Inputs {
+            let inputs = DesignInput {
                 def: *def,
                 lefs: lefs.as_slice(),
                 state: *state,
                 limits,
             };
-            let lines = Lines::Port {
+            let lines = LineSource::Port {
                 port: *port,
                 connections: *connections,
             };
-            let outputs = Outputs {
+            let outputs = OutputPaths {
                 export: *export,
                 save: *save,
             };
-            work_on_files(alloc, around, inputs, lines, outputs)
+            serve_files(alloc, around, inputs, lines, outputs)
         }
         Task::Check {
             def,
@@ -133,7 +146,7 @@ fn outcome_within<'a, T: Texts, E: Exports, V: Services, R: Source, W: Sink, F, 
             state,
             ..
         } => {
-            let inputs = Inputs {
+            let inputs = DesignInput {
                 def: *def,
                 lefs: lefs.as_slice(),
                 state: *state,
@@ -147,7 +160,7 @@ fn outcome_within<'a, T: Texts, E: Exports, V: Services, R: Source, W: Sink, F, 
             state,
             ..
         } => {
-            let inputs = Inputs {
+            let inputs = DesignInput {
                 def: *def,
                 lefs: lefs.as_slice(),
                 state: *state,
@@ -163,7 +176,7 @@ fn outcome_within<'a, T: Texts, E: Exports, V: Services, R: Source, W: Sink, F, 
             export,
             lines,
         } => {
-            let asked = RepairAsked {
+            let asked = RepairJob {
                 def: *def,
                 lefs: lefs.as_slice(),
                 teams: teams.as_slice(),
@@ -195,16 +208,16 @@ fn slots_of(task: &Task<'_>) -> Slots
 }
 
 /// Does the task, and returns its exit status.
-fn outcome<'a, T: Texts, E: Exports, V: Services, R: Source, W: Sink, F, P: Progress>(
+fn outcome<'a, T: InputFiles, E: OutputFiles, V: PortListener, R: Source, W: Sink, F, P: Progress>(
     alloc: Global,
-    around: &mut Surroundings<T, E, V, R, W, F, P>,
+    around: &mut Environment<T, E, V, R, W, F, P>,
     task: &'a Task<'_>,
 ) -> Result<u8, Fault<'a>>
     requires ready { IsReady R.has_failed R.reads W.has_failed around.old.reader around.old.writer }
     ensures ok { IfOk result (IsOutcome (T.gives around.old.texts) (as_job task.now) (io_of R.remaining W.contents E.puts V.accepted around.old around.new)) }
     ensures err { IfErr result (λ fault. IsJobFault (T.gives around.old.texts) (as_job task.now) fault
         (io_of R.remaining W.contents E.puts V.accepted around.old around.new)
-        × BlamesOver E.has_failed V.has_failed R.has_failed R.reads W.has_failed (reads_of (as_job task.now)) around.old around.new fault) }
+        × BlamesEnvironment E.has_failed V.has_failed R.has_failed R.reads W.has_failed (reads_of (as_job task.now)) around.old around.new fault) }
     ensures unread { ReadsNoInput (as_job task.now) → around.new.reader ≡ around.old.reader }
     ensures unput { AsksForNoState (as_job task.now) → OnErr result (E.puts around.new.exports ≡ E.puts around.old.exports) }
     ensures unasked { AsksForNoFile (as_job task.now) → around.new.exports ≡ around.old.exports }
@@ -212,9 +225,9 @@ fn outcome<'a, T: Texts, E: Exports, V: Services, R: Source, W: Sink, F, P: Prog
     ensures unoffered { (V.offers around.new.services ≡ V.offers around.old.services)
         ⊎ IsOfferOf (as_job task.now) (V.offers around.old.services) (V.offers around.new.services) }
     ensures silent { RepairsNothing (as_job task.now) → around.new.progress ≡ around.old.progress }
-    ensures keeps { Keeps R.holds W.holds around.old around.new }
+    ensures keeps { KeepsDevices R.holds W.holds around.old around.new }
 {
-    let limits = limits_with(slots_of(task));
+    let limits = limits_for(slots_of(task));
     outcome_within(alloc, around, task, limits)
 }
 
@@ -231,11 +244,15 @@ fn outcome<'a, T: Texts, E: Exports, V: Services, R: Source, W: Sink, F, P: Prog
 /// none of them nor a service reads from the reader. After all that has ended without a fault the exported text is written, and then
 /// the state, or the lines of a repair, to `exports`: no other text ever is. What is served is the port of this machine that is asked
 /// for, and nothing else.
-pub fn perform_over<T: Texts, E: Exports, V: Services, R: Source, W: Sink, F: Sink, P: Progress>(
-    alloc: Global,
-    around: &mut Surroundings<T, E, V, R, W, F, P>,
-    task: &Task<'_>,
-) -> Exit
+pub fn perform_over<
+    T: InputFiles,
+    E: OutputFiles,
+    V: PortListener,
+    R: Source,
+    W: Sink,
+    F: Sink,
+    P: Progress,
+>(alloc: Global, around: &mut Environment<T, E, V, R, W, F, P>, task: &Task<'_>) -> TaskExit
     requires readable { R.has_failed around.old.reader ≡ false }
     requires fresh { R.reads around.old.reader ≡ 0 }
     requires writable { W.has_failed around.old.writer ≡ false }
@@ -244,9 +261,9 @@ pub fn perform_over<T: Texts, E: Exports, V: Services, R: Source, W: Sink, F: Si
         (io_of R.remaining W.contents E.puts V.accepted around.old around.new) result.status }
     ensures done { IsDone result.status → around.new.faults ≡ around.old.faults }
     ensures told { IsDone result.status → IsTrue result.is_told }
-    ensures fault { IsFailure result.status → Ends (λ fault. IsJobFault (T.gives around.old.texts) (as_job task.now) fault
+    ensures fault { IsFailure result.status → EndsTask (λ fault. IsJobFault (T.gives around.old.texts) (as_job task.now) fault
         (io_of R.remaining W.contents E.puts V.accepted around.old around.new)
-        × BlamesOver E.has_failed V.has_failed R.has_failed R.reads W.has_failed (reads_of (as_job task.now)) around.old around.new fault)
+        × BlamesEnvironment E.has_failed V.has_failed R.has_failed R.reads W.has_failed (reads_of (as_job task.now)) around.old around.new fault)
         (F.contents around.old.faults) (F.contents around.new.faults) (F.has_failed around.new.faults) result }
     ensures checked { result.status ≡ 4 → ReadsNone task.now }
     ensures unread { ReadsNoInput (as_job task.now) → around.new.reader ≡ around.old.reader }
@@ -262,15 +279,15 @@ pub fn perform_over<T: Texts, E: Exports, V: Services, R: Source, W: Sink, F: Si
     ensures faults_held { F.holds around.new.faults ≡ F.holds around.old.faults }
 {
     match outcome(alloc, around, task) {
-        Ok(status) => done(status),
-        Err(fault) => tell(&mut around.faults, &fault),
+        Ok(status) => exit_with(status),
+        Err(fault) => report_fault(&mut around.faults, &fault),
     }
 }
 
 /// How a task ended, and the devices that it was given.
 #[derive(Drop)]
 struct Performed<R, W, F> {
-    exit: Exit,
+    exit: TaskExit,
     reader: R,
     writer: W,
     faults: F,
@@ -293,7 +310,7 @@ fn perform_with<T: Files + Net + AllocGlobal, R: Source + Drop, W: Sink + Drop, 
         (alone (R.remaining reader) (R.remaining result.reader) (W.contents writer) (W.contents result.writer)) result.exit.status }
     ensures done { IsDone result.exit.status → result.faults ≡ faults }
     ensures told { IsDone result.exit.status → IsTrue result.exit.is_told }
-    ensures fault { IsFailure result.exit.status → Ends (λ fault. IsJobFault (λ path text. ⊤) (as_job task.now) fault
+    ensures fault { IsFailure result.exit.status → EndsTask (λ fault. IsJobFault (λ path text. ⊤) (as_job task.now) fault
         (alone (R.remaining reader) (R.remaining result.reader) (W.contents writer) (W.contents result.writer))
         × (IsEarly fault → result.writer ≡ writer))
         (F.contents faults) (F.contents result.faults) (not result.exit.is_told) result.exit }
@@ -303,17 +320,17 @@ fn perform_with<T: Files + Net + AllocGlobal, R: Source + Drop, W: Sink + Drop, 
     ensures writer_held { W.holds result.writer ≡ W.holds writer }
     ensures faults_held { F.holds result.faults ≡ F.holds faults }
 {
-    let mut around = Surroundings {
-        texts: FileTexts::new(rt),
-        exports: FileExports::new(rt),
-        services: NetServices::new(rt),
+    let mut around = Environment {
+        texts: FsInputFiles::new(rt),
+        exports: FsOutputFiles::new(rt),
+        services: NetListener::new(rt),
         reader,
         writer,
         faults,
-        progress: Silent,
+        progress: NoProgress,
     };
     let exit = perform_over(rt.alloc(), &mut around, task);
-    let Surroundings {
+    let Environment {
         services,
         reader,
         writer,
@@ -336,13 +353,13 @@ pub fn perform<T: Files + Net + AllocGlobal, R: Read, W: Write, F: Write>(
     reader: &mut R,
     writer: &mut W,
     faults: &mut F,
-) -> Exit
+) -> TaskExit
     ensures status { IsDone result.status ⊎ IsFailure result.status }
     ensures outcome { IsDone result.status → IsOutcome (λ path text. ⊤) (as_job task.now)
         (alone (R.remaining reader.old) (R.remaining reader.new) (W.contents writer.old) (W.contents writer.new)) result.status }
     ensures done { IsDone result.status → faults.new ≡ faults.old }
     ensures told { IsDone result.status → IsTrue result.is_told }
-    ensures fault { IsFailure result.status → Ends (λ fault. IsJobFault (λ path text. ⊤) (as_job task.now) fault
+    ensures fault { IsFailure result.status → EndsTask (λ fault. IsJobFault (λ path text. ⊤) (as_job task.now) fault
         (alone (R.remaining reader.old) (R.remaining reader.new) (W.contents writer.old) (W.contents writer.new))
         × (IsEarly fault → writer.new ≡ writer.old))
         (F.contents faults.old) (F.contents faults.new) (not result.is_told) result }

@@ -9,12 +9,12 @@ use Rattle.std.proofs.lemmas.List.{length-append, length-set, length-map, length
 use Rattle.std.proofs.lemmas.List.{get_or-set_same, get_or-set_other, map-set, map-append}
 use Rattle.std.proofs.lemmas.List.FromFn.{map-range_with_len_more}
 use Rattle.std.proofs.lemmas.Option.{none-some}
-use Rattle.lf_floorplan.specs.declared.cells.PlainCell.{PlainCell}
+use Rattle.lf_floorplan.specs.declared.cells.UnnamedCell.{UnnamedCell}
 use Rattle.lf_cells.specs.declared.cell.CellId.{CellId}
-use Rattle.lf_cells.specs.declared.slots.Slot.{Slot}
-use Rattle.lf_cells.specs.declared.parts.Parts.{Parts}
+use Rattle.lf_cells.specs.declared.records.CellRecord.{CellRecord}
+use Rattle.lf_cells.specs.declared.table_parts.TableParts.{TableParts}
 use Rattle.lf_cells.specs.Cells.{id_of}
-use Rattle.lf_cells.specs.Slots.{opening_slot, own_slots, labels, labels_in, label_at, IsIndex, AreListed, TakesIn, AreTakenIn}
+use Rattle.lf_cells.specs.Slots.{initial_record, own_records, labels, labels_in, label_at, IsIndex, AreListed, AddsCell, AreAdded}
 use Rattle.lf_cells.proofs.Lists.{map_at, get_kept, get_last, IsOneOf, Earlier, Last, one_of}
 
 -- ---- one more position of a name, behind the others of its team
@@ -110,36 +110,36 @@ listed_more ids all team n within inside before = record { listed = λ number. e
 
 -- ---- a team's own cells
 
-own_last : ℕ → ℕ → PlainCell → List Slot
-own_last number label c = cond (eqb c.team number) (opening_slot label c ∷ []) []
+own_last : ℕ → ℕ → UnnamedCell → List CellRecord
+own_last number label c = cond (eqb c.team number) (initial_record label c ∷ []) []
 
-own_append : (number label : ℕ) (cells : List PlainCell) (c : PlainCell)
-    → own_slots number label (cells ++ c ∷ []) ≡ own_slots number label cells ++ own_last number (label + length cells) c
+own_append : (number label : ℕ) (cells : List UnnamedCell) (c : UnnamedCell)
+    → own_records number label (cells ++ c ∷ []) ≡ own_records number label cells ++ own_last number (label + length cells) c
 unfolding own_last
 own_append number label [] c = rw add-zero refl
 own_append number label (x ∷ xs) c =
     let shift : label + 1 + length xs ≡ label + suc (length xs) = omega arith in
-    go (eqb x.team number) (own_append number (label + 1) xs c ∙ ap (λ (k : ℕ). own_slots number (label + 1) xs ++ own_last number k c) shift)
+    go (eqb x.team number) (own_append number (label + 1) xs c ∙ ap (λ (k : ℕ). own_records number (label + 1) xs ++ own_last number k c) shift)
   where
-    go : (b : Bool) → own_slots number (label + 1) (xs ++ c ∷ []) ≡ own_slots number (label + 1) xs ++ own_last number (label + suc (length xs)) c
-        → cond b (opening_slot label x ∷ own_slots number (label + 1) (xs ++ c ∷ [])) (own_slots number (label + 1) (xs ++ c ∷ []))
-        ≡ cond b (opening_slot label x ∷ own_slots number (label + 1) xs) (own_slots number (label + 1) xs) ++ own_last number (label + suc (length xs)) c
-    go true e = ap (λ (r : List Slot). opening_slot label x ∷ r) e
+    go : (b : Bool) → own_records number (label + 1) (xs ++ c ∷ []) ≡ own_records number (label + 1) xs ++ own_last number (label + suc (length xs)) c
+        → cond b (initial_record label x ∷ own_records number (label + 1) (xs ++ c ∷ [])) (own_records number (label + 1) (xs ++ c ∷ []))
+        ≡ cond b (initial_record label x ∷ own_records number (label + 1) xs) (own_records number (label + 1) xs) ++ own_last number (label + suc (length xs)) c
+    go true e = ap (λ (r : List CellRecord). initial_record label x ∷ r) e
     go false e = e
 
-pub own_few : (number label : ℕ) (cells : List PlainCell) → length (own_slots number label cells) ≤ length cells
+pub own_few : (number label : ℕ) (cells : List UnnamedCell) → length (own_records number label cells) ≤ length cells
 own_few number label [] = omega arith
 own_few number label (c ∷ cs) = go (eqb c.team number) (own_few number (label + 1) cs) where
-  go : (b : Bool) → length (own_slots number (label + 1) cs) ≤ length cs
-      → length (cond b (opening_slot label c ∷ own_slots number (label + 1) cs) (own_slots number (label + 1) cs)) ≤ suc (length cs)
+  go : (b : Bool) → length (own_records number (label + 1) cs) ≤ length cs
+      → length (cond b (initial_record label c ∷ own_records number (label + 1) cs) (own_records number (label + 1) cs)) ≤ suc (length cs)
   go true e = omega (arith, e)
   go false e = omega (arith, e)
 
 -- ---- one more cell
 
-pub one_more : (names : List (List ℕ)) (cells : List PlainCell) (k count : ℕ) (c : PlainCell) (old new : Parts) → k < length cells → c ≡ get_or cells k c
-    → c.team < length old.teams.items → AreTakenIn names (take k cells) count old → TakesIn c old new
-    → AreTakenIn names (take (k + 1) cells) count new
+pub one_more : (names : List (List ℕ)) (cells : List UnnamedCell) (k count : ℕ) (c : UnnamedCell) (old new : TableParts) → k < length cells → c ≡ get_or cells k c
+    → c.team < length old.teams.items → AreAdded names (take k cells) count old → AddsCell c old new
+    → AreAdded names (take (k + 1) cells) count new
 unfolding with_label own_last
 one_more names cells k count c old new within is inside before one =
     let front : take (k + 1) cells ≡ take k cells ++ c ∷ [] = grind (arith, common_steps) in
@@ -158,13 +158,13 @@ one_more names cells k count c old new within is inside before one =
 
     labels_after : labels_in new.teams.items ≡ with_label (labels_in old.teams.items) c.team (length old.owners.items)
     labels_after =
-        ap labels_in one.teams ∙ map-set labels old.teams.items c.team (get_or old.teams.items c.team [] ++ opening_slot (length old.owners.items) c ∷ [])
+        ap labels_in one.teams ∙ map-set labels old.teams.items c.team (get_or old.teams.items c.team [] ++ initial_record (length old.owners.items) c ∷ [])
         ∙ ap (λ (l : List ℕ). set (labels_in old.teams.items) c.team l)
-        (map-append (λ (s : Slot). s.label) (get_or old.teams.items c.team []) (opening_slot (length old.owners.items) c ∷ [])
+        (map-append (λ (s : CellRecord). s.label) (get_or old.teams.items c.team []) (initial_record (length old.owners.items) c ∷ [])
         ∙ ap (λ (l : List ℕ). l ++ length old.owners.items ∷ []) (sym team_labels))
 
     own_many : length (get_or old.teams.items c.team []) ≡ length (get_or (labels_in old.teams.items) c.team [])
-    own_many = sym (ap (λ (l : List ℕ). length l) team_labels ∙ length-map (get_or old.teams.items c.team []) (λ (s : Slot). s.label))
+    own_many = sym (ap (λ (l : List ℕ). length l) team_labels ∙ length-map (get_or old.teams.items c.team []) (λ (s : CellRecord). s.label))
 
     owners_after : new.owners.items ≡ old.owners.items ++ id_of c.team (length (get_or (labels_in old.teams.items) c.team [])) ∷ []
     owners_after =
@@ -187,35 +187,35 @@ one_more names cells k count c old new within is inside before one =
         (listed_more old.ids.items (labels_in old.teams.items) c.team (length old.owners.items) (omega (arith, inside, many))
         (omega (arith, inside, before.count_is, before.ids_count)) before.ids)
 
-    last_own : (number : ℕ) → own_slots number 0 (take k cells ++ c ∷ []) ≡ own_slots number 0 (take k cells) ++ own_last number (length old.owners.items) c
+    last_own : (number : ℕ) → own_records number 0 (take k cells ++ c ∷ []) ≡ own_records number 0 (take k cells) ++ own_last number (length old.owners.items) c
     last_own number =
         let label : 0 + length (take k cells) ≡ length old.owners.items = omega (arith, before.many) in
-        own_append number 0 (take k cells) c ∙ ap (λ (n : ℕ). own_slots number 0 (take k cells) ++ own_last number n c) label
+        own_append number 0 (take k cells) c ∙ ap (λ (n : ℕ). own_records number 0 (take k cells) ++ own_last number n c) label
 
-    last_yes : (number : ℕ) → eqb c.team number ≡ true → own_last number (length old.owners.items) c ≡ opening_slot (length old.owners.items) c ∷ []
+    last_yes : (number : ℕ) → eqb c.team number ≡ true → own_last number (length old.owners.items) c ≡ initial_record (length old.owners.items) c ∷ []
     last_yes number e = rw e refl
 
     last_no : (number : ℕ) → eqb c.team number ≡ false → own_last number (length old.owners.items) c ≡ []
     last_no number e = rw e refl
 
-    own_each : (number : ℕ) (b : Bool) → eqb c.team number ≡ b → get_or new.teams.items number [] ≡ own_slots number 0 (take k cells ++ c ∷ [])
+    own_each : (number : ℕ) (b : Bool) → eqb c.team number ≡ b → get_or new.teams.items number [] ≡ own_records number 0 (take k cells ++ c ∷ [])
     own_each number true e =
         let same : number ≡ c.team = sym (eqb-true c.team number e) in
-        let after : get_or new.teams.items c.team [] ≡ get_or old.teams.items c.team [] ++ opening_slot (length old.owners.items) c ∷ [] =
-        ap (λ (teams : List (List Slot)). get_or teams c.team []) one.teams
-        ∙ get_or-set_same old.teams.items c.team (get_or old.teams.items c.team [] ++ opening_slot (length old.owners.items) c ∷ []) [] inside in
-        let behind : own_last number (length old.owners.items) c ≡ opening_slot (length old.owners.items) c ∷ [] = last_yes number e in
-        rw same (after ∙ ap (λ (slots : List Slot). slots ++ opening_slot (length old.owners.items) c ∷ []) (before.each c.team))
-        ∙ ap (λ (slots : List Slot). own_slots number 0 (take k cells) ++ slots) (sym behind) ∙ sym (last_own number)
+        let after : get_or new.teams.items c.team [] ≡ get_or old.teams.items c.team [] ++ initial_record (length old.owners.items) c ∷ [] =
+        ap (λ (teams : List (List CellRecord)). get_or teams c.team []) one.teams
+        ∙ get_or-set_same old.teams.items c.team (get_or old.teams.items c.team [] ++ initial_record (length old.owners.items) c ∷ []) [] inside in
+        let behind : own_last number (length old.owners.items) c ≡ initial_record (length old.owners.items) c ∷ [] = last_yes number e in
+        rw same (after ∙ ap (λ (slots : List CellRecord). slots ++ initial_record (length old.owners.items) c ∷ []) (before.each c.team))
+        ∙ ap (λ (slots : List CellRecord). own_records number 0 (take k cells) ++ slots) (sym behind) ∙ sym (last_own number)
     own_each number false e =
         let apart : number ≢ c.team = λ same. false≢true (sym e ∙ eq-eqb c.team number (sym same)) in
-        ap (λ (teams : List (List Slot)). get_or teams number []) one.teams
-        ∙ get_or-set_other old.teams.items c.team number (get_or old.teams.items c.team [] ++ opening_slot (length old.owners.items) c ∷ []) [] apart
-        ∙ before.each number ∙ sym (append-nil (own_slots number 0 (take k cells)))
-        ∙ ap (λ (slots : List Slot). own_slots number 0 (take k cells) ++ slots) (sym (last_no number e)) ∙ sym (last_own number)
+        ap (λ (teams : List (List CellRecord)). get_or teams number []) one.teams
+        ∙ get_or-set_other old.teams.items c.team number (get_or old.teams.items c.team [] ++ initial_record (length old.owners.items) c ∷ []) [] apart
+        ∙ before.each number ∙ sym (append-nil (own_records number 0 (take k cells)))
+        ∙ ap (λ (slots : List CellRecord). own_records number 0 (take k cells) ++ slots) (sym (last_no number e)) ∙ sym (last_own number)
 
-pub all_taken : (names : List (List ℕ)) (cells : List PlainCell) (k count : ℕ) (p : Parts) → length cells ≤ k → AreTakenIn names (take k cells) count p →
-    AreTakenIn names cells count p
+pub all_taken : (names : List (List ℕ)) (cells : List UnnamedCell) (k count : ℕ) (p : TableParts) → length cells ≤ k → AreAdded names (take k cells) count p →
+    AreAdded names cells count p
 all_taken names cells k count p past taken =
     let whole : take k cells ≡ cells = grind (arith, common_steps) in
     rw whole at taken
@@ -242,19 +242,19 @@ none_listed count =
     empty_at (suc count) zero = refl
     empty_at (suc count) (suc team) = empty_at count team
 
-pub none_yet : (count : ℕ) (p : Parts) → p.owners.items ≡ [] → p.teams.items ≡ replicate count [] → p.ids.items ≡ replicate count []
-    → AreTakenIn p.names [] count p
+pub none_yet : (count : ℕ) (p : TableParts) → p.owners.items ≡ [] → p.teams.items ≡ replicate count [] → p.ids.items ≡ replicate count []
+    → AreAdded p.names [] count p
 none_yet count p owners teams ids = record {
   names_are = refl;
   many = ap (λ (ids : List CellId). length ids) owners;
   index = rw (owners, teams) (record { owned = λ id label. (λ e. absurd (none-some id e), λ e. absurd (none-some label (sym (none_owned count id) ∙ e))) });
   ids = rw (ids, teams) (none_listed count);
   ids_count = ap (λ (all : List (List CellId)). length all) ids ∙ length-replicate {A = List CellId} count [];
-  count_is = ap (λ (slots : List (List Slot)). length slots) teams ∙ length-replicate {A = List Slot} count [];
-  each = λ number. ap (λ (slots : List (List Slot)). get_or slots number []) teams ∙ empty_at count number;
+  count_is = ap (λ (slots : List (List CellRecord)). length slots) teams ∙ length-replicate {A = List CellRecord} count [];
+  each = λ number. ap (λ (slots : List (List CellRecord)). get_or slots number []) teams ∙ empty_at count number;
 }
   where
-    empty_at : (count team : ℕ) → get_or (replicate {A = List Slot} count []) team [] ≡ []
+    empty_at : (count team : ℕ) → get_or (replicate {A = List CellRecord} count []) team [] ≡ []
     empty_at zero team = refl
     empty_at (suc count) zero = refl
     empty_at (suc count) (suc team) = empty_at count team

@@ -11,8 +11,8 @@ use Rattle.lf_names.specs.Names.{position_of}
 use Rattle.lf_names.proofs.Positions.{found_there, stands_there}
 use Rattle.lf_cells.specs.declared.cell.Cell.{Cell}
 use Rattle.lf_cells.specs.declared.cell.CellId.{CellId}
-use Rattle.lf_cells.specs.declared.slots.Slot.{Slot}
-use Rattle.lf_cells.specs.declared.parts.Parts.{Parts}
+use Rattle.lf_cells.specs.declared.records.CellRecord.{CellRecord}
+use Rattle.lf_cells.specs.declared.table_parts.TableParts.{TableParts}
 use Rattle.lf_cells.specs.Cells.{Cells, cells_of, cell_named, id_of, ids_of}
 use Rattle.lf_cells.specs.Slots.{cell_in, labels, labels_in, AreIndexed, table_of}
 use Rattle.lf_cells.proofs.Lists.{map_at}
@@ -21,7 +21,7 @@ use Rattle.lf_cells.proofs.Lists.{map_at}
 search_from : List ℕ → ℕ → List Cell → Option ℕ
 search_from name n cells = position_from (λ (c : Cell). bytes_eq c.name name) n cells
 
-first_from : (names : List (List ℕ)) (slots : List Slot) (name : List ℕ) (label own n : ℕ) → bytes_eq (get_or names label []) name ≡ true
+first_from : (names : List (List ℕ)) (slots : List CellRecord) (name : List ℕ) (label own n : ℕ) → bytes_eq (get_or names label []) name ≡ true
     → slice_get (labels slots) own ≡ Some label
     → ((k l : ℕ) → k < own → slice_get (labels slots) k ≡ Some l → bytes_eq (get_or names l []) name ≡ false)
     → search_from name n (map (cell_in names) slots) ≡ Some (n + own)
@@ -37,7 +37,7 @@ first_from names (s ∷ ss) name label (suc own) n is at early =
     ∙ first_from names ss name label own (n + 1) is at (λ k l below there. early (suc k) l (omega (arith, below)) there)
     ∙ ap (λ (k : ℕ). Some k) shift
 
-none_from : (names : List (List ℕ)) (slots : List Slot) (name : List ℕ) (n : ℕ)
+none_from : (names : List (List ℕ)) (slots : List CellRecord) (name : List ℕ) (n : ℕ)
     → ((k l : ℕ) → slice_get (labels slots) k ≡ Some l → bytes_eq (get_or names l []) name ≡ false)
     → search_from name n (map (cell_in names) slots) ≡ None
 unfolding search_from
@@ -47,43 +47,43 @@ none_from names (s ∷ ss) name n fails =
     ∙ none_from names ss name (n + 1) (λ k l there. fails (suc k) l there)
 
 -- the team's cells in the parts of a table
-own_of : Parts → ℕ → List Slot
+own_of : TableParts → ℕ → List CellRecord
 own_of p team = get_or p.teams.items team []
 
-named_is : (p : Parts) (table : Cells) (name : List ℕ) (team : ℕ) → table_of p ≡ table
+named_is : (p : TableParts) (table : Cells) (name : List ℕ) (team : ℕ) → table_of p ≡ table
     → cell_named name (cells_of table team) ≡ search_from name 0 (map (cell_in p.names) (own_of p team))
 unfolding search_from own_of
 named_is p table name team view =
     ap (λ (t : Cells). cell_named name (cells_of t team)) (sym view)
-    ∙ ap (λ (cells : List Cell). cell_named name cells) (map_at (λ (slots : List Slot). map (cell_in p.names) slots) p.teams.items team [])
+    ∙ ap (λ (cells : List Cell). cell_named name cells) (map_at (λ (slots : List CellRecord). map (cell_in p.names) slots) p.teams.items team [])
     ∙ position_from-zero (λ (c : Cell). bytes_eq c.name name) (map (cell_in p.names) (get_or p.teams.items team []))
 
-label_of : (p : Parts) (team k : ℕ) → slice_get (get_or (labels_in p.teams.items) team []) k ≡ slice_get (labels (own_of p team)) k
+label_of : (p : TableParts) (team k : ℕ) → slice_get (get_or (labels_in p.teams.items) team []) k ≡ slice_get (labels (own_of p team)) k
 unfolding own_of
 label_of p team k = ap (λ (l : List ℕ). slice_get l k) (map_at labels p.teams.items team [])
 
-many_are : (p : Parts) (table : Cells) (team : ℕ) → table_of p ≡ table → length (cells_of table team) ≡ length (own_of p team)
+many_are : (p : TableParts) (table : Cells) (team : ℕ) → table_of p ≡ table → length (cells_of table team) ≡ length (own_of p team)
 unfolding own_of
 many_are p table team view =
     ap (λ (t : Cells). length (cells_of t team)) (sym view)
-    ∙ ap (λ (cells : List Cell). length cells) (map_at (λ (slots : List Slot). map (cell_in p.names) slots) p.teams.items team [])
+    ∙ ap (λ (cells : List Cell). length cells) (map_at (λ (slots : List CellRecord). map (cell_in p.names) slots) p.teams.items team [])
     ∙ length-map (get_or p.teams.items team []) (cell_in p.names)
 
 -- the ids that a table keeps of a team are those of its cells
-pub ids_are : (p : Parts) (table : Cells) (team : ℕ) → AreIndexed p → table_of p ≡ table → get_or p.ids.items team [] ≡ ids_of team (cells_of table team)
+pub ids_are : (p : TableParts) (table : Cells) (team : ℕ) → AreIndexed p → table_of p ≡ table → get_or p.ids.items team [] ≡ ids_of team (cells_of table team)
 unfolding own_of
 ids_are p table team indexed view =
     let many : length (get_or (labels_in p.teams.items) team []) ≡ length (cells_of table team) =
     ap (λ (l : List ℕ). length l) (map_at labels p.teams.items team [])
-    ∙ length-map (get_or p.teams.items team []) (λ (s : Slot). s.label) ∙ sym (many_are p table team view) in
+    ∙ length-map (get_or p.teams.items team []) (λ (s : CellRecord). s.label) ∙ sym (many_are p table team view) in
     indexed.ids.listed team ∙ ap (λ (k : ℕ). map (λ (own : ℕ). id_of team own) (range_with_len 0 k)) many
 
 -- a cell of that name: its name's position is that of the name, and it is the owner
-pub record Bears (p : Parts) (name : List ℕ) (team k l : ℕ) : Type 0 where
+pub record Bears (p : TableParts) (name : List ℕ) (team k l : ℕ) : Type 0 where
   pub position : position_of p.names name ≡ Some l
   pub owner : slice_get p.owners.items l ≡ Some (id_of team k)
 
-bears : (p : Parts) (name : List ℕ) (team k l : ℕ) → AreIndexed p → slice_get (labels (own_of p team)) k ≡ Some l → bytes_eq (get_or p.names l []) name ≡ true
+bears : (p : TableParts) (name : List ℕ) (team k l : ℕ) → AreIndexed p → slice_get (labels (own_of p team)) k ≡ Some l → bytes_eq (get_or p.names l []) name ≡ true
     → Bears p name team k l
 bears p name team k l indexed there same =
     let owner : slice_get p.owners.items l ≡ Some (id_of team k) = (indexed.index.owned (id_of team k) l).1 (label_of p team k ∙ there) in
@@ -98,7 +98,7 @@ refuted : (t : Bool) → (t ≡ true → ⊥) → t ≡ false
 refuted true fails = absurd (fails refl)
 refuted false fails = refl
 
-pub no_own : (p : Parts) (table : Cells) (name : List ℕ) (team : ℕ) → AreIndexed p → table_of p ≡ table → position_of p.names name ≡ None
+pub no_own : (p : TableParts) (table : Cells) (name : List ℕ) (team : ℕ) → AreIndexed p → table_of p ≡ table → position_of p.names name ≡ None
     → cell_named name (cells_of table team) ≡ None
 no_own p table name team indexed view absent =
     let none : search_from name 0 (map (cell_in p.names) (own_of p team)) ≡ None =
@@ -106,7 +106,7 @@ no_own p table name team indexed view absent =
     (λ k l there. refuted (bytes_eq (get_or p.names l []) name) (λ same. let b = bears p name team k l indexed there same in cc (b.position, absent))) in
     named_is p table name team view ∙ none
 
-pub other_own : (p : Parts) (table : Cells) (name : List ℕ) (team label : ℕ) (id : CellId) → AreIndexed p → table_of p ≡ table
+pub other_own : (p : TableParts) (table : Cells) (name : List ℕ) (team label : ℕ) (id : CellId) → AreIndexed p → table_of p ≡ table
     → position_of p.names name ≡ Some label → slice_get p.owners.items label ≡ Some id
     → (id.team ≡ team → ⊥) → cell_named name (cells_of table team) ≡ None
 other_own p table name team label id indexed view found owner other =
@@ -119,7 +119,7 @@ other_own p table name team label id indexed view found owner other =
     other (ap (λ (i : CellId). i.team) is))) in
     named_is p table name team view ∙ none
 
-pub found_own : (p : Parts) (table : Cells) (name : List ℕ) (team label : ℕ) (id : CellId) → AreIndexed p → table_of p ≡ table
+pub found_own : (p : TableParts) (table : Cells) (name : List ℕ) (team label : ℕ) (id : CellId) → AreIndexed p → table_of p ≡ table
     → position_of p.names name ≡ Some label → slice_get p.owners.items label ≡ Some id
     → id.team ≡ team → cell_named name (cells_of table team) ≡ Some id.own
 found_own p table name team label id indexed view found owner own =
@@ -137,9 +137,9 @@ found_own p table name team label id indexed view found owner own =
     rw (← own) (named_is p table name id.team view ∙ first)
 
 -- the owner of a name stands among its team's cells
-pub found_within : (p : Parts) (table : Cells) (team label : ℕ) (id : CellId) → AreIndexed p → table_of p ≡ table → slice_get p.owners.items label ≡ Some id
+pub found_within : (p : TableParts) (table : Cells) (team label : ℕ) (id : CellId) → AreIndexed p → table_of p ≡ table → slice_get p.owners.items label ≡ Some id
     → id.team ≡ team → id.own < length (cells_of table team)
 found_within p table team label id indexed view owner own =
     let there : slice_get (labels (own_of p id.team)) id.own ≡ Some label = sym (label_of p id.team id.own) ∙ (indexed.index.owned id label).0 owner in
     let within : id.own < length (labels (own_of p id.team)) = slice_get_within (labels (own_of p id.team)) id.own label there in
-    rw (← own) (omega (arith, within, length-map (own_of p id.team) (λ (s : Slot). s.label), many_are p table id.team view))
+    rw (← own) (omega (arith, within, length-map (own_of p id.team) (λ (s : CellRecord). s.label), many_are p table id.team view))

@@ -6,21 +6,21 @@ use Rattle.std.specs.List.{range_with_len}
 use Rattle.std.proofs.lemmas.List.{same_lists, length-map}
 use Rattle.std.proofs.lemmas.List.FromFn.{length-range_with_len, get_or-map-range_with_len}
 use Rattle.lf_floorplan.specs.declared.loaded.Cell.{Cell as LoadedCell}
-use Rattle.lf_floorplan.specs.declared.cells.PlainCell.{PlainCell}
+use Rattle.lf_floorplan.specs.declared.cells.UnnamedCell.{UnnamedCell}
 use Rattle.lf_floorplan.specs.Design.{CellsNamed, ComponentsRise}
 use Rattle.lf_floorplan.specs.LoadedCells.{with_name, with_names}
 use Rattle.lf_cells.specs.declared.cell.Cell.{Cell}
-use Rattle.lf_cells.specs.declared.slots.Slot.{Slot}
-use Rattle.lf_cells.specs.declared.parts.Parts.{Parts}
-use Rattle.lf_cells.specs.Openings.{opening_cell, own_cells, own_components}
-use Rattle.lf_cells.specs.Slots.{opening_slot, cell_in, cells_in, components_in, own_slots, AreIndexed, AreTakenIn}
+use Rattle.lf_cells.specs.declared.records.CellRecord.{CellRecord}
+use Rattle.lf_cells.specs.declared.table_parts.TableParts.{TableParts}
+use Rattle.lf_cells.specs.Openings.{initial_cell, own_cells, own_components}
+use Rattle.lf_cells.specs.Slots.{initial_record, cell_in, cells_in, components_in, own_records, AreIndexed, AreAdded}
 use Rattle.lf_cells.proofs.Lists.{map_within}
 use Rattle.lf_floorplan.proofs.NamedCells.{many_seen}
 use Rattle.lf_cells.proofs.Owners.{owners_rise}
 
-seen_own : (number n : ℕ) (all names : List (List ℕ)) (cells : List PlainCell) → length names ≡ length cells
+seen_own : (number n : ℕ) (all names : List (List ℕ)) (cells : List UnnamedCell) → length names ≡ length cells
     → ((k : ℕ) → k < length names → get_or all (n + k) [] ≡ get_or names k [])
-    → map (cell_in all) (own_slots number n cells) ≡ own_cells number (with_names names cells)
+    → map (cell_in all) (own_records number n cells) ≡ own_cells number (with_names names cells)
 seen_own number n all [] [] same at = refl
 seen_own number n all [] (c ∷ cs) same at = absurd (omega (arith, same))
 seen_own number n all (name ∷ names) [] same at = refl
@@ -29,27 +29,27 @@ seen_own number n all (name ∷ names) (c ∷ cs) same at =
     let shift : n + 1 + k ≡ n + suc k = omega arith in
     rw shift (at (suc k) (omega (arith, within)))))
   where
-    first : cell_in all (opening_slot n c) ≡ opening_cell (with_name name c)
+    first : cell_in all (initial_record n c) ≡ initial_cell (with_name name c)
     first =
         let is : get_or all n [] ≡ name = ap (λ (k : ℕ). get_or all k []) (sym (add-zero n)) ∙ at 0 (omega arith) in
         rw is refl
 
-    go : (b : Bool) → map (cell_in all) (own_slots number (n + 1) cs) ≡ own_cells number (with_names names cs)
-        → map (cell_in all) (cond b (opening_slot n c ∷ own_slots number (n + 1) cs) (own_slots number (n + 1) cs))
-        ≡ map opening_cell
+    go : (b : Bool) → map (cell_in all) (own_records number (n + 1) cs) ≡ own_cells number (with_names names cs)
+        → map (cell_in all) (cond b (initial_record n c ∷ own_records number (n + 1) cs) (own_records number (n + 1) cs))
+        ≡ map initial_cell
         (cond b (with_name name c ∷ filter (λ (x : LoadedCell). eqb x.team number) (with_names names cs))
         (filter (λ (x : LoadedCell). eqb x.team number) (with_names names cs)))
-    go true e = ap (λ (x : Cell). x ∷ map (cell_in all) (own_slots number (n + 1) cs)) first ∙ ap (λ (r : List Cell). opening_cell (with_name name c) ∷ r) e
+    go true e = ap (λ (x : Cell). x ∷ map (cell_in all) (own_records number (n + 1) cs)) first ∙ ap (λ (r : List Cell). initial_cell (with_name name c) ∷ r) e
     go false e = e
 
-seen_components : (number n : ℕ) (names : List (List ℕ)) (cells : List PlainCell) → length names ≡ length cells
-    → map (λ s. s.component) (own_slots number n cells) ≡ own_components number (with_names names cells)
+seen_components : (number n : ℕ) (names : List (List ℕ)) (cells : List UnnamedCell) → length names ≡ length cells
+    → map (λ s. s.component) (own_records number n cells) ≡ own_components number (with_names names cells)
 seen_components number n [] [] same = refl
 seen_components number n [] (c ∷ cs) same = absurd (omega (arith, same))
 seen_components number n (name ∷ names) [] same = refl
 seen_components number n (name ∷ names) (c ∷ cs) same = go (eqb c.team number) (seen_components number (n + 1) names cs (omega (arith, same))) where
-  go : (b : Bool) → map (λ (s : Slot). s.component) (own_slots number (n + 1) cs) ≡ own_components number (with_names names cs)
-      → map (λ (s : Slot). s.component) (cond b (opening_slot n c ∷ own_slots number (n + 1) cs) (own_slots number (n + 1) cs))
+  go : (b : Bool) → map (λ (s : CellRecord). s.component) (own_records number (n + 1) cs) ≡ own_components number (with_names names cs)
+      → map (λ (s : CellRecord). s.component) (cond b (initial_record n c ∷ own_records number (n + 1) cs) (own_records number (n + 1) cs))
       ≡ map (λ (x : LoadedCell). x.component)
       (cond b (with_name name c ∷ filter (λ (x : LoadedCell). eqb x.team number) (with_names names cs))
       (filter (λ (x : LoadedCell). eqb x.team number) (with_names names cs)))
@@ -57,7 +57,7 @@ seen_components number n (name ∷ names) (c ∷ cs) same = go (eqb c.team numbe
   go false e = e
 
 -- what is seen of each team is what its number gives
-by_numbers : {Y : Type 0} (f : List Slot → Y) (g : ℕ → Y) (teams : List (List Slot)) (count : ℕ) → length teams ≡ count
+by_numbers : {Y : Type 0} (f : List CellRecord → Y) (g : ℕ → Y) (teams : List (List CellRecord)) (count : ℕ) → length teams ≡ count
     → ((number : ℕ) → f (get_or teams number []) ≡ g number)
     → map f teams ≡ map g (range_with_len 0 count)
 by_numbers {Y} f g teams count many each =
@@ -67,35 +67,35 @@ by_numbers {Y} f g teams count many each =
     let inside : k < length teams = omega (arith, within, left) in
     map_within f teams k d [] inside ∙ each k ∙ sym (get_or-map-range_with_len g 0 count k k d (omega (arith, inside, many)) (zero-add k)))
 
-pub opened_cells : (names : List (List ℕ)) (cells : List PlainCell) (count : ℕ) (p : Parts) → length names ≡ length cells → AreTakenIn names cells count p
+pub opened_cells : (names : List (List ℕ)) (cells : List UnnamedCell) (count : ℕ) (p : TableParts) → length names ≡ length cells → AreAdded names cells count p
     → cells_in p.names p.teams.items ≡ map (λ number. own_cells number (with_names names cells)) (range_with_len 0 count)
 opened_cells names cells count p same taken =
-    by_numbers (λ (slots : List Slot). map (cell_in p.names) slots) (λ (number : ℕ). own_cells number (with_names names cells)) p.teams.items count
+    by_numbers (λ (slots : List CellRecord). map (cell_in p.names) slots) (λ (number : ℕ). own_cells number (with_names names cells)) p.teams.items count
     taken.count_is (λ number.
-    ap (λ (slots : List Slot). map (cell_in p.names) slots) (taken.each number)
+    ap (λ (slots : List CellRecord). map (cell_in p.names) slots) (taken.each number)
     ∙ seen_own number 0 p.names names cells same (λ k within. rw (zero-add k, taken.names_are) refl))
 
-pub opened_components : (names : List (List ℕ)) (cells : List PlainCell) (count : ℕ) (p : Parts) → length names ≡ length cells → AreTakenIn names cells count p
+pub opened_components : (names : List (List ℕ)) (cells : List UnnamedCell) (count : ℕ) (p : TableParts) → length names ≡ length cells → AreAdded names cells count p
     → components_in p.teams.items ≡ map (λ number. own_components number (with_names names cells)) (range_with_len 0 count)
 opened_components names cells count p same taken =
-    by_numbers (λ (slots : List Slot). map (λ (s : Slot). s.component) slots) (λ (number : ℕ). own_components number (with_names names cells)) p.teams.items
+    by_numbers (λ (slots : List CellRecord). map (λ (s : CellRecord). s.component) slots) (λ (number : ℕ). own_components number (with_names names cells)) p.teams.items
     count taken.count_is
     (λ number.
-    ap (λ (slots : List Slot). map (λ (s : Slot). s.component) slots) (taken.each number) ∙ seen_components number 0 names cells same)
+    ap (λ (slots : List CellRecord). map (λ (s : CellRecord). s.component) slots) (taken.each number) ∙ seen_components number 0 names cells same)
 
 -- a cell of the list is that of its name
-pub named_at : (names : List (List ℕ)) (cells : List PlainCell) (k : ℕ) (d : LoadedCell) (name : List ℕ) (e : PlainCell) → length names ≡ length cells
+pub named_at : (names : List (List ℕ)) (cells : List UnnamedCell) (k : ℕ) (d : LoadedCell) (name : List ℕ) (e : UnnamedCell) → length names ≡ length cells
     → k < length cells → get_or (with_names names cells) k d ≡ with_name (get_or names k name) (get_or cells k e)
 named_at names [] k d name e same within = absurd (omega (arith, within))
 named_at [] (c ∷ cs) k d name e same within = absurd (omega (arith, same))
 named_at (n ∷ names) (c ∷ cs) zero d name e same within = refl
 named_at (n ∷ names) (c ∷ cs) (suc k) d name e same within = named_at names cs k d name e (omega (arith, same)) (omega (arith, within))
 
-a_cell : (cells : List PlainCell) (j : ℕ) → j < length cells → PlainCell
+a_cell : (cells : List UnnamedCell) (j : ℕ) → j < length cells → UnnamedCell
 a_cell [] j within = absurd (omega (arith, within))
 a_cell (c ∷ cs) j within = c
 
-plain_rise : (names : List (List ℕ)) (cells : List PlainCell) → length names ≡ length cells → ComponentsRise (with_names names cells)
+plain_rise : (names : List (List ℕ)) (cells : List UnnamedCell) → length names ≡ length cells → ComponentsRise (with_names names cells)
     → AllPairs (λ a b. a.component < b.component) cells
 plain_rise names cells same rise i j d less within =
     let whole : LoadedCell = with_name [] d in
@@ -104,7 +104,7 @@ plain_rise names cells same rise i j d less within =
     rw (ap (λ (c : LoadedCell). c.component) first, ap (λ (c : LoadedCell). c.component) second) at
     (rise i j whole less (omega (arith, within, many_seen names cells same)))
 
-names_apart : (names : List (List ℕ)) (cells : List PlainCell) → length names ≡ length cells → CellsNamed (with_names names cells)
+names_apart : (names : List (List ℕ)) (cells : List UnnamedCell) → length names ≡ length cells → CellsNamed (with_names names cells)
     → AllPairs (λ name later. name ≢ later) names
 names_apart names cells same named i j d less within alike =
     let inside : j < length cells = omega (arith, within, same) in
@@ -115,8 +115,8 @@ names_apart names cells same named i j d less within alike =
     named i j whole less (omega (arith, inside, many_seen names cells same))
     (ap (λ (x : LoadedCell). x.name) first ∙ alike ∙ sym (ap (λ (x : LoadedCell). x.name) second))
 
-pub opened_index : (names : List (List ℕ)) (cells : List PlainCell) (count : ℕ) (p : Parts) → length names ≡ length cells
-    → CellsNamed (with_names names cells) → ComponentsRise (with_names names cells) → AreTakenIn names cells count p → AreIndexed p
+pub opened_index : (names : List (List ℕ)) (cells : List UnnamedCell) (count : ℕ) (p : TableParts) → length names ≡ length cells
+    → CellsNamed (with_names names cells) → ComponentsRise (with_names names cells) → AreAdded names cells count p → AreIndexed p
 opened_index names cells count p same named rise taken =
     record {
       differ = rw taken.names_are (names_apart names cells same named);
@@ -127,7 +127,7 @@ opened_index names cells count p same named rise taken =
     }
 
 -- what holds of all cells holds of them without their names
-pub all_plain : (P : ℕ → Type 0) (names : List (List ℕ)) (cells : List PlainCell) → length names ≡ length cells → All (λ c. P c.team) (with_names names cells)
+pub all_plain : (P : ℕ → Type 0) (names : List (List ℕ)) (cells : List UnnamedCell) → length names ≡ length cells → All (λ c. P c.team) (with_names names cells)
     → All (λ c. P c.team) cells
 all_plain P names cells same all k d within =
     let whole : LoadedCell = with_name [] d in

@@ -4,85 +4,85 @@ use Rattle.std.proofs.Common.{Option, Some, None, refl, ap, sym, ◌∙◌, add-
 use Rattle.std.specs.Prelude.{◌↔◌, AllPairs, Contains, IsSome, option_map, slice_get}
 use Rattle.std.specs.Option.{is_some}
 use Rattle.std.proofs.lemmas.Option.{slice_get-map, slice_get_within, slice_get-get_or, get_or_from_slice_get}
-use Rattle.lf_floorplan.specs.declared.cells.PlainCell.{PlainCell}
+use Rattle.lf_floorplan.specs.declared.cells.UnnamedCell.{UnnamedCell}
 use Rattle.lf_cells.specs.declared.cell.CellId.{CellId}
-use Rattle.lf_cells.specs.declared.slots.Slot.{Slot}
-use Rattle.lf_cells.specs.declared.parts.Parts.{Parts}
-use Rattle.lf_cells.specs.Cells.{Cells, AreAll, cell_at, component_at}
-use Rattle.lf_cells.specs.Slots.{opening_slot, own_slots, cell_in, components_in, labels, labels_in, label_at, slot_at, position_in}
-use Rattle.lf_cells.specs.Slots.{table_of, AreIndexed, AreTakenIn}
+use Rattle.lf_cells.specs.declared.records.CellRecord.{CellRecord}
+use Rattle.lf_cells.specs.declared.table_parts.TableParts.{TableParts}
+use Rattle.lf_cells.specs.Cells.{Cells, AreAllIds, cell_at, component_at}
+use Rattle.lf_cells.specs.Slots.{initial_record, own_records, cell_in, components_in, labels, labels_in, label_at, record_at, position_in}
+use Rattle.lf_cells.specs.Slots.{table_of, AreIndexed, AreAdded}
 use Rattle.lf_cells.proofs.Lists.{map_at}
 use Rattle.lf_cells.proofs.Looks.{cell_is, component_is, owner_is}
 
 -- ---- one slot
 
 -- the slot of a cell whose name has that position
-record HasSlot (p : Parts) (id : CellId) (label : ℕ) : Type 0 where
-  slot : Slot
-  there : slot_at p.teams.items id ≡ Some slot
+record HasSlot (p : TableParts) (id : CellId) (label : ℕ) : Type 0 where
+  slot : CellRecord
+  there : record_at p.teams.items id ≡ Some slot
   label_is : slot.label ≡ label
 
-some_slot : (o : Option Slot) (label : ℕ) → option_map (λ (s : Slot). s.label) o ≡ Some label → (s : Slot) × (o ≡ Some s) × (s.label ≡ label)
+some_slot : (o : Option CellRecord) (label : ℕ) → option_map (λ (s : CellRecord). s.label) o ≡ Some label → (s : CellRecord) × (o ≡ Some s) × (s.label ≡ label)
 some_slot None label e = absurd (cc)
 some_slot (Some s) label e = (s, refl, cc)
 
 -- the owner of a name has its slot
-owner_slot : (p : Parts) (id : CellId) (label : ℕ) → label_at (labels_in p.teams.items) id ≡ Some label → HasSlot p id label
+owner_slot : (p : TableParts) (id : CellId) (label : ℕ) → label_at (labels_in p.teams.items) id ≡ Some label → HasSlot p id label
 owner_slot p id label at =
-    let seen : option_map (λ (s : Slot). s.label) (slot_at p.teams.items id) ≡ Some label =
-    sym (slice_get-map (λ (s : Slot). s.label) (get_or p.teams.items id.team []) id.own)
+    let seen : option_map (λ (s : CellRecord). s.label) (record_at p.teams.items id) ≡ Some label =
+    sym (slice_get-map (λ (s : CellRecord). s.label) (get_or p.teams.items id.team []) id.own)
     ∙ ap (λ (l : List ℕ). slice_get l id.own) (sym (map_at labels p.teams.items id.team [])) ∙ at in
-    let found = some_slot (slot_at p.teams.items id) label seen in
+    let found = some_slot (record_at p.teams.items id) label seen in
     record { slot = found.0; there = found.1; label_is = found.2 }
 
 -- the position of the entry is that of the slot
-slot_position : (p : Parts) (id : CellId) (s : Slot) → slot_at p.teams.items id ≡ Some s → position_in (components_in p.teams.items) id ≡ s.component
+slot_position : (p : TableParts) (id : CellId) (s : CellRecord) → record_at p.teams.items id ≡ Some s → position_in (components_in p.teams.items) id ≡ s.component
 slot_position p id s there =
-    ap (λ (cs : List ℕ). get_or cs id.own 0) (map_at (λ (slots : List Slot). map (λ (x : Slot). x.component) slots) p.teams.items id.team [])
-    ∙ get_or_from_slice_get (map (λ (x : Slot). x.component) (get_or p.teams.items id.team [])) id.own s.component 0
-    (slice_get-map (λ (x : Slot). x.component) (get_or p.teams.items id.team []) id.own ∙ ap (option_map (λ (x : Slot). x.component)) there)
+    ap (λ (cs : List ℕ). get_or cs id.own 0) (map_at (λ (slots : List CellRecord). map (λ (x : CellRecord). x.component) slots) p.teams.items id.team [])
+    ∙ get_or_from_slice_get (map (λ (x : CellRecord). x.component) (get_or p.teams.items id.team [])) id.own s.component 0
+    (slice_get-map (λ (x : CellRecord). x.component) (get_or p.teams.items id.team []) id.own ∙ ap (option_map (λ (x : CellRecord). x.component)) there)
 
 -- ---- the order of the entries
 
 -- the slot is that of one of the cells, the first of which has this label
-record IsFrom (n : ℕ) (cells : List PlainCell) (s : Slot) : Type 0 where
+record IsFrom (n : ℕ) (cells : List UnnamedCell) (s : CellRecord) : Type 0 where
   place : ℕ
   label_is : s.label ≡ n + place
-  entry : (d : PlainCell) → s.component ≡ (get_or cells place d).component
+  entry : (d : UnnamedCell) → s.component ≡ (get_or cells place d).component
 
-slot_from : (number n : ℕ) (cells : List PlainCell) (own : ℕ) (s : Slot) → slice_get (own_slots number n cells) own ≡ Some s → IsFrom n cells s
+slot_from : (number n : ℕ) (cells : List UnnamedCell) (own : ℕ) (s : CellRecord) → slice_get (own_records number n cells) own ≡ Some s → IsFrom n cells s
 slot_from number n [] own s e = absurd (cc)
 slot_from number n (c ∷ cs) own s e = go (eqb c.team number) own (λ k at. slot_from number (n + 1) cs k s at) e where
   later : IsFrom (n + 1) cs s → IsFrom n (c ∷ cs) s
   later is = record { place = suc is.place; label_is = omega (arith, is.label_is); entry = is.entry }
 
-  first : Some (opening_slot n c) ≡ Some s → IsFrom n (c ∷ cs) s
-  first e = let same : opening_slot n c ≡ s = cc in
-      record { place = 0; label_is = sym (ap (λ (x : Slot). x.label) same) ∙ sym (add-zero n); entry = λ d. sym (ap (λ (x : Slot). x.component) same) }
+  first : Some (initial_record n c) ≡ Some s → IsFrom n (c ∷ cs) s
+  first e = let same : initial_record n c ≡ s = cc in
+      record { place = 0; label_is = sym (ap (λ (x : CellRecord). x.label) same) ∙ sym (add-zero n); entry = λ d. sym (ap (λ (x : CellRecord). x.component) same) }
 
-  go : (b : Bool) (k : ℕ) → ((i : ℕ) → slice_get (own_slots number (n + 1) cs) i ≡ Some s → IsFrom (n + 1) cs s)
-      → slice_get (cond b (opening_slot n c ∷ own_slots number (n + 1) cs) (own_slots number (n + 1) cs)) k ≡ Some s → IsFrom n (c ∷ cs) s
+  go : (b : Bool) (k : ℕ) → ((i : ℕ) → slice_get (own_records number (n + 1) cs) i ≡ Some s → IsFrom (n + 1) cs s)
+      → slice_get (cond b (initial_record n c ∷ own_records number (n + 1) cs) (own_records number (n + 1) cs)) k ≡ Some s → IsFrom n (c ∷ cs) s
   go true zero rest e = first e
   go true (suc k) rest e = later (rest k e)
   go false k rest e = later (rest k e)
 
 -- the position of the entry of the owner of a name is that of the cell with that name
-owner_position : (names : List (List ℕ)) (cells : List PlainCell) (count : ℕ) (p : Parts) → AreTakenIn names cells count p → (i : ℕ) (id : CellId) (d : PlainCell)
+owner_position : (names : List (List ℕ)) (cells : List UnnamedCell) (count : ℕ) (p : TableParts) → AreAdded names cells count p → (i : ℕ) (id : CellId) (d : UnnamedCell)
     → slice_get p.owners.items i ≡ Some id → position_in (components_in p.teams.items) id ≡ (get_or cells i d).component
 owner_position names cells count p taken i id d there =
     let has = owner_slot p id i ((taken.index.owned id i).0 there) in
-    let own : slice_get (own_slots id.team 0 cells) id.own ≡ Some has.slot =
-    ap (λ (ss : List Slot). slice_get ss id.own) (sym (taken.each id.team)) ∙ has.there in
+    let own : slice_get (own_records id.team 0 cells) id.own ≡ Some has.slot =
+    ap (λ (ss : List CellRecord). slice_get ss id.own) (sym (taken.each id.team)) ∙ has.there in
     let is = slot_from id.team 0 cells id.own has.slot own in
     let at : is.place ≡ i = omega (arith, is.label_is, has.label_is) in
     slot_position p id has.slot has.there ∙ is.entry d ∙ ap (λ (k : ℕ). (get_or cells k d).component) at
 
-a_cell : (cells : List PlainCell) (j : ℕ) → j < length cells → PlainCell
+a_cell : (cells : List UnnamedCell) (j : ℕ) → j < length cells → UnnamedCell
 a_cell [] j within = absurd (omega (arith, within))
 a_cell (c ∷ cs) j within = c
 
 -- the owners of a table that is built stand in the order of the entries
-pub owners_rise : (names : List (List ℕ)) (cells : List PlainCell) (count : ℕ) (p : Parts) → AllPairs (λ a b. a.component < b.component) cells → AreTakenIn names cells count p
+pub owners_rise : (names : List (List ℕ)) (cells : List UnnamedCell) (count : ℕ) (p : TableParts) → AllPairs (λ a b. a.component < b.component) cells → AreAdded names cells count p
     → AllPairs (λ id later. position_in (components_in p.teams.items) id < position_in (components_in p.teams.items) later) p.owners.items
 owners_rise names cells count p rise taken i j e less within =
     let inside : j < length cells = omega (arith, within, taken.many) in
@@ -106,16 +106,16 @@ one_is : {X Y : Type 0} (f : X → Y) (o : Option X) → IsSome (option_map f o)
 one_is f None e = absurd (cc)
 one_is f (Some x) e = (x, refl)
 
-module _ (p : Parts) (table : Cells) (indexed : AreIndexed p) (view : table_of p ≡ table) where
+module _ (p : TableParts) (table : Cells) (indexed : AreIndexed p) (view : table_of p ≡ table) where
   -- an owner has a slot
-  slotted : (id : CellId) → Contains p.owners.items id → (s : Slot) × (slot_at p.teams.items id ≡ Some s)
+  slotted : (id : CellId) → Contains p.owners.items id → (s : CellRecord) × (record_at p.teams.items id ≡ Some s)
   slotted id (k, within, is) =
       let there : slice_get p.owners.items k ≡ Some id = slice_get-get_or p.owners.items k id within ∙ ap (λ (x : CellId). Some x) is in
       let has = owner_slot p id k ((indexed.index.owned id k).0 there) in
       (has.slot, has.there)
 
   -- and what has a slot is an owner
-  owns : (id : CellId) (s : Slot) → slot_at p.teams.items id ≡ Some s → Contains p.owners.items id
+  owns : (id : CellId) (s : CellRecord) → record_at p.teams.items id ≡ Some s → Contains p.owners.items id
   owns id s there =
       let owner = owner_is p id s indexed there in
       (s.label, slice_get_within p.owners.items s.label id owner, get_or_from_slice_get p.owners.items s.label id id owner)
@@ -124,16 +124,16 @@ module _ (p : Parts) (table : Cells) (indexed : AreIndexed p) (view : table_of p
   cells_owned id =
       let is = cell_is p table id view in (
         λ own. let s = slotted id own in some_is (cell_at table id) (cell_in p.names s.0) (is ∙ ap (option_map (cell_in p.names)) s.1),
-        λ some. let s = one_is (cell_in p.names) (slot_at p.teams.items id) (sym (ap is_some is) ∙ some) in owns id s.0 s.1,
+        λ some. let s = one_is (cell_in p.names) (record_at p.teams.items id) (sym (ap is_some is) ∙ some) in owns id s.0 s.1,
       )
 
   entries_owned : (id : CellId) → Contains p.owners.items id ↔ IsSome (component_at table id)
   entries_owned id =
       let is = component_is p table id view in (
-        λ own. let s = slotted id own in some_is (component_at table id) s.0.component (is ∙ ap (option_map (λ (x : Slot). x.component)) s.1),
-        λ some. let s = one_is (λ (x : Slot). x.component) (slot_at p.teams.items id) (sym (ap is_some is) ∙ some) in owns id s.0 s.1,
+        λ own. let s = slotted id own in some_is (component_at table id) s.0.component (is ∙ ap (option_map (λ (x : CellRecord). x.component)) s.1),
+        λ some. let s = one_is (λ (x : CellRecord). x.component) (record_at p.teams.items id) (sym (ap is_some is) ∙ some) in owns id s.0 s.1,
       )
 
   -- the owners are the ids of all cells
-  pub owners_are_all : AreAll table p.owners.items
+  pub owners_are_all : AreAllIds table p.owners.items
   owners_are_all = record { rise = rw (← view) indexed.rise; cells = cells_owned; entries = entries_owned }

@@ -5,7 +5,7 @@ use Rattle.std.specs.List.{range_with_len}
 use Rattle.lf_floorplan.specs.declared.place.Place.{Place}
 use Rattle.lf_cells.specs.declared.cell.Cell.{Cell}
 use Rattle.lf_cells.specs.declared.cell.CellId.{CellId}
-use Rattle.lf_cells.specs.declared.cell.Standing.{Standing}
+use Rattle.lf_cells.specs.declared.cell.CellPlacement.{CellPlacement}
 
 -- for each team its cells in loading order, and the positions of their entries among all COMPONENTS of the DEF text
 pub record Cells : Type 0 where
@@ -34,7 +34,7 @@ position_of table id = slice_index (components_of table id.team) id.own
 
 -- the ids of the cells of all teams, in loading order: the positions of their entries rise, and they are the ids that have a
 -- cell, and those that have an entry
-pub record AreAll (table : Cells) (ids : List CellId) : Type 0 where
+pub record AreAllIds (table : Cells) (ids : List CellId) : Type 0 where
   pub rise : AllPairs (λ id later. position_of table id < position_of table later) ids
   pub cells : (id : CellId) → Contains ids id ↔ IsSome (cell_at table id)
   pub entries : (id : CellId) → Contains ids id ↔ IsSome (component_at table id)
@@ -56,8 +56,8 @@ abbrev pub cell_named : List ℕ → List Cell → Option ℕ
 cell_named name cells = position (λ c. bytes_eq c.name name) cells
 
 -- a cell's macro and its working place
-abbrev pub standing_of : Cell → Standing
-standing_of c = record { mac = c.mac; working = c.working }
+abbrev pub placement_of : Cell → CellPlacement
+placement_of c = record { mac = c.mac; working = c.working }
 
 -- the working place of the cell of that position; None if it is unplaced, or there is no such cell
 abbrev pub working_at : List Cell → ℕ → Option Place

@@ -24,7 +24,7 @@ pub struct CellId {
 
 /// A cell's macro and working place.
 #[derive(Clone, Copy)]
-pub struct Standing {
+pub struct CellPlacement {
     /// The position of its macro in the frame.
     pub mac: usize,
     /// Its working place; none if it is unplaced.

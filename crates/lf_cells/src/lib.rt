@@ -16,9 +16,9 @@
 
 mod cell;
 mod ids;
-mod parts;
-mod slots;
+mod records;
 mod table;
+mod table_parts;
 
-pub use cell::{Cell, CellFacts, CellId, Standing};
+pub use cell::{Cell, CellFacts, CellId, CellPlacement};
 pub use table::CellTable;

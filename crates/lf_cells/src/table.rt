@@ -1,12 +1,12 @@
 //! The table of all teams' cells.
 
 ghost use Rattle.std.specs.Prelude.{◌≡◌, ◌+◌, ◌<◌, [], IfOk, IfSome, length, map, option_map, slice_get, slice_set};
-ghost use Rattle.lf_cells.specs.Cells.{AreAll, cells_of, cell_named, cell_at, component_at, id_in, ids_of};
-ghost use Rattle.lf_cells.specs.Cells.{standing_of, working_at, committed_at, moved, as_committed};
-ghost use Rattle.lf_cells.specs.Openings.{opening_cells, opening_components};
+ghost use Rattle.lf_cells.specs.Cells.{AreAllIds, cells_of, cell_named, cell_at, component_at, id_in, ids_of};
+ghost use Rattle.lf_cells.specs.Cells.{placement_of, working_at, committed_at, moved, as_committed};
+ghost use Rattle.lf_cells.specs.Openings.{initial_cells, initial_components};
 
-use crate::cell::{CellFacts, CellId, Standing};
-use crate::parts::{Parts, commit_cells, move_cell};
+use crate::cell::{CellFacts, CellId, CellPlacement};
+use crate::table_parts::{TableParts, commit_cells, move_cell};
 use lf_floorplan::{Frame, Loaded, Place};
 use std::alloc::{AllocError, Global};
 use std::marker::Model;
@@ -17,7 +17,7 @@ use std::marker::Model;
 /// Contracts see for each team the list of its cells in loading order, and the positions of their entries among all
 /// COMPONENTS of the DEF text. Only `build` allocates.
 pub struct CellTable {
-    parts: Parts,
+    parts: TableParts,
 }
 
 /// (Written out: the proof of a function that lets one go does not take it apart.)
@@ -47,12 +47,12 @@ impl CellTable {
     /// `Err` if an allocation fails; the design is then gone.
     pub fn build(alloc: Global, loaded: Loaded) -> Result<(Frame, CellTable), AllocError>
         ensures frame { IfOk result (λ built. built.0 ≡ loaded.frame) }
-        ensures cells { IfOk result (λ built. built.1.cells ≡ opening_cells loaded) }
-        ensures components { IfOk result (λ built. built.1.components ≡ opening_components loaded) }
+        ensures cells { IfOk result (λ built. built.1.cells ≡ initial_cells loaded) }
+        ensures components { IfOk result (λ built. built.1.components ≡ initial_components loaded) }
     {
         let Loaded { frame, cells } = loaded;
         let count = frame.teams.len() + 1;
-        let parts = Parts::of_cells(alloc, count, cells.into_parts())?;
+        let parts = TableParts::of_cells(alloc, count, cells.into_parts())?;
         Ok((frame, CellTable { parts }))
     }
 
@@ -88,8 +88,8 @@ impl CellTable {
     }
 
     /// The ids of the cells of all teams, in loading order: the positions of their entries among all COMPONENTS rise.
-    pub fn all(&self) -> &[CellId]
-        ensures { AreAll self.now result.now }
+    pub fn cell_ids(&self) -> &[CellId]
+        ensures { AreAllIds self.now result.now }
     {
         self.parts.owners.as_slice()
     }
@@ -109,11 +109,11 @@ impl CellTable {
     }
 
     /// The macro and working place of a cell; none iff there is no such cell.
-    pub fn standing(&self, id: CellId) -> Option<Standing>
-        ensures { result ≡ option_map standing_of (slice_get (cells_of self.now id.team) id.own) }
+    pub fn placement_of(&self, id: CellId) -> Option<CellPlacement>
+        ensures { result ≡ option_map placement_of (slice_get (cells_of self.now id.team) id.own) }
     {
         let slot = self.parts.slot(id.team as usize, id.own as usize)?;
-        Some(Standing {
+        Some(CellPlacement {
             mac: slot.mac as usize,
             working: slot.working.place(),
         })

@@ -1,10 +1,10 @@
 -- What the kind of a placement clause says of a component.
 use Rattle.std.proofs.Common.{◌≡◌, Bool, Option, Some, None, ap}
-use Rattle.lf_def.specs.declared.components.Placement.{Placement}
+use Rattle.lf_def.specs.declared.components.PlacementClause.{PlacementClause}
 use Rattle.lf_def.specs.declared.components.PlacementKind.{PlacementKind}
-use Rattle.lf_def.specs.Kinds.{says}
+use Rattle.lf_def.specs.Kinds.{has_kind}
 use Rattle.lf_def.specs.Stored.{kind_of}
 
-pub says_by : (is_kind : PlacementKind → Bool) (clause : Option Placement) (kind : PlacementKind) → Some kind ≡ kind_of clause → says is_kind clause ≡ is_kind kind
+pub says_by : (is_kind : PlacementKind → Bool) (clause : Option PlacementClause) (kind : PlacementKind) → Some kind ≡ kind_of clause → has_kind is_kind clause ≡ is_kind kind
 says_by is_kind None kind e = absurd cc
 says_by is_kind (Some clause) kind e = ap is_kind cc

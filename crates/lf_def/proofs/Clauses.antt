@@ -6,24 +6,24 @@ use Rattle.std.specs.Str.{bytes_eq}
 use Rattle.std.proofs.lemmas.Slice.Eq.{bytes_eq-Decides}
 use Rattle.std.specs.Option.{option_map}
 use Rattle.std.proofs.lemmas.List.{append_assoc, append-nil}
-use Rattle.lf_units.specs.declared.area.Point.{Point}
+use Rattle.lf_units.specs.declared.geometry.Point.{Point}
 use Rattle.lf_orient.specs.declared.Orient.{Orient}
 use Rattle.lf_lex.specs.declared.fault.ReadFault.{ReadFault}
 use Rattle.lf_lex.specs.Tokens.{Lexed, Lexeme, with_token, with_tokens}
-use Rattle.lf_lex.specs.Reading.{◌>>=◌, Taken, Turn, taken, turn, token, first_of, behind, is, name, keyword, statements, block}
+use Rattle.lf_lex.specs.Reading.{◌>>=◌, ReadValue, Turn, taken, turn, token, first_of, behind, is, name, keyword, statements, block}
 use Rattle.lf_lex.proofs.Runs.{left, ok_is, with_both}
-use Rattle.lf_def.specs.declared.entries.Due.{Due}
-use Rattle.lf_def.specs.declared.entries.Due.TheVariants.{Item, Keyword, Rest, Separator}
+use Rattle.lf_def.specs.declared.section.Due.{Due}
+use Rattle.lf_def.specs.declared.section.Due.TheVariants.{Item, Keyword, Rest, Separator}
 use Rattle.lf_def.specs.declared.components.Component.{Component}
 use Rattle.lf_def.specs.declared.components.ComponentParts.{ComponentParts}
-use Rattle.lf_def.specs.declared.components.Located.{Located}
-use Rattle.lf_def.specs.declared.components.Placement.{Placement}
+use Rattle.lf_def.specs.declared.components.LocatedPlace.{LocatedPlace}
+use Rattle.lf_def.specs.declared.components.PlacementClause.{PlacementClause}
 use Rattle.lf_def.specs.declared.components.PlacementKind.{PlacementKind}
 use Rattle.lf_def.specs.declared.components.PlacementKind.TheVariants.{Fixed, Cover, Placed}
 use Rattle.lf_def.specs.Coordinates.{dbu_of, dbu, point_rest, orient_of}
 use Rattle.lf_def.specs.Components.{located_rest, placed, unplaced, is_placement_word, placement, only_placement, clause, up_to_stop, unplaced_point}
 use Rattle.lf_def.specs.Components.{component_part, component_from, component_token, no_component, component}
-use Rattle.lf_def.specs.Laws.{IsPlace, LastEnds, ClauseAmong, HasClause, ComponentsStand}
+use Rattle.lf_def.specs.Laws.{IsPlace, LastEnds, ClauseAmong, HasClause, ComponentsHaveClauses}
 use Rattle.lf_def.proofs.Kept.{name_local}
 use Rattle.lf_lex.proofs.Splicing.{and_true}
 
@@ -35,12 +35,12 @@ pub bind_ok : {A B : Type 0} (o : Result A ReadFault) (k : A → Result B ReadFa
 bind_ok (Ok x) k y e = (x, refl, e)
 bind_ok (Err q) k y e = absurd cc
 
-first_ok : {B : Type 0} (ts : List Lexeme) (l : Lexed) (k : Taken Lexeme → Result B ReadFault) (y : B) → l ≡ behind ts l → (first_of ts l >>= k) ≡ Ok y
+first_ok : {B : Type 0} (ts : List Lexeme) (l : Lexed) (k : ReadValue Lexeme → Result B ReadFault) (y : B) → l ≡ behind ts l → (first_of ts l >>= k) ≡ Ok y
     → (t : Lexeme) × (n : Lexed) × (l ≡ with_token t n) × (k (left t n) ≡ Ok y)
 first_ok [] l k y w e = absurd cc
 first_ok (t ∷ ts) l k y w e = (t, behind ts l, w, e)
 
-pub token_ok : {B : Type 0} (l : Lexed) (k : Taken Lexeme → Result B ReadFault) (y : B) → (token l >>= k) ≡ Ok y
+pub token_ok : {B : Type 0} (l : Lexed) (k : ReadValue Lexeme → Result B ReadFault) (y : B) → (token l >>= k) ≡ Ok y
     → (t : Lexeme) × (n : Lexed) × (l ≡ with_token t n) × (k (left t n) ≡ Ok y)
 token_ok l k y e = first_ok l.tokens l k y refl e
 
@@ -84,7 +84,7 @@ point_ok l m p e =
     )
 
 -- the tokens of a place after its first parenthesis
-pub record PlaceRun (l m : Lexed) (p : Located) : Type 0 where
+pub record PlaceRun (l m : Lexed) (p : LocatedPlace) : Type 0 where
   pub x : Lexeme
   pub y : Lexeme
   pub closing : Lexeme
@@ -94,7 +94,7 @@ pub record PlaceRun (l m : Lexed) (p : Located) : Type 0 where
   pub named : (o : Orient) × (orient_of orient ≡ Ok o)
   pub stop : orient.stop ≡ p.stop
 
-pub located_ok : (l m : Lexed) (p : Located) → located_rest l ≡ taken p m → PlaceRun l m p
+pub located_ok : (l m : Lexed) (p : LocatedPlace) → located_rest l ≡ taken p m → PlaceRun l m p
 unfolding located_rest
 located_ok l m p e =
     let a = bind_ok (point_rest l) _ _ e in
@@ -110,11 +110,11 @@ located_ok l m p e =
       whole = a1.3 ∙ ap (λ (z : Lexed). with_tokens (a1.0 ∷ a1.1 ∷ a1.2 ∷ []) z) (b.2 ∙ ap (λ (z : Lexed). with_token b.0 z) d.1);
       closing_is = a1.4;
       named = (c.0, c.1);
-      stop = ap (λ (z : Located). z.stop) d.0;
+      stop = ap (λ (z : LocatedPlace). z.stop) d.0;
     }
 
 -- the tokens of a placement after its word
-pub record MoreRun (plus : ℕ) (t : Lexeme) (l m : Lexed) (p : Placement) : Type 0 where
+pub record MoreRun (plus : ℕ) (t : Lexeme) (l m : Lexed) (p : PlacementClause) : Type 0 where
   pub more : List Lexeme
   pub whole : l ≡ with_tokens more m
   pub more_is : ((is (codes "UNPLACED") t ≡ true) × (more ≡ [])) ⊎ IsPlace more
@@ -122,7 +122,7 @@ pub record MoreRun (plus : ℕ) (t : Lexeme) (l m : Lexed) (p : Placement) : Typ
   pub start : p.start ≡ plus
   pub stop : LastEnds p.stop t more
 
-placed_ok : (kind : PlacementKind) (plus : ℕ) (t : Lexeme) (l m : Lexed) (p : Placement) → (is (codes "UNPLACED") t ≡ true → ⊥) → placed kind plus l ≡ taken p m
+placed_ok : (kind : PlacementKind) (plus : ℕ) (t : Lexeme) (l m : Lexed) (p : PlacementClause) → (is (codes "UNPLACED") t ≡ true → ⊥) → placed kind plus l ≡ taken p m
     → MoreRun plus t l m p
 unfolding placed
 placed_ok kind plus t l m p u e =
@@ -136,12 +136,12 @@ placed_ok kind plus t l m p u e =
       whole = a1.1 ∙ ap (λ (z : Lexed). with_token a1.0 z) (r.whole ∙ ap (λ (z : Lexed). with_tokens (r.x ∷ r.y ∷ r.closing ∷ r.orient ∷ []) z) d.1);
       more_is = inr (a1.2, r.closing_is, r.named);
       bare = λ h. absurd (u h);
-      start = sym (ap (λ (z : Placement). z.start) d.0);
-      stop = r.stop ∙ ap (λ (z : Placement). z.stop) d.0;
+      start = sym (ap (λ (z : PlacementClause). z.start) d.0);
+      stop = r.stop ∙ ap (λ (z : PlacementClause). z.stop) d.0;
     }
 
-unplaced_ok : (plus : ℕ) (t : Lexeme) (l m : Lexed) (p : Placement) → is (codes "UNPLACED") t ≡ true
-    → ◌≡◌ {A = Result (Taken Placement) ReadFault} (taken (unplaced plus t) l) (taken p m) → MoreRun plus t l m p
+unplaced_ok : (plus : ℕ) (t : Lexeme) (l m : Lexed) (p : PlacementClause) → is (codes "UNPLACED") t ≡ true
+    → ◌≡◌ {A = Result (ReadValue PlacementClause) ReadFault} (taken (unplaced plus t) l) (taken p m) → MoreRun plus t l m p
 unplaced_ok plus t l m p u e =
     let d = ok_is (unplaced plus t) l p m e in
     record {
@@ -149,9 +149,9 @@ unplaced_ok plus t l m p u e =
       whole = d.1;
       more_is = inl (u, refl);
       bare = λ h. refl;
-      start = sym (ap (λ (z : Placement). z.start) d.0);
+      start = sym (ap (λ (z : PlacementClause). z.start) d.0);
       stop =
-          ap (λ (z : Placement). z.stop) d.0;
+          ap (λ (z : PlacementClause). z.stop) d.0;
     }
 
 text_is : (w : List ℕ) (t : Lexeme) → is w t ≡ true → t.text ≡ w
@@ -161,7 +161,7 @@ text_is w t h = (bytes_eq-Decides t.text w).0 h
 not_two : (v w : List ℕ) (t : Lexeme) → bytes_eq v w ≡ false → is v t ≡ true → is w t ≡ true → ⊥
 not_two v w t other h k = let e : bytes_eq v w ≡ true = rw (text_is v t h) at k in absurd (not_both (sym e ∙ other))
 
-kind_ok : (a b c d : Bool) (plus : ℕ) (t : Lexeme) (l m : Lexed) (p : Placement) → is (codes "FIXED") t ≡ a → is (codes "COVER") t ≡ b
+kind_ok : (a b c d : Bool) (plus : ℕ) (t : Lexeme) (l m : Lexed) (p : PlacementClause) → is (codes "FIXED") t ≡ a → is (codes "COVER") t ≡ b
     → is (codes "PLACED") t ≡ c → is (codes "UNPLACED") t ≡ d → (a || b || c || d) ≡ true
     → cond a (placed Fixed plus l) (cond b (placed Cover plus l) (cond c (placed Placed plus l) (taken (unplaced plus t) l))) ≡ taken p m → MoreRun plus t l m p
 kind_ok true b c d plus t l m p x y z u w e = placed_ok Fixed plus t l m p (not_two (codes "FIXED") (codes "UNPLACED") t refl x) e
@@ -170,12 +170,12 @@ kind_ok false false true d plus t l m p x y z u w e = placed_ok Placed plus t l 
 kind_ok false false false true plus t l m p x y z u w e = unplaced_ok plus t l m p u e
 kind_ok false false false false plus t l m p x y z u w e = absurd cc
 
-placement_ok : (plus : ℕ) (t : Lexeme) (l m : Lexed) (p : Placement) → is_placement_word t ≡ true → placement plus t l ≡ taken p m → MoreRun plus t l m p
+placement_ok : (plus : ℕ) (t : Lexeme) (l m : Lexed) (p : PlacementClause) → is_placement_word t ≡ true → placement plus t l ≡ taken p m → MoreRun plus t l m p
 unfolding placement
 placement_ok plus t l m p w e = kind_ok (is (codes "FIXED") t) (is (codes "COVER") t) (is (codes "PLACED") t)
     (is (codes "UNPLACED") t) plus t l m p refl refl refl refl w e
 
-only_ok : (first : Option Placement) (plus : ℕ) (t : Lexeme) (l m : Lexed) (p : Placement) → is_placement_word t ≡ true
+only_ok : (first : Option PlacementClause) (plus : ℕ) (t : Lexeme) (l m : Lexed) (p : PlacementClause) → is_placement_word t ≡ true
     → only_placement first plus t l ≡ taken p m → MoreRun plus t l m p
 unfolding only_placement
 only_ok None plus t l m p w e = placement_ok plus t l m p w e
@@ -192,11 +192,11 @@ pub record EndsPlus (r : List Lexeme) (plus : ℕ) : Type 0 where
   pub start : plus ≡ last.start
 
 -- the tokens end with a placement clause that has no place yet
-pub record EndsBare (r : List Lexeme) (placement : Option Placement) : Type 0 where
+pub record EndsBare (r : List Lexeme) (placement : Option PlacementClause) : Type 0 where
   pub front : List Lexeme
   pub plus : Lexeme
   pub word : Lexeme
-  pub p : Placement
+  pub p : PlacementClause
   pub whole : r ≡ front ++ plus ∷ word ∷ []
   pub plus_is : is (codes "+") plus ≡ true
   pub word_is : is_placement_word word ≡ true
@@ -209,7 +209,7 @@ pub record Known (r : List Lexeme) (s : ComponentParts) : Type 0 where
   pub bare : s.due ≡ Separator → s.point ≡ true → EndsBare r s.placement
 
 -- the clause stands among more tokens too
-wider : (r : List Lexeme) (more : List Lexeme) (p : Option Placement) → HasClause r p → HasClause (r ++ more) p
+wider : (r : List Lexeme) (more : List Lexeme) (p : Option PlacementClause) → HasClause r p → HasClause (r ++ more) p
 wider r more None h = tt
 wider r more (Some p) h =
     record {
@@ -276,7 +276,7 @@ passed r l m n s u k no_keyword no_separator w e =
       known = record { clause = wider r (u ∷ []) s.placement k.clause; plus = λ h. absurd (no_keyword h); bare = λ h x. absurd (no_separator h) };
     }
 
-abbrev placed_state : ComponentParts → Lexeme → Placement → ComponentParts
+abbrev placed_state : ComponentParts → Lexeme → PlacementClause → ComponentParts
 placed_state s u p = record s { placement = Some p; due = Separator; point = is (codes "UNPLACED") u }
 
 clause_whole : (r front : List Lexeme) (last u : Lexeme) (more : List Lexeme) → r ≡ front ++ last ∷ [] → r ++ u ∷ more ≡ front ++ (last ∷ u ∷ more)
@@ -285,7 +285,7 @@ clause_whole r front last u more e = ap (λ (z : List Lexeme). z ++ u ∷ more) 
 with_nil : (front back : List Lexeme) → front ++ back ≡ front ++ (back ++ [])
 with_nil front back = ap (λ (z : List Lexeme). front ++ z) (sym (append-nil back))
 
-placed_step : (r : List Lexeme) (l m n rest : Lexed) (s : ComponentParts) (u : Lexeme) (p : Placement) → EndsPlus r s.plus → is_placement_word u ≡ true
+placed_step : (r : List Lexeme) (l m n rest : Lexed) (s : ComponentParts) (u : Lexeme) (p : PlacementClause) → EndsPlus r s.plus → is_placement_word u ≡ true
     → l ≡ with_token u n → MoreRun s.plus u n rest p → rest ≡ m → Step r l m (placed_state s u p)
 placed_step r l m n rest s u p ends w whole f e =
     let all = clause_whole r ends.front ends.last u f.more ends.whole in
@@ -330,7 +330,7 @@ placed_step r l m n rest s u p ends w whole f e =
 
 clause_turn : (c : Bool) (r : List Lexeme) (l m n : Lexed) (s : ComponentParts) (u : Lexeme) (t : Turn ComponentParts) → Known r s → s.due ≡ Keyword
     → l ≡ with_token u n → is_placement_word u ≡ c
-    → cond {A = Result (Taken (Turn ComponentParts)) ReadFault} c
+    → cond {A = Result (ReadValue (Turn ComponentParts)) ReadFault} c
     (only_placement s.placement s.plus u n >>= λ p. taken (turn (placed_state s u p.value) true) p.rest)
     (taken (turn (record s { due = Rest }) true) n) ≡ taken t m → Turned r l m t
 clause_turn true r l m n s u t k due w h e =
@@ -349,11 +349,11 @@ clause_turn false r l m n s u t k due w h e =
 abbrev point_state : ComponentParts → ℕ → ComponentParts
 point_state s stop = record s { placement = option_map (up_to_stop stop) s.placement; point = false }
 
-longer : (tokens : List Lexeme) (p : Option Placement) (q : Placement) (stop : ℕ) → p ≡ Some q → ClauseAmong tokens (record q { stop = stop })
+longer : (tokens : List Lexeme) (p : Option PlacementClause) (q : PlacementClause) (stop : ℕ) → p ≡ Some q → ClauseAmong tokens (record q { stop = stop })
     → HasClause tokens (option_map (up_to_stop stop) p)
 longer tokens p q stop e c = rw e c
 
-point_step : (r : List Lexeme) (l m n rest : Lexed) (s : ComponentParts) (u : Lexeme) (q : Located) → EndsBare r s.placement → s.due ≡ Separator
+point_step : (r : List Lexeme) (l m n rest : Lexed) (s : ComponentParts) (u : Lexeme) (q : LocatedPlace) → EndsBare r s.placement → s.due ≡ Separator
     → is (codes "(") u ≡ true → l ≡ with_token u n → PlaceRun n rest q → rest ≡ m → Step r l m (point_state s q.stop)
 point_step r l m n rest s u q b due o w f e =
     let run = u ∷ f.x ∷ f.y ∷ f.closing ∷ f.orient ∷ [] in
@@ -412,7 +412,7 @@ part_turn Separator r l m n s u t k due w e =
 
 from_turn : (c d : Bool) (r : List Lexeme) (l m n : Lexed) (s : ComponentParts) (u : Lexeme) (t : Turn ComponentParts) → Known r s → l ≡ with_token u n
     → is (codes ";") u ≡ c → is (codes "+") u ≡ d
-    → cond {A = Result (Taken (Turn ComponentParts)) ReadFault} c (taken (turn (record s { semicolon = u.start }) false) n)
+    → cond {A = Result (ReadValue (Turn ComponentParts)) ReadFault} c (taken (turn (record s { semicolon = u.start }) false) n)
     (cond d (taken (turn (record s { due = Keyword; plus = u.start }) true) n) (component_part s.due s u n)) ≡ taken t m → Turned r l m t
 from_turn true d r l m n s u t k w x y e =
     let g = ok_is (turn (record s { semicolon = u.start }) false) n t m e in
@@ -495,7 +495,7 @@ all_turns (suc n) r l m s y k e =
     (λ r' k' f. all_turns n r' a.0.rest m a.0.value.state y k' f) a.0.value.more refl a.2
 
 -- the clause stands among more tokens too
-deeper : (more r : List Lexeme) (p : Option Placement) → HasClause r p → HasClause (more ++ r) p
+deeper : (more r : List Lexeme) (p : Option PlacementClause) → HasClause r p → HasClause (more ++ r) p
 deeper more r None h = tt
 deeper more r (Some p) h = record {
   before = more ++ h.before;
@@ -506,13 +506,13 @@ deeper more r (Some p) h = record {
   is = h.is;
 }
 
-same_clause : (tokens : List Lexeme) (p q : Option Placement) → p ≡ q → HasClause tokens p → HasClause tokens q
+same_clause : (tokens : List Lexeme) (p q : Option PlacementClause) → p ≡ q → HasClause tokens p → HasClause tokens q
 same_clause tokens p q h x = rw h at x
 
 nothing_known : Known [] no_component
 nothing_known = record { clause = tt; plus = λ h. absurd (item_not_keyword h); bare = λ h x. absurd (item_not_separator h) }
 
-pub components_stand : ComponentsStand
+pub components_stand : ComponentsHaveClauses
 unfolding component
 components_stand l m c e =
     let a = bind_ok (name l) _ _ e in

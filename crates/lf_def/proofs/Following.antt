@@ -2,20 +2,20 @@
 use Rattle.std.proofs.Common.{◌≡◌, ℕ, Bool, true, false, ◌&&◌, cond, List, [], ◌∷◌, ◌++◌, ℤ, pos, negsuc, length, Option, Some, None, Result, Ok, refl, ap, sym}
 use Rattle.std.proofs.Common.{◌∙◌}
 use Rattle.std.specs.Prelude.{codes, not, nat_lt, nat_le}
-use Rattle.lf_units.specs.declared.area.Point.{Point}
-use Rattle.lf_units.specs.declared.area.Rect.{Rect}
+use Rattle.lf_units.specs.declared.geometry.Point.{Point}
+use Rattle.lf_units.specs.declared.geometry.Rect.{Rect}
 use Rattle.lf_units.specs.Number.{fixed_of}
 use Rattle.lf_orient.specs.declared.Orient.{Orient}
 use Rattle.lf_orient.specs.declared.Orient.TheVariants.{N, W, S, E, FN, FW, FS, FE}
 use Rattle.lf_lex.specs.declared.fault.FaultNumber.TheVariants.{BadNumber, Unexpected, TooMany}
 use Rattle.lf_lex.specs.declared.fault.ReadFault.{ReadFault}
-use Rattle.lf_lex.specs.Tokens.{Lexed, Lexeme, Plain, plain}
+use Rattle.lf_lex.specs.Tokens.{Lexed, Lexeme, PlainToken, plain}
 use Rattle.lf_lex.specs.Reading.{◌>>=◌, Reader, Turn, taken, turn, fault_at, token, is, is_word, kind_is_word, word, keyword, name, end_name, to_semicolon}
-use Rattle.lf_lex.specs.Reading.{block, first_stands}
+use Rattle.lf_lex.specs.Reading.{block, first_counts}
 use Rattle.lf_lex.proofs.Runs.{Follows, Goes, same, turn_bare, bind, choose, given, pure, fault, token_follows, takes_one, block_follows, alike_states}
 use Rattle.lf_lex.proofs.Following.{text_alike, is_alike, keyword_follows, word_follows, name_follows, end_name_follows, to_semicolon_follows, number_again}
-use Rattle.lf_def.specs.declared.entries.Due.{Due}
-use Rattle.lf_def.specs.declared.entries.Due.TheVariants.{Item, Keyword, Rest, Separator}
+use Rattle.lf_def.specs.declared.section.Due.{Due}
+use Rattle.lf_def.specs.declared.section.Due.TheVariants.{Item, Keyword, Rest, Separator}
 use Rattle.lf_def.specs.declared.rows.Row.{Row}
 use Rattle.lf_def.specs.declared.rows.Sites.{Sites}
 use Rattle.lf_def.specs.declared.regions.Region.{Region}
@@ -120,7 +120,7 @@ pub quoted_follows : Follows same quoted quoted
 unfolding quoted
 quoted_follows =
     bind plain same token token _ _ token_follows (λ t t' e. choose same (kind_is_word t.kind) (kind_is_word t'.kind) _ _ _ _
-    (ap (λ (p : Plain). kind_is_word p.kind) e) (fault same _ _)
+    (ap (λ (p : PlainToken). kind_is_word p.kind) e) (fault same _ _)
     (bind same same (keyword (codes ";")) (keyword (codes ";")) _ _ (keyword_follows (codes ";")) (λ s s' es. pure same t.text t'.text (text_alike t t' e))))
 
 pub design_follows : Follows same design design
@@ -141,19 +141,19 @@ pub header_follows : (s : HeaderParts) (t t' : Lexeme) → plain t' ≡ plain t 
 unfolding header_statement
 header_follows s t t' e =
     choose same (is (codes "VERSION") t) (is (codes "VERSION") t') _ _ _ _ (is_alike (codes "VERSION") t t' e)
-    (bind same same version version _ _ version_follows (λ x x' ex. pure same (record s { version = first_stands s.version x })
-    (record s { version = first_stands s.version x' }) (ap (λ (z : List ℕ). record s { version = first_stands s.version z }) ex)))
+    (bind same same version version _ _ version_follows (λ x x' ex. pure same (record s { version = first_counts s.version x })
+    (record s { version = first_counts s.version x' }) (ap (λ (z : List ℕ). record s { version = first_counts s.version z }) ex)))
     (choose same (is (codes "DIVIDERCHAR") t) (is (codes "DIVIDERCHAR") t') _ _ _ _ (is_alike (codes "DIVIDERCHAR") t t' e)
-    (bind same same quoted quoted _ _ quoted_follows (λ x x' ex. pure same (record s { divider = first_stands s.divider x })
-    (record s { divider = first_stands s.divider x' }) (ap (λ (z : List ℕ). record s { divider = first_stands s.divider z }) ex)))
+    (bind same same quoted quoted _ _ quoted_follows (λ x x' ex. pure same (record s { divider = first_counts s.divider x })
+    (record s { divider = first_counts s.divider x' }) (ap (λ (z : List ℕ). record s { divider = first_counts s.divider z }) ex)))
     (choose same (is (codes "BUSBITCHARS") t) (is (codes "BUSBITCHARS") t') _ _ _ _ (is_alike (codes "BUSBITCHARS") t t' e)
-    (bind same same quoted quoted _ _ quoted_follows (λ x x' ex. pure same (record s { brackets = first_stands s.brackets x })
-    (record s { brackets = first_stands s.brackets x' }) (ap (λ (z : List ℕ). record s { brackets = first_stands s.brackets z }) ex)))
+    (bind same same quoted quoted _ _ quoted_follows (λ x x' ex. pure same (record s { brackets = first_counts s.brackets x })
+    (record s { brackets = first_counts s.brackets x' }) (ap (λ (z : List ℕ). record s { brackets = first_counts s.brackets z }) ex)))
     (choose same (is (codes "DESIGN") t) (is (codes "DESIGN") t') _ _ _ _ (is_alike (codes "DESIGN") t t' e)
-    (bind same same design design _ _ design_follows (λ x x' ex. pure same (record s { design = first_stands s.design x })
-    (record s { design = first_stands s.design x' }) (ap (λ (z : List ℕ). record s { design = first_stands s.design z }) ex)))
-    (bind same same units units _ _ units_follows (λ x x' ex. pure same (record s { units = first_stands s.units x })
-    (record s { units = first_stands s.units x' }) (ap (λ (z : ℕ). record s { units = first_stands s.units z }) ex))))))
+    (bind same same design design _ _ design_follows (λ x x' ex. pure same (record s { design = first_counts s.design x })
+    (record s { design = first_counts s.design x' }) (ap (λ (z : List ℕ). record s { design = first_counts s.design z }) ex)))
+    (bind same same units units _ _ units_follows (λ x x' ex. pure same (record s { units = first_counts s.units x })
+    (record s { units = first_counts s.units x' }) (ap (λ (z : ℕ). record s { units = first_counts s.units z }) ex))))))
 
 -- Rows.
 
@@ -295,7 +295,7 @@ region_kind_follows : (s : RegionParts) → Follows same (regions.with_kind s) (
 unfolding regions.with_kind
 region_kind_follows s = bind plain same token token _ _ token_follows
     (λ t t' e. given same (regions.kind_of t) (regions.kind_of t') _ _ (kind_again t t' e)
-    (λ k. pure same (turn (record s { kind = first_stands s.kind k; due = Separator }) true) _ refl))
+    (λ k. pure same (turn (record s { kind = first_counts s.kind k; due = Separator }) true) _ refl))
 
 region_part_follows : (due : Due) (s : RegionParts) (t t' : Lexeme) → plain t' ≡ plain t
     → Follows same (regions.region_part due s t) (regions.region_part due s t')
@@ -348,7 +348,7 @@ name_tested false true text line line' v x = absurd cc
 name_tested false false text line line' v x = x
 
 name_again : (t t' : Lexeme) → plain t' ≡ plain t → (v : List ℕ) → name_of t ≡ Ok v → name_of t' ≡ Ok v
-name_again t t' e v x = ap (λ (z : Plain). name_of (record t' { text = z.text; kind = z.kind })) e
+name_again t t' e v x = ap (λ (z : PlainToken). name_of (record t' { text = z.text; kind = z.kind })) e
     ∙ name_tested (not (is_word t)) (nat_lt 1024 (length t.text)) t.text t.line t'.line v x
 
 pattern_follows : (s : GroupParts) (t t' : Lexeme) → plain t' ≡ plain t → Follows same (groups.with_pattern s t) (groups.with_pattern s t')
@@ -361,9 +361,9 @@ unfolding groups.with_region
 group_region_follows s =
     bind plain same name name _ _ name_follows (λ n n' e. choose same (is (codes "(") n) (is (codes "(") n') _ _ _ _ (is_alike (codes "(") n n' e)
     (fault same _ _)
-    (pure same (turn (record s { region = first_stands s.region n.text; due = Separator }) true)
-    (turn (record s { region = first_stands s.region n'.text; due = Separator }) true)
-    (ap (λ (z : List ℕ). turn (record s { region = first_stands s.region z; due = Separator }) true) (text_alike n n' e))))
+    (pure same (turn (record s { region = first_counts s.region n.text; due = Separator }) true)
+    (turn (record s { region = first_counts s.region n'.text; due = Separator }) true)
+    (ap (λ (z : List ℕ). turn (record s { region = first_counts s.region z; due = Separator }) true) (text_alike n n' e))))
 
 group_part_follows : (due : Due) (s : GroupParts) (t t' : Lexeme) → plain t' ≡ plain t → Follows same (groups.group_part due s t) (groups.group_part due s t')
 unfolding groups.group_part

@@ -3,17 +3,17 @@ use Rattle.std.proofs.Common.{◌≡◌, ℕ, ◌&&◌, List, ◌∷◌, ◌++�
 use Rattle.std.specs.Prelude.{codes, nat_lt}
 use Rattle.lf_lex.specs.declared.fault.ReadFault.{ReadFault}
 use Rattle.lf_lex.specs.Tokens.{Lexed, Lexeme, with_tokens, tokens_of, tokens_from}
-use Rattle.lf_lex.specs.Reading.{Reader, Taken, token, behind, is, is_word, word, name, keyword, end_name, to_semicolon, block, value_of}
+use Rattle.lf_lex.specs.Reading.{Reader, ReadValue, token, behind, is, is_word, word, name, keyword, end_name, to_semicolon, block, value_of}
 use Rattle.lf_lex.proofs.Runs.{same_run}
 use Rattle.lf_lex.proofs.Following.{keyword_follows, end_name_follows, to_semicolon_follows}
-use Rattle.lf_def.specs.declared.entries.Due.{Due}
-use Rattle.lf_def.specs.declared.entries.Due.TheVariants.{Item, Keyword, Rest, Separator}
+use Rattle.lf_def.specs.declared.section.Due.{Due}
+use Rattle.lf_def.specs.declared.section.Due.TheVariants.{Item, Keyword, Rest, Separator}
 use Rattle.lf_def.specs.declared.components.Component.{Component}
 use Rattle.lf_def.specs.declared.components.ComponentParts.{ComponentParts}
-use Rattle.lf_def.specs.declared.components.Placement.{Placement}
+use Rattle.lf_def.specs.declared.components.PlacementClause.{PlacementClause}
 use Rattle.lf_def.specs.declared.components.PlacementKind.{PlacementKind}
 use Rattle.lf_def.specs.declared.components.PlacementKind.TheVariants.{Fixed, Cover, Placed}
-use Rattle.lf_def.specs.declared.parts.DocParts.{DocParts}
+use Rattle.lf_def.specs.declared.doc_parts.DocParts.{DocParts}
 use Rattle.lf_def.specs.Coordinates.{point_rest, orient_of}
 use Rattle.lf_def.specs.Entries.{entry_or_end, section}
 use Rattle.lf_def.specs.Header.{is_header, header_statement}
@@ -56,7 +56,7 @@ placement_local plus t =
     (local_choose (is (codes "COVER") t) _ _ (placed_local Cover plus)
     (local_choose (is (codes "PLACED") t) _ _ (placed_local Placed plus) (local_pure (unplaced plus t))))
 
-only_local : (first : Option Placement) (plus : ℕ) (t : Lexeme) → Local (only_placement first plus t)
+only_local : (first : Option PlacementClause) (plus : ℕ) (t : Lexeme) → Local (only_placement first plus t)
 unfolding only_placement
 only_local None plus t = placement_local plus t
 only_local (Some first) plus t = local_fault _
@@ -150,5 +150,5 @@ ends_before text read t after parts e h bytes =
     let again = r.still new in
     let there : tokens_of (take t.start text ++ bytes) ≡ with_tokens r.run new = cut ∙ ap (λ (z : List Lexeme). with_tokens z new) front in
     let one = ap (λ (z : Lexed). document_from (value_of (block statement no_parts z))) there
-    ∙ ap (λ (z : Result (Taken DocParts) ReadFault). document_from (value_of z)) again in
-    one ∙ sym (ap (λ (z : Result (Taken DocParts) ReadFault). document_from (value_of z)) h)
+    ∙ ap (λ (z : Result (ReadValue DocParts) ReadFault). document_from (value_of z)) again in
+    one ∙ sym (ap (λ (z : Result (ReadValue DocParts) ReadFault). document_from (value_of z)) h)

@@ -2,7 +2,7 @@
 use Rattle.std.proofs.Common.{◌≡◌, ℕ, zero, suc, ◌<◌, Bool, true, false, cond, List, [], ◌∷◌, ◌++◌, length, Result, Ok, Err, refl, sym, ap, ◌∙◌, arith}
 use Rattle.lf_lex.specs.declared.fault.ReadFault.{ReadFault}
 use Rattle.lf_lex.specs.Tokens.{Lexed, Lexeme, with_tokens}
-use Rattle.lf_lex.specs.Reading.{◌>>=◌, Reader, Taken, Turn, Statement, taken, turn, token, first_of, behind, statements, block}
+use Rattle.lf_lex.specs.Reading.{◌>>=◌, Reader, ReadValue, Turn, Statement, taken, turn, token, first_of, behind, statements, block}
 use Rattle.lf_lex.proofs.Runs.{Follows, Goes, same, left, ok_is, with_both, length_both}
 
 -- the run that was taken, whatever stands after
@@ -37,19 +37,19 @@ pub local_given : {A B : Type 0} (o : Result A ReadFault) (k : A → Reader B) �
 local_given (Err q) k next l m x e = absurd cc
 local_given (Ok v) k next l m x e = next v l m x e
 
-still_both : {A B : Type 0} (r : Reader A) (k : Taken A → Result (Taken B) ReadFault) (a b : List Lexeme) (x : A) (y : B) → ((n : Lexed) → r (with_tokens a n) ≡ taken x n) → ((n : Lexed) → k (left x (with_tokens b n)) ≡ taken y n)
+still_both : {A B : Type 0} (r : Reader A) (k : ReadValue A → Result (ReadValue B) ReadFault) (a b : List Lexeme) (x : A) (y : B) → ((n : Lexed) → r (with_tokens a n) ≡ taken x n) → ((n : Lexed) → k (left x (with_tokens b n)) ≡ taken y n)
     → (n : Lexed) → (r (with_tokens (a ++ b) n) >>= k) ≡ taken y n
 still_both r k a b x y f g n = rw (with_both a b n, f (with_tokens b n)) (g n)
 
-bind_by : {A B : Type 0} (r : Reader A) (k : Taken A → Result (Taken B) ReadFault) → Local r → ((x : A) → Local (λ l. k (left x l))) → (l m : Lexed) (y : B)
-    → (o : Result (Taken A) ReadFault) → r l ≡ o → (o >>= k) ≡ taken y m → Takes (λ l. r l >>= k) l m y
+bind_by : {A B : Type 0} (r : Reader A) (k : ReadValue A → Result (ReadValue B) ReadFault) → Local r → ((x : A) → Local (λ l. k (left x l))) → (l m : Lexed) (y : B)
+    → (o : Result (ReadValue A) ReadFault) → r l ≡ o → (o >>= k) ≡ taken y m → Takes (λ l. r l >>= k) l m y
 bind_by r k f next l m y (Err q) h e = absurd cc
 bind_by r k f next l m y (Ok t) h e =
     let a = f l t.rest t.value h in
     let b = next t.value t.rest m y e in
     record { run = a.run ++ b.run; whole = a.whole ∙ ap (λ (z : Lexed). with_tokens a.run z) b.whole ∙ sym (with_both a.run b.run m); still = still_both r k a.run b.run t.value y a.still b.still }
 
-pub local_bind : {A B : Type 0} (r : Reader A) (k : Taken A → Result (Taken B) ReadFault) → Local r → ((x : A) → Local (λ l. k (left x l))) → Local (λ l. r l >>= k)
+pub local_bind : {A B : Type 0} (r : Reader A) (k : ReadValue A → Result (ReadValue B) ReadFault) → Local r → ((x : A) → Local (λ l. k (left x l))) → Local (λ l. r l >>= k)
 local_bind r k f next l m y e = bind_by r k f next l m y (r l) refl e
 
 first_local : (ts : List Lexeme) (l m : Lexed) (x : Lexeme) → l ≡ behind ts l → first_of ts l ≡ taken x m → Takes token l m x
@@ -103,7 +103,7 @@ turns_by statement n s y l m each goes next false s1 l1 h e =
 
 turns_first : {S : Type 0} (statement : Statement S) (n : ℕ) (s y : S) (l m : Lexed) → ((s : S) → Local (statement s)) → Goes statement
     → ((s1 : S) (l1 : Lexed) → statements statement n s1 l1 ≡ taken y m → TurnsTake statement s1 l1 m y)
-    → (o : Result (Taken (Turn S)) ReadFault) → statement s l ≡ o → (o >>= λ t. cond t.value.more (statements statement n t.value.state t.rest) (taken t.value.state t.rest)) ≡ taken y m → TurnsTake statement s l m y
+    → (o : Result (ReadValue (Turn S)) ReadFault) → statement s l ≡ o → (o >>= λ t. cond t.value.more (statements statement n t.value.state t.rest) (taken t.value.state t.rest)) ≡ taken y m → TurnsTake statement s l m y
 turns_first statement n s y l m each goes next (Err q) h e = absurd cc
 turns_first statement n s y l m each goes next (Ok t) h e = turns_by statement n s y l m each goes next t.value.more t.value.state t.rest h e
 

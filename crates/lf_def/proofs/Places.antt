@@ -4,19 +4,19 @@ use Rattle.std.specs.Prelude.{codes, not, is_some}
 use Rattle.std.specs.Str.{bytes_eq}
 use Rattle.std.specs.Option.{option_map}
 use Rattle.std.proofs.lemmas.List.{map-append}
-use Rattle.lf_units.specs.declared.area.Point.{Point}
+use Rattle.lf_units.specs.declared.geometry.Point.{Point}
 use Rattle.lf_orient.specs.declared.Orient.{Orient}
-use Rattle.lf_lex.specs.Tokens.{Lexed, Lexeme, Plain, plain}
+use Rattle.lf_lex.specs.Tokens.{Lexed, Lexeme, PlainToken, plain}
 use Rattle.lf_lex.specs.Reading.{turn, token, is, kind_is_word, keyword, name, block}
 use Rattle.lf_lex.proofs.Runs.{Follows, Goes, same, turn_bare, bind, choose, given, pure, fault, token_follows, takes_one, block_follows}
 use Rattle.lf_lex.proofs.Following.{text_alike, is_alike, keyword_follows, name_follows, to_semicolon_follows, to_word_follows, named_end, both_alike}
-use Rattle.lf_def.specs.declared.entries.Due.{Due}
-use Rattle.lf_def.specs.declared.entries.Due.TheVariants.{Item, Keyword, Rest, Separator}
+use Rattle.lf_def.specs.declared.section.Due.{Due}
+use Rattle.lf_def.specs.declared.section.Due.TheVariants.{Item, Keyword, Rest, Separator}
 use Rattle.lf_def.specs.declared.components.Component.{Component}
 use Rattle.lf_def.specs.declared.components.ComponentParts.{ComponentParts}
-use Rattle.lf_def.specs.declared.components.Located.{Located}
+use Rattle.lf_def.specs.declared.components.LocatedPlace.{LocatedPlace}
 use Rattle.lf_def.specs.declared.components.Location.{Location}
-use Rattle.lf_def.specs.declared.components.Placement.{Placement}
+use Rattle.lf_def.specs.declared.components.PlacementClause.{PlacementClause}
 use Rattle.lf_def.specs.declared.components.PlacementKind.{PlacementKind}
 use Rattle.lf_def.specs.declared.components.PlacementKind.TheVariants.{Fixed, Cover, Placed}
 use Rattle.lf_def.specs.declared.header.HeaderParts.{HeaderParts}
@@ -24,7 +24,7 @@ use Rattle.lf_def.specs.declared.rows.Row.{Row}
 use Rattle.lf_def.specs.declared.regions.Region.{Region}
 use Rattle.lf_def.specs.declared.groups.Group.{Group}
 use Rattle.lf_def.specs.declared.blockages.Blockage.{Blockage}
-use Rattle.lf_def.specs.declared.parts.DocParts.{DocParts}
+use Rattle.lf_def.specs.declared.doc_parts.DocParts.{DocParts}
 use Rattle.lf_def.specs.Coordinates.{point_rest, orient_of}
 use Rattle.lf_def.specs.Header.{is_header, header_statement}
 use Rattle.lf_def.specs.Rows.{row, with_row}
@@ -33,14 +33,14 @@ use Rattle.lf_def.specs.Groups.{group, groups}
 use Rattle.lf_def.specs.Blockages.{blockages}
 use Rattle.lf_def.specs.Components.{located_rest, placed, unplaced, is_placement_word, placement, only_placement, clause, up_to_stop, unplaced_point}
 use Rattle.lf_def.specs.Components.{component_part, component_from, component_token, no_component, component, components}
-use Rattle.lf_def.specs.Document.{is_passed_section, is_passed_statement, passed_from, end_design, body_statement, statement_from, statement}
+use Rattle.lf_def.specs.Document.{is_skipped_section, is_skipped_statement, passed_from, end_design, body_statement, statement_from, statement}
 use Rattle.lf_def.specs.Laws.{placement_without_places, without_places}
 use Rattle.lf_def.proofs.Following.{Grows, same_grows, point_rest_follows, orient_again, row_follows, region_follows, group_follows, blockages_follow}
 use Rattle.lf_def.proofs.Following.{header_follows, section_follows}
 
 -- Components.
 
-abbrev pub located_bare : Located → Location
+abbrev pub located_bare : LocatedPlace → Location
 located_bare p = p.location
 
 abbrev location_at : Point → Orient → Location
@@ -54,7 +54,7 @@ located_follows =
     pure located_bare (record { location = location_at p o; stop = t.stop }) (record { location = location_at p' o; stop = t'.stop })
     (ap (λ (z : Point). location_at z o) ep))))
 
-abbrev placed_at : PlacementKind → Location → Placement
+abbrev placed_at : PlacementKind → Location → PlacementClause
 placed_at kind p = record { kind = kind; place = Some p; start = 0; stop = 0 }
 
 pub placed_follows : (kind : PlacementKind) (plus plus' : ℕ) → Follows placement_without_places (placed kind plus) (placed kind plus')
@@ -74,7 +74,7 @@ placement_follows plus plus' t t' e =
     (placed_follows Placed plus plus')
     (pure placement_without_places (unplaced plus t) (unplaced plus' t') refl)))
 
-only_follows : (first first' : Option Placement) (plus plus' : ℕ) (t t' : Lexeme)
+only_follows : (first first' : Option PlacementClause) (plus plus' : ℕ) (t t' : Lexeme)
     → option_map placement_without_places first' ≡ option_map placement_without_places first → plain t' ≡ plain t
     → Follows placement_without_places (only_placement first plus t) (only_placement first' plus' t')
 unfolding only_placement
@@ -86,10 +86,10 @@ only_follows (Some x) first' plus plus' t t' a e = fault placement_without_place
 abbrev pub bare_parts : ComponentParts → ComponentParts
 bare_parts s = record { placement = option_map placement_without_places s.placement; due = s.due; point = s.point; plus = 0; semicolon = 0 }
 
-abbrev pub parts_at : Option Placement → Due → Bool → ComponentParts
+abbrev pub parts_at : Option PlacementClause → Due → Bool → ComponentParts
 parts_at p due point = record { placement = p; due = due; point = point; plus = 0; semicolon = 0 }
 
-parts_alike : (p p' : Option Placement) (due due' : Due) (b b' : Bool) → p' ≡ p → due' ≡ due → b' ≡ b → parts_at p' due' b' ≡ parts_at p due b
+parts_alike : (p p' : Option PlacementClause) (due due' : Due) (b b' : Bool) → p' ≡ p → due' ≡ due → b' ≡ b → parts_at p' due' b' ≡ parts_at p due b
 parts_alike p p' due due' b b' e f g = rw (e, f, g) refl
 
 placement_of : (s s' : ComponentParts) → bare_parts s' ≡ bare_parts s
@@ -119,12 +119,12 @@ clause_follows s s' t t' a e =
     pure (turn_bare bare_parts) (turn (record s { placement = Some p; due = Separator; point = is (codes "UNPLACED") t }) true)
     (turn (record s' { placement = Some p'; due = Separator; point = is (codes "UNPLACED") t' }) true)
     (ap (λ (z : ComponentParts). turn z true) (parts_alike (Some (placement_without_places p)) (Some (placement_without_places p')) Separator Separator
-    (is (codes "UNPLACED") t) (is (codes "UNPLACED") t') (ap (λ (z : Placement). Some z) ep) refl (is_alike (codes "UNPLACED") t t' e)))))
+    (is (codes "UNPLACED") t) (is (codes "UNPLACED") t') (ap (λ (z : PlacementClause). Some z) ep) refl (is_alike (codes "UNPLACED") t t' e)))))
     (pure (turn_bare bare_parts) (turn (record s { due = Rest }) true) (turn (record s' { due = Rest }) true)
     (ap (λ (z : ComponentParts). turn z true) (parts_alike (option_map placement_without_places s.placement)
     (option_map placement_without_places s'.placement) Rest Rest s.point s'.point (placement_of s s' a) refl (point_of s s' a))))
 
-pub stop_plays_no_part : (n : ℕ) (p : Option Placement) → option_map placement_without_places
+pub stop_plays_no_part : (n : ℕ) (p : Option PlacementClause) → option_map placement_without_places
     (option_map (up_to_stop n) p) ≡ option_map placement_without_places p
 stop_plays_no_part n None = refl
 stop_plays_no_part n (Some p) = refl
@@ -175,10 +175,10 @@ pub component_token_goes : Goes component_token
 unfolding component_token
 component_token_goes s s1 l m h = takes_one (turn_bare bare_parts) _ _ l m (turn s1 true) (λ t. from_follows s s t t refl refl) h
 
-abbrev pub component_at : List ℕ → List ℕ → Option Placement → Component
+abbrev pub component_at : List ℕ → List ℕ → Option PlacementClause → Component
 component_at n mac p = record { name = n; mac = mac; placement = p; semicolon = 0 }
 
-component_alike : (n n' mac mac' : List ℕ) (p p' : Option Placement) → n' ≡ n → mac' ≡ mac → p' ≡ p → component_at n' mac' p' ≡ component_at n mac p
+component_alike : (n n' mac mac' : List ℕ) (p p' : Option PlacementClause) → n' ≡ n → mac' ≡ mac → p' ≡ p → component_at n' mac' p' ≡ component_at n mac p
 component_alike n n' mac mac' p p' e f g = rw (e, f, g) refl
 
 pub component_follows : Follows without_places component component
@@ -225,18 +225,18 @@ header_text x = bytes_eq x (codes "VERSION") || bytes_eq x (codes "DIVIDERCHAR")
 pub passed_follows : (t t' : Lexeme) → plain t' ≡ plain t → Follows same (passed_from t) (passed_from t')
 unfolding passed_from
 passed_follows t t' e =
-    choose same (is_passed_section t) (is_passed_section t') _ _ _ _ (ap (λ (x : List ℕ). passed_section_text x) (text_alike t t' e))
+    choose same (is_skipped_section t) (is_skipped_section t') _ _ _ _ (ap (λ (x : List ℕ). passed_section_text x) (text_alike t t' e))
     (named_end t.text t'.text (text_alike t t' e))
     (choose same (is (codes "BEGINEXT") t) (is (codes "BEGINEXT") t') _ _ _ _ (is_alike (codes "BEGINEXT") t t' e) (to_word_follows (codes "ENDEXT"))
-    (choose same (is_passed_statement t) (is_passed_statement t') _ _ _ _
+    (choose same (is_skipped_statement t) (is_skipped_statement t') _ _ _ _
     (ap (λ (x : List ℕ). passed_statement_text x) (text_alike t t' e)) to_semicolon_follows
-    (choose same (kind_is_word t.kind) (kind_is_word t'.kind) _ _ _ _ (ap (λ (p : Plain). kind_is_word p.kind) e) (fault same _ _) (fault same _ _))))
+    (choose same (kind_is_word t.kind) (kind_is_word t'.kind) _ _ _ _ (ap (λ (p : PlainToken). kind_is_word p.kind) e) (fault same _ _) (fault same _ _))))
 
 pub end_design_follows : (s : DocParts) → Follows same (end_design s) (end_design s)
 unfolding end_design
 end_design_follows s =
     bind plain same token token _ _ token_follows (λ t t' e.
-    choose same (not (kind_is_word t.kind)) (not (kind_is_word t'.kind)) _ _ _ _ (ap (λ (p : Plain). not (kind_is_word p.kind)) e) (fault same _ _)
+    choose same (not (kind_is_word t.kind)) (not (kind_is_word t'.kind)) _ _ _ _ (ap (λ (p : PlainToken). not (kind_is_word p.kind)) e) (fault same _ _)
     (choose same (not (is (codes "DESIGN") t)) (not (is (codes "DESIGN") t')) _ _ _ _ (ap (λ (b : Bool). not b) (is_alike (codes "DESIGN") t t' e))
     (fault same _ _)
     (choose same (is_some s.header.design) (is_some s.header.design) _ _ _ _ refl (pure same tt tt refl) (fault same _ _))))

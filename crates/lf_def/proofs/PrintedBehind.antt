@@ -12,45 +12,45 @@ use Rattle.lf_def.specs.declared.regions.Region.{Region}
 use Rattle.lf_def.specs.declared.groups.Group.{Group}
 use Rattle.lf_def.specs.declared.components.Component.{Component}
 use Rattle.lf_def.specs.declared.blockages.Blockage.{Blockage}
-use Rattle.lf_def.specs.declared.parts.DocParts.{DocParts}
+use Rattle.lf_def.specs.declared.doc_parts.DocParts.{DocParts}
 use Rattle.lf_def.specs.Header.{no_header}
 use Rattle.lf_def.specs.Document.{Document, no_parts, document_of}
 use Rattle.lf_def.specs.Laws.{without_places}
 use Rattle.lf_def.specs.Printed.{WritesNumbers, IsWord, IsPrintedRow, IsPrintedRegion, IsPrintedGroup, IsPrintedComponent, IsPrintedBlockage}
-use Rattle.lf_def.specs.PrintedTexts.{Passed, IsPassed, Part, passed_over, design_is, one_row, regions_section, groups_section, components_section, blockages_section, text_tokens, IsPrintedPart, with_parts, document_with, BeginsWith, SaysPlacesApart, design_named, behind_passed, ReadsBackInTexts, ComponentsReadBackInTexts}
+use Rattle.lf_def.specs.PrintedTexts.{Skipped, IsSkipped, Part, passed_over, design_is, one_row, regions_section, groups_section, components_section, blockages_section, text_tokens, IsPrintedPart, with_parts, document_with, BeginsWith, ReadsApartFromOffsets, design_named, after_skipped, ReadsBackInTexts, ComponentsReadBackInTexts}
 use Rattle.lf_def.proofs.PrintedTexts.{parts_read_back}
 
 -- what a text says once its DESIGN is known
 abbrev named_parts : List ℕ → DocParts
 named_parts n = record no_parts { header = record no_header { design = Some n } }
 
-passed_adds_nothing : (ps : List Passed) (qs : List Part) (d : DocParts) → with_parts d (map passed_over ps ++ qs) ≡ with_parts d qs
+passed_adds_nothing : (ps : List Skipped) (qs : List Part) (d : DocParts) → with_parts d (map passed_over ps ++ qs) ≡ with_parts d qs
 passed_adds_nothing [] qs d = refl
 passed_adds_nothing (p ∷ ps) qs d = passed_adds_nothing ps qs d
 
 -- what is skipped adds nothing before DESIGN and after it
-behind_is : (before : List Passed) (n : List ℕ) (between : List Passed) (parts : List Part) → with_parts no_parts (behind_passed before n between parts) ≡ with_parts (named_parts n) parts
+behind_is : (before : List Skipped) (n : List ℕ) (between : List Skipped) (parts : List Part) → with_parts no_parts (after_skipped before n between parts) ≡ with_parts (named_parts n) parts
 behind_is before n between parts = passed_adds_nothing before (design_is n ∷ (map passed_over between ++ parts)) no_parts ∙ passed_adds_nothing between parts (named_parts n)
 
-behind_printed : (before : List Passed) (n : List ℕ) (between : List Passed) (parts : List Part) → All IsPassed before → All IsPassed between → IsWord n → All IsPrintedPart parts → All IsPrintedPart (behind_passed before n between parts)
+behind_printed : (before : List Skipped) (n : List ℕ) (between : List Skipped) (parts : List Part) → All IsSkipped before → All IsSkipped between → IsWord n → All IsPrintedPart parts → All IsPrintedPart (after_skipped before n between parts)
 behind_printed before n between parts hb hm hn hp =
     All-append IsPrintedPart (map passed_over before) (design_is n ∷ (map passed_over between ++ parts)) (All-map IsPrintedPart passed_over before hb)
     (All-cons IsPrintedPart (design_is n) (map passed_over between ++ parts) hn (All-append IsPrintedPart (map passed_over between) parts (All-map IsPrintedPart passed_over between hm) hp))
 
 -- what a text of these parts says, where d is what they say after DESIGN
-says_behind : (print : ℤ → List ℕ) → WritesNumbers print → (before : List Passed) (n : List ℕ) (between : List Passed) (parts : List Part) (d : DocParts) → All IsPassed before → All IsPassed between → IsWord n → All IsPrintedPart parts
-    → with_parts (named_parts n) parts ≡ d → IsSome d.header.design → (text : List ℕ) → BeginsWith text (text_tokens print (behind_passed before n between parts)) → SaysPlacesApart text (document_with d)
+says_behind : (print : ℤ → List ℕ) → WritesNumbers print → (before : List Skipped) (n : List ℕ) (between : List Skipped) (parts : List Part) (d : DocParts) → All IsSkipped before → All IsSkipped between → IsWord n → All IsPrintedPart parts
+    → with_parts (named_parts n) parts ≡ d → IsSome d.header.design → (text : List ℕ) → BeginsWith text (text_tokens print (after_skipped before n between parts)) → ReadsApartFromOffsets text (document_with d)
 says_behind print writes before n between parts d hb hm hn hp e named text begins =
     let whole = behind_is before n between parts ∙ e in
-    subst (λ (z : DocParts). SaysPlacesApart text (document_with z)) whole
-    (parts_read_back print writes (behind_passed before n between parts) (behind_printed before n between parts hb hm hn hp) (rw whole named) text begins)
+    subst (λ (z : DocParts). ReadsApartFromOffsets text (document_with z)) whole
+    (parts_read_back print writes (after_skipped before n between parts) (behind_printed before n between parts hb hm hn hp) (rw whole named) text begins)
 
 no_components : (cs : List Component) → map without_places cs ≡ [] → cs ≡ []
 no_components [] e = refl
 no_components (c ∷ cs) e = absurd cc
 
 -- where there are no components, none has a place
-exactly : (text : List ℕ) (d : Document) → d.components ≡ [] → SaysPlacesApart text d → document_of text ≡ Ok d
+exactly : (text : List ℕ) (d : Document) → d.components ≡ [] → ReadsApartFromOffsets text d → document_of text ≡ Ok d
 exactly text d none says =
     let read : says.0 ≡ d.components = no_components says.0 (says.2 ∙ ap (λ (z : List Component). map without_places z) none) ∙ sym none in
     says.1 ∙ ap (λ (z : List Component). Ok (record d { components = z })) read

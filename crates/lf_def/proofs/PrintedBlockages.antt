@@ -4,14 +4,14 @@ use Rattle.std.specs.Prelude.{codes}
 use Rattle.std.specs.Str.{bytes_eq}
 use Rattle.std.proofs.lemmas.List.{append_assoc, append-nil}
 use Rattle.std.proofs.lemmas.List.Elements.{All-head, All-tail, All-cons, All-nil}
-use Rattle.lf_units.specs.declared.area.Rect.{Rect}
-use Rattle.lf_lex.specs.Tokens.{Lexeme, Plain, plain}
+use Rattle.lf_units.specs.declared.geometry.Rect.{Rect}
+use Rattle.lf_lex.specs.Tokens.{Lexeme, PlainToken, plain}
 use Rattle.lf_lex.specs.Splices.{word_of}
 use Rattle.lf_lex.specs.Reading.{turn, is, end_name, to_semicolon, block}
 use Rattle.lf_lex.proofs.Runs.{same}
 use Rattle.lf_lex.proofs.BackWords.{end_back, is_at, no_more}
-use Rattle.lf_def.specs.declared.entries.Due.{Due}
-use Rattle.lf_def.specs.declared.entries.Due.TheVariants.{Item, Keyword, Rest, Separator}
+use Rattle.lf_def.specs.declared.section.Due.{Due}
+use Rattle.lf_def.specs.declared.section.Due.TheVariants.{Item, Keyword, Rest, Separator}
 use Rattle.lf_def.specs.declared.blockages.Blockage.{Blockage}
 use Rattle.lf_def.specs.declared.blockages.BlockageParts.{BlockageParts}
 use Rattle.lf_def.specs.Coordinates.{rect}
@@ -43,7 +43,7 @@ plus_back s =
 
 noted_at : (soft partial : Bool) (rects : List Rect) (w : List ℕ) (t : Lexeme) → plain t ≡ word_of w
     → noted (parts_at soft partial rects Keyword) t ≡ parts_at (soft || bytes_eq w (codes "SOFT")) (partial || bytes_eq w (codes "PARTIAL")) rects Rest
-noted_at soft partial rects w t e = ap (λ (p : Plain). noted (parts_at soft partial rects Keyword) (record t { text = p.text })) e
+noted_at soft partial rects w t e = ap (λ (p : PlainToken). noted (parts_at soft partial rects Keyword) (record t { text = p.text })) e
 
 word_back : (soft partial : Bool) (rects : List Rect) (w : List ℕ) → bytes_eq w (codes ";") ≡ false → bytes_eq w (codes "+") ≡ false
     → Back same (blockage_token (parts_at soft partial rects Keyword)) (w ∷ [])

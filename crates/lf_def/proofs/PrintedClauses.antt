@@ -3,18 +3,18 @@ use Rattle.std.proofs.Common.{◌≡◌, ◌≢◌, ℕ, Bool, true, false, ◌&
 use Rattle.std.specs.Prelude.{codes, IfSome}
 use Rattle.std.specs.Option.{option_map}
 use Rattle.std.proofs.lemmas.List.Elements.{All-head, All-tail}
-use Rattle.lf_lex.specs.Tokens.{Lexed, Lexeme, Plain, plain}
+use Rattle.lf_lex.specs.Tokens.{Lexed, Lexeme, PlainToken, plain}
 use Rattle.lf_lex.specs.Splices.{word_of}
-use Rattle.lf_lex.specs.Reading.{turn, goes_on, is, name, block}
+use Rattle.lf_lex.specs.Reading.{turn, continues, is, name, block}
 use Rattle.lf_lex.proofs.Runs.{turn_bare}
 use Rattle.lf_lex.proofs.Back.{BackAt, TurnsAt, token_with, back_pure, at_bind, at_map, at_same, at_first, at_yes, at_no, at_last, at_more, at_block}
 use Rattle.lf_lex.proofs.BackWords.{is_of, is_at, not_eq}
-use Rattle.lf_def.specs.declared.entries.Due.{Due}
-use Rattle.lf_def.specs.declared.entries.Due.TheVariants.{Item, Keyword, Rest, Separator}
+use Rattle.lf_def.specs.declared.section.Due.{Due}
+use Rattle.lf_def.specs.declared.section.Due.TheVariants.{Item, Keyword, Rest, Separator}
 use Rattle.lf_def.specs.declared.components.ComponentParts.{ComponentParts}
-use Rattle.lf_def.specs.declared.components.Located.{Located}
+use Rattle.lf_def.specs.declared.components.LocatedPlace.{LocatedPlace}
 use Rattle.lf_def.specs.declared.components.Location.{Location}
-use Rattle.lf_def.specs.declared.components.Placement.{Placement}
+use Rattle.lf_def.specs.declared.components.PlacementClause.{PlacementClause}
 use Rattle.lf_def.specs.declared.components.PlacementKind.{PlacementKind}
 use Rattle.lf_def.specs.declared.components.PlacementKind.TheVariants.{Fixed, Cover, Placed, Unplaced}
 use Rattle.lf_def.specs.Components.{located_rest, is_placement_word, clause, up_to_stop, unplaced_point, component_part, component_from, component_token}
@@ -34,7 +34,7 @@ abbrev Alike : ComponentParts → ComponentParts → Type 0
 Alike s s' = bare_parts s' ≡ bare_parts s
 
 -- from each state like this one the tokens lead to that
-abbrev Leads : ComponentParts → List Plain → ComponentParts → Type 0
+abbrev Leads : ComponentParts → List PlainToken → ComponentParts → Type 0
 Leads s ps y = (s' : ComponentParts) → Alike s s' → TurnsAt bare_parts component_token s' ps y
 
 due_alike : (s s' : ComponentParts) (due : Due) → s.due ≡ due → Alike s s' → s'.due ≡ due
@@ -42,15 +42,15 @@ due_alike s s' due e a = ap (λ (z : ComponentParts). z.due) a ∙ e
 
 -- A token that neither ends the entry nor begins a clause.
 
-no_stop : (u : Plain) (t : Lexeme) → IsInner u → plain t ≡ u → is (codes ";") t ≡ false
+no_stop : (u : PlainToken) (t : Lexeme) → IsInner u → plain t ≡ u → is (codes ";") t ≡ false
 no_stop u t h e = is_of (codes ";") u t e ∙ not_eq u.text (codes ";") h.stop
 
-no_plus : (u : Plain) (t : Lexeme) → IsInner u → plain t ≡ u → is (codes "+") t ≡ false
+no_plus : (u : PlainToken) (t : Lexeme) → IsInner u → plain t ≡ u → is (codes "+") t ≡ false
 no_plus u t h e = is_of (codes "+") u t e ∙ not_eq u.text (codes "+") h.plus
 
 -- where such tokens are skipped
 abbrev Passes : Due → Type 0
-Passes due = (parts : ComponentParts) (t : Lexeme) (l : Lexed) → component_part due parts t l ≡ goes_on parts l
+Passes due = (parts : ComponentParts) (t : Lexeme) (l : Lexed) → component_part due parts t l ≡ continues parts l
 
 part_by : (due due' : Due) → due' ≡ due → (parts : ComponentParts) (t : Lexeme) (l : Lexed) → component_part due' parts t l ≡ component_part due parts t l
 part_by due due' e parts t l = ap (λ (z : Due). component_part z parts t l) e
@@ -63,7 +63,7 @@ rest_passes : Passes Rest
 unfolding component_part
 rest_passes parts t l = refl
 
-inner_back : (s s' : ComponentParts) → Passes s.due → Alike s s' → (u : Plain) → IsInner u
+inner_back : (s s' : ComponentParts) → Passes s.due → Alike s s' → (u : PlainToken) → IsInner u
     → BackAt (turn_bare bare_parts) (component_token s') (u ∷ []) (turn s true)
 unfolding component_token component_from
 inner_back s s' passes a u h =
@@ -74,7 +74,7 @@ inner_back s s' passes a u h =
     ∙ passes s' t l)
     (back_pure (turn_bare bare_parts) (turn s true) (turn s' true) (ap (λ (z : ComponentParts). turn z true) a)))))
 
-inner_leads : (s y : ComponentParts) → Passes s.due → (us vs : List Plain) → All IsInner us → Leads s vs y → Leads s (us ++ vs) y
+inner_leads : (s y : ComponentParts) → Passes s.due → (us vs : List PlainToken) → All IsInner us → Leads s vs y → Leads s (us ++ vs) y
 inner_leads s y passes [] vs h next s' a = next s' a
 inner_leads s y passes (u ∷ us) vs h next s' a =
     at_more bare_parts component_token s' s y (u ∷ []) (us ++ vs) (omega arith) (inner_back s s' passes a u (All-head IsInner u us h)) (λ s1 a1.
@@ -96,14 +96,14 @@ plus_back s s' a =
 or_no : (a b c d : Bool) → a ≡ false → b ≡ false → c ≡ false → d ≡ false → (a || b || c || d) ≡ false
 or_no a b c d e f g h = rw (e, f, g, h) refl
 
-no_placement : (u : Plain) (t : Lexeme) → ((kind : PlacementKind) → u.text ≢ kind_word kind) → plain t ≡ u → is_placement_word t ≡ false
+no_placement : (u : PlainToken) (t : Lexeme) → ((kind : PlacementKind) → u.text ≢ kind_word kind) → plain t ≡ u → is_placement_word t ≡ false
 no_placement u t h e =
     or_no (is (codes "FIXED") t) (is (codes "COVER") t) (is (codes "PLACED") t) (is (codes "UNPLACED") t)
     (is_of (codes "FIXED") u t e ∙ not_eq u.text (codes "FIXED") (h Fixed)) (is_of (codes "COVER") u t e ∙ not_eq u.text (codes "COVER") (h Cover))
     (is_of (codes "PLACED") u t e ∙ not_eq u.text (codes "PLACED") (h Placed)) (is_of (codes "UNPLACED") u t e ∙ not_eq u.text (codes "UNPLACED") (h Unplaced))
 
 -- the first word of a clause that is skipped
-word_back : (s s' : ComponentParts) → s.due ≡ Keyword → Alike s s' → (u : Plain) → IsInner u → ((kind : PlacementKind) → u.text ≢ kind_word kind)
+word_back : (s s' : ComponentParts) → s.due ≡ Keyword → Alike s s' → (u : PlainToken) → IsInner u → ((kind : PlacementKind) → u.text ≢ kind_word kind)
     → BackAt (turn_bare bare_parts) (component_token s') (u ∷ []) (turn (record s { due = Rest }) true)
 unfolding component_token component_from component_part clause
 word_back s s' due a u h other =
@@ -116,12 +116,12 @@ word_back s s' due a u h other =
     (back_pure (turn_bare bare_parts) y (turn (record s' { due = Rest }) true) (ap (λ (z : ComponentParts). turn (record z { due = Rest }) true) a))))))
 
 -- what is known after clauses that are skipped
-abbrev behind_clauses : ComponentParts → List (List Plain) → ComponentParts
+abbrev behind_clauses : ComponentParts → List (List PlainToken) → ComponentParts
 behind_clauses s [] = s
 behind_clauses s ([] ∷ cs) = behind_clauses (record s { due = Keyword }) cs
 behind_clauses s ((t ∷ ts) ∷ cs) = behind_clauses (record s { due = Rest }) cs
 
-clauses_lead : (cs : List (List Plain)) → All IsOtherClause cs → (s y : ComponentParts) (rest : List Plain) → Leads (behind_clauses s cs) rest y
+clauses_lead : (cs : List (List PlainToken)) → All IsOtherClause cs → (s y : ComponentParts) (rest : List PlainToken) → Leads (behind_clauses s cs) rest y
     → Leads s (clauses_tokens cs rest) y
 clauses_lead [] h s y rest next s' a = next s' a
 clauses_lead ([] ∷ cs) h s y rest next s' a =
@@ -139,7 +139,7 @@ clauses_lead ((t ∷ ts) ∷ cs) h s y rest next s' a =
     clauses_lead cs (All-tail IsOtherClause (t ∷ ts) cs h) in_clause y rest next s3 a3) s2 a2))
 
 -- such clauses leave the placement
-same_behind : (cs : List (List Plain)) (s : ComponentParts) → (behind_clauses s cs).placement ≡ s.placement
+same_behind : (cs : List (List PlainToken)) (s : ComponentParts) → (behind_clauses s cs).placement ≡ s.placement
 same_behind [] s = refl
 same_behind ([] ∷ cs) s = same_behind cs (record s { due = Keyword })
 same_behind ((t ∷ ts) ∷ cs) s = same_behind cs (record s { due = Rest })
@@ -147,13 +147,13 @@ same_behind ((t ∷ ts) ∷ cs) s = same_behind cs (record s { due = Rest })
 -- The placement clause.
 
 none_alike : (s s' : ComponentParts) → s.placement ≡ None → Alike s s' → s'.placement ≡ None
-none_alike s s' e a = none_is s'.placement (ap (λ (z : ComponentParts). z.placement) a ∙ ap (λ (p : Option Placement). option_map placement_without_places p) e)
+none_alike s s' e a = none_is s'.placement (ap (λ (z : ComponentParts). z.placement) a ∙ ap (λ (p : Option PlacementClause). option_map placement_without_places p) e)
 
 abbrev placed_state : PlacementKind → Option Location → ComponentParts
 placed_state kind p = parts_at (Some (placement_at kind p)) Separator (is_unplaced kind)
 
 clause_leads : (print : ℤ → List ℕ) → WritesNumbers print → (kind : PlacementKind) (p : Option Location) → HasPlace kind p → (s y : ComponentParts)
-    → s.placement ≡ None → (rest : List Plain)
+    → s.placement ≡ None → (rest : List PlainToken)
     → Leads (placed_state kind p) rest y → Leads s (word_of (codes "+") ∷ word_of (kind_word kind) ∷ (map word_of (place_words print p) ++ rest)) y
 clause_leads print writes kind p h s y none rest next s' a =
     let due_word : ComponentParts = record s { due = Keyword } in
@@ -167,11 +167,11 @@ clause_leads print writes kind p h s y none rest next s' a =
 abbrev behind_point : ComponentParts
 behind_point = parts_at (Some (placement_at Unplaced None)) Separator false
 
-point_taken : (s : ComponentParts) (q : Located) → Alike (placed_state Unplaced None) s
+point_taken : (s : ComponentParts) (q : LocatedPlace) → Alike (placed_state Unplaced None) s
     → Alike behind_point (record s { placement = option_map (up_to_stop q.stop) s.placement; point = false })
 point_taken s q a =
-    ap (λ (p : Option Placement). bare_parts (record s { placement = p; point = false })) refl
-    ∙ ap (λ (p : Option Placement). parts_at p s.due false) (stop_plays_no_part q.stop s.placement) ∙ ap (λ (z : ComponentParts). record z { point = false }) a
+    ap (λ (p : Option PlacementClause). bare_parts (record s { placement = p; point = false })) refl
+    ∙ ap (λ (p : Option PlacementClause). parts_at p s.due false) (stop_plays_no_part q.stop s.placement) ∙ ap (λ (z : ComponentParts). record z { point = false }) a
 
 point_back : (print : ℤ → List ℕ) → WritesNumbers print → (p : Location) → IsLocation p → (s : ComponentParts) → Alike (placed_state Unplaced None) s
     → BackAt (turn_bare bare_parts) (component_token s) (map word_of (place_words print (Some p))) (turn behind_point true)
@@ -186,7 +186,7 @@ point_back print writes p h s a =
     (at_same (turn_bare bare_parts) (component_part s.due s t) (component_part Separator s t) behind y
     (part_by Separator s.due (due_alike (placed_state Unplaced None) s Separator refl a) s t)
     (at_yes (turn_bare bare_parts) (s.point && is (codes "(") t) _ _ behind y (rw point (is_at (codes "(") (codes "(") t e))
-    (at_map located_bare (turn_bare bare_parts) located_rest (λ (q : Located).
+    (at_map located_bare (turn_bare bare_parts) located_rest (λ (q : LocatedPlace).
     turn (record s { placement = option_map (up_to_stop q.stop) s.placement; point = false }) true)
     behind (located_at p) y (located_back print writes p h) (λ q eq. ap (λ (z : ComponentParts). turn z true) (point_taken s q a)))))))
 
@@ -196,7 +196,7 @@ behind_unplaced None = placed_state Unplaced None
 behind_unplaced (Some p) = behind_point
 
 unplaced_leads : (print : ℤ → List ℕ) → WritesNumbers print → (point : Option Location) → IfSome point (λ p. IsLocation p) → (s y : ComponentParts)
-    → s.placement ≡ None → (rest : List Plain)
+    → s.placement ≡ None → (rest : List PlainToken)
     → Leads (behind_unplaced point) rest y → Leads s (word_of (codes "+") ∷ word_of (codes "UNPLACED") ∷ (map word_of (place_words print point) ++ rest)) y
 unplaced_leads print writes None h s y none rest next = clause_leads print writes Unplaced None tt s y none rest next
 unplaced_leads print writes (Some p) h s y none rest next =
@@ -212,20 +212,20 @@ behind_kind Placed place point = placed_state Placed place
 
 kind_leads : (print : ℤ → List ℕ) → WritesNumbers print → (kind : PlacementKind) (place point : Option Location) → HasPlace kind place
     → IfSome point (λ p. IsLocation p)
-    → (s y : ComponentParts) → s.placement ≡ None → (rest : List Plain) → Leads (behind_kind kind place point) rest y
+    → (s y : ComponentParts) → s.placement ≡ None → (rest : List PlainToken) → Leads (behind_kind kind place point) rest y
     → Leads s (word_of (codes "+") ∷ word_of (kind_word kind) ∷ (map word_of (place_words print (printed_place kind place point)) ++ rest)) y
 kind_leads print writes Unplaced place point h hp s y none rest next = unplaced_leads print writes point hp s y none rest next
 kind_leads print writes Fixed place point h hp s y none rest next = clause_leads print writes Fixed place h s y none rest next
 kind_leads print writes Cover place point h hp s y none rest next = clause_leads print writes Cover place h s y none rest next
 kind_leads print writes Placed place point h hp s y none rest next = clause_leads print writes Placed place h s y none rest next
 
-abbrev behind_placement : ComponentParts → Option Placement → Option Location → ComponentParts
+abbrev behind_placement : ComponentParts → Option PlacementClause → Option Location → ComponentParts
 behind_placement s None point = s
 behind_placement s (Some p) point = behind_kind p.kind p.place point
 
-placement_leads : (print : ℤ → List ℕ) → WritesNumbers print → (p : Option Placement) (point : Option Location) → IfSome p (λ q. HasPlace q.kind q.place)
+placement_leads : (print : ℤ → List ℕ) → WritesNumbers print → (p : Option PlacementClause) (point : Option Location) → IfSome p (λ q. HasPlace q.kind q.place)
     → IfSome point (λ q. IsLocation q)
-    → (s y : ComponentParts) → s.placement ≡ None → (rest : List Plain) → Leads (behind_placement s p point) rest y
+    → (s y : ComponentParts) → s.placement ≡ None → (rest : List PlainToken) → Leads (behind_placement s p point) rest y
     → Leads s (placement_tokens print p point rest) y
 placement_leads print writes None point h hp s y none rest next = next
 placement_leads print writes (Some p) point h hp s y none rest next = kind_leads print writes p.kind p.place point h hp s y none rest next
@@ -244,9 +244,9 @@ kind_placed Fixed place point h = refl
 kind_placed Cover place point h = refl
 kind_placed Placed place point h = refl
 
-placement_is : (s : ComponentParts) (p : Option Placement) (point : Option Location) → IfSome p (λ q. HasPlace q.kind q.place) → s.placement ≡ None
+placement_is : (s : ComponentParts) (p : Option PlacementClause) (point : Option Location) → IfSome p (λ q. HasPlace q.kind q.place) → s.placement ≡ None
     → option_map placement_without_places (behind_placement s p point).placement ≡ option_map placement_without_places p
-placement_is s None point h none = ap (λ (z : Option Placement). option_map placement_without_places z) none
+placement_is s None point h none = ap (λ (z : Option PlacementClause). option_map placement_without_places z) none
 placement_is s (Some p) point h none = kind_placed p.kind p.place point h
 
 -- Whole entries.
@@ -257,7 +257,7 @@ before_placement p = behind_clauses no_component p.before
 abbrev at_end : PrintedComponent → ComponentParts
 at_end p = behind_clauses (behind_placement (before_placement p) p.component.placement p.point) p.after
 
-abbrev behind_mac : (ℤ → List ℕ) → PrintedComponent → List Plain
+abbrev behind_mac : (ℤ → List ℕ) → PrintedComponent → List PlainToken
 behind_mac print p = p.items ++ clauses_tokens p.before (placement_tokens print p.component.placement p.point
     (clauses_tokens p.after (word_of (codes ";") ∷ [])))
 
@@ -275,7 +275,7 @@ entry_leads print writes p h =
 end_placement : (p : PrintedComponent) → IsPrintedEntry p → option_map placement_without_places
     (at_end p).placement ≡ option_map placement_without_places p.component.placement
 end_placement p h =
-    ap (λ (z : Option Placement). option_map placement_without_places z)
+    ap (λ (z : Option PlacementClause). option_map placement_without_places z)
     (same_behind p.after (behind_placement (before_placement p) p.component.placement p.point))
     ∙ placement_is (before_placement p) p.component.placement p.point h.component.placement (same_behind p.before no_component)
 
@@ -284,8 +284,8 @@ component_is : (p : PrintedComponent) → IsPrintedEntry p → (n k : Lexeme) (s
     → component_at n.text k.text (option_map placement_without_places s.placement) ≡ component_at p.component.name p.component.mac
     (option_map placement_without_places p.component.placement)
 component_is p h n k s e f g = rw (
-  ap (λ (z : Plain). z.text) e,
-  ap (λ (z : Plain). z.text) f,
+  ap (λ (z : PlainToken). z.text) e,
+  ap (λ (z : PlainToken). z.text) f,
   ap (λ (z : ComponentParts). z.placement) g
       ∙ end_placement p h,
 ) refl

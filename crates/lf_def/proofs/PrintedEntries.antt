@@ -5,15 +5,15 @@ use Rattle.std.specs.Prelude.{codes, nat_le, IfSome}
 use Rattle.std.specs.Int.{int_min, int_max}
 use Rattle.std.proofs.lemmas.Bool.Decides.{nat_tests}
 use Rattle.std.proofs.lemmas.Int.{ints, clamps}
-use Rattle.lf_units.specs.declared.area.Point.{Point}
-use Rattle.lf_units.specs.declared.area.Rect.{Rect}
+use Rattle.lf_units.specs.declared.geometry.Point.{Point}
+use Rattle.lf_units.specs.declared.geometry.Rect.{Rect}
 use Rattle.lf_units.specs.Number.{fixed_of}
 use Rattle.lf_orient.specs.declared.Orient.{Orient}
 use Rattle.lf_orient.specs.declared.Orient.TheVariants.{N, W, S, E, FN, FW, FS, FE}
 use Rattle.lf_lex.specs.declared.fault.ReadFault.{ReadFault}
-use Rattle.lf_lex.specs.Tokens.{Lexeme, Plain, plain}
+use Rattle.lf_lex.specs.Tokens.{Lexeme, PlainToken, plain}
 use Rattle.lf_lex.specs.Splices.{word_of}
-use Rattle.lf_lex.specs.Reading.{◌>>=◌, Reader, Taken, taken, token, is, keyword, name, or_bad_number}
+use Rattle.lf_lex.specs.Reading.{◌>>=◌, Reader, ReadValue, taken, token, is, keyword, name, or_bad_number}
 use Rattle.lf_lex.proofs.Runs.{same, left}
 use Rattle.lf_lex.proofs.BackWords.{short_name_back, is_at, keyword_back, no_more}
 use Rattle.lf_def.specs.declared.rows.Row.{Row}
@@ -34,7 +34,7 @@ pub reads_back : {A : Type 0} (reader : Reader A) (ws : List (List ℕ)) (x : A)
 reads_back reader ws x f p e l = let a = f p e in a.takes l ∙ ap (λ (z : _). taken z l) a.alike
 
 pub dbu_at : (print : ℤ → List ℕ) → WritesNumbers print → (x : ℤ) → IsCoordinate x → (t : Lexeme) → plain t ≡ word_of (print x) → dbu_of t ≡ Ok x
-dbu_at print writes x h t e = ap (λ (p : Plain). or_bad_number (fixed_of p.text 0 2147483647) t.line) e ∙ rw (writes x h) refl
+dbu_at print writes x h t e = ap (λ (p : PlainToken). or_bad_number (fixed_of p.text 0 2147483647) t.line) e ∙ rw (writes x h) refl
 
 pub dbu_back : (print : ℤ → List ℕ) → WritesNumbers print → (x : ℤ) → IsCoordinate x → Back same dbu (print x ∷ []) x
 unfolding dbu
@@ -100,14 +100,14 @@ rect_back print writes r h =
     (λ s es. rect_rest_back print writes r h)
 
 pub orient_at : (o : Orient) (t : Lexeme) → plain t ≡ word_of (orient_word o) → orient_of t ≡ Ok o
-orient_at N t e = ap (λ (p : Plain). orient_of (record t { text = p.text })) e
-orient_at W t e = ap (λ (p : Plain). orient_of (record t { text = p.text })) e
-orient_at S t e = ap (λ (p : Plain). orient_of (record t { text = p.text })) e
-orient_at E t e = ap (λ (p : Plain). orient_of (record t { text = p.text })) e
-orient_at FN t e = ap (λ (p : Plain). orient_of (record t { text = p.text })) e
-orient_at FW t e = ap (λ (p : Plain). orient_of (record t { text = p.text })) e
-orient_at FS t e = ap (λ (p : Plain). orient_of (record t { text = p.text })) e
-orient_at FE t e = ap (λ (p : Plain). orient_of (record t { text = p.text })) e
+orient_at N t e = ap (λ (p : PlainToken). orient_of (record t { text = p.text })) e
+orient_at W t e = ap (λ (p : PlainToken). orient_of (record t { text = p.text })) e
+orient_at S t e = ap (λ (p : PlainToken). orient_of (record t { text = p.text })) e
+orient_at E t e = ap (λ (p : PlainToken). orient_of (record t { text = p.text })) e
+orient_at FN t e = ap (λ (p : PlainToken). orient_of (record t { text = p.text })) e
+orient_at FW t e = ap (λ (p : PlainToken). orient_of (record t { text = p.text })) e
+orient_at FS t e = ap (λ (p : PlainToken). orient_of (record t { text = p.text })) e
+orient_at FE t e = ap (λ (p : PlainToken). orient_of (record t { text = p.text })) e
 
 -- Rows.
 
@@ -117,7 +117,7 @@ end_back t e = back_yes same (is (codes ";") t) _ _ [] tt (is_at (codes ";") (co
 
 -- the words of a step after the first of them
 step_back : (print : ℤ → List ℕ) → WritesNumbers print → (s : Option Point) → IfSome s (λ p. HasCoordinates p)
-    → (k : Taken Lexeme → Result (Taken Sites) ReadFault) (y : Sites)
+    → (k : ReadValue Lexeme → Result (ReadValue Sites) ReadFault) (y : Sites)
     → ((t : Lexeme) (ws : List (List ℕ)) → Back same (step t) ws s → Back same (λ l. k (left t l)) ws y) → Back same (λ l. token l >>= k) (step_words print s) y
 unfolding step
 step_back print writes None h k y next =
@@ -164,7 +164,7 @@ from_orient print r = orient_word r.orient ∷ codes "DO" ∷ from_count print r
 
 row_alike : (r : Row) (n i : Lexeme) (x y : ℤ) (s : Sites) → plain n ≡ word_of r.name → plain i ≡ word_of r.site → x ≡ r.x → y ≡ r.y → s ≡ sites_of r
     → ◌≡◌ {A = Row} (record { name = n.text; site = i.text; x = x; y = y; orient = r.orient; sites_x = s.x; sites_y = s.y; step = s.step }) r
-row_alike r n i x y s a b c d e = rw (ap (λ (p : Plain). p.text) a, ap (λ (p : Plain). p.text) b, c, d, e) refl
+row_alike r n i x y s a b c d e = rw (ap (λ (p : PlainToken). p.text) a, ap (λ (p : PlainToken). p.text) b, c, d, e) refl
 
 pub row_back : (print : ℤ → List ℕ) → WritesNumbers print → (r : Row) → IsPrintedRow r → Back same row (row_words print r) r
 unfolding row sites_from

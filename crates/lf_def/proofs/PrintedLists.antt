@@ -5,15 +5,15 @@ use Rattle.std.specs.Prelude.{codes, not, nat_lt, IfSome}
 use Rattle.std.specs.Str.{bytes_eq}
 use Rattle.std.proofs.lemmas.List.{append_assoc, append-nil}
 use Rattle.std.proofs.lemmas.List.Elements.{All-head, All-tail}
-use Rattle.lf_units.specs.declared.area.Rect.{Rect}
+use Rattle.lf_units.specs.declared.geometry.Rect.{Rect}
 use Rattle.lf_lex.specs.declared.fault.ReadFault.{ReadFault}
-use Rattle.lf_lex.specs.Tokens.{Lexeme, Plain, plain}
+use Rattle.lf_lex.specs.Tokens.{Lexeme, PlainToken, plain}
 use Rattle.lf_lex.specs.Splices.{word_of}
 use Rattle.lf_lex.specs.Reading.{Statement, turn, is, name, block}
 use Rattle.lf_lex.proofs.Runs.{same}
 use Rattle.lf_lex.proofs.BackWords.{is_at, no_more, not_eq, short_test, word_test}
-use Rattle.lf_def.specs.declared.entries.Due.{Due}
-use Rattle.lf_def.specs.declared.entries.Due.TheVariants.{Item, Keyword, Separator}
+use Rattle.lf_def.specs.declared.section.Due.{Due}
+use Rattle.lf_def.specs.declared.section.Due.TheVariants.{Item, Keyword, Separator}
 use Rattle.lf_def.specs.declared.regions.Region.{Region}
 use Rattle.lf_def.specs.declared.regions.RegionKind.{RegionKind}
 use Rattle.lf_def.specs.declared.regions.RegionKind.TheVariants.{Fence, Guide}
@@ -75,8 +75,8 @@ kind_of_word Fence = codes "FENCE"
 kind_of_word Guide = codes "GUIDE"
 
 kind_at : (k : RegionKind) (t : Lexeme) → plain t ≡ word_of (kind_of_word k) → regions.kind_of t ≡ Ok k
-kind_at Fence t e = ap (λ (p : Plain). regions.kind_of (record t { text = p.text })) e
-kind_at Guide t e = ap (λ (p : Plain). regions.kind_of (record t { text = p.text })) e
+kind_at Fence t e = ap (λ (p : PlainToken). regions.kind_of (record t { text = p.text })) e
+kind_at Guide t e = ap (λ (p : PlainToken). regions.kind_of (record t { text = p.text })) e
 
 region_type : (k : RegionKind) (rects : List Rect) → Back same (regions.region_token (region_at None rects Keyword)) (codes "TYPE" ∷ kind_of_word k ∷ [])
     (turn (region_at (Some k) rects Separator) true)
@@ -127,7 +127,7 @@ region_rects print writes kind before (r ∷ rs) h =
 
 region_is : (r : Region) (rects : List Rect) (n : Lexeme) (q : Rect) (p : RegionParts) (due : Due) → r.rects ≡ rects → plain n ≡ word_of r.name
     → p ≡ region_at r.kind rects due → ◌≡◌ {A = Region} (record { name = n.text; kind = p.kind; rects = p.rects }) r
-region_is r rects n q p due e f g = rw (ap (λ (z : Plain). z.text) f, g, sym e) refl
+region_is r rects n q p due e f g = rw (ap (λ (z : PlainToken). z.text) f, g, sym e) refl
 
 region_some : (print : ℤ → List ℕ) → WritesNumbers print → (r : Region) → IsWord r.name → (first : Rect) (rs : List Rect) → All IsRect (first ∷ rs)
     → r.rects ≡ first ∷ rs
@@ -185,7 +185,7 @@ tests_pass a b text q p e f = rw (e, f) refl
 
 name_at : (n : List ℕ) (t : Lexeme) → IsWord n → plain t ≡ word_of n → name_of t ≡ Ok n
 name_at n t h e =
-    ap (λ (p : Plain). name_of (record t { text = p.text; kind = p.kind })) e
+    ap (λ (p : PlainToken). name_of (record t { text = p.text; kind = p.kind })) e
     ∙ tests_pass (true && not (bytes_eq n (codes ";"))) (nat_lt 1024 (length n)) n _ _ (word_test (bytes_eq n (codes ";")) (not_eq n (codes ";") h.other))
     (short_test (length n) h.name.short)
 
@@ -210,7 +210,7 @@ group_name patterns n h =
     (back_bind plain same name _ (n ∷ []) [] (token_with n) (turn (group_at patterns (Some n) Separator) true) (name_back n h.word) (λ u eu.
     back_no same (is (codes "(") u) _ _ [] (turn (group_at patterns (Some n) Separator) true) (is_at (codes "(") n u eu ∙ not_eq n (codes "(") h.other)
     (back_pure same (turn (group_at patterns (Some n) Separator) true) (turn (group_at patterns (Some u.text) Separator) true)
-    (ap (λ (z : Plain). turn (group_at patterns (Some z.text) Separator) true) eu)))))))
+    (ap (λ (z : PlainToken). turn (group_at patterns (Some z.text) Separator) true) eu)))))))
 
 abbrev due_after : Option (List ℕ) → Due
 due_after None = Item
@@ -240,7 +240,7 @@ group_patterns region before (p ∷ ps) h k =
 
 group_is : (g : Group) (n : Lexeme) (p : GroupParts) (due : Due) → plain n ≡ word_of g.name → p ≡ group_at g.patterns g.region due
     → ◌≡◌ {A = Group} (record { name = n.text; patterns = p.patterns; region = p.region }) g
-group_is g n p due e f = rw (ap (λ (z : Plain). z.text) e, f) refl
+group_is g n p due e f = rw (ap (λ (z : PlainToken). z.text) e, f) refl
 
 pub group_back : (g : Group) → IsPrintedGroup g → Back same groups.group (group_words g) g
 unfolding groups.group

@@ -3,19 +3,19 @@ use Rattle.std.proofs.Common.{◌≡◌, ℕ, Bool, true, false, ◌||◌, List,
 use Rattle.std.specs.Prelude.{codes, IfSome}
 use Rattle.std.specs.Str.{bytes_eq}
 use Rattle.std.specs.Option.{option_map}
-use Rattle.lf_units.specs.declared.area.Point.{Point}
-use Rattle.lf_lex.specs.Tokens.{Lexeme, Plain, plain}
+use Rattle.lf_units.specs.declared.geometry.Point.{Point}
+use Rattle.lf_lex.specs.Tokens.{Lexeme, PlainToken, plain}
 use Rattle.lf_lex.specs.Splices.{word_of}
 use Rattle.lf_lex.specs.Reading.{Turn, turn, is, keyword, name, block}
 use Rattle.lf_lex.proofs.Runs.{same, turn_bare}
 use Rattle.lf_lex.proofs.BackWords.{is_at, keyword_back, no_more}
-use Rattle.lf_def.specs.declared.entries.Due.{Due}
-use Rattle.lf_def.specs.declared.entries.Due.TheVariants.{Keyword, Separator}
+use Rattle.lf_def.specs.declared.section.Due.{Due}
+use Rattle.lf_def.specs.declared.section.Due.TheVariants.{Keyword, Separator}
 use Rattle.lf_def.specs.declared.components.Component.{Component}
 use Rattle.lf_def.specs.declared.components.ComponentParts.{ComponentParts}
-use Rattle.lf_def.specs.declared.components.Located.{Located}
+use Rattle.lf_def.specs.declared.components.LocatedPlace.{LocatedPlace}
 use Rattle.lf_def.specs.declared.components.Location.{Location}
-use Rattle.lf_def.specs.declared.components.Placement.{Placement}
+use Rattle.lf_def.specs.declared.components.PlacementClause.{PlacementClause}
 use Rattle.lf_def.specs.declared.components.PlacementKind.{PlacementKind}
 use Rattle.lf_def.specs.declared.components.PlacementKind.TheVariants.{Fixed, Cover, Placed, Unplaced}
 use Rattle.lf_def.specs.Coordinates.{point_rest, orient_of}
@@ -31,7 +31,7 @@ use Rattle.lf_def.proofs.Places.{located_bare, bare_parts, component_at, parts_a
 use Rattle.lf_lex.proofs.Back.{Back, TurnsBack, back_pure, back_bind, back_first, back_yes, back_no, back_given, token_with, turns_last, turns_more, block_back}
 use Rattle.lf_def.proofs.PrintedEntries.{name_back, point_rest_back, orient_at}
 
-abbrev pub located_at : Location → Located
+abbrev pub located_at : Location → LocatedPlace
 located_at p = record { location = p; stop = 0 }
 
 located_is : (p : Location) (q : Point) → q ≡ record { x = p.x; y = p.y } → ◌≡◌ {A = Location} (record { x = q.x; y = q.y; orient = p.orient }) p
@@ -47,7 +47,7 @@ located_back print writes p h =
     (λ t e. back_given located_bare (orient_of t) _ p.orient [] (located_at p) (orient_at p.orient t e)
     (back_pure located_bare (located_at p) (record { location = record { x = q.x; y = q.y; orient = p.orient }; stop = t.stop }) (located_is p q eq))))
 
-abbrev pub placement_at : PlacementKind → Option Location → Placement
+abbrev pub placement_at : PlacementKind → Option Location → PlacementClause
 placement_at kind p = record { kind = kind; place = p; start = 0; stop = 0 }
 
 placed_back : (print : ℤ → List ℕ) → WritesNumbers print → (kind : PlacementKind) (plus : ℕ) (p : Location) → IsLocation p
@@ -91,13 +91,13 @@ placement_back print writes Unplaced plus None h t e =
     (back_pure placement_without_places (placement_at Unplaced None) (unplaced plus t) refl)))
 
 pub kind_is : (kind : PlacementKind) (t : Lexeme) → plain t ≡ word_of (kind_word kind) → is_placement_word t ≡ true
-kind_is Fixed t e = ap (λ (p : Plain). bytes_eq p.text (codes "FIXED") || bytes_eq p.text (codes "COVER") || bytes_eq p.text (codes "PLACED") || bytes_eq p.text
+kind_is Fixed t e = ap (λ (p : PlainToken). bytes_eq p.text (codes "FIXED") || bytes_eq p.text (codes "COVER") || bytes_eq p.text (codes "PLACED") || bytes_eq p.text
     (codes "UNPLACED")) e
-kind_is Cover t e = ap (λ (p : Plain). bytes_eq p.text (codes "FIXED") || bytes_eq p.text (codes "COVER") || bytes_eq p.text (codes "PLACED") || bytes_eq p.text
+kind_is Cover t e = ap (λ (p : PlainToken). bytes_eq p.text (codes "FIXED") || bytes_eq p.text (codes "COVER") || bytes_eq p.text (codes "PLACED") || bytes_eq p.text
     (codes "UNPLACED")) e
-kind_is Placed t e = ap (λ (p : Plain). bytes_eq p.text (codes "FIXED") || bytes_eq p.text (codes "COVER") || bytes_eq p.text
+kind_is Placed t e = ap (λ (p : PlainToken). bytes_eq p.text (codes "FIXED") || bytes_eq p.text (codes "COVER") || bytes_eq p.text
     (codes "PLACED") || bytes_eq p.text (codes "UNPLACED")) e
-kind_is Unplaced t e = ap (λ (p : Plain). bytes_eq p.text (codes "FIXED") || bytes_eq p.text (codes "COVER") || bytes_eq p.text
+kind_is Unplaced t e = ap (λ (p : PlainToken). bytes_eq p.text (codes "FIXED") || bytes_eq p.text (codes "COVER") || bytes_eq p.text
     (codes "PLACED") || bytes_eq p.text (codes "UNPLACED")) e
 
 not_semicolon : (kind : PlacementKind) → bytes_eq (kind_word kind) (codes ";") ≡ false
@@ -129,7 +129,7 @@ plus_back =
     (back_yes (turn_bare bare_parts) (is (codes "+") t) _ _ [] (turn (parts_at None Keyword false) true) (is_at (codes "+") (codes "+") t e)
     (back_pure (turn_bare bare_parts) (turn (parts_at None Keyword false) true) (turn (record no_component { due = Keyword; plus = t.start }) true) refl)))
 
-placed_is : (p : Placement) (q : Option Location) (kind : PlacementKind) (a b : Bool) → placement_without_places p ≡ placement_at kind q → a ≡ b
+placed_is : (p : PlacementClause) (q : Option Location) (kind : PlacementKind) (a b : Bool) → placement_without_places p ≡ placement_at kind q → a ≡ b
     → ◌≡◌ {A = Turn ComponentParts} (turn (parts_at (Some (placement_without_places p)) Separator a) true)
     (turn (parts_at (Some (placement_at kind q)) Separator b) true)
 placed_is p q kind a b e f = rw (e, f) refl
@@ -160,11 +160,11 @@ clause_at print writes kind p h s none due =
 pub stops : (s y : ComponentParts) → bare_parts s ≡ bare_parts y → Back (turn_bare bare_parts) (component_token s) (codes ";" ∷ []) (turn y false)
 stops s y e p h = let a = stop_back s p h in record { value = a.value; alike = a.alike ∙ ap (λ (z : ComponentParts). turn z false) e; takes = a.takes }
 
-pub none_is : (p : Option Placement) → option_map placement_without_places p ≡ None → p ≡ None
+pub none_is : (p : Option PlacementClause) → option_map placement_without_places p ≡ None → p ≡ None
 none_is None e = refl
 none_is (Some p) e = absurd cc
 
-due_is : (s : ComponentParts) (p : Option Placement) (due : Due) (b : Bool) → bare_parts s ≡ parts_at p due b → s.due ≡ due
+due_is : (s : ComponentParts) (p : Option PlacementClause) (due : Due) (b : Bool) → bare_parts s ≡ parts_at p due b → s.due ≡ due
 due_is s p due b e = ap (λ (z : ComponentParts). z.due) e
 
 clause_words : (print : ℤ → List ℕ) (kind : PlacementKind) (p : Option Location)
@@ -185,17 +185,17 @@ clause_turns print writes kind p h =
     (stops s2 (parts_at (Some (placement_at kind p)) Separator (is_unplaced kind)) e2)))
 
 -- what is known after the clause of a component
-abbrev known_of : Option Placement → ComponentParts
+abbrev known_of : Option PlacementClause → ComponentParts
 known_of None = no_component
 known_of (Some p) = parts_at (Some (placement_at p.kind p.place)) Separator (is_unplaced p.kind)
 
-placement_turns : (print : ℤ → List ℕ) → WritesNumbers print → (p : Option Placement) → IfSome p (λ q. HasPlace q.kind q.place)
+placement_turns : (print : ℤ → List ℕ) → WritesNumbers print → (p : Option PlacementClause) → IfSome p (λ q. HasPlace q.kind q.place)
     → TurnsBack bare_parts component_token no_component (placement_words print p) (known_of p)
 placement_turns print writes None h = turns_last bare_parts component_token no_component no_component (codes ";" ∷ []) (stop_back no_component)
 placement_turns print writes (Some p) h = subst (λ (z : List (List ℕ)). TurnsBack bare_parts component_token no_component (codes "+" ∷ z) (known_of (Some p)))
     (sym (clause_words print p.kind p.place)) (clause_turns print writes p.kind p.place h)
 
-same_placement : (p : Option Placement) → option_map placement_without_places (known_of p).placement ≡ option_map placement_without_places p
+same_placement : (p : Option PlacementClause) → option_map placement_without_places (known_of p).placement ≡ option_map placement_without_places p
 same_placement None = refl
 same_placement (Some p) = refl
 
@@ -203,8 +203,8 @@ component_is : (c : Component) (n k : Lexeme) (s : ComponentParts) → plain n �
     → bare_parts s ≡ bare_parts (known_of c.placement)
     → component_at n.text k.text (option_map placement_without_places s.placement) ≡ component_at c.name c.mac (option_map placement_without_places c.placement)
 component_is c n k s e f g = rw (
-  ap (λ (z : Plain). z.text) e,
-  ap (λ (z : Plain). z.text) f,
+  ap (λ (z : PlainToken). z.text) e,
+  ap (λ (z : PlainToken). z.text) f,
   ap (λ (z : ComponentParts). z.placement) g
       ∙ same_placement c.placement,
 ) refl

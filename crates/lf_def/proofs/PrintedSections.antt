@@ -4,7 +4,7 @@ use Rattle.std.specs.Prelude.{codes}
 use Rattle.std.specs.Str.{bytes_eq}
 use Rattle.std.proofs.lemmas.List.{append_assoc, append-nil, map-append}
 use Rattle.std.proofs.lemmas.List.Elements.{All-head, All-tail, All-cons, All-nil}
-use Rattle.lf_lex.specs.Tokens.{Plain}
+use Rattle.lf_lex.specs.Tokens.{PlainToken}
 use Rattle.lf_lex.specs.Splices.{word_of}
 use Rattle.lf_lex.specs.Reading.{Reader, turn, is, end_name, passed_token, to_semicolon}
 use Rattle.lf_lex.proofs.Runs.{same, turn_bare}
@@ -44,7 +44,7 @@ last_entry bare bare_list due entry s y own e =
     (λ u eu. back_pure (turn_bare bare_list) (turn y false) (turn s false) (ap (λ (z : _). turn z false) e)))))
 
 one_entry : {A B C : Type 0} (bare : A → B) (bare_list : List A → C) → Grows bare bare_list
-    → (due : List ℕ) (entry : Reader A) (tokens : List Plain) (x : A) (s s' : List A)
+    → (due : List ℕ) (entry : Reader A) (tokens : List PlainToken) (x : A) (s s' : List A)
     → bare_list s' ≡ bare_list s → BackAt bare entry tokens x
     → BackAt (turn_bare bare_list) (entry_or_end due entry s') (word_of (codes "-") ∷ tokens) (turn (s ++ x ∷ []) true)
 unfolding entry_or_end
@@ -56,7 +56,7 @@ one_entry bare bare_list grows due entry tokens x s s' e f =
 
 entries_turns : {A B C X : Type 0} (bare : A → B) (bare_list : List A → C) → Grows bare bare_list → (due : List ℕ) → bytes_eq due due ≡ true
     → (entry : Reader A)
-    (tokens : X → List Plain) (value : X → A) (P : X → Type 0) → ((x : X) → P x → BackAt bare entry (tokens x) (value x))
+    (tokens : X → List PlainToken) (value : X → A) (P : X → Type 0) → ((x : X) → P x → BackAt bare entry (tokens x) (value x))
     → (xs : List X) (s s' : List A) → All P xs → bare_list s' ≡ bare_list s
     → TurnsAt bare_list (entry_or_end due entry) s' (entries_tokens tokens xs (word_of (codes "END") ∷ word_of due ∷ [])) (s ++ map value xs)
 entries_turns bare bare_list grows due own entry tokens value P f [] s s' h e =
@@ -72,7 +72,7 @@ entries_turns bare bare_list grows due own entry tokens value P f (x ∷ xs) s s
 -- a section after its keyword
 pub section_at : {A B C X : Type 0} (bare : A → B) (bare_list : List A → C) → Grows bare bare_list → (due : List ℕ) → bytes_eq due due ≡ true
     → (entry : Reader A)
-    (tokens : X → List Plain) (value : X → A) (P : X → Type 0) → ((x : X) → P x → BackAt bare entry (tokens x) (value x))
+    (tokens : X → List PlainToken) (value : X → A) (P : X → Type 0) → ((x : X) → P x → BackAt bare entry (tokens x) (value x))
     → (count : List ℕ) → count ≢ codes ";" → (xs : List X) (s : List A) → All P xs
     → BackAt bare_list (section due entry s) (word_of count ∷ word_of (codes ";") ∷ entries_tokens tokens xs (word_of (codes "END") ∷ word_of due ∷ []))
     (s ++ map value xs)
@@ -90,8 +90,8 @@ entries_of_words : {A : Type 0} (words : A → List (List ℕ)) (xs : List A) (r
     → map word_of (entries_words words xs rest) ≡ entries_tokens (λ x. map word_of (words x)) xs (map word_of rest)
 entries_of_words words [] rest = refl
 entries_of_words words (x ∷ xs) rest =
-    ap (λ (z : List Plain). word_of (codes "-") ∷ z)
-    (map-append word_of (words x) (entries_words words xs rest) ∙ ap (λ (z : List Plain). map word_of (words x) ++ z) (entries_of_words words xs rest))
+    ap (λ (z : List PlainToken). word_of (codes "-") ∷ z)
+    (map-append word_of (words x) (entries_words words xs rest) ∙ ap (λ (z : List PlainToken). map word_of (words x) ++ z) (entries_of_words words xs rest))
 
 each_itself : {A : Type 0} (xs : List A) → map (λ x. x) xs ≡ xs
 each_itself [] = refl
@@ -104,7 +104,7 @@ pub section_back : {A B C : Type 0} (bare : A → B) (bare_list : List A → C) 
     → Back bare_list (section due entry s) (count ∷ codes ";" ∷ entries_words words xs (codes "END" ∷ due ∷ [])) (s ++ xs)
 section_back bare bare_list grows due own entry words P f count other xs s h =
     let front = word_of count ∷ word_of (codes ";") ∷ [] in
-    subst (λ (z : List Plain). BackAt bare_list (section due entry s) (front ++ z) (s ++ xs)) (sym (entries_of_words words xs (codes "END" ∷ due ∷ [])))
+    subst (λ (z : List PlainToken). BackAt bare_list (section due entry s) (front ++ z) (s ++ xs)) (sym (entries_of_words words xs (codes "END" ∷ due ∷ [])))
     (subst (λ (z : List _). BackAt bare_list (section due entry s)
     (front ++ entries_tokens (λ x. map word_of (words x)) xs (word_of (codes "END") ∷ word_of due ∷ [])) (s ++ z)) (each_itself xs)
     (section_at bare bare_list grows due own entry (λ x. map word_of (words x)) (λ x. x) P f count other xs s h))

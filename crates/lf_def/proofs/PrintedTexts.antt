@@ -5,15 +5,15 @@ use Rattle.std.specs.Str.{bytes_eq}
 use Rattle.std.proofs.lemmas.List.{map-append}
 use Rattle.std.proofs.lemmas.List.Elements.{All-from_recursion, All-head, All-tail, All-contains}
 use Rattle.lf_lex.specs.declared.fault.ReadFault.{ReadFault}
-use Rattle.lf_lex.specs.Tokens.{Lexed, Lexeme, Plain, plain, with_tokens, tokens_of}
+use Rattle.lf_lex.specs.Tokens.{Lexed, Lexeme, PlainToken, plain, with_tokens, tokens_of}
 use Rattle.lf_lex.specs.Splices.{word_of}
-use Rattle.lf_lex.specs.Reading.{◌>>=◌, Reader, Taken, taken, turn, goes_on, behind, is, kind_is_word, to_semicolon, to_end, to_word, first_stands, block}
+use Rattle.lf_lex.specs.Reading.{◌>>=◌, Reader, ReadValue, taken, turn, continues, behind, is, kind_is_word, to_semicolon, to_end, to_word, first_counts, block}
 use Rattle.lf_lex.specs.Reading.{value_of}
 use Rattle.lf_lex.proofs.Runs.{same, turn_bare}
 use Rattle.lf_lex.proofs.BackWords.{is_at, keyword_back, to_end_at, to_semicolon_at, to_word_at, word_back}
 use Rattle.lf_def.specs.declared.rows.Row.{Row}
 use Rattle.lf_def.specs.declared.components.Component.{Component}
-use Rattle.lf_def.specs.declared.parts.DocParts.{DocParts}
+use Rattle.lf_def.specs.declared.doc_parts.DocParts.{DocParts}
 use Rattle.lf_def.specs.declared.header.HeaderParts.{HeaderParts}
 use Rattle.lf_def.specs.Header.{version, quoted, design, units, header_statement}
 use Rattle.lf_def.specs.Rows.{row, with_row}
@@ -26,7 +26,7 @@ use Rattle.lf_def.specs.Laws.{without_places}
 use Rattle.lf_def.specs.Ranges.{IsCount}
 use Rattle.lf_def.specs.Printed.{WritesNumbers, IsWord, row_words, IsPrintedRow, region_words, IsPrintedRegion, group_words, IsPrintedGroup, component_words}
 use Rattle.lf_def.specs.Printed.{IsPrintedComponent, blockage_words, section_words}
-use Rattle.lf_def.specs.PrintedTexts.{statement_keywords, section_keywords, Passed, to_its_semicolon, to_its_end, extension, passed_tokens, IsPassed, Part}
+use Rattle.lf_def.specs.PrintedTexts.{statement_keywords, section_keywords, Skipped, to_its_semicolon, to_its_end, extension, skipped_tokens, IsSkipped, Part}
 use Rattle.lf_def.specs.PrintedTexts.{passed_over, version_is, divider_is, brackets_are, design_is, units_are, one_row, regions_section, groups_section}
 use Rattle.lf_def.specs.PrintedTexts.{components_section, components_with_others, blockages_section, quoted_of, part_tokens, text_tokens, IsPrintedPart}
 use Rattle.lf_def.specs.PrintedTexts.{with_part, with_parts, document_with, PartsReadBack}
@@ -43,8 +43,8 @@ use Rattle.lf_def.proofs.PrintedBlockages.{blockages_back}
 use Rattle.lf_def.proofs.PrintedSections.{section_at, section_back}
 
 -- a statement that reads a value, and makes of it what is known then
-part_back : {A B H : Type 0} (bareA : A → B) (r : Reader A) (f : A → H) (g : H → DocParts) (s : DocParts) (u : Plain) (vs : List Plain) (x : A) (y : DocParts)
-    → ((t : Lexeme) (l : Lexed) → plain t ≡ u → statement_from s t l ≡ ((r l >>= λ v. taken (f v.value) v.rest) >>= λ new. goes_on (g new.value) new.rest))
+part_back : {A B H : Type 0} (bareA : A → B) (r : Reader A) (f : A → H) (g : H → DocParts) (s : DocParts) (u : PlainToken) (vs : List PlainToken) (x : A) (y : DocParts)
+    → ((t : Lexeme) (l : Lexed) → plain t ≡ u → statement_from s t l ≡ ((r l >>= λ v. taken (f v.value) v.rest) >>= λ new. continues (g new.value) new.rest))
     → ((x' : A) → bareA x' ≡ bareA x → bare_doc (g (f x')) ≡ bare_doc y) → BackAt bareA r vs x
     → BackAt (turn_bare bare_doc) (statement s) (u ∷ vs) (turn y true)
 unfolding statement
@@ -55,17 +55,17 @@ part_back bareA r f g s u vs x y is_read alike back =
     (λ h eh. ap (λ (z : DocParts). turn z true) (eh ∙ alike x refl))))
 
 -- what a statement says follows from the bytes of its first token
-by_bytes : (s : DocParts) (t : Lexeme) (l : Lexed) (u : Plain) → plain t ≡ u
+by_bytes : (s : DocParts) (t : Lexeme) (l : Lexed) (u : PlainToken) → plain t ≡ u
     → statement_from s t l ≡ statement_from s (record t { text = u.text; kind = u.kind }) l
-by_bytes s t l u e = ap (λ (p : Plain). statement_from s (record t { text = p.text; kind = p.kind }) l) e
+by_bytes s t l u e = ap (λ (p : PlainToken). statement_from s (record t { text = p.text; kind = p.kind }) l) e
 
 -- Statements that are skipped.
 
 abbrev ReadsBy : List ℕ → Reader (Unit {0}) → Type 0
 ReadsBy w r = (s : DocParts) (t : Lexeme) (l : Lexed) → plain t ≡ word_of w
-    → statement_from s t l ≡ ((r l >>= λ v. taken s v.rest) >>= λ new. goes_on new.value new.rest)
+    → statement_from s t l ≡ ((r l >>= λ v. taken s v.rest) >>= λ new. continues new.value new.rest)
 
-passed_back : (w : List ℕ) (r : Reader (Unit {0})) (s : DocParts) (vs : List Plain) → ReadsBy w r → BackAt same r vs tt
+passed_back : (w : List ℕ) (r : Reader (Unit {0})) (s : DocParts) (vs : List PlainToken) → ReadsBy w r → BackAt same r vs tt
     → BackAt (turn_bare bare_doc) (statement s) (word_of w ∷ vs) (turn s true)
 passed_back w r s vs reads back = part_back same r (λ (v : Unit {0}). s) (λ (h : DocParts). h) s (word_of w) vs tt s (λ t l e. reads s t l e) (λ x e. refl) back
 
@@ -134,7 +134,7 @@ extension_reads : ReadsBy (codes "BEGINEXT") (to_word (codes "ENDEXT"))
 unfolding statement_from body_statement passed_from
 extension_reads s t l e = by_bytes s t l _ e
 
-passed_part : (s : DocParts) (p : Passed) → IsPassed p → BackAt (turn_bare bare_doc) (statement s) (passed_tokens p) (turn s true)
+passed_part : (s : DocParts) (p : Skipped) → IsSkipped p → BackAt (turn_bare bare_doc) (statement s) (skipped_tokens p) (turn s true)
 passed_part s (to_its_semicolon w ps) h = passed_back w to_semicolon s (ps ++ word_of (codes ";") ∷ [])
     (All-contains ToSemicolon statement_keywords w each_statement h.0) (to_semicolon_at ps h.1)
 passed_part s (to_its_end w ps) h =
@@ -149,20 +149,20 @@ version_back : (v : List ℕ) → v ≢ codes ";" → Back same version (v ∷ c
 unfolding version
 version_back v h =
     back_bind plain same _ _ (v ∷ []) (codes ";" ∷ []) (token_with v) v (word_back v h) (λ t e.
-    back_bind same same _ _ (codes ";" ∷ []) [] tt v (keyword_back (codes ";") refl) (λ u eu. back_pure same v t.text (ap (λ (p : Plain). p.text) e)))
+    back_bind same same _ _ (codes ";" ∷ []) [] tt v (keyword_back (codes ";") refl) (λ u eu. back_pure same v t.text (ap (λ (p : PlainToken). p.text) e)))
 
 quoted_back : (q : List ℕ) → BackAt same quoted (quoted_of q ∷ word_of (codes ";") ∷ []) q
 unfolding quoted
 quoted_back q =
     at_first same _ (quoted_of q) (word_of (codes ";") ∷ []) q
-    (λ t e. back_no same (kind_is_word t.kind) _ _ (codes ";" ∷ []) q (ap (λ (p : Plain). kind_is_word p.kind) e)
-    (back_bind same same _ _ (codes ";" ∷ []) [] tt q (keyword_back (codes ";") refl) (λ u eu. back_pure same q t.text (ap (λ (p : Plain). p.text) e))))
+    (λ t e. back_no same (kind_is_word t.kind) _ _ (codes ";" ∷ []) q (ap (λ (p : PlainToken). kind_is_word p.kind) e)
+    (back_bind same same _ _ (codes ";" ∷ []) [] tt q (keyword_back (codes ";") refl) (λ u eu. back_pure same q t.text (ap (λ (p : PlainToken). p.text) e))))
 
 design_back : (n : List ℕ) → IsWord n → Back same design (n ∷ codes ";" ∷ []) n
 unfolding design
 design_back n h =
     back_bind plain same _ _ (n ∷ []) (codes ";" ∷ []) (token_with n) n (name_back n h) (λ t e.
-    back_bind same same _ _ (codes ";" ∷ []) [] tt n (keyword_back (codes ";") refl) (λ u eu. back_pure same n t.text (ap (λ (p : Plain). p.text) e)))
+    back_bind same same _ _ (codes ";" ∷ []) [] tt n (keyword_back (codes ";") refl) (λ u eu. back_pure same n t.text (ap (λ (p : PlainToken). p.text) e)))
 
 units_back : (print : ℤ → List ℕ) → WritesNumbers print → (n : ℕ) → IsCount 20000 n
     → Back same units (codes "DISTANCE" ∷ codes "MICRONS" ∷ print (pos n) ∷ codes ";" ∷ []) n
@@ -188,23 +188,23 @@ at_part : (print : ℤ → List ℕ) → WritesNumbers print → (s : DocParts) 
 unfolding statement_from header_statement body_statement
 at_part print writes s (passed_over p) h = passed_part s p h
 at_part print writes s (version_is v) h =
-    part_back same version (λ (x : List ℕ). record s.header { version = first_stands s.header.version x }) (λ (x : HeaderParts). record s { header = x }) s
+    part_back same version (λ (x : List ℕ). record s.header { version = first_counts s.header.version x }) (λ (x : HeaderParts). record s { header = x }) s
     (word_of (codes "VERSION")) (map word_of (v ∷ codes ";" ∷ [])) v (with_part s (version_is v))
     (λ t l e. by_bytes s t l _ e) (λ x e. ap (λ (z : List ℕ). bare_doc (with_part s (version_is z))) e) (version_back v h)
 at_part print writes s (divider_is q) h =
-    part_back same quoted (λ (x : List ℕ). record s.header { divider = first_stands s.header.divider x }) (λ (x : HeaderParts). record s { header = x }) s
+    part_back same quoted (λ (x : List ℕ). record s.header { divider = first_counts s.header.divider x }) (λ (x : HeaderParts). record s { header = x }) s
     (word_of (codes "DIVIDERCHAR")) (quoted_of q ∷ word_of (codes ";") ∷ []) q (with_part s (divider_is q))
     (λ t l e. by_bytes s t l _ e) (λ x e. ap (λ (z : List ℕ). bare_doc (with_part s (divider_is z))) e) (quoted_back q)
 at_part print writes s (brackets_are q) h =
-    part_back same quoted (λ (x : List ℕ). record s.header { brackets = first_stands s.header.brackets x }) (λ (x : HeaderParts). record s { header = x }) s
+    part_back same quoted (λ (x : List ℕ). record s.header { brackets = first_counts s.header.brackets x }) (λ (x : HeaderParts). record s { header = x }) s
     (word_of (codes "BUSBITCHARS")) (quoted_of q ∷ word_of (codes ";") ∷ []) q (with_part s (brackets_are q))
     (λ t l e. by_bytes s t l _ e) (λ x e. ap (λ (z : List ℕ). bare_doc (with_part s (brackets_are z))) e) (quoted_back q)
 at_part print writes s (design_is n) h =
-    part_back same design (λ (x : List ℕ). record s.header { design = first_stands s.header.design x }) (λ (x : HeaderParts). record s { header = x }) s
+    part_back same design (λ (x : List ℕ). record s.header { design = first_counts s.header.design x }) (λ (x : HeaderParts). record s { header = x }) s
     (word_of (codes "DESIGN")) (map word_of (n ∷ codes ";" ∷ [])) n (with_part s (design_is n))
     (λ t l e. by_bytes s t l _ e) (λ x e. ap (λ (z : List ℕ). bare_doc (with_part s (design_is z))) e) (design_back n h)
 at_part print writes s (units_are n) h =
-    part_back same units (λ (x : ℕ). record s.header { units = first_stands s.header.units x }) (λ (x : HeaderParts). record s { header = x }) s
+    part_back same units (λ (x : ℕ). record s.header { units = first_counts s.header.units x }) (λ (x : HeaderParts). record s { header = x }) s
     (word_of (codes "UNITS")) (map word_of (codes "DISTANCE" ∷ codes "MICRONS" ∷ print (pos n) ∷ codes ";" ∷ [])) n (with_part s (units_are n))
     (λ t l e. by_bytes s t l _ e) (λ x e. ap (λ (z : ℕ). bare_doc (with_part s (units_are z))) e) (units_back print writes n h)
 at_part print writes s (one_row r) h =
@@ -281,8 +281,8 @@ with_alike (components_with_others count ps) s s' a = more_alike (map component_
 end_design_back : (s : DocParts) → IsSome s.header.design → Back same (end_design s) (codes "DESIGN" ∷ []) tt
 unfolding end_design
 end_design_back s h =
-    back_first same _ (codes "DESIGN") [] tt (λ t e. back_no same _ _ _ [] tt (ap (λ (p : Plain). not (kind_is_word p.kind)) e)
-    (back_no same _ _ _ [] tt (ap (λ (p : Plain). not (bytes_eq p.text (codes "DESIGN"))) e)
+    back_first same _ (codes "DESIGN") [] tt (λ t e. back_no same _ _ _ [] tt (ap (λ (p : PlainToken). not (kind_is_word p.kind)) e)
+    (back_no same _ _ _ [] tt (ap (λ (p : PlainToken). not (bytes_eq p.text (codes "DESIGN"))) e)
     (back_yes same (is_some s.header.design) _ _ [] tt h (back_pure same tt tt refl))))
 
 text_end : (s y : DocParts) → bare_doc s ≡ bare_doc y → IsSome y.header.design
@@ -297,7 +297,7 @@ text_end s y a h =
 
 -- Whole texts.
 
-at_alike : {A B : Type 0} (bare : A → B) (r : Reader A) (ps : List Plain) (x y : A) → bare x ≡ bare y → BackAt bare r ps x → BackAt bare r ps y
+at_alike : {A B : Type 0} (bare : A → B) (r : Reader A) (ps : List PlainToken) (x y : A) → bare x ≡ bare y → BackAt bare r ps x → BackAt bare r ps y
 at_alike bare r ps x y e f p q = let a = f p q in record { value = a.value; alike = a.alike ∙ e; takes = λ l. a.takes l }
 
 parts_turns : (print : ℤ → List ℕ) → WritesNumbers print → (ps : List Part) (s : DocParts) → All IsPrintedPart ps → IsSome (with_parts s ps).header.design
@@ -319,7 +319,7 @@ parts_read_back print writes parts h named text begins =
     (parts_turns print writes parts no_parts h named no_parts refl) c.front c.front_is in
     let whole : tokens_of text ≡ with_tokens c.front rest = ap (λ (z : List Lexeme). behind z (tokens_of text)) c.whole in
     let read = ap (λ (z : Lexed). document_from (value_of (block statement no_parts z))) whole
-    ∙ ap (λ (z : Result (Taken DocParts) ReadFault). document_from (value_of z)) (a.takes rest) in (
+    ∙ ap (λ (z : Result (ReadValue DocParts) ReadFault). document_from (value_of z)) (a.takes rest) in (
       a.value.components,
       read ∙ ap (λ (z : DocParts). Ok (document_with (record z { components = a.value.components }))) a.alike,
       ap

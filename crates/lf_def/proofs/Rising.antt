@@ -5,13 +5,13 @@ use Rattle.std.proofs.lemmas.Slice.Eq.{bytes_eq-Decides}
 use Rattle.std.proofs.lemmas.List.{append_assoc, length-take, length-drop}
 use Rattle.lf_lex.specs.declared.fault.ReadFault.{ReadFault}
 use Rattle.lf_lex.specs.Tokens.{Lexed, Lexeme, AreSlices, with_token, tokens_of}
-use Rattle.lf_lex.specs.Reading.{◌>>=◌, Reader, Taken, Turn, taken, turn, is, end_name, to_semicolon, statements, block}
+use Rattle.lf_lex.specs.Reading.{◌>>=◌, Reader, ReadValue, Turn, taken, turn, is, end_name, to_semicolon, statements, block}
 use Rattle.lf_lex.proofs.Runs.{ok_is}
 use Rattle.lf_lex.proofs.Slices.{slices_from}
 use Rattle.lf_lex.proofs.Following.{to_semicolon_follows, end_name_follows}
 use Rattle.lf_def.specs.declared.components.Component.{Component}
-use Rattle.lf_def.specs.declared.components.Placement.{Placement}
-use Rattle.lf_def.specs.declared.parts.DocParts.{DocParts}
+use Rattle.lf_def.specs.declared.components.PlacementClause.{PlacementClause}
+use Rattle.lf_def.specs.declared.doc_parts.DocParts.{DocParts}
 use Rattle.lf_def.specs.Entries.{entry_or_end, section}
 use Rattle.lf_def.specs.Header.{is_header, header_statement}
 use Rattle.lf_def.specs.Rows.{with_row}
@@ -43,7 +43,7 @@ last_behind stop t [] h = h
 last_behind stop t (u ∷ us) h = last_behind stop u us h
 
 -- a clause among the tokens from one place on and up to another
-clause_stands : (text : List ℕ) (at : ℕ) (tokens ts : List Lexeme) (p : Placement) → ClauseAmong tokens p → AreSlices text at (tokens ++ ts) → (at ≤ p.start) × (p.start < p.stop) × (p.stop ≤ behind_run at tokens)
+clause_stands : (text : List ℕ) (at : ℕ) (tokens ts : List Lexeme) (p : PlacementClause) → ClauseAmong tokens p → AreSlices text at (tokens ++ ts) → (at ≤ p.start) × (p.start < p.stop) × (p.stop ≤ behind_run at tokens)
 unfolding behind_run
 clause_stands text at tokens ts p c h =
     let there : tokens ++ ts ≡ c.before ++ ((c.is.plus ∷ c.is.word ∷ c.is.more) ++ (c.after ++ ts)) =
@@ -61,7 +61,7 @@ clause_stands text at tokens ts p c h =
     both at [] b = refl
     both at (t ∷ a) b = both t.stop a b
 
-clause_within : (text : List ℕ) (at to : ℕ) (tokens ts : List Lexeme) (p : Option Placement) → HasClause tokens p → AreSlices text at (tokens ++ ts) → behind_run at tokens ≤ to → ClauseWithin at to p
+clause_within : (text : List ℕ) (at to : ℕ) (tokens ts : List Lexeme) (p : Option PlacementClause) → HasClause tokens p → AreSlices text at (tokens ++ ts) → behind_run at tokens ≤ to → ClauseWithin at to p
 clause_within text at to tokens ts None c h le = tt
 clause_within text at to tokens ts (Some p) c h le = let r = clause_stands text at tokens ts p c h in (r.0, r.1, omega (arith, r.2, le))
 
@@ -106,7 +106,7 @@ wider : (from mid to : ℕ) (cs : List Component) → Rising from mid cs → mid
 wider from mid to [] h le = omega (arith, h, le)
 wider from mid to (c ∷ cs) h le = (h.0, h.1, wider (c.semicolon + 1) mid to cs h.2 le)
 
-later_clause : (from at to : ℕ) (p : Option Placement) → from ≤ at → ClauseWithin at to p → ClauseWithin from to p
+later_clause : (from at to : ℕ) (p : Option PlacementClause) → from ≤ at → ClauseWithin at to p → ClauseWithin from to p
 later_clause from at to None le h = tt
 later_clause from at to (Some p) le h = (omega (arith, le, h.0), h.1, h.2)
 
@@ -146,7 +146,7 @@ same_components : (text : List ℕ) (m n : Lexed) (cs ds : List Component) → c
 same_components text m n cs ds e f k = rw (sym e, sym f) k
 
 entry_turn : (c d : Bool) (text : List ℕ) (n m : Lexed) (s : List Component) (t : Turn (List Component)) (q : ReadFault) → Read text n s
-    → cond {A = Result (Taken (Turn (List Component))) ReadFault} c (component n >>= λ x. taken (turn (s ++ x.value ∷ []) true) x.rest) (cond d (end_name (codes "COMPONENTS") n >>= λ x. taken (turn s false) x.rest) (Err q)) ≡ taken t m → Read text m t.state
+    → cond {A = Result (ReadValue (Turn (List Component))) ReadFault} c (component n >>= λ x. taken (turn (s ++ x.value ∷ []) true) x.rest) (cond d (end_name (codes "COMPONENTS") n >>= λ x. taken (turn s false) x.rest) (Err q)) ≡ taken t m → Read text m t.state
 entry_turn true d text n m s t q k e =
     let a = bind_ok (component n) _ _ e in
     let f = ok_is (turn (s ++ a.0.value ∷ []) true) a.0.rest t m a.2 in
@@ -206,7 +206,7 @@ section_case text l m s s' r e =
     same_components text m a.0.rest a.0.value s'.components (ap (λ (z : DocParts). z.components) f.0) f.1 (components_read text l a.0.rest s.components a.0.value r a.1)
 
 body_case : (a b c d e : Bool) (text : List ℕ) (l m : Lexed) (s s' : DocParts) (t : Lexeme) → Read text l s.components
-    → cond {A = Result (Taken DocParts) ReadFault} a (with_row s.rows l >>= λ x. taken (record s { rows = x.value }) x.rest) (cond b (regions s.regions l >>= λ x. taken (record s { regions = x.value }) x.rest) (cond c (groups s.groups l >>= λ x. taken (record s { groups = x.value }) x.rest)
+    → cond {A = Result (ReadValue DocParts) ReadFault} a (with_row s.rows l >>= λ x. taken (record s { rows = x.value }) x.rest) (cond b (regions s.regions l >>= λ x. taken (record s { regions = x.value }) x.rest) (cond c (groups s.groups l >>= λ x. taken (record s { groups = x.value }) x.rest)
     (cond d (components s.components l >>= λ x. taken (record s { components = x.value }) x.rest) (cond e (blockages s.blockages l >>= λ x. taken (record s { blockages = x.value }) x.rest) (passed_from t l >>= λ x. taken s x.rest))))) ≡ taken s' m → Read text m s'.components
 body_case true b c d e text l m s s' t r h = other (with_row s.rows) text l m s s' (λ x. record s { rows = x }) (local_of (with_row s.rows) (with_row_follows s.rows)) (λ x. refl) r h
 body_case false true c d e text l m s s' t r h = other (regions s.regions) text l m s s' (λ x. record s { regions = x }) (local_of (regions s.regions) (regions_alike s.regions s.regions refl)) (λ x. refl) r h
@@ -220,7 +220,7 @@ unfolding body_statement
 body_read text l m s s' t r h = body_case (is (codes "ROW") t) (is (codes "REGIONS") t) (is (codes "GROUPS") t) (is (codes "COMPONENTS") t) (is (codes "BLOCKAGES") t) text l m s s' t r h
 
 from_case : (a b : Bool) (text : List ℕ) (l m : Lexed) (s : DocParts) (v : Turn DocParts) (t : Lexeme) → Read text l s.components
-    → cond {A = Result (Taken (Turn DocParts)) ReadFault} a (end_design s l >>= λ x. taken (turn s false) x.rest) (cond b (header_statement s.header t l >>= λ x. taken (turn (record s { header = x.value }) true) x.rest) (body_statement s t l >>= λ x. taken (turn x.value true) x.rest)) ≡ taken v m
+    → cond {A = Result (ReadValue (Turn DocParts)) ReadFault} a (end_design s l >>= λ x. taken (turn s false) x.rest) (cond b (header_statement s.header t l >>= λ x. taken (turn (record s { header = x.value }) true) x.rest) (body_statement s t l >>= λ x. taken (turn x.value true) x.rest)) ≡ taken v m
     → Read text m v.state.components
 from_case true b text l m s v t r h =
     let a = bind_ok (end_design s l) _ _ h in

@@ -2,9 +2,9 @@
 use Rattle.std.specs.Prelude.{false, ◌||◌, List, [], ◌∷◌, ◌++◌, Option, Some, None, codes, if◌then◌else◌}
 use Rattle.lf_lex.specs.declared.fault.FaultNumber.TheVariants.{Unexpected}
 use Rattle.lf_lex.specs.Tokens.{Lexeme}
-use Rattle.lf_lex.specs.Reading.{◌>>=◌, Reader, Statement, Turn, taken, goes_on, ends, fault_at, token, is, end_name, to_semicolon, block}
-use Rattle.lf_def.specs.declared.entries.Due.{Due}
-use Rattle.lf_def.specs.declared.entries.Due.TheVariants.{Item, Keyword, Rest}
+use Rattle.lf_lex.specs.Reading.{◌>>=◌, Reader, Statement, Turn, taken, continues, finishes, fault_at, token, is, end_name, to_semicolon, block}
+use Rattle.lf_def.specs.declared.section.Due.{Due}
+use Rattle.lf_def.specs.declared.section.Due.TheVariants.{Item, Keyword, Rest}
 use Rattle.lf_def.specs.declared.blockages.Blockage.{Blockage}
 use Rattle.lf_def.specs.declared.blockages.BlockageParts.{BlockageParts}
 use Rattle.lf_def.specs.Coordinates.{rect}
@@ -13,7 +13,7 @@ use Rattle.lf_def.specs.Coordinates.{rect}
 unfoldable pub with_rect : BlockageParts → Reader (Turn BlockageParts)
 with_rect parts l = do
   r ← rect l
-  goes_on (record parts { rects = parts.rects ++ r.value ∷ []; due = Item }) r.rest
+  continues (record parts { rects = parts.rects ++ r.value ∷ []; due = Item }) r.rest
 
 -- the word of a clause: SOFT and PARTIAL are noted
 abbrev pub noted : BlockageParts → Lexeme → BlockageParts
@@ -21,15 +21,15 @@ noted parts t = record parts { soft = parts.soft || is (codes "SOFT") t; partial
 
 -- A token of a blockage that is no separator: what follows a clause's word is skipped up to RECT.
 unfoldable pub blockage_part : Due → BlockageParts → Lexeme → Reader (Turn BlockageParts)
-blockage_part Keyword parts t l = goes_on (noted parts t) l
-blockage_part Rest parts t l = if is (codes "RECT") t then with_rect parts l else goes_on parts l
+blockage_part Keyword parts t l = continues (noted parts t) l
+blockage_part Rest parts t l = if is (codes "RECT") t then with_rect parts l else continues parts l
 blockage_part _ parts t l = if is (codes "RECT") t then with_rect parts l else fault_at Unexpected t.line
 
 -- a token of a blockage and what it takes with it: a semicolon is the last, and a plus begins a clause
 unfoldable pub blockage_from : BlockageParts → Lexeme → Reader (Turn BlockageParts)
 blockage_from parts t l =
-    if is (codes ";") t then ends parts l
-    else if is (codes "+") t then goes_on (record parts { due = Keyword }) l
+    if is (codes ";") t then finishes parts l
+    else if is (codes "+") t then continues (record parts { due = Keyword }) l
     else blockage_part parts.due parts t l
 
 unfoldable pub blockage_token : Statement BlockageParts
@@ -59,8 +59,8 @@ with_blockage known (Some b) = known ++ b ∷ []
 unfoldable pub blockage_or_end : Statement (List Blockage)
 blockage_or_end known l = do
   t ← token l
-  if is (codes "-") t.value then (blockage t.rest >>= λ b. goes_on (with_blockage known b.value) b.rest)
-      else if is (codes "END") t.value then (end_name (codes "BLOCKAGES") t.rest >>= λ stop. ends known stop.rest)
+  if is (codes "-") t.value then (blockage t.rest >>= λ b. continues (with_blockage known b.value) b.rest)
+      else if is (codes "END") t.value then (end_name (codes "BLOCKAGES") t.rest >>= λ stop. finishes known stop.rest)
       else fault_at Unexpected t.value.line
 
 -- BLOCKAGES count ; entries END BLOCKAGES, after its keyword

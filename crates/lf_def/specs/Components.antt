@@ -3,20 +3,20 @@ use Rattle.std.specs.Prelude.{ℕ, Bool, false, ◌&&◌, ◌||◌, List, Option
 use Rattle.std.specs.Option.{option_map}
 use Rattle.lf_lex.specs.declared.fault.FaultNumber.TheVariants.{Unexpected}
 use Rattle.lf_lex.specs.Tokens.{Lexeme}
-use Rattle.lf_lex.specs.Reading.{◌>>=◌, Reader, Statement, Turn, taken, goes_on, ends, fault_at, token, name, is, keyword, block}
-use Rattle.lf_def.specs.declared.entries.Due.{Due}
-use Rattle.lf_def.specs.declared.entries.Due.TheVariants.{Item, Keyword, Rest, Separator}
+use Rattle.lf_lex.specs.Reading.{◌>>=◌, Reader, Statement, Turn, taken, continues, finishes, fault_at, token, name, is, keyword, block}
+use Rattle.lf_def.specs.declared.section.Due.{Due}
+use Rattle.lf_def.specs.declared.section.Due.TheVariants.{Item, Keyword, Rest, Separator}
 use Rattle.lf_def.specs.declared.components.Component.{Component}
 use Rattle.lf_def.specs.declared.components.ComponentParts.{ComponentParts}
-use Rattle.lf_def.specs.declared.components.Located.{Located}
-use Rattle.lf_def.specs.declared.components.Placement.{Placement}
+use Rattle.lf_def.specs.declared.components.LocatedPlace.{LocatedPlace}
+use Rattle.lf_def.specs.declared.components.PlacementClause.{PlacementClause}
 use Rattle.lf_def.specs.declared.components.PlacementKind.{PlacementKind}
 use Rattle.lf_def.specs.declared.components.PlacementKind.TheVariants.{Fixed, Cover, Placed, Unplaced}
 use Rattle.lf_def.specs.Coordinates.{point_rest, orient_of}
 use Rattle.lf_def.specs.Entries.{section}
 
 -- x y ) orient after the first parenthesis, and the offset at which the orientation ends
-unfoldable pub located_rest : Reader Located
+unfoldable pub located_rest : Reader LocatedPlace
 located_rest l = do
   p ← point_rest l
   t ← token p.rest
@@ -24,21 +24,21 @@ located_rest l = do
   taken (record { location = record { x = p.value.x; y = p.value.y; orient = orient }; stop = t.value.stop }) t.rest
 
 -- ( x y ) orient after FIXED, COVER or PLACED; the clause extends from its plus to the end of the orientation
-unfoldable pub placed : PlacementKind → ℕ → Reader Placement
+unfoldable pub placed : PlacementKind → ℕ → Reader PlacementClause
 placed kind plus l = do
   start ← keyword (codes "(") l
   p ← located_rest start.rest
   taken (record { kind = kind; place = Some p.value.location; start = plus; stop = p.value.stop }) p.rest
 
 -- UNPLACED; the clause extends from its plus to the end of this word
-abbrev pub unplaced : ℕ → Lexeme → Placement
+abbrev pub unplaced : ℕ → Lexeme → PlacementClause
 unplaced plus t = record { kind = Unplaced; place = None; start = plus; stop = t.stop }
 
 abbrev pub is_placement_word : Lexeme → Bool
 is_placement_word t = is (codes "FIXED") t || is (codes "COVER") t || is (codes "PLACED") t || is (codes "UNPLACED") t
 
 -- a placement clause, after its plus and its word
-unfoldable pub placement : ℕ → Lexeme → Reader Placement
+unfoldable pub placement : ℕ → Lexeme → Reader PlacementClause
 placement plus t l =
     if is (codes "FIXED") t then placed Fixed plus l
     else if is (codes "COVER") t then placed Cover plus l
@@ -46,37 +46,37 @@ placement plus t l =
     else taken (unplaced plus t) l
 
 -- a second placement clause is a fault
-unfoldable pub only_placement : Option Placement → ℕ → Lexeme → Reader Placement
+unfoldable pub only_placement : Option PlacementClause → ℕ → Lexeme → Reader PlacementClause
 only_placement None plus t l = placement plus t l
 only_placement (Some first) plus t l = fault_at Unexpected t.line
 
 -- a clause, after its plus and its word: a placement is read, and others are skipped
 unfoldable pub clause : ComponentParts → Lexeme → Reader (Turn ComponentParts)
 clause parts t l =
-    if is_placement_word t then (only_placement parts.placement parts.plus t l >>= λ p. goes_on (record parts { placement = Some p.value; due = Separator; point = is (codes "UNPLACED") t }) p.rest)
-    else goes_on (record parts { due = Rest }) l
+    if is_placement_word t then (only_placement parts.placement parts.plus t l >>= λ p. continues (record parts { placement = Some p.value; due = Separator; point = is (codes "UNPLACED") t }) p.rest)
+    else continues (record parts { due = Rest }) l
 
-abbrev pub up_to_stop : ℕ → Placement → Placement
+abbrev pub up_to_stop : ℕ → PlacementClause → PlacementClause
 up_to_stop stop p = record p { stop = stop }
 
 -- the point and the orientation after UNPLACED, which are ignored; the clause extends to their end
 unfoldable pub unplaced_point : ComponentParts → Reader (Turn ComponentParts)
 unplaced_point parts l = do
   p ← located_rest l
-  goes_on (record parts { placement = option_map (up_to_stop p.value.stop) parts.placement; point = false }) p.rest
+  continues (record parts { placement = option_map (up_to_stop p.value.stop) parts.placement; point = false }) p.rest
 
 -- a token of a component that is no separator: those before the first clause are skipped
 unfoldable pub component_part : Due → ComponentParts → Lexeme → Reader (Turn ComponentParts)
-component_part Item parts t l = goes_on parts l
+component_part Item parts t l = continues parts l
 component_part Keyword parts t l = clause parts t l
-component_part Rest parts t l = goes_on parts l
+component_part Rest parts t l = continues parts l
 component_part Separator parts t l = if parts.point && is (codes "(") t then unplaced_point parts l else fault_at Unexpected t.line
 
 -- a token of a component and what it takes with it: a semicolon is the last, and a plus begins a clause
 unfoldable pub component_from : ComponentParts → Lexeme → Reader (Turn ComponentParts)
 component_from parts t l =
-    if is (codes ";") t then ends (record parts { semicolon = t.start }) l
-    else if is (codes "+") t then goes_on (record parts { due = Keyword; plus = t.start }) l
+    if is (codes ";") t then finishes (record parts { semicolon = t.start }) l
+    else if is (codes "+") t then continues (record parts { due = Keyword; plus = t.start }) l
     else component_part parts.due parts t l
 
 unfoldable pub component_token : Statement ComponentParts

@@ -6,7 +6,7 @@ use Rattle.lf_lex.specs.declared.fault.LoadFault.{LoadFault}
 use Rattle.lf_lex.specs.declared.fault.ReadError.TheVariants.{Memory, Fault}
 use Rattle.lf_lex.specs.Faults.{load_fault_of}
 use Rattle.lf_lex.specs.Tokens.{Lexeme, tokens_of}
-use Rattle.lf_lex.specs.Reading.{◌>>=◌, Reader, Statement, Turn, taken, goes_on, ends, fault_at, token, is, kind_is_word, to_semicolon, to_end, to_word, block}
+use Rattle.lf_lex.specs.Reading.{◌>>=◌, Reader, Statement, Turn, taken, continues, finishes, fault_at, token, is, kind_is_word, to_semicolon, to_end, to_word, block}
 use Rattle.lf_lex.specs.Reading.{value_of}
 use Rattle.lf_def.specs.declared.header.Header.{Header}
 use Rattle.lf_def.specs.declared.rows.Row.{Row}
@@ -14,7 +14,7 @@ use Rattle.lf_def.specs.declared.regions.Region.{Region}
 use Rattle.lf_def.specs.declared.groups.Group.{Group}
 use Rattle.lf_def.specs.declared.components.Component.{Component}
 use Rattle.lf_def.specs.declared.blockages.Blockage.{Blockage}
-use Rattle.lf_def.specs.declared.parts.DocParts.{DocParts}
+use Rattle.lf_def.specs.declared.doc_parts.DocParts.{DocParts}
 use Rattle.lf_def.specs.Header.{is_header, header_statement, no_header, header_of}
 use Rattle.lf_def.specs.Rows.{with_row}
 use Rattle.lf_def.specs.Regions.{regions}
@@ -33,25 +33,25 @@ pub record Document : Type 0 where
 
 -- sections that are skipped to END and their keyword (DEF PROPERTYDEFINITIONS, VIAS, STYLES, NONDEFAULTRULES, PINS,
 -- PINPROPERTIES, SLOTS, FILLS, SPECIALNETS, NETS, SCANCHAINS)
-abbrev pub is_passed_section : Lexeme → Bool
-is_passed_section t =
+abbrev pub is_skipped_section : Lexeme → Bool
+is_skipped_section t =
     is (codes "PROPERTYDEFINITIONS") t || is (codes "VIAS") t || is (codes "STYLES") t || is (codes "NONDEFAULTRULES") t || is (codes "PINS") t || is
     (codes "PINPROPERTIES") t
     || is (codes "SLOTS") t || is (codes "FILLS") t || is (codes "SPECIALNETS") t || is (codes "NETS") t || is (codes "SCANCHAINS") t
 
 -- statements that are skipped to their semicolon (DEF TRACKS, GCELLGRID, HISTORY, TECHNOLOGY, DIEAREA, COMPONENTMASKSHIFT,
 -- NAMESCASESENSITIVE)
-abbrev pub is_passed_statement : Lexeme → Bool
-is_passed_statement t =
+abbrev pub is_skipped_statement : Lexeme → Bool
+is_skipped_statement t =
     is (codes "TRACKS") t || is (codes "GCELLGRID") t || is (codes "HISTORY") t || is (codes "TECHNOLOGY") t || is (codes "DIEAREA") t || is
     (codes "COMPONENTMASKSHIFT") t || is (codes "NAMESCASESENSITIVE") t
 
 -- a statement that is skipped, after its first token; any other word begins no statement
 unfoldable pub passed_from : Lexeme → Reader (Unit {0})
 passed_from t l =
-    if is_passed_section t then to_end t.text l
+    if is_skipped_section t then to_end t.text l
     else if is (codes "BEGINEXT") t then to_word (codes "ENDEXT") l
-    else if is_passed_statement t then to_semicolon l
+    else if is_skipped_statement t then to_semicolon l
     else if kind_is_word t.kind then fault_at UnknownStatement t.line
     else fault_at Unexpected t.line
 
@@ -77,9 +77,9 @@ body_statement parts t l =
 -- a statement of the text, after its first token
 unfoldable pub statement_from : DocParts → Lexeme → Reader (Turn DocParts)
 statement_from parts t l =
-    if is (codes "END") t then (end_design parts l >>= λ stop. ends parts stop.rest)
-    else if is_header t then (header_statement parts.header t l >>= λ h. goes_on (record parts { header = h.value }) h.rest)
-    else (body_statement parts t l >>= λ new. goes_on new.value new.rest)
+    if is (codes "END") t then (end_design parts l >>= λ stop. finishes parts stop.rest)
+    else if is_header t then (header_statement parts.header t l >>= λ h. continues (record parts { header = h.value }) h.rest)
+    else (body_statement parts t l >>= λ new. continues new.value new.rest)
 
 unfoldable pub statement : Statement DocParts
 statement parts l = do

@@ -3,14 +3,14 @@ use Rattle.std.specs.Prelude.{ℕ, nat_lt, not, List, [], ◌∷◌, ◌++◌, l
 use Rattle.lf_lex.specs.declared.fault.FaultNumber.TheVariants.{Unexpected, TooMany}
 use Rattle.lf_lex.specs.declared.fault.ReadFault.{ReadFault}
 use Rattle.lf_lex.specs.Tokens.{Lexeme}
-use Rattle.lf_lex.specs.Reading.{◌>>=◌, Reader, Statement, goes_on, ends, fault_at, token, is, is_word, end_name, to_semicolon, block}
+use Rattle.lf_lex.specs.Reading.{◌>>=◌, Reader, Statement, continues, finishes, fault_at, token, is, is_word, end_name, to_semicolon, block}
 
 -- - entry .. ; or END and the keyword of the section
 unfoldable pub entry_or_end : {A : Type 0} → List ℕ → Reader A → Statement (List A)
 entry_or_end keyword entry entries l = do
   t ← token l
-  if is (codes "-") t.value then (entry t.rest >>= λ e. goes_on (entries ++ e.value ∷ []) e.rest)
-      else if is (codes "END") t.value then (end_name keyword t.rest >>= λ stop. ends entries stop.rest)
+  if is (codes "-") t.value then (entry t.rest >>= λ e. continues (entries ++ e.value ∷ []) e.rest)
+      else if is (codes "END") t.value then (end_name keyword t.rest >>= λ stop. finishes entries stop.rest)
       else fault_at Unexpected t.value.line
 
 -- count ; entries, END and the keyword, after that keyword. Its entries follow those of earlier sections, and the count is

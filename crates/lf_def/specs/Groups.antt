@@ -2,9 +2,9 @@
 use Rattle.std.specs.Prelude.{List, [], ◌∷◌, ◌++◌, None, codes, if◌then◌else◌}
 use Rattle.lf_lex.specs.declared.fault.FaultNumber.TheVariants.{Unexpected}
 use Rattle.lf_lex.specs.Tokens.{Lexeme}
-use Rattle.lf_lex.specs.Reading.{◌>>=◌, Reader, Statement, Turn, taken, goes_on, ends, fault_at, token, name, is, block, first_stands}
-use Rattle.lf_def.specs.declared.entries.Due.{Due}
-use Rattle.lf_def.specs.declared.entries.Due.TheVariants.{Item, Keyword, Rest, Separator}
+use Rattle.lf_lex.specs.Reading.{◌>>=◌, Reader, Statement, Turn, taken, continues, finishes, fault_at, token, name, is, block, first_counts}
+use Rattle.lf_def.specs.declared.section.Due.{Due}
+use Rattle.lf_def.specs.declared.section.Due.TheVariants.{Item, Keyword, Rest, Separator}
 use Rattle.lf_def.specs.declared.groups.Group.{Group}
 use Rattle.lf_def.specs.declared.groups.GroupParts.{GroupParts}
 use Rattle.lf_def.specs.Entries.{section, name_of}
@@ -13,27 +13,27 @@ use Rattle.lf_def.specs.Entries.{section, name_of}
 unfoldable pub with_pattern : GroupParts → Lexeme → Reader (Turn GroupParts)
 with_pattern parts t l = do
   pattern ← name_of t
-  goes_on (record parts { patterns = parts.patterns ++ pattern ∷ [] }) l
+  continues (record parts { patterns = parts.patterns ++ pattern ∷ [] }) l
 
 -- REGION name after its word: the first counts; a parenthesis is no name
 unfoldable pub with_region : GroupParts → Reader (Turn GroupParts)
 with_region parts l = do
   n ← name l
   if is (codes "(") n.value then fault_at Unexpected n.value.line
-      else goes_on (record parts { region = first_stands parts.region n.value.text; due = Separator }) n.rest
+      else continues (record parts { region = first_counts parts.region n.value.text; due = Separator }) n.rest
 
 -- a token of a group that is no separator: patterns come first, REGION is read, and other clauses are skipped
 unfoldable pub group_part : Due → GroupParts → Lexeme → Reader (Turn GroupParts)
 group_part Item parts t l = with_pattern parts t l
-group_part Keyword parts t l = if is (codes "REGION") t then with_region parts l else goes_on (record parts { due = Rest }) l
-group_part Rest parts t l = goes_on parts l
+group_part Keyword parts t l = if is (codes "REGION") t then with_region parts l else continues (record parts { due = Rest }) l
+group_part Rest parts t l = continues parts l
 group_part Separator parts t l = fault_at Unexpected t.line
 
 -- a token of a group and what it takes with it: a semicolon is the last, and a plus begins a clause
 unfoldable pub group_from : GroupParts → Lexeme → Reader (Turn GroupParts)
 group_from parts t l =
-    if is (codes ";") t then ends parts l
-    else if is (codes "+") t then goes_on (record parts { due = Keyword }) l
+    if is (codes ";") t then finishes parts l
+    else if is (codes "+") t then continues (record parts { due = Keyword }) l
     else group_part parts.due parts t l
 
 unfoldable pub group_token : Statement GroupParts

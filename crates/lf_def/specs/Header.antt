@@ -2,7 +2,7 @@
 use Rattle.std.specs.Prelude.{ℕ, Bool, ◌||◌, List, [], None, codes, unwrap_or, if◌then◌else◌}
 use Rattle.lf_lex.specs.declared.fault.FaultNumber.TheVariants.{Unexpected}
 use Rattle.lf_lex.specs.Tokens.{Lexeme}
-use Rattle.lf_lex.specs.Reading.{◌>>=◌, Reader, taken, fault_at, token, word, name, is, keyword, kind_is_word, first_stands}
+use Rattle.lf_lex.specs.Reading.{◌>>=◌, Reader, taken, fault_at, token, word, name, is, keyword, kind_is_word, first_counts}
 use Rattle.lf_def.specs.declared.header.Header.{Header}
 use Rattle.lf_def.specs.declared.header.HeaderParts.{HeaderParts}
 use Rattle.lf_def.specs.Coordinates.{count}
@@ -43,11 +43,11 @@ is_header t = is (codes "VERSION") t || is (codes "DIVIDERCHAR") t || is (codes 
 -- a statement of the header, after its keyword
 unfoldable pub header_statement : HeaderParts → Lexeme → Reader HeaderParts
 header_statement parts t l =
-    if is (codes "VERSION") t then (version l >>= λ v. taken (record parts { version = first_stands parts.version v.value }) v.rest)
-    else if is (codes "DIVIDERCHAR") t then (quoted l >>= λ q. taken (record parts { divider = first_stands parts.divider q.value }) q.rest)
-    else if is (codes "BUSBITCHARS") t then (quoted l >>= λ q. taken (record parts { brackets = first_stands parts.brackets q.value }) q.rest)
-    else if is (codes "DESIGN") t then (design l >>= λ d. taken (record parts { design = first_stands parts.design d.value }) d.rest)
-    else (units l >>= λ n. taken (record parts { units = first_stands parts.units n.value }) n.rest)
+    if is (codes "VERSION") t then (version l >>= λ v. taken (record parts { version = first_counts parts.version v.value }) v.rest)
+    else if is (codes "DIVIDERCHAR") t then (quoted l >>= λ q. taken (record parts { divider = first_counts parts.divider q.value }) q.rest)
+    else if is (codes "BUSBITCHARS") t then (quoted l >>= λ q. taken (record parts { brackets = first_counts parts.brackets q.value }) q.rest)
+    else if is (codes "DESIGN") t then (design l >>= λ d. taken (record parts { design = first_counts parts.design d.value }) d.rest)
+    else (units l >>= λ n. taken (record parts { units = first_counts parts.units n.value }) n.rest)
 
 abbrev pub no_header : HeaderParts
 no_header = record { version = None; divider = None; brackets = None; design = None; units = None }

@@ -4,7 +4,7 @@ use Rattle.lf_def.specs.declared.regions.Region.{Region}
 use Rattle.lf_def.specs.declared.regions.RegionKind.{RegionKind}
 use Rattle.lf_def.specs.declared.regions.RegionKind.TheVariants.{Fence, Guide}
 use Rattle.lf_def.specs.declared.components.Component.{Component}
-use Rattle.lf_def.specs.declared.components.Placement.{Placement}
+use Rattle.lf_def.specs.declared.components.PlacementClause.{PlacementClause}
 use Rattle.lf_def.specs.declared.components.PlacementKind.{PlacementKind}
 use Rattle.lf_def.specs.declared.components.PlacementKind.TheVariants.{Fixed, Cover, Placed, Unplaced}
 
@@ -30,15 +30,15 @@ is_cover_kind Placed = false
 is_cover_kind Unplaced = false
 
 -- its placement clause is of this kind; a component without one is of none
-abbrev pub says : (PlacementKind → Bool) → Option Placement → Bool
-says is_kind None = false
-says is_kind (Some p) = is_kind p.kind
+abbrev pub has_kind : (PlacementKind → Bool) → Option PlacementClause → Bool
+has_kind is_kind None = false
+has_kind is_kind (Some p) = is_kind p.kind
 
 abbrev pub is_fixed : Component → Bool
-is_fixed c = says is_fixed_kind c.placement
+is_fixed c = has_kind is_fixed_kind c.placement
 
 abbrev pub is_cover : Component → Bool
-is_cover c = says is_cover_kind c.placement
+is_cover c = has_kind is_cover_kind c.placement
 
 -- a component that teams may move: neither FIXED nor COVER
 abbrev pub is_movable : Component → Bool

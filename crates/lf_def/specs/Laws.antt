@@ -5,15 +5,15 @@ use Rattle.lf_lex.specs.Tokens.{Lexed, Lexeme, plain, tokens_of, with_tokens}
 use Rattle.lf_orient.specs.declared.Orient.{Orient}
 use Rattle.lf_lex.specs.Reading.{taken, behind, block, is}
 use Rattle.lf_def.specs.declared.components.Component.{Component}
-use Rattle.lf_def.specs.declared.components.Placement.{Placement}
-use Rattle.lf_def.specs.declared.parts.DocParts.{DocParts}
+use Rattle.lf_def.specs.declared.components.PlacementClause.{PlacementClause}
+use Rattle.lf_def.specs.declared.doc_parts.DocParts.{DocParts}
 use Rattle.lf_def.specs.Coordinates.{orient_of}
 use Rattle.lf_def.specs.Components.{component, is_placement_word}
 use Rattle.lf_def.specs.Document.{Document, document_of, statement, no_parts}
 
 -- Values without their offsets.
 
-abbrev pub placement_without_places : Placement → Placement
+abbrev pub placement_without_places : PlacementClause → PlacementClause
 placement_without_places p = record { kind = p.kind; place = p.place; start = 0; stop = 0 }
 
 abbrev pub without_places : Component → Component
@@ -29,8 +29,8 @@ ComponentReadsAlike = (l m : Lexed) (c : Component) → component l ≡ taken c 
     × ((same : List Lexeme) → map plain same ≡ map plain run → (behind : Lexed) → (again : Component) × (component (with_tokens same behind) ≡ taken again behind) × (without_places again ≡ without_places c))
 
 -- Texts whose tokens have the same bytes say the same, but for offsets.
-abbrev pub SaysTheSame : List ℕ → List ℕ → Type 0
-SaysTheSame a b = map plain (tokens_of a).tokens ≡ map plain (tokens_of b).tokens → (d : Document) → document_of a ≡ Ok d
+abbrev pub ReadsTheSame : List ℕ → List ℕ → Type 0
+ReadsTheSame a b = map plain (tokens_of a).tokens ≡ map plain (tokens_of b).tokens → (d : Document) → document_of a ≡ Ok d
     → (again : Document) × (document_of b ≡ Ok again) × (document_without_places again ≡ document_without_places d)
 
 -- If the statements of a text leave tokens unread, any bytes may replace those from the first of these on.
@@ -52,7 +52,7 @@ LastEnds stop t (u ∷ us) = LastEnds stop u us
 
 -- The tokens of a placement clause: its plus, its word, and a place, which UNPLACED may lack. The clause extends from the first
 -- byte of its plus to the last byte of its last token.
-pub record IsClause (p : Placement) (clause : List Lexeme) : Type 0 where
+pub record IsClause (p : PlacementClause) (clause : List Lexeme) : Type 0 where
   pub plus : Lexeme
   pub word : Lexeme
   pub more : List Lexeme
@@ -64,7 +64,7 @@ pub record IsClause (p : Placement) (clause : List Lexeme) : Type 0 where
   pub stop : LastEnds p.stop word more
 
 -- the clause is among these tokens
-pub record ClauseAmong (tokens : List Lexeme) (p : Placement) : Type 0 where
+pub record ClauseAmong (tokens : List Lexeme) (p : PlacementClause) : Type 0 where
   pub before : List Lexeme
   pub clause : List Lexeme
   pub after : List Lexeme
@@ -72,7 +72,7 @@ pub record ClauseAmong (tokens : List Lexeme) (p : Placement) : Type 0 where
   pub is : IsClause p clause
 
 -- the same for the clause of a component, if it has one
-abbrev pub HasClause : List Lexeme → Option Placement → Type 0
+abbrev pub HasClause : List Lexeme → Option PlacementClause → Type 0
 HasClause tokens None = Unit {0}
 HasClause tokens (Some p) = ClauseAmong tokens p
 
@@ -85,11 +85,11 @@ pub record IsComponentOf (tokens : List Lexeme) (c : Component) : Type 0 where
   pub semicolon : c.semicolon ≡ last.start
   pub clause : HasClause front c.placement
 
-abbrev pub ComponentsStand : Type 0
-ComponentsStand = (l m : Lexed) (c : Component) → component l ≡ taken c m → (run : List Lexeme) × (l ≡ with_tokens run m) × IsComponentOf run c
+abbrev pub ComponentsHaveClauses : Type 0
+ComponentsHaveClauses = (l m : Lexed) (c : Component) → component l ≡ taken c m → (run : List Lexeme) × (l ≡ with_tokens run m) × IsComponentOf run c
 
 -- a placement clause within these offsets
-abbrev pub ClauseWithin : ℕ → ℕ → Option Placement → Type 0
+abbrev pub ClauseWithin : ℕ → ℕ → Option PlacementClause → Type 0
 ClauseWithin from to None = Unit {0}
 ClauseWithin from to (Some p) = (from ≤ p.start) × (p.start < p.stop) × (p.stop ≤ to)
 

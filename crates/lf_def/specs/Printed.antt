@@ -1,7 +1,7 @@
 -- Printed DEF texts: the words that write a value, with white space between.
 use Rattle.std.specs.Prelude.{◌≡◌, ◌≢◌, ℕ, List, [], ◌∷◌, ◌++◌, All, IfSome, map, ℤ, pos, Bool, true, false, Option, Some, None, Ok, codes}
-use Rattle.lf_units.specs.declared.area.Point.{Point}
-use Rattle.lf_units.specs.declared.area.Rect.{Rect}
+use Rattle.lf_units.specs.declared.geometry.Point.{Point}
+use Rattle.lf_units.specs.declared.geometry.Rect.{Rect}
 use Rattle.lf_units.specs.Number.{fixed_of}
 use Rattle.lf_orient.specs.Words.{orient_word}
 use Rattle.lf_lex.specs.Tokens.{Lexed, Lexeme, plain, with_tokens}
@@ -14,7 +14,7 @@ use Rattle.lf_def.specs.declared.regions.RegionKind.TheVariants.{Fence, Guide}
 use Rattle.lf_def.specs.declared.groups.Group.{Group}
 use Rattle.lf_def.specs.declared.components.Component.{Component}
 use Rattle.lf_def.specs.declared.components.Location.{Location}
-use Rattle.lf_def.specs.declared.components.Placement.{Placement}
+use Rattle.lf_def.specs.declared.components.PlacementClause.{PlacementClause}
 use Rattle.lf_def.specs.declared.components.PlacementKind.{PlacementKind}
 use Rattle.lf_def.specs.declared.components.PlacementKind.TheVariants.{Fixed, Cover, Placed, Unplaced}
 use Rattle.lf_def.specs.declared.blockages.Blockage.{Blockage}
@@ -107,7 +107,7 @@ abbrev pub location_words : (ℤ → List ℕ) → Option Location → List (Lis
 location_words print None = codes ";" ∷ []
 location_words print (Some p) = codes "(" ∷ print p.x ∷ print p.y ∷ codes ")" ∷ orient_word p.orient ∷ codes ";" ∷ []
 
-abbrev pub placement_words : (ℤ → List ℕ) → Option Placement → List (List ℕ)
+abbrev pub placement_words : (ℤ → List ℕ) → Option PlacementClause → List (List ℕ)
 placement_words print None = codes ";" ∷ []
 placement_words print (Some p) = codes "+" ∷ kind_word p.kind ∷ location_words print p.place
 

@@ -1,11 +1,11 @@
 -- Printed components with all that their entries may hold besides a placement clause (DEF COMPONENTS).
 use Rattle.std.specs.Prelude.{◌≡◌, ◌≢◌, ℕ, List, [], ◌∷◌, ◌++◌, All, IfSome, map, ℤ, Option, Some, None, codes}
-use Rattle.lf_lex.specs.Tokens.{Lexed, Lexeme, Plain, plain, with_tokens}
+use Rattle.lf_lex.specs.Tokens.{Lexed, Lexeme, PlainToken, plain, with_tokens}
 use Rattle.lf_lex.specs.Reading.{Reader, taken}
 use Rattle.lf_lex.specs.Splices.{word_of}
 use Rattle.lf_def.specs.declared.components.Component.{Component}
 use Rattle.lf_def.specs.declared.components.Location.{Location}
-use Rattle.lf_def.specs.declared.components.Placement.{Placement}
+use Rattle.lf_def.specs.declared.components.PlacementClause.{PlacementClause}
 use Rattle.lf_def.specs.declared.components.PlacementKind.{PlacementKind}
 use Rattle.lf_def.specs.declared.components.PlacementKind.TheVariants.{Fixed, Cover, Placed, Unplaced}
 use Rattle.lf_def.specs.Components.{component}
@@ -18,22 +18,22 @@ use Rattle.lf_def.specs.Printed.{kind_word, IsPrintedComponent}
 pub record PrintedComponent : Type 0 where
   pub component : Component
   -- words and quoted texts before the first clause
-  pub items : List Plain
+  pub items : List PlainToken
   -- clauses that are skipped, each after its plus: those before the placement clause, and those after it
-  pub before : List (List Plain)
-  pub after : List (List Plain)
+  pub before : List (List PlainToken)
+  pub after : List (List PlainToken)
   -- the point and the orientation after UNPLACED, if they are printed
   pub point : Option Location
 
 -- What is skipped.
 
 -- a word or a quoted text that neither ends the entry nor begins a clause
-pub record IsInner (t : Plain) : Type 0 where
+pub record IsInner (t : PlainToken) : Type 0 where
   pub stop : t.text ≢ codes ";"
   pub plus : t.text ≢ codes "+"
 
 -- a clause after its plus whose first word names no placement; a plus alone is one too
-abbrev pub IsOtherClause : List Plain → Type 0
+abbrev pub IsOtherClause : List PlainToken → Type 0
 IsOtherClause [] = Unit {0}
 IsOtherClause (t ∷ ts) = ((kind : PlacementKind) → t.text ≢ kind_word kind) × All IsInner (t ∷ ts)
 
@@ -47,7 +47,7 @@ pub record IsPrintedEntry (p : PrintedComponent) : Type 0 where
 -- What is printed.
 
 -- + .., and then the rest
-abbrev pub clauses_tokens : List (List Plain) → List Plain → List Plain
+abbrev pub clauses_tokens : List (List PlainToken) → List PlainToken → List PlainToken
 clauses_tokens [] rest = rest
 clauses_tokens (c ∷ cs) rest = word_of (codes "+") ∷ (c ++ clauses_tokens cs rest)
 
@@ -64,24 +64,24 @@ place_words print None = []
 place_words print (Some p) = codes "(" ∷ print p.x ∷ print p.y ∷ codes ")" ∷ orient_word p.orient ∷ []
 
 -- [+ FIXED pt orient | + COVER pt orient | + PLACED pt orient | + UNPLACED [pt orient]], and then the rest
-abbrev pub placement_tokens : (ℤ → List ℕ) → Option Placement → Option Location → List Plain → List Plain
+abbrev pub placement_tokens : (ℤ → List ℕ) → Option PlacementClause → Option Location → List PlainToken → List PlainToken
 placement_tokens print None point rest = rest
 placement_tokens print (Some p) point rest = word_of (codes "+") ∷ word_of
     (kind_word p.kind) ∷ (map word_of (place_words print (printed_place p.kind p.place point)) ++ rest)
 
 -- name macro .. {+ ..} placement {+ ..} ;
-abbrev pub entry_tokens : (ℤ → List ℕ) → PrintedComponent → List Plain
+abbrev pub entry_tokens : (ℤ → List ℕ) → PrintedComponent → List PlainToken
 entry_tokens print p =
     word_of p.component.name ∷ word_of p.component.mac ∷ (p.items ++ clauses_tokens p.before
     (placement_tokens print p.component.placement p.point (clauses_tokens p.after (word_of (codes ";") ∷ []))))
 
 -- each entry after its minus, and then the rest
-abbrev pub entries_tokens : {A : Type 0} → (A → List Plain) → List A → List Plain → List Plain
+abbrev pub entries_tokens : {A : Type 0} → (A → List PlainToken) → List A → List PlainToken → List PlainToken
 entries_tokens tokens [] rest = rest
 entries_tokens tokens (x ∷ xs) rest = word_of (codes "-") ∷ (tokens x ++ entries_tokens tokens xs rest)
 
 -- count ; entries END COMPONENTS
-abbrev pub components_tokens : (ℤ → List ℕ) → List ℕ → List PrintedComponent → List Plain
+abbrev pub components_tokens : (ℤ → List ℕ) → List ℕ → List PrintedComponent → List PlainToken
 components_tokens print count ps =
     word_of count ∷ word_of (codes ";") ∷ entries_tokens (entry_tokens print) ps (word_of (codes "END") ∷ word_of (codes "COMPONENTS") ∷ [])
 
@@ -89,11 +89,11 @@ abbrev pub component_of : PrintedComponent → Component
 component_of p = p.component
 
 -- These tokens read as the component, but for its offsets, whatever follows them.
-abbrev pub EntryReadsBack : List Plain → Component → Type 0
+abbrev pub EntryReadsBack : List PlainToken → Component → Type 0
 EntryReadsBack printed c = (tokens : List Lexeme) → map plain tokens ≡ printed → (behind : Lexed)
     → (read : Component) × (component (with_tokens tokens behind) ≡ taken read behind) × (without_places read ≡ without_places c)
 
 -- the same for a list of components
-abbrev pub EntriesReadBack : Reader (List Component) → List Plain → List Component → Type 0
+abbrev pub EntriesReadBack : Reader (List Component) → List PlainToken → List Component → Type 0
 EntriesReadBack reader printed cs = (tokens : List Lexeme) → map plain tokens ≡ printed → (behind : Lexed)
     → (read : List Component) × (reader (with_tokens tokens behind) ≡ taken read behind) × (map without_places read ≡ map without_places cs)

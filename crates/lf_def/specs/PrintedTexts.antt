@@ -1,16 +1,16 @@
 -- Printed DEF texts: statements and sections in any order, and END DESIGN.
 use Rattle.std.specs.Prelude.{◌≡◌, ◌≢◌, ℕ, List, [], ◌∷◌, ◌++◌, All, Contains, IsSome, map, ℤ, pos, Some, Ok, codes}
 use Rattle.lf_lex.specs.declared.tokens.TokenKind.TheVariants.{Quoted}
-use Rattle.lf_lex.specs.Tokens.{Plain, plain, tokens_of}
-use Rattle.lf_lex.specs.Passing.{HaveNowhere}
-use Rattle.lf_lex.specs.Reading.{first_stands}
+use Rattle.lf_lex.specs.Tokens.{PlainToken, plain, tokens_of}
+use Rattle.lf_lex.specs.Passing.{OccurNowhere}
+use Rattle.lf_lex.specs.Reading.{first_counts}
 use Rattle.lf_lex.specs.Splices.{word_of}
 use Rattle.lf_def.specs.declared.rows.Row.{Row}
 use Rattle.lf_def.specs.declared.regions.Region.{Region}
 use Rattle.lf_def.specs.declared.groups.Group.{Group}
 use Rattle.lf_def.specs.declared.components.Component.{Component}
 use Rattle.lf_def.specs.declared.blockages.Blockage.{Blockage}
-use Rattle.lf_def.specs.declared.parts.DocParts.{DocParts}
+use Rattle.lf_def.specs.declared.doc_parts.DocParts.{DocParts}
 use Rattle.lf_def.specs.Header.{no_header, header_of}
 use Rattle.lf_def.specs.Document.{Document, document_of, no_parts}
 use Rattle.lf_def.specs.Laws.{without_places}
@@ -33,30 +33,30 @@ section_keywords =
     "FILLS" ∷ codes "SPECIALNETS" ∷ codes "NETS" ∷ codes "SCANCHAINS" ∷ []
 
 -- a statement that is skipped: its keyword, and the words and quoted texts up to its end
-pub data Passed : Type 0 where
+pub data Skipped : Type 0 where
   -- keyword .. ;
-  to_its_semicolon : List ℕ → List Plain → Passed
+  to_its_semicolon : List ℕ → List PlainToken → Skipped
   -- keyword .. END keyword
-  to_its_end : List ℕ → List Plain → Passed
+  to_its_end : List ℕ → List PlainToken → Skipped
   -- BEGINEXT .. ENDEXT
-  extension : List Plain → Passed
+  extension : List PlainToken → Skipped
 
-abbrev pub passed_tokens : Passed → List Plain
-passed_tokens (to_its_semicolon keyword between) = word_of keyword ∷ (between ++ word_of (codes ";") ∷ [])
-passed_tokens (to_its_end keyword between) = word_of keyword ∷ (between ++ word_of (codes "END") ∷ word_of keyword ∷ [])
-passed_tokens (extension between) = word_of (codes "BEGINEXT") ∷ (between ++ word_of (codes "ENDEXT") ∷ [])
+abbrev pub skipped_tokens : Skipped → List PlainToken
+skipped_tokens (to_its_semicolon keyword between) = word_of keyword ∷ (between ++ word_of (codes ";") ∷ [])
+skipped_tokens (to_its_end keyword between) = word_of keyword ∷ (between ++ word_of (codes "END") ∷ word_of keyword ∷ [])
+skipped_tokens (extension between) = word_of (codes "BEGINEXT") ∷ (between ++ word_of (codes "ENDEXT") ∷ [])
 
 -- the keyword is one of those, and the statement does not end before its end
-abbrev pub IsPassed : Passed → Type 0
-IsPassed (to_its_semicolon keyword between) = Contains statement_keywords keyword × HaveNowhere (codes ";" ∷ []) between
-IsPassed (to_its_end keyword between) = Contains section_keywords keyword × HaveNowhere (codes "END" ∷ keyword ∷ []) between
-IsPassed (extension between) = HaveNowhere (codes "ENDEXT" ∷ []) between
+abbrev pub IsSkipped : Skipped → Type 0
+IsSkipped (to_its_semicolon keyword between) = Contains statement_keywords keyword × OccurNowhere (codes ";" ∷ []) between
+IsSkipped (to_its_end keyword between) = Contains section_keywords keyword × OccurNowhere (codes "END" ∷ keyword ∷ []) between
+IsSkipped (extension between) = OccurNowhere (codes "ENDEXT" ∷ []) between
 
 -- Parts of a text.
 
 -- a statement or a section of a text; each section has a count, which is ignored
 pub data Part : Type 0 where
-  passed_over : Passed → Part
+  passed_over : Skipped → Part
   version_is : List ℕ → Part
   divider_is : List ℕ → Part
   brackets_are : List ℕ → Part
@@ -70,15 +70,15 @@ pub data Part : Type 0 where
   blockages_section : List ℕ → List Blockage → Part
 
 -- a quoted text, with its marks
-abbrev pub quoted_of : List ℕ → Plain
+abbrev pub quoted_of : List ℕ → PlainToken
 quoted_of text = record { text = text; kind = Quoted }
 
 -- keyword "text" ;
-abbrev pub quoted_tokens : List ℕ → List ℕ → List Plain
+abbrev pub quoted_tokens : List ℕ → List ℕ → List PlainToken
 quoted_tokens keyword text = word_of keyword ∷ quoted_of text ∷ word_of (codes ";") ∷ []
 
-abbrev pub part_tokens : (ℤ → List ℕ) → Part → List Plain
-part_tokens print (passed_over p) = passed_tokens p
+abbrev pub part_tokens : (ℤ → List ℕ) → Part → List PlainToken
+part_tokens print (passed_over p) = skipped_tokens p
 part_tokens print (version_is v) = map word_of (codes "VERSION" ∷ v ∷ codes ";" ∷ [])
 part_tokens print (divider_is text) = quoted_tokens (codes "DIVIDERCHAR") text
 part_tokens print (brackets_are text) = quoted_tokens (codes "BUSBITCHARS") text
@@ -92,13 +92,13 @@ part_tokens print (components_with_others count ps) = word_of (codes "COMPONENTS
 part_tokens print (blockages_section count bs) = map word_of (codes "BLOCKAGES" ∷ section_words (codes "BLOCKAGES") count (blockage_words print) bs)
 
 -- the parts one after the other, and END DESIGN
-abbrev pub text_tokens : (ℤ → List ℕ) → List Part → List Plain
+abbrev pub text_tokens : (ℤ → List ℕ) → List Part → List PlainToken
 text_tokens print [] = map word_of (codes "END" ∷ codes "DESIGN" ∷ [])
 text_tokens print (p ∷ ps) = part_tokens print p ++ text_tokens print ps
 
 -- a part that can be printed
 abbrev pub IsPrintedPart : Part → Type 0
-IsPrintedPart (passed_over p) = IsPassed p
+IsPrintedPart (passed_over p) = IsSkipped p
 IsPrintedPart (version_is v) = v ≢ codes ";"
 IsPrintedPart (divider_is text) = Unit {0}
 IsPrintedPart (brackets_are text) = Unit {0}
@@ -114,11 +114,11 @@ IsPrintedPart (blockages_section count bs) = (count ≢ codes ";") × All IsPrin
 -- what a part adds: of each statement of the header the first counts, and lists are appended
 abbrev pub with_part : DocParts → Part → DocParts
 with_part d (passed_over p) = d
-with_part d (version_is v) = record d { header = record d.header { version = first_stands d.header.version v } }
-with_part d (divider_is text) = record d { header = record d.header { divider = first_stands d.header.divider text } }
-with_part d (brackets_are text) = record d { header = record d.header { brackets = first_stands d.header.brackets text } }
-with_part d (design_is n) = record d { header = record d.header { design = first_stands d.header.design n } }
-with_part d (units_are n) = record d { header = record d.header { units = first_stands d.header.units n } }
+with_part d (version_is v) = record d { header = record d.header { version = first_counts d.header.version v } }
+with_part d (divider_is text) = record d { header = record d.header { divider = first_counts d.header.divider text } }
+with_part d (brackets_are text) = record d { header = record d.header { brackets = first_counts d.header.brackets text } }
+with_part d (design_is n) = record d { header = record d.header { design = first_counts d.header.design n } }
+with_part d (units_are n) = record d { header = record d.header { units = first_counts d.header.units n } }
 with_part d (one_row r) = record d { rows = d.rows ++ r ∷ [] }
 with_part d (regions_section count rs) = record d { regions = d.regions ++ rs }
 with_part d (groups_section count gs) = record d { groups = d.groups ++ gs }
@@ -148,34 +148,34 @@ printed_document parts = document_with (with_parts no_parts parts)
 -- Reading them back.
 
 -- the first tokens of the text are these, with any white space and comments between them and anything after
-abbrev pub BeginsWith : List ℕ → List Plain → Type 0
-BeginsWith text tokens = (rest : List Plain) × (map plain (tokens_of text).tokens ≡ tokens ++ rest)
+abbrev pub BeginsWith : List ℕ → List PlainToken → Type 0
+BeginsWith text tokens = (rest : List PlainToken) × (map plain (tokens_of text).tokens ≡ tokens ++ rest)
 
 -- the text says this, but for the offsets of its components
-abbrev pub SaysPlacesApart : List ℕ → Document → Type 0
-SaysPlacesApart text d = (read : List Component) × (document_of text ≡ Ok (record d { components = read }))
+abbrev pub ReadsApartFromOffsets : List ℕ → Document → Type 0
+ReadsApartFromOffsets text d = (read : List Component) × (document_of text ≡ Ok (record d { components = read }))
     × (map without_places read ≡ map without_places d.components)
 
 -- Any text that begins with these parts, DESIGN among them, and END DESIGN says what they say.
 abbrev pub PartsReadBack : (ℤ → List ℕ) → List Part → Type 0
 PartsReadBack print parts = All IsPrintedPart parts → IsSome (with_parts no_parts parts).header.design → (text : List ℕ)
-    → BeginsWith text (text_tokens print parts) → SaysPlacesApart text (printed_document parts)
+    → BeginsWith text (text_tokens print parts) → ReadsApartFromOffsets text (printed_document parts)
 
 -- a design of that name, and nothing else
 abbrev pub design_named : List ℕ → Document
 design_named n = record { header = header_of (record no_header { design = Some n }); rows = []; regions = []; groups = []; components = []; blockages = [] }
 
 -- DESIGN, with skipped statements before and after it, and then these parts
-abbrev pub behind_passed : List Passed → List ℕ → List Passed → List Part → List Part
-behind_passed before n between parts = map passed_over before ++ design_is n ∷ (map passed_over between ++ parts)
+abbrev pub after_skipped : List Skipped → List ℕ → List Skipped → List Part → List Part
+after_skipped before n between parts = map passed_over before ++ design_is n ∷ (map passed_over between ++ parts)
 
 -- After any skipped statements, and with anything after END DESIGN, these parts say this of the design.
 abbrev pub ReadsBackInTexts : (ℤ → List ℕ) → List Part → (Document → Document) → Type 0
-ReadsBackInTexts print parts said = (before between : List Passed) (n : List ℕ) → All IsPassed before → All IsPassed between → IsWord n
-    → (text : List ℕ) → BeginsWith text (text_tokens print (behind_passed before n between parts)) → document_of text ≡ Ok (said (design_named n))
+ReadsBackInTexts print parts said = (before between : List Skipped) (n : List ℕ) → All IsSkipped before → All IsSkipped between → IsWord n
+    → (text : List ℕ) → BeginsWith text (text_tokens print (after_skipped before n between parts)) → document_of text ≡ Ok (said (design_named n))
 
 -- the same for components, but for their offsets
 abbrev pub ComponentsReadBackInTexts : (ℤ → List ℕ) → List ℕ → List Component → Type 0
-ComponentsReadBackInTexts print count cs = (before between : List Passed) (n : List ℕ) → All IsPassed before → All IsPassed between → IsWord n
-    → (text : List ℕ) → BeginsWith text (text_tokens print (behind_passed before n between (components_section count cs ∷ [])))
-    → SaysPlacesApart text (record (design_named n) { components = cs })
+ComponentsReadBackInTexts print count cs = (before between : List Skipped) (n : List ℕ) → All IsSkipped before → All IsSkipped between → IsWord n
+    → (text : List ℕ) → BeginsWith text (text_tokens print (after_skipped before n between (components_section count cs ∷ [])))
+    → ReadsApartFromOffsets text (record (design_named n) { components = cs })

@@ -1,7 +1,7 @@
 -- The ranges and bounds of what a DEF text says.
 use Rattle.std.specs.Prelude.{ℕ, ◌≤◌, ◌<◌, length, All, IfSome, ℤ, pos, negsuc, ◌≤ℤ◌}
-use Rattle.lf_units.specs.declared.area.Point.{Point}
-use Rattle.lf_units.specs.declared.area.Rect.{Rect}
+use Rattle.lf_units.specs.declared.geometry.Point.{Point}
+use Rattle.lf_units.specs.declared.geometry.Rect.{Rect}
 use Rattle.lf_lex.specs.Reading.{IsName}
 use Rattle.lf_def.specs.declared.header.Header.{Header}
 use Rattle.lf_def.specs.declared.rows.Row.{Row}
@@ -10,9 +10,9 @@ use Rattle.lf_def.specs.declared.groups.Group.{Group}
 use Rattle.lf_def.specs.declared.groups.GroupParts.{GroupParts}
 use Rattle.lf_def.specs.declared.components.Component.{Component}
 use Rattle.lf_def.specs.declared.components.Location.{Location}
-use Rattle.lf_def.specs.declared.components.Placement.{Placement}
+use Rattle.lf_def.specs.declared.components.PlacementClause.{PlacementClause}
 use Rattle.lf_def.specs.declared.blockages.Blockage.{Blockage}
-use Rattle.lf_def.specs.declared.parts.DocParts.{DocParts}
+use Rattle.lf_def.specs.declared.doc_parts.DocParts.{DocParts}
 
 -- a coordinate is from -2147483647 to 2147483647
 pub record IsCoordinate (x : ℤ) : Type 0 where
@@ -65,7 +65,7 @@ pub record IsGroup (g : Group) : Type 0 where
 abbrev pub IsLocation : Location → Type 0
 IsLocation p = IsCoordinate p.x × IsCoordinate p.y
 
-abbrev pub IsPlacement : Placement → Type 0
+abbrev pub IsPlacement : PlacementClause → Type 0
 IsPlacement p = IfSome p.place (λ q. IsLocation q)
 
 pub record IsComponent (c : Component) : Type 0 where

@@ -1,12 +1,12 @@
 -- DEF REGIONS: - name pt pt {pt pt} {+ clause} ;
 use Rattle.std.specs.Prelude.{List, [], ◌∷◌, ◌++◌, None, Result, Ok, codes, if◌then◌else◌}
-use Rattle.lf_units.specs.declared.area.Rect.{Rect}
+use Rattle.lf_units.specs.declared.geometry.Rect.{Rect}
 use Rattle.lf_lex.specs.declared.fault.FaultNumber.TheVariants.{Unexpected}
 use Rattle.lf_lex.specs.declared.fault.ReadFault.{ReadFault}
 use Rattle.lf_lex.specs.Tokens.{Lexeme}
-use Rattle.lf_lex.specs.Reading.{◌>>=◌, Reader, Statement, Turn, taken, goes_on, ends, fault_at, token, name, is, block, first_stands}
-use Rattle.lf_def.specs.declared.entries.Due.{Due}
-use Rattle.lf_def.specs.declared.entries.Due.TheVariants.{Item, Keyword, Rest, Separator}
+use Rattle.lf_lex.specs.Reading.{◌>>=◌, Reader, Statement, Turn, taken, continues, finishes, fault_at, token, name, is, block, first_counts}
+use Rattle.lf_def.specs.declared.section.Due.{Due}
+use Rattle.lf_def.specs.declared.section.Due.TheVariants.{Item, Keyword, Rest, Separator}
 use Rattle.lf_def.specs.declared.regions.Region.{Region}
 use Rattle.lf_def.specs.declared.regions.RegionKind.{RegionKind}
 use Rattle.lf_def.specs.declared.regions.RegionKind.TheVariants.{Fence, Guide}
@@ -22,27 +22,27 @@ kind_of t = if is (codes "FENCE") t then Ok Fence else if is (codes "GUIDE") t t
 unfoldable pub with_rect : RegionParts → Reader (Turn RegionParts)
 with_rect parts l = do
   r ← rect_rest l
-  goes_on (record parts { rects = parts.rects ++ r.value ∷ [] }) r.rest
+  continues (record parts { rects = parts.rects ++ r.value ∷ [] }) r.rest
 
 -- TYPE FENCE or TYPE GUIDE after its word: the first counts
 unfoldable pub with_kind : RegionParts → Reader (Turn RegionParts)
 with_kind parts l = do
   t ← token l
   kind ← kind_of t.value
-  goes_on (record parts { kind = first_stands parts.kind kind; due = Separator }) t.rest
+  continues (record parts { kind = first_counts parts.kind kind; due = Separator }) t.rest
 
 -- a token of a region that is no separator: rectangles come first, TYPE is read, and other clauses are skipped
 unfoldable pub region_part : Due → RegionParts → Lexeme → Reader (Turn RegionParts)
 region_part Item parts t l = if is (codes "(") t then with_rect parts l else fault_at Unexpected t.line
-region_part Keyword parts t l = if is (codes "TYPE") t then with_kind parts l else goes_on (record parts { due = Rest }) l
-region_part Rest parts t l = goes_on parts l
+region_part Keyword parts t l = if is (codes "TYPE") t then with_kind parts l else continues (record parts { due = Rest }) l
+region_part Rest parts t l = continues parts l
 region_part Separator parts t l = fault_at Unexpected t.line
 
 -- a token of a region and what it takes with it: a semicolon is the last, and a plus begins a clause
 unfoldable pub region_from : RegionParts → Lexeme → Reader (Turn RegionParts)
 region_from parts t l =
-    if is (codes ";") t then ends parts l
-    else if is (codes "+") t then goes_on (record parts { due = Keyword }) l
+    if is (codes ";") t then finishes parts l
+    else if is (codes "+") t then continues (record parts { due = Keyword }) l
     else region_part parts.due parts t l
 
 unfoldable pub region_token : Statement RegionParts

@@ -1,6 +1,6 @@
 -- DEF ROW: ROW name site x y orient [DO numX BY numY [STEP sx sy]] [+ ..] ;
 use Rattle.std.specs.Prelude.{List, [], ◌∷◌, ◌++◌, Option, Some, None, codes, if◌then◌else◌}
-use Rattle.lf_units.specs.declared.area.Point.{Point}
+use Rattle.lf_units.specs.declared.geometry.Point.{Point}
 use Rattle.lf_lex.specs.declared.fault.FaultNumber.TheVariants.{Unexpected}
 use Rattle.lf_lex.specs.Tokens.{Lexeme}
 use Rattle.lf_lex.specs.Reading.{◌>>=◌, Reader, taken, fault_at, token, name, is, keyword, to_semicolon}

@@ -2,7 +2,7 @@
 use Rattle.std.specs.Prelude.{ℕ, ℤ, ◌<◌, List, Option, Some, None}
 use Rattle.lf_orient.specs.declared.Orient.{Orient}
 use Rattle.lf_def.specs.declared.components.Location.{Location}
-use Rattle.lf_def.specs.declared.components.Placement.{Placement}
+use Rattle.lf_def.specs.declared.components.PlacementClause.{PlacementClause}
 use Rattle.lf_def.specs.declared.components.PlacementKind.{PlacementKind}
 use Rattle.lf_def.specs.declared.offsets.Offsets.{Offsets}
 use Rattle.lf_def.specs.declared.offsets.Kept.{Kept}
@@ -19,7 +19,7 @@ pub record ComponentWords : Type 0 where
 pub record ComponentFacts : Type 0 where
   pub name : List ℕ
   pub mac : List ℕ
-  pub placement : Option Placement
+  pub placement : Option PlacementClause
   pub semicolon : ℕ
 
 -- the place at these coordinates, if there is an orientation
@@ -28,12 +28,12 @@ place_from x y None = None
 place_from x y (Some orient) = Some (record { x = x; y = y; orient = orient })
 
 -- the placement clause with this place and these offsets, if there is one
-abbrev pub placement_from : Option PlacementKind → Option Location → ℕ → ℕ → Option Placement
+abbrev pub placement_from : Option PlacementKind → Option Location → ℕ → ℕ → Option PlacementClause
 placement_from None place start stop = None
 placement_from (Some kind) place start stop = Some (record { kind = kind; place = place; start = start; stop = stop })
 
 -- the kind of a placement clause, if there is one
-abbrev pub kind_of : Option Placement → Option PlacementKind
+abbrev pub kind_of : Option PlacementClause → Option PlacementKind
 kind_of None = None
 kind_of (Some clause) = Some clause.kind
 

@@ -7,10 +7,10 @@ ghost use Rattle.lf_def.specs.Blockages as grammar;
 ghost use Rattle.lf_def.specs.Ranges.{IsRect, IsBlockage};
 
 use crate::coordinates::rect;
-use crate::entries::Due;
+use crate::section::Due;
 use lf_lex::{
-    Block, FaultNumber, Lexer, ReadError, Token, end_name, fault_at, is, read_block, to_semicolon,
-    token,
+    Block, FaultNumber, Lexer, ReadError, Token, end_name, fault_at, is_token, read_block,
+    skip_to_semicolon, token,
 };
 use lf_units::{Rect, Sequence};
 use std::alloc::Global;
@@ -54,8 +54,8 @@ fn note(parts: &mut BlockageParts, word: &Token)
     ensures parts { parts.new ≡ grammar.noted parts.old (lexeme word.now) }
     ensures rects { All IsRect parts.new.rects }
 {
-    parts.soft = parts.soft || is(b"SOFT", word);
-    parts.partial = parts.partial || is(b"PARTIAL", word);
+    parts.soft = parts.soft || is_token(b"SOFT", word);
+    parts.partial = parts.partial || is_token(b"PARTIAL", word);
     parts.due = Due::Rest;
 }
 
@@ -76,14 +76,14 @@ fn blockage_part(
             Ok(true)
         }
         Due::Rest => {
-            if is(b"RECT", token) {
+            if is_token(b"RECT", token) {
                 with_rect(lexer, parts)
             } else {
                 Ok(true)
             }
         }
         Due::Item | Due::Separator => {
-            if is(b"RECT", token) {
+            if is_token(b"RECT", token) {
                 with_rect(lexer, parts)
             } else {
                 Err(fault_at(FaultNumber::Unexpected, token.line))
@@ -103,9 +103,9 @@ fn blockage_from(
     ensures read { ReadsOn (turn parts.new) result (grammar.blockage_from parts.old (lexeme token.now)) lexer.old lexer.new }
     ensures rects { All IsRect parts.new.rects }
 {
-    if is(b";", token) {
+    if is_token(b";", token) {
         Ok(false)
-    } else if is(b"+", token) {
+    } else if is_token(b"+", token) {
         parts.due = Due::Keyword;
         Ok(true)
     } else {
@@ -151,11 +151,11 @@ fn read_blockage(alloc: Global, lexer: &mut Lexer) -> Result<Option<Blockage>, R
     ensures range { IfOk result (λ b. IfSome b (λ x. IsBlockage x)) }
 {
     let token = token(lexer)?;
-    if is(b"LAYER", &token) {
-        to_semicolon(lexer)?;
+    if is_token(b"LAYER", &token) {
+        skip_to_semicolon(lexer)?;
         return Ok(None);
     }
-    if !is(b"PLACEMENT", &token) {
+    if !is_token(b"PLACEMENT", &token) {
         return Err(fault_at(FaultNumber::Unexpected, token.line));
     }
     let mut parts = no_blockage(alloc);
@@ -187,13 +187,13 @@ impl Block for BlockageEntries {
         blockages: &mut Sequence<Blockage>,
     ) -> Result<bool, ReadError> {
         let token = token(lexer)?;
-        if is(b"-", &token) {
+        if is_token(b"-", &token) {
             if let Some(blockage) = read_blockage(self.alloc, lexer)? {
                 blockages.push(blockage)?;
             }
             return Ok(true);
         }
-        if is(b"END", &token) {
+        if is_token(b"END", &token) {
             end_name(lexer, b"BLOCKAGES")?;
             return Ok(false);
         }
@@ -212,6 +212,6 @@ pub(crate) fn blockages(
     ensures read { Reads (λ _. blockages.new) result (grammar.blockages blockages.old) lexer.old lexer.new }
     ensures range { All IsBlockage blockages.new }
 {
-    to_semicolon(lexer)?;
+    skip_to_semicolon(lexer)?;
     read_block(lexer, &BlockageEntries { alloc }, blockages)
 }

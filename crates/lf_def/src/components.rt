@@ -8,13 +8,13 @@ ghost use Rattle.lf_def.specs.Components as grammar;
 ghost use Rattle.lf_def.specs.Ranges.{IsCoordinate, IsLocation, IsPlacement, IsComponent};
 ghost use Rattle.lf_def.specs.Stored.{kind_of, placement_from};
 
+use crate::component_words::ComponentNames;
 use crate::coordinates::{orient_of, point_rest};
-use crate::entries::Due;
 use crate::offsets::{Offsets, PackedOffsets};
-use crate::words::Words;
+use crate::section::Due;
 use lf_lex::{
-    Block, FaultNumber, Lexer, ReadError, Token, end_name, fault_at, is, keyword, name, read_block,
-    to_semicolon, token,
+    Block, FaultNumber, Lexer, ReadError, Token, end_name, fault_at, is_token, keyword, name,
+    read_block, skip_to_semicolon, token,
 };
 use lf_orient::Orient;
 use lf_units::Sequence;
@@ -41,7 +41,7 @@ pub struct Location {
 
 /// A placement clause and its offsets.
 #[derive(Clone, Copy, Debug, PartialEq, Eq)]
-pub struct Placement {
+pub struct PlacementClause {
     pub kind: PlacementKind,
     /// The component's place; none for UNPLACED, whose point is ignored.
     pub place: Option<Location>,
@@ -55,7 +55,7 @@ pub struct Placement {
 /// name, its placement clause with the offsets, and the offset of its `;`.
 #[derive(Drop)]
 pub struct Component<'a> {
-    words: Words<'a>,
+    words: ComponentNames<'a>,
     offsets: PackedOffsets,
 }
 
@@ -80,11 +80,11 @@ fn clause_of(
     kind: Option<PlacementKind>,
     place: Option<Location>,
     offsets: &Offsets,
-) -> Option<Placement>
+) -> Option<PlacementClause>
     ensures { result ≡ placement_from kind place offsets.now.start offsets.now.stop }
 {
     match kind {
-        Some(kind) => Some(Placement {
+        Some(kind) => Some(PlacementClause {
             kind,
             place,
             start: offsets.start,
@@ -98,8 +98,8 @@ impl<'a> Component<'a> {
     /// The component of these names, with this placement clause and a `;` at this offset.
     fn new(
         alloc: Global,
-        names: Words<'a>,
-        placement: Option<Placement>,
+        names: ComponentNames<'a>,
+        placement: Option<PlacementClause>,
         semicolon: usize,
     ) -> Result<Self, AllocError>
         requires { names.kind ≡ None }
@@ -153,7 +153,7 @@ impl<'a> Component<'a> {
     }
 
     /// Its placement clause with the offsets; a component without one is unplaced.
-    pub fn placement(&self) -> Option<Placement>
+    pub fn placement(&self) -> Option<PlacementClause>
         ensures { result ≡ self.now.placement }
     {
         let offsets = self.offsets.get();
@@ -171,7 +171,7 @@ impl<'a> Component<'a> {
 /// What was read of a component so far.
 #[derive(Clone, Copy, Debug, PartialEq, Eq)]
 pub struct ComponentParts {
-    pub placement: Option<Placement>,
+    pub placement: Option<PlacementClause>,
     pub due: Due,
     /// Whether the point of UNPLACED may follow here.
     pub point: bool,
@@ -183,7 +183,7 @@ pub struct ComponentParts {
 
 /// A location, and the offset at which its orientation ends.
 #[derive(Clone, Copy, Debug, PartialEq, Eq)]
-pub struct Located {
+pub struct LocatedPlace {
     pub location: Location,
     pub stop: usize,
 }
@@ -198,7 +198,7 @@ fn narrow(x: i64) -> i32
 
 /// `x y ) orient` after the first parenthesis.
 #[tactic(auto, unfolding(crate::specs::Components::located_rest))]
-fn located_rest(lexer: &mut Lexer) -> Result<Located, ReadError>
+fn located_rest(lexer: &mut Lexer) -> Result<LocatedPlace, ReadError>
     ensures read { Reads (λ p. p) result grammar.located_rest lexer.old lexer.new }
     ensures range { IfOk result (λ p. IsLocation p.location) }
 {
@@ -210,7 +210,7 @@ fn located_rest(lexer: &mut Lexer) -> Result<Located, ReadError>
         y: narrow(point.y),
         orient,
     };
-    Ok(Located {
+    Ok(LocatedPlace {
         location,
         stop: token.stop,
     })
@@ -218,13 +218,13 @@ fn located_rest(lexer: &mut Lexer) -> Result<Located, ReadError>
 
 /// `( x y ) orient` after FIXED, COVER or PLACED.
 #[tactic(auto, unfolding(crate::specs::Components::placed))]
-fn placed(lexer: &mut Lexer, kind: PlacementKind, plus: usize) -> Result<Placement, ReadError>
+fn placed(lexer: &mut Lexer, kind: PlacementKind, plus: usize) -> Result<PlacementClause, ReadError>
     ensures read { Reads (λ p. p) result (grammar.placed kind plus) lexer.old lexer.new }
     ensures range { IfOk result (λ p. IsPlacement p) }
 {
     keyword(lexer, b"(")?;
     let located = located_rest(lexer)?;
-    Ok(Placement {
+    Ok(PlacementClause {
         kind,
         place: Some(located.location),
         start: plus,
@@ -236,23 +236,30 @@ fn placed(lexer: &mut Lexer, kind: PlacementKind, plus: usize) -> Result<Placeme
 fn is_placement_word(token: &Token) -> bool
     ensures { result ≡ grammar.is_placement_word (lexeme token.now) }
 {
-    is(b"FIXED", token) || is(b"COVER", token) || is(b"PLACED", token) || is(b"UNPLACED", token)
+    is_token(b"FIXED", token)
+        || is_token(b"COVER", token)
+        || is_token(b"PLACED", token)
+        || is_token(b"UNPLACED", token)
 }
 
 /// A placement clause, after its plus and its word.
 #[tactic(auto, unfolding(crate::specs::Components::placement))]
-fn read_placement(lexer: &mut Lexer, plus: usize, word: &Token) -> Result<Placement, ReadError>
+fn read_placement(
+    lexer: &mut Lexer,
+    plus: usize,
+    word: &Token,
+) -> Result<PlacementClause, ReadError>
     ensures read { ReadsOn (λ p. p) result (grammar.placement plus (lexeme word.now)) lexer.old lexer.new }
     ensures range { IfOk result (λ p. IsPlacement p) }
 {
-    if is(b"FIXED", word) {
+    if is_token(b"FIXED", word) {
         placed(lexer, PlacementKind::Fixed, plus)
-    } else if is(b"COVER", word) {
+    } else if is_token(b"COVER", word) {
         placed(lexer, PlacementKind::Cover, plus)
-    } else if is(b"PLACED", word) {
+    } else if is_token(b"PLACED", word) {
         placed(lexer, PlacementKind::Placed, plus)
     } else {
-        Ok(Placement {
+        Ok(PlacementClause {
             kind: PlacementKind::Unplaced,
             place: None,
             start: plus,
@@ -265,10 +272,10 @@ fn read_placement(lexer: &mut Lexer, plus: usize, word: &Token) -> Result<Placem
 #[tactic(auto, unfolding(crate::specs::Components::only_placement))]
 fn only_placement(
     lexer: &mut Lexer,
-    first: Option<Placement>,
+    first: Option<PlacementClause>,
     plus: usize,
     word: &Token,
-) -> Result<Placement, ReadError>
+) -> Result<PlacementClause, ReadError>
     ensures read { ReadsOn (λ p. p) result (grammar.only_placement first plus (lexeme word.now)) lexer.old lexer.new }
     ensures range { IfOk result (λ p. IsPlacement p) }
 {
@@ -289,7 +296,7 @@ fn clause(lexer: &mut Lexer, parts: &mut ComponentParts, word: &Token) -> Result
         let placement = only_placement(lexer, parts.placement, parts.plus, word)?;
         parts.placement = Some(placement);
         parts.due = Due::Separator;
-        parts.point = is(b"UNPLACED", word);
+        parts.point = is_token(b"UNPLACED", word);
     } else {
         parts.due = Due::Rest;
     }
@@ -327,7 +334,7 @@ fn component_part(
         Due::Keyword => clause(lexer, parts, token),
         Due::Rest => Ok(true),
         Due::Separator => {
-            if parts.point && is(b"(", token) {
+            if parts.point && is_token(b"(", token) {
                 unplaced_point(lexer, parts)
             } else {
                 Err(fault_at(FaultNumber::Unexpected, token.line))
@@ -347,10 +354,10 @@ fn component_from(
     ensures read { ReadsOn (turn parts.new) result (grammar.component_from parts.old (lexeme token.now)) lexer.old lexer.new }
     ensures range { IfSome parts.new.placement (λ p. IsPlacement p) }
 {
-    if is(b";", token) {
+    if is_token(b";", token) {
         parts.semicolon = token.start;
         Ok(false)
-    } else if is(b"+", token) {
+    } else if is_token(b"+", token) {
         parts.due = Due::Keyword;
         parts.plus = token.start;
         Ok(true)
@@ -401,7 +408,7 @@ fn read_component<'a>(alloc: Global, lexer: &mut Lexer<'a>) -> Result<Component<
     let mac = name(lexer)?;
     let mut parts = no_component();
     read_block(lexer, &ComponentTokens, &mut parts)?;
-    let names = Words::new(text, &component, &mac);
+    let names = ComponentNames::new(text, &component, &mac);
     Ok(Component::new(alloc, names, parts.placement, parts.semicolon)?)
 }
 
@@ -417,12 +424,12 @@ fn component_or_end<'a>(
     ensures range { All IsComponent components.new }
 {
     let token = token(lexer)?;
-    if is(b"-", &token) {
+    if is_token(b"-", &token) {
         let component = read_component(alloc, lexer)?;
         components.push(component)?;
         return Ok(true);
     }
-    if is(b"END", &token) {
+    if is_token(b"END", &token) {
         end_name(lexer, b"COMPONENTS")?;
         return Ok(false);
     }
@@ -454,6 +461,6 @@ pub(crate) fn components<'a>(
     ensures read { Reads (λ _. components.new) result (grammar.components components.old) lexer.old lexer.new }
     ensures range { All IsComponent components.new }
 {
-    to_semicolon(lexer)?;
+    skip_to_semicolon(lexer)?;
     component_entries(alloc, lexer, components)
 }

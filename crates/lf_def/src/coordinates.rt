@@ -7,7 +7,7 @@ ghost use Rattle.lf_lex.specs.Reading.{Reads, Fails};
 ghost use Rattle.lf_def.specs.Coordinates as grammar;
 ghost use Rattle.lf_def.specs.Ranges.{IsCoordinate, HasCoordinates, IsCount, IsRect};
 
-use lf_lex::{FaultNumber, Lexer, ReadError, Token, fault_at, is, keyword, token};
+use lf_lex::{FaultNumber, Lexer, ReadError, Token, fault_at, is_token, keyword, token};
 use lf_orient::Orient;
 use lf_units::{Point, Rect, Span, read_fixed};
 
@@ -133,21 +133,21 @@ pub(crate) fn rect(lexer: &mut Lexer) -> Result<Rect, ReadError>
 pub(crate) fn orient_of(token: &Token) -> Result<Orient, ReadError>
     ensures { MatchResult result (λ o. grammar.orient_of (lexeme token.now) ≡ Ok o) (λ e. Fails e (grammar.orient_of (lexeme token.now))) }
 {
-    if is(b"N", token) {
+    if is_token(b"N", token) {
         Ok(Orient::N)
-    } else if is(b"W", token) {
+    } else if is_token(b"W", token) {
         Ok(Orient::W)
-    } else if is(b"S", token) {
+    } else if is_token(b"S", token) {
         Ok(Orient::S)
-    } else if is(b"E", token) {
+    } else if is_token(b"E", token) {
         Ok(Orient::E)
-    } else if is(b"FN", token) {
+    } else if is_token(b"FN", token) {
         Ok(Orient::FN)
-    } else if is(b"FW", token) {
+    } else if is_token(b"FW", token) {
         Ok(Orient::FW)
-    } else if is(b"FS", token) {
+    } else if is_token(b"FS", token) {
         Ok(Orient::FS)
-    } else if is(b"FE", token) {
+    } else if is_token(b"FE", token) {
         Ok(Orient::FE)
     } else {
         Err(fault_at(FaultNumber::Unexpected, token.line))

@@ -6,8 +6,10 @@ ghost use Rattle.lf_lex.specs.Reading.{Reads, ReadsOn, IsName, turn};
 ghost use Rattle.lf_def.specs.Groups as grammar;
 ghost use Rattle.lf_def.specs.Ranges.{IsGroup, AreGroupParts};
 
-use crate::entries::{Due, Entry, check_name, keep_first, section};
-use lf_lex::{Block, FaultNumber, Lexer, ReadError, Token, fault_at, is, name, read_block, token};
+use crate::section::{Due, Entry, check_name, keep_first, section};
+use lf_lex::{
+    Block, FaultNumber, Lexer, ReadError, Token, fault_at, is_token, name, read_block, token,
+};
 use lf_units::{Name, Sequence};
 use std::alloc::Global;
 
@@ -57,7 +59,7 @@ fn with_region(alloc: Global, lexer: &mut Lexer, parts: &mut GroupParts) -> Resu
     ensures names { AreGroupParts parts.new }
 {
     let region = name(lexer)?;
-    if is(b"(", &region) {
+    if is_token(b"(", &region) {
         return Err(fault_at(FaultNumber::Unexpected, region.line));
     }
     keep_first(alloc, &mut parts.region, region.text)?;
@@ -81,7 +83,7 @@ fn group_part(
     match parts.due {
         Due::Item => with_pattern(alloc, lexer, parts, token),
         Due::Keyword => {
-            if is(b"REGION", token) {
+            if is_token(b"REGION", token) {
                 with_region(alloc, lexer, parts)
             } else {
                 parts.due = Due::Rest;
@@ -106,9 +108,9 @@ fn group_from(
     ensures read { ReadsOn (turn parts.new) result (grammar.group_from parts.old (lexeme token.now)) lexer.old lexer.new }
     ensures names { AreGroupParts parts.new }
 {
-    if is(b";", token) {
+    if is_token(b";", token) {
         Ok(false)
-    } else if is(b"+", token) {
+    } else if is_token(b"+", token) {
         parts.due = Due::Keyword;
         Ok(true)
     } else {

@@ -7,9 +7,10 @@ ghost use Rattle.lf_def.specs.Header as grammar;
 ghost use Rattle.lf_def.specs.Ranges.{IsCount, IsHeader};
 
 use crate::coordinates::count;
-use crate::entries::keep_first;
+use crate::section::keep_first;
 use lf_lex::{
-    FaultNumber, Lexer, ReadError, Token, fault_at, is, is_any_word, keyword, name, token, word,
+    FaultNumber, Lexer, ReadError, Token, fault_at, is_any_word, is_token, keyword, name, token,
+    word,
 };
 use lf_units::Name;
 use std::alloc::{AllocError, Global};
@@ -90,11 +91,11 @@ fn units(lexer: &mut Lexer) -> Result<u32, ReadError>
 pub(crate) fn is_header(token: &Token) -> bool
     ensures { result ≡ grammar.is_header (lexeme token.now) }
 {
-    is(b"VERSION", token)
-        || is(b"DIVIDERCHAR", token)
-        || is(b"BUSBITCHARS", token)
-        || is(b"DESIGN", token)
-        || is(b"UNITS", token)
+    is_token(b"VERSION", token)
+        || is_token(b"DIVIDERCHAR", token)
+        || is_token(b"BUSBITCHARS", token)
+        || is_token(b"DESIGN", token)
+        || is_token(b"UNITS", token)
 }
 
 /// A statement of the header, after its keyword.
@@ -111,16 +112,16 @@ pub(crate) fn header_statement(
     ensures design { IfSome parts.new.design (λ n. IsName n) }
     ensures units { IfSome parts.new.units (λ n. IsCount 20000 n) }
 {
-    if is(b"VERSION", token) {
+    if is_token(b"VERSION", token) {
         let version = version(lexer)?;
         keep_first(alloc, &mut parts.version, version)?;
-    } else if is(b"DIVIDERCHAR", token) {
+    } else if is_token(b"DIVIDERCHAR", token) {
         let divider = quoted(lexer)?;
         keep_first(alloc, &mut parts.divider, divider)?;
-    } else if is(b"BUSBITCHARS", token) {
+    } else if is_token(b"BUSBITCHARS", token) {
         let brackets = quoted(lexer)?;
         keep_first(alloc, &mut parts.brackets, brackets)?;
-    } else if is(b"DESIGN", token) {
+    } else if is_token(b"DESIGN", token) {
         let design = design(lexer)?;
         keep_first(alloc, &mut parts.design, design)?;
     } else {

@@ -25,7 +25,7 @@ ghost use Rattle.lf_def.specs.PrintedComponents.{PrintedComponent, IsPrintedEntr
 ghost use Rattle.lf_def.specs.PrintedComponents.{entry_tokens, components_tokens, EntryReadsBack, EntriesReadBack};
 ghost use Rattle.lf_def.specs.PrintedTexts.{Part, one_row, regions_section, groups_section, blockages_section, BeginsWith};
 ghost use Rattle.lf_def.specs.PrintedTexts.{PartsReadBack, ReadsBackInTexts, ComponentsReadBackInTexts};
-ghost use Rattle.lf_def.specs.Laws.{ComponentReadsAlike, SaysTheSame, EndsBefore, ComponentsStand, ComponentsRise};
+ghost use Rattle.lf_def.specs.Laws.{ComponentReadsAlike, ReadsTheSame, EndsBefore, ComponentsHaveClauses, ComponentsRise};
 
 /// Each statement, entry and token after which more follow takes a token, so every block reaches its end or a fault.
 pub fn statements_take_tokens()
@@ -52,7 +52,7 @@ pub fn statements_read_alike()
 
 /// Texts that differ in white space and comments alone say the same, but for the offsets of components.
 pub fn the_same_tokens_say_the_same()
-    ensures { (a b : List ℕ) → SaysTheSame a b }
+    ensures { (a b : List ℕ) → ReadsTheSame a b }
 {}
 
 /// What follows END DESIGN is ignored: if reading a text leaves tokens unread, any bytes may replace those from the
@@ -79,7 +79,7 @@ pub fn printed_entries_read_back()
 /// The placement clause of a component extends from the first byte of its `+` to the last byte of its last token: the
 /// orientation, or UNPLACED if no point follows. The offset of its `;` is that of its last token.
 pub fn clauses_stand_in_components()
-    ensures { ComponentsStand }
+    ensures { ComponentsHaveClauses }
 {}
 
 /// The components of a document are in its text in their order, one after the other: the clause of each before its own

@@ -8,32 +8,33 @@
 //! the offsets, and the offset of its `;`.
 //!
 //! ```
-//! let doc = read_def(Global, W_DEF)?;
+//! let doc = read_def(Global, DEMO_DEF)?;
 //! let first = &doc.components.as_slice()[0];
 //! first.placement(); // None: `- a1 INV + SOURCE DIST ;` has no placement clause
 //! ```
 #![tactic(auto)]
 
 mod blockages;
+mod built_in;
+mod component_words;
 mod components;
 mod coordinates;
+mod doc_parts;
 mod document;
-mod entries;
 mod groups;
 mod header;
 mod kinds;
 mod laws;
 mod offsets;
-mod parts;
+mod read;
 mod regions;
 mod rows;
-mod sample;
+mod section;
 mod statements;
-mod texts;
-mod words;
 
 pub use blockages::Blockage;
-pub use components::{Component, Location, Placement, PlacementKind};
+pub use built_in::DEMO_DEF;
+pub use components::{Component, Location, PlacementClause, PlacementKind};
 pub use document::DefDoc;
 pub use groups::Group;
 pub use header::Header;
@@ -44,7 +45,6 @@ pub use laws::{
     printed_sections_read_back, printed_texts_read_back, printed_words_are_read,
     statements_read_alike, statements_take_tokens, the_same_tokens_say_the_same,
 };
+pub use read::read_def;
 pub use regions::{Region, RegionKind};
 pub use rows::Row;
-pub use sample::W_DEF;
-pub use texts::read_def;

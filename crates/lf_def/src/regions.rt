@@ -8,8 +8,10 @@ ghost use Rattle.lf_def.specs.Regions as grammar;
 ghost use Rattle.lf_def.specs.Ranges.{IsRect, IsRegion};
 
 use crate::coordinates::{rect, rect_rest};
-use crate::entries::{Due, Entry, section};
-use lf_lex::{Block, FaultNumber, Lexer, ReadError, Token, fault_at, is, name, read_block, token};
+use crate::section::{Due, Entry, section};
+use lf_lex::{
+    Block, FaultNumber, Lexer, ReadError, Token, fault_at, is_token, name, read_block, token,
+};
 use lf_units::{Name, Rect, Sequence};
 use std::alloc::Global;
 
@@ -45,9 +47,9 @@ pub struct RegionParts {
 fn kind_of(token: &Token) -> Result<RegionKind, ReadError>
     ensures { MatchResult result (λ k. grammar.kind_of (lexeme token.now) ≡ Ok k) (λ e. Fails e (grammar.kind_of (lexeme token.now))) }
 {
-    if is(b"FENCE", token) {
+    if is_token(b"FENCE", token) {
         Ok(RegionKind::Fence)
-    } else if is(b"GUIDE", token) {
+    } else if is_token(b"GUIDE", token) {
         Ok(RegionKind::Guide)
     } else {
         Err(fault_at(FaultNumber::Unexpected, token.line))
@@ -95,14 +97,14 @@ fn region_part(lexer: &mut Lexer, parts: &mut RegionParts, token: &Token) -> Res
 {
     match parts.due {
         Due::Item => {
-            if is(b"(", token) {
+            if is_token(b"(", token) {
                 with_rect(lexer, parts)
             } else {
                 Err(fault_at(FaultNumber::Unexpected, token.line))
             }
         }
         Due::Keyword => {
-            if is(b"TYPE", token) {
+            if is_token(b"TYPE", token) {
                 with_kind(lexer, parts)
             } else {
                 parts.due = Due::Rest;
@@ -123,9 +125,9 @@ fn region_from(lexer: &mut Lexer, parts: &mut RegionParts, token: &Token) -> Res
     ensures rects { All IsRect parts.new.rects }
     ensures some { 0 < length parts.new.rects }
 {
-    if is(b";", token) {
+    if is_token(b";", token) {
         Ok(false)
-    } else if is(b"+", token) {
+    } else if is_token(b"+", token) {
         parts.due = Due::Keyword;
         Ok(true)
     } else {

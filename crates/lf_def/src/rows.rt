@@ -8,7 +8,8 @@ ghost use Rattle.lf_def.specs.Ranges.{HasCoordinates, IsCount, IsRow};
 
 use crate::coordinates::{count, dbu, orient_of};
 use lf_lex::{
-    FaultNumber, Lexer, ReadError, Token, fault_at, is, keyword, name, to_semicolon, token,
+    FaultNumber, Lexer, ReadError, Token, fault_at, is_token, keyword, name, skip_to_semicolon,
+    token,
 };
 use lf_orient::Orient;
 use lf_units::{Name, Point};
@@ -45,10 +46,10 @@ pub struct Sites {
 fn row_end(lexer: &mut Lexer, token: &Token) -> Result<(), ReadError>
     ensures { ReadsOn (λ x. x) result (grammar.row_end (lexeme token.now)) lexer.old lexer.new }
 {
-    if is(b";", token) {
+    if is_token(b";", token) {
         Ok(())
-    } else if is(b"+", token) {
-        to_semicolon(lexer)
+    } else if is_token(b"+", token) {
+        skip_to_semicolon(lexer)
     } else {
         Err(fault_at(FaultNumber::Unexpected, token.line))
     }
@@ -60,7 +61,7 @@ fn step(lexer: &mut Lexer, first: &Token) -> Result<Option<Point>, ReadError>
     ensures read { ReadsOn (λ s. s) result (grammar.step (lexeme first.now)) lexer.old lexer.new }
     ensures range { IfOk result (λ s. IfSome s (λ p. HasCoordinates p)) }
 {
-    if is(b"STEP", first) {
+    if is_token(b"STEP", first) {
         let x = dbu(lexer)?;
         let y = dbu(lexer)?;
         let token = token(lexer)?;
@@ -96,7 +97,7 @@ fn sites_from(lexer: &mut Lexer, token: &Token) -> Result<Sites, ReadError>
     ensures y { IfOk result (λ s. IsCount 2147483647 s.y) }
     ensures step { IfOk result (λ s. IfSome s.step (λ p. HasCoordinates p)) }
 {
-    if is(b"DO", token) {
+    if is_token(b"DO", token) {
         read_sites(lexer)
     } else {
         row_end(lexer, token)?;

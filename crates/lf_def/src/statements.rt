@@ -9,59 +9,59 @@ ghost use Rattle.lf_def.specs.Ranges.{AreParts, IsRow};
 
 use crate::blockages::blockages;
 use crate::components::components;
+use crate::doc_parts::DocParts;
 use crate::groups::groups;
 use crate::header::{header_statement, is_header, no_header};
-use crate::parts::DocParts;
 use crate::regions::regions;
 use crate::rows::{Row, read_row};
 use lf_lex::{
-    FaultNumber, Lexer, ReadError, Token, fault_at, is, is_any_word, to_end, to_semicolon, to_word,
-    token,
+    FaultNumber, Lexer, ReadError, Token, fault_at, is_any_word, is_token, skip_to_end,
+    skip_to_semicolon, skip_to_word, token,
 };
 use lf_units::Sequence;
 use std::alloc::Global;
 
 /// Whether the token begins a section that is skipped to END and its keyword.
-fn is_passed_section(token: &Token) -> bool
-    ensures { result ≡ grammar.is_passed_section (lexeme token.now) }
+fn is_skipped_section(token: &Token) -> bool
+    ensures { result ≡ grammar.is_skipped_section (lexeme token.now) }
 {
-    is(b"PROPERTYDEFINITIONS", token)
-        || is(b"VIAS", token)
-        || is(b"STYLES", token)
-        || is(b"NONDEFAULTRULES", token)
-        || is(b"PINS", token)
-        || is(b"PINPROPERTIES", token)
-        || is(b"SLOTS", token)
-        || is(b"FILLS", token)
-        || is(b"SPECIALNETS", token)
-        || is(b"NETS", token)
-        || is(b"SCANCHAINS", token)
+    is_token(b"PROPERTYDEFINITIONS", token)
+        || is_token(b"VIAS", token)
+        || is_token(b"STYLES", token)
+        || is_token(b"NONDEFAULTRULES", token)
+        || is_token(b"PINS", token)
+        || is_token(b"PINPROPERTIES", token)
+        || is_token(b"SLOTS", token)
+        || is_token(b"FILLS", token)
+        || is_token(b"SPECIALNETS", token)
+        || is_token(b"NETS", token)
+        || is_token(b"SCANCHAINS", token)
 }
 
 /// Whether the token begins a statement that is skipped to its semicolon.
-fn is_passed_statement(token: &Token) -> bool
-    ensures { result ≡ grammar.is_passed_statement (lexeme token.now) }
+fn is_skipped_statement(token: &Token) -> bool
+    ensures { result ≡ grammar.is_skipped_statement (lexeme token.now) }
 {
-    is(b"TRACKS", token)
-        || is(b"GCELLGRID", token)
-        || is(b"HISTORY", token)
-        || is(b"TECHNOLOGY", token)
-        || is(b"DIEAREA", token)
-        || is(b"COMPONENTMASKSHIFT", token)
-        || is(b"NAMESCASESENSITIVE", token)
+    is_token(b"TRACKS", token)
+        || is_token(b"GCELLGRID", token)
+        || is_token(b"HISTORY", token)
+        || is_token(b"TECHNOLOGY", token)
+        || is_token(b"DIEAREA", token)
+        || is_token(b"COMPONENTMASKSHIFT", token)
+        || is_token(b"NAMESCASESENSITIVE", token)
 }
 
 /// A statement that is skipped, after its first token.
 #[tactic(auto, unfolding(crate::specs::Document::passed_from))]
-fn passed_from(lexer: &mut Lexer, token: &Token) -> Result<(), ReadError>
+fn skip_from(lexer: &mut Lexer, token: &Token) -> Result<(), ReadError>
     ensures { ReadsOn (λ x. x) result (grammar.passed_from (lexeme token.now)) lexer.old lexer.new }
 {
-    if is_passed_section(token) {
-        to_end(lexer, token.text)
-    } else if is(b"BEGINEXT", token) {
-        to_word(lexer, b"ENDEXT")
-    } else if is_passed_statement(token) {
-        to_semicolon(lexer)
+    if is_skipped_section(token) {
+        skip_to_end(lexer, token.text)
+    } else if is_token(b"BEGINEXT", token) {
+        skip_to_word(lexer, b"ENDEXT")
+    } else if is_skipped_statement(token) {
+        skip_to_semicolon(lexer)
     } else if is_any_word(token) {
         Err(fault_at(FaultNumber::UnknownStatement, token.line))
     } else {
@@ -78,7 +78,7 @@ fn end_design(lexer: &mut Lexer, parts: &DocParts) -> Result<(), ReadError>
     if !is_any_word(&token) {
         return Err(fault_at(FaultNumber::Unexpected, token.line));
     }
-    if !is(b"DESIGN", &token) {
+    if !is_token(b"DESIGN", &token) {
         return Err(fault_at(FaultNumber::WrongEnd, token.line));
     }
     if parts.header.design.is_some() {
@@ -112,18 +112,18 @@ fn body_statement<'a>(
     ensures read { ReadsOn (λ _. parts.new) result (grammar.body_statement parts.old (lexeme token.now)) lexer.old lexer.new }
     ensures range { AreParts parts.new }
 {
-    if is(b"ROW", token) {
+    if is_token(b"ROW", token) {
         add_row(alloc, lexer, &mut parts.rows)
-    } else if is(b"REGIONS", token) {
+    } else if is_token(b"REGIONS", token) {
         regions(alloc, lexer, &mut parts.regions)
-    } else if is(b"GROUPS", token) {
+    } else if is_token(b"GROUPS", token) {
         groups(alloc, lexer, &mut parts.groups)
-    } else if is(b"COMPONENTS", token) {
+    } else if is_token(b"COMPONENTS", token) {
         components(alloc, lexer, &mut parts.components)
-    } else if is(b"BLOCKAGES", token) {
+    } else if is_token(b"BLOCKAGES", token) {
         blockages(alloc, lexer, &mut parts.blockages)
     } else {
-        passed_from(lexer, token)
+        skip_from(lexer, token)
     }
 }
 
@@ -139,7 +139,7 @@ fn statement_from<'a>(
     ensures read { ReadsOn (turn parts.new) result (grammar.statement_from parts.old (lexeme token.now)) lexer.old lexer.new }
     ensures range { AreParts parts.new }
 {
-    if is(b"END", token) {
+    if is_token(b"END", token) {
         end_design(lexer, parts)?;
         return Ok(false);
     }

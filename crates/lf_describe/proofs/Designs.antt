@@ -7,11 +7,11 @@ use Rattle.std.proofs.lemmas.Result.{IfOk-weaker}
 use Rattle.lf_floorplan.specs.declared.loaded.Cell.{Cell}
 use Rattle.lf_floorplan.specs.declared.loaded.Loaded.{Loaded}
 use Rattle.lf_floorplan.specs.Design.{CellIsSized}
-use Rattle.lf_rules.specs.declared.report.Listed.{Listed}
-use Rattle.lf_rules.specs.FullyLegal.{Standing, IsFullyLegal, standing_at}
+use Rattle.lf_rules.specs.declared.report_types.Listed.{Listed}
+use Rattle.lf_rules.specs.FullyLegal.{DesignCell, IsFullyLegal, design_cells_at}
 use Rattle.lf_rules.specs.Legalizer.{Legalizer}
 use Rattle.lf_rules.specs.Reports.{IsClean}
-use Rattle.lf_reports.specs.Reports.{IsListed, listed_at, named, report_of, standing_of}
+use Rattle.lf_reports.specs.Reports.{IsListed, listed_at, named, report_of, design_cell_of}
 use Rattle.lf_reports.proofs.CleanLemmas.{all_listed, clean_is_legal, each_named, length_listed, standing_listed}
 use Rattle.lf_describe.specs.Description.{cells_of, places_of}
 
@@ -32,9 +32,9 @@ few_are loaded slice are =
     omega (arith, count, few)
 
 pub legal_is : {E : Type 0} → CellIsSized → (l : Legalizer) (loaded : Loaded) (slice : List (Listed (Bor (List ℕ)))) (r : Result Bool E) → map named slice ≡ cells_of loaded →
-    IfOk r (λ clean. IsTrue clean ↔ IsClean (report_of l loaded.frame 0 (map named slice))) → IfOk r (λ legal. IsTrue legal ↔ IsFullyLegal loaded.frame (standing_at loaded.cells (places_of loaded.cells)))
+    IfOk r (λ clean. IsTrue clean ↔ IsClean (report_of l loaded.frame 0 (map named slice))) → IfOk r (λ legal. IsTrue legal ↔ IsFullyLegal loaded.frame (design_cells_at loaded.cells (places_of loaded.cells)))
 legal_is sized l loaded slice r are said =
-    let both : IsClean (report_of l loaded.frame 0 (map named slice)) ↔ IsFullyLegal loaded.frame (standing_at loaded.cells (places_of loaded.cells)) =
-    subst (λ (cells : List Standing). IsClean (report_of l loaded.frame 0 (map named slice)) ↔ IsFullyLegal loaded.frame cells)
-    (ap (λ (cs : List (Listed (List ℕ))). map standing_of cs) are ∙ standing_listed loaded.cells (places_of loaded.cells)) (clean_is_legal l loaded.frame (map named slice) (all_are sized loaded slice are)) in
+    let both : IsClean (report_of l loaded.frame 0 (map named slice)) ↔ IsFullyLegal loaded.frame (design_cells_at loaded.cells (places_of loaded.cells)) =
+    subst (λ (cells : List DesignCell). IsClean (report_of l loaded.frame 0 (map named slice)) ↔ IsFullyLegal loaded.frame cells)
+    (ap (λ (cs : List (Listed (List ℕ))). map design_cell_of cs) are ∙ standing_listed loaded.cells (places_of loaded.cells)) (clean_is_legal l loaded.frame (map named slice) (all_are sized loaded slice are)) in
     IfOk-weaker r _ _ (λ b is. (λ yes. both.0 (is.0 yes), λ legal. is.1 (both.1 legal))) said

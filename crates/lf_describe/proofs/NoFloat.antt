@@ -5,7 +5,7 @@ use Rattle.std.specs.Str.{is_utf8}
 use Rattle.serde_json.specs.Data.{Data, null, string}
 use Rattle.serde_json.specs.View.{items_of}
 use Rattle.serde_json.specs.Written.{has_float, items_have_float}
-use Rattle.lf_units.specs.declared.area.Rect.{Rect}
+use Rattle.lf_units.specs.declared.geometry.Rect.{Rect}
 use Rattle.lf_floorplan.specs.declared.frame.Frame.{Frame}
 use Rattle.lf_floorplan.specs.declared.parts.Row.{Row}
 use Rattle.lf_floorplan.specs.declared.parts.Team.{Team}
@@ -14,12 +14,12 @@ use Rattle.lf_floorplan.specs.Boxes.{macro_of, size_of}
 use Rattle.lf_floorplan.specs.Rows.{row_area}
 use Rattle.lf_floorplan.specs.Sizes.{box_at, turned}
 use Rattle.lf_rules.specs.declared.rule.Broken.{Broken}
-use Rattle.lf_rules.specs.declared.report.Listed.{Listed}
+use Rattle.lf_rules.specs.declared.report_types.Listed.{Listed}
 use Rattle.lf_reports.specs.Reports.{verdict_at}
-use Rattle.lf_describe.specs.declared.told.Told.{Told}
-use Rattle.lf_describe.specs.declared.parts.Part.{Part}
-use Rattle.lf_describe.specs.declared.parts.Part.TheVariants.{Design, Rows, Fences, Obstacles, Soft, Cells, Total}
-use Rattle.lf_describe.specs.Description.{box_data, cell_data, design_data, facing_data, fence_data, obstacle_data, other_of, rect_data, row_data, rule_data, soft_data, team_name, text_data, text_or_null, whole_data}
+use Rattle.lf_describe.specs.declared.described.DescribedDesign.{DescribedDesign}
+use Rattle.lf_describe.specs.declared.line_kinds.Part.{Part}
+use Rattle.lf_describe.specs.declared.line_kinds.Part.TheVariants.{Design, Rows, Fences, Obstacles, Soft, Cells, Total}
+use Rattle.lf_describe.specs.Description.{box_data, cell_data, design_data, orientation_data, fence_data, obstacle_data, other_of, rect_data, row_data, rule_data, soft_data, team_name, text_data, text_or_null, whole_data}
 use Rattle.lf_describe.specs.Parts.{cells_in, names_in, part_lines}
 
 pub neither : (a b : Bool) → a ≡ false → b ≡ false → (a || b) ≡ false
@@ -69,7 +69,7 @@ box f c = by c.place
     by None = refl
     by (Some p) = rect (box_at (turned (size_of f (macro_of f c.mac)) p.orient) p.x p.y)
 
-facing : (place : Option Place) → has_float (facing_data place) ≡ false
+facing : (place : Option Place) → has_float (orientation_data place) ≡ false
 facing None = refl
 facing (Some p) = refl
 
@@ -99,7 +99,7 @@ only x none zero d at = let same : x ≡ d = cc in subst (λ (e : Data). has_flo
 only x none (suc i) d at = absurd cc
 
 -- no line of a part has a number with a fraction
-pub no_float : (told : Told) (part : Part) (i : ℕ) (d : Data) → slice_get (part_lines told part) i ≡ Some d → has_float d ≡ false
+pub no_float : (told : DescribedDesign) (part : Part) (i : ℕ) (d : Data) → slice_get (part_lines told part) i ≡ Some d → has_float d ≡ false
 no_float told Design i d at = only _ (design told.frame.now) i d at
 no_float told Rows i d at = each (row_data told.frame.now) (row told.frame.now) _ i d at
 no_float told Fences i d at = each fence_data fence _ i d at

@@ -4,21 +4,21 @@ use Rattle.std.specs.Prelude.{flat_map, OnErr, OnOk}
 use Rattle.std.specs.Io.KnownBytes.{Appends, Keeps}
 use Rattle.std.proofs.lemmas.List.{append_assoc, append-nil, take-append-drop}
 use Rattle.std.proofs.KnownBytes.{Appends-nil, Appends-trans, Appends-kept}
-use Rattle.lf_describe.specs.Written.{AppendsFront, Leaves}
+use Rattle.lf_describe.specs.Written.{AppendsFront, WritesFrontOf}
 
 -- nothing is written, and all waits
-pub nothing : (a : Option (List ℕ)) (text : List ℕ) → Leaves a a text text
+pub nothing : (a : Option (List ℕ)) (text : List ℕ) → WritesFrontOf a a text text
 nothing a text = ([], refl, Appends-nil a)
 
 pub unwritten : (a : Option (List ℕ)) (text : List ℕ) → AppendsFront a a text
 unwritten a text = (text, nothing a text)
 
-pub written : (a b : Option (List ℕ)) (text rest : List ℕ) → rest ≡ [] → Leaves a b text rest → Appends a b text
+pub written : (a b : Option (List ℕ)) (text rest : List ℕ) → rest ≡ [] → WritesFrontOf a b text rest → Appends a b text
 written a b text rest none (front, e, p) =
     subst (Appends a b) (sym (e ∙ ap (λ (r : List ℕ). front ++ r) none ∙ append-nil front)) p
 
 -- one more piece behind a text
-pub behind : (a b c : Option (List ℕ)) (text v x u : List ℕ) → Leaves a b text v → Leaves b c (v ++ x) u → Leaves a c (text ++ x) u
+pub behind : (a b c : Option (List ℕ)) (text v x u : List ℕ) → WritesFrontOf a b text v → WritesFrontOf b c (v ++ x) u → WritesFrontOf a c (text ++ x) u
 behind a b c text v x u (s, e, p) (t, f, q) = (s ++ t, same, Appends-trans a b c s t p q)
   where
     same : text ++ x ≡ (s ++ t) ++ u
@@ -30,19 +30,19 @@ goes_on a b text more (rest, (front, e, p)) =
     (rest ++ more, (front, ap (λ (y : List ℕ). y ++ more) e ∙ append_assoc front rest more, p))
 
 -- a piece behind a text was cut short
-pub cut_behind : (a b c : Option (List ℕ)) (text v x : List ℕ) → Leaves a b text v → AppendsFront b c (v ++ x) → AppendsFront a c (text ++ x)
+pub cut_behind : (a b c : Option (List ℕ)) (text v x : List ℕ) → WritesFrontOf a b text v → AppendsFront b c (v ++ x) → AppendsFront a c (text ++ x)
 cut_behind a b c text v x left (u, right) = (u, behind a b c text v x u left right)
 
 -- nothing more is written
-pub kept : (a b c : Option (List ℕ)) (text v : List ℕ) → Leaves a b text v → Keeps b c → Leaves a c text v
+pub kept : (a b c : Option (List ℕ)) (text v : List ℕ) → WritesFrontOf a b text v → Keeps b c → WritesFrontOf a c text v
 kept a b c text v (s, e, p) keeps = (s, e, Appends-kept a b c s p keeps)
 
 -- what waits is written
-pub whole : (a b c : Option (List ℕ)) (text v : List ℕ) → Leaves a b text v → Appends b c v → Appends a c text
+pub whole : (a b c : Option (List ℕ)) (text v : List ℕ) → WritesFrontOf a b text v → Appends b c v → Appends a c text
 whole a b c text v (s, e, p) q = subst (Appends a c) (sym e) (Appends-trans a b c s v p q)
 
 -- what waits is cut short
-pub cut_last : (a b c : Option (List ℕ)) (text v : List ℕ) → Leaves a b text v → AppendsFront b c v → AppendsFront a c text
+pub cut_last : (a b c : Option (List ℕ)) (text v : List ℕ) → WritesFrontOf a b text v → AppendsFront b c v → AppendsFront a c text
 cut_last a b c text v (s, e, p) (rest, (front, f, q)) =
     (rest, (s ++ front, e ∙ ap (λ (y : List ℕ). s ++ y) f ∙ sym (append_assoc s front rest), Appends-trans a b c s front p q))
 
@@ -69,7 +69,7 @@ there_is (x ∷ xs) zero less = (x, refl)
 there_is (x ∷ xs) (suc k) less = there_is xs k (omega (arith, less))
 
 -- a front of what waits is written
-pub taken : (a b c : Option (List ℕ)) (text rest : List ℕ) (n : ℕ) → Leaves a b text rest → Appends b c (take n rest) → Leaves a c text (drop n rest)
+pub taken : (a b c : Option (List ℕ)) (text rest : List ℕ) (n : ℕ) → WritesFrontOf a b text rest → Appends b c (take n rest) → WritesFrontOf a c text (drop n rest)
 taken a b c text rest n (s, e, p) q =
     (s ++ take n rest, e ∙ ap (λ (y : List ℕ). s ++ y) (sym (take-append-drop n rest)) ∙ sym (append_assoc s (take n rest) (drop n rest)), Appends-trans a b c s (take n rest) p q)
 
@@ -95,21 +95,21 @@ cut_at g [] (suc i) = refl
 cut_at g (y ∷ ys) (suc i) = ap (λ (l : List ℕ). g y ++ l) (cut_at g ys i) ∙ sym (append_assoc (g y) (flat_map g (take i ys)) (flat_map g (drop i ys)))
 
 -- before the first piece
-pub before_first : {X : Type 0} (g : X → List ℕ) (xs : List X) (a : Option (List ℕ)) (w : List ℕ) → Leaves a a (w ++ flat_map g (take 0 xs)) w
-before_first g xs a w = subst (λ (t : List ℕ). Leaves a a t w) (sym (append-nil w)) (nothing a w)
+pub before_first : {X : Type 0} (g : X → List ℕ) (xs : List X) (a : Option (List ℕ)) (w : List ℕ) → WritesFrontOf a a (w ++ flat_map g (take 0 xs)) w
+before_first g xs a w = subst (λ (t : List ℕ). WritesFrontOf a a t w) (sym (append-nil w)) (nothing a w)
 
 -- behind the piece of this number
 pub behind_piece : {X : Type 0} (g : X → List ℕ) (xs : List X) (i : ℕ) (x : X) (a b c : Option (List ℕ)) (w v u : List ℕ) → slice_get xs i ≡ Some x →
-    Leaves a b (w ++ flat_map g (take i xs)) v → Leaves b c (v ++ g x) u → Leaves a c (w ++ flat_map g (take (i + 1) xs)) u
+    WritesFrontOf a b (w ++ flat_map g (take i xs)) v → WritesFrontOf b c (v ++ g x) u → WritesFrontOf a c (w ++ flat_map g (take (i + 1) xs)) u
 behind_piece g xs i x a b c w v u at left right =
     let next : suc i ≡ i + 1 = omega arith in
     let same : (w ++ flat_map g (take i xs)) ++ g x ≡ w ++ flat_map g (take (i + 1) xs) =
     append_assoc w (flat_map g (take i xs)) (g x) ∙ ap (λ (l : List ℕ). w ++ l) (sym (one_more g xs i x at)) ∙ ap (λ (n : ℕ). w ++ flat_map g (take n xs)) next in
-    subst (λ (t : List ℕ). Leaves a c t u) same (behind a b c (w ++ flat_map g (take i xs)) v (g x) u left right)
+    subst (λ (t : List ℕ). WritesFrontOf a c t u) same (behind a b c (w ++ flat_map g (take i xs)) v (g x) u left right)
 
 -- the piece of this number was cut short
 pub cut_piece : {X : Type 0} (g : X → List ℕ) (xs : List X) (i : ℕ) (x : X) (a b c : Option (List ℕ)) (w v : List ℕ) → slice_get xs i ≡ Some x →
-    Leaves a b (w ++ flat_map g (take i xs)) v → AppendsFront b c (v ++ g x) → AppendsFront a c (w ++ flat_map g xs)
+    WritesFrontOf a b (w ++ flat_map g (take i xs)) v → AppendsFront b c (v ++ g x) → AppendsFront a c (w ++ flat_map g xs)
 cut_piece g xs i x a b c w v at left right =
     let same : ((w ++ flat_map g (take i xs)) ++ g x) ++ flat_map g (drop (suc i) xs) ≡ w ++ flat_map g xs =
     ap (λ (l : List ℕ). l ++ flat_map g (drop (suc i) xs)) (append_assoc w (flat_map g (take i xs)) (g x) ∙ ap (λ (l : List ℕ). w ++ l) (sym (one_more g xs i x at)))

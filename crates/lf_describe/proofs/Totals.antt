@@ -6,16 +6,16 @@ use Rattle.std.proofs.lemmas.Grind.{flat_map-append}
 use Rattle.serde_json.specs.Data.{Data}
 use Rattle.lf_floorplan.specs.declared.frame.Frame.{Frame}
 use Rattle.lf_rules.specs.declared.rule.Broken.{Broken}
-use Rattle.lf_rules.specs.declared.report.Listed.{Listed}
-use Rattle.lf_rules.specs.declared.report.Report.{Report}
+use Rattle.lf_rules.specs.declared.report_types.Listed.{Listed}
+use Rattle.lf_rules.specs.declared.report_types.Report.{Report}
 use Rattle.lf_rules.specs.Legalizer.{Legalizer}
 use Rattle.lf_rules.specs.Reports.{IsClean}
 use Rattle.lf_reports.specs.Reports.{AreVerdicts, report_of, verdict_at, violations_in}
 use Rattle.lf_reports.proofs.LegalVerdicts.{illegal_are}
 use Rattle.std.specs.Io.KnownBytes.{Appends}
 use Rattle.lf_describe.specs.Written.{AppendsFront}
-use Rattle.lf_describe.specs.declared.told.Told.{Told}
-use Rattle.lf_describe.specs.declared.parts.TheConstants.{PARTS}
+use Rattle.lf_describe.specs.declared.described.DescribedDesign.{DescribedDesign}
+use Rattle.lf_describe.specs.declared.line_kinds.TheConstants.{PARTS}
 use Rattle.lf_describe.specs.Description.{cell_data, cell_lines, design_data, fence_data, line_text, lines_of, lines_text, obstacle_lines, row_data, soft_data, total_data}
 use Rattle.lf_describe.specs.Parts.{Counts, cells_in, names_in, part_lines, part_text, parts_text}
 
@@ -39,12 +39,12 @@ fused : {X Y A : Type 0} (g : Y → List A) (h : X → List Y) (xs : List X) →
 fused g h [] = refl
 fused {A = A} g h (x ∷ xs) = ap (λ (l : List A). flat_map g (h x) ++ l) (fused g h xs) ∙ sym (flat_map-append g (h x) (flat_map h xs))
 
-pub text_of_parts : (told : Told) → flat_map (part_text told) PARTS ≡ parts_text told
+pub text_of_parts : (told : DescribedDesign) → flat_map (part_text told) PARTS ≡ parts_text told
 unfolding parts_text
 text_of_parts told = refl
 
 -- the text of all parts is that of all lines
-pub parts_are : (l : Legalizer) (told : Told) → AreVerdicts l told.frame.now 0 (cells_in told) told.verdicts.now →
+pub parts_are : (l : Legalizer) (told : DescribedDesign) → AreVerdicts l told.frame.now 0 (cells_in told) told.verdicts.now →
     parts_text told ≡ lines_text l told.frame.now (names_in told) (cells_in told)
 unfolding parts_text lines_text
 parts_are l told are = fused line_text (part_lines told) PARTS ∙ ap (flat_map line_text) (lines (cells_are l f cells verdicts are) (illegal_are l f cells verdicts are))
@@ -68,20 +68,20 @@ parts_are l told are = fused line_text (part_lines told) PARTS ∙ ap (flat_map 
     lines same_cells same_count = ap (λ (cs : List Data). all cs (count_by is_some verdicts)) same_cells ∙ ap (all (cell_lines l f cells)) same_count
 
 -- and the counts are those of the report
-pub counts_are : (l : Legalizer) (told : Told) → AreVerdicts l told.frame.now 0 (cells_in told) told.verdicts.now → Counts told (report_of l told.frame.now 0 (cells_in told))
+pub counts_are : (l : Legalizer) (told : DescribedDesign) → AreVerdicts l told.frame.now 0 (cells_in told) told.verdicts.now → Counts told (report_of l told.frame.now 0 (cells_in told))
 counts_are l told are = record { illegal = illegal_are l told.frame.now (cells_in told) told.verdicts.now are; unplaced = refl }
 
 -- ---- what was written of it
 
-pub text_is : {T E : Type 0} (told : Told) (l : Legalizer) (r : Result T E) (a b : Option (List ℕ)) → OnOk r (Appends a b (parts_text told)) →
+pub text_is : {T E : Type 0} (told : DescribedDesign) (l : Legalizer) (r : Result T E) (a b : Option (List ℕ)) → OnOk r (Appends a b (parts_text told)) →
     AreVerdicts l told.frame.now 0 (cells_in told) told.verdicts.now → OnOk r (Appends a b (lines_text l told.frame.now (names_in told) (cells_in told)))
 text_is told l r a b written are = subst (λ (t : List ℕ). OnOk r (Appends a b t)) (parts_are l told are) written
 
-pub cut_is : {T E : Type 0} (told : Told) (l : Legalizer) (r : Result T E) (a b : Option (List ℕ)) → OnErr r (AppendsFront a b (parts_text told)) →
+pub cut_is : {T E : Type 0} (told : DescribedDesign) (l : Legalizer) (r : Result T E) (a b : Option (List ℕ)) → OnErr r (AppendsFront a b (parts_text told)) →
     AreVerdicts l told.frame.now 0 (cells_in told) told.verdicts.now → OnErr r (AppendsFront a b (lines_text l told.frame.now (names_in told) (cells_in told)))
 cut_is told l r a b written are = subst (λ (t : List ℕ). OnErr r (AppendsFront a b t)) (parts_are l told are) written
 
-pub clean_is : {E : Type 0} (told : Told) (l : Legalizer) (r : Result Bool E) →
+pub clean_is : {E : Type 0} (told : DescribedDesign) (l : Legalizer) (r : Result Bool E) →
     ((report : Report) → Counts told report → IfOk r (λ clean. IsTrue clean ↔ IsClean report)) →
     AreVerdicts l told.frame.now 0 (cells_in told) told.verdicts.now → IfOk r (λ clean. IsTrue clean ↔ IsClean (report_of l told.frame.now 0 (cells_in told)))
 clean_is told l r said are = said (report_of l told.frame.now 0 (cells_in told)) (counts_are l told are)

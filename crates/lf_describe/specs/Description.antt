@@ -7,7 +7,7 @@ use Rattle.serde_json.specs.Data.{Data, null, number, unsigned, string, array, o
 use Rattle.serde_json.specs.Find.{of_integer}
 use Rattle.serde_json.specs.View.{items_of}
 use Rattle.serde_json.specs.Written.{compact_text}
-use Rattle.lf_units.specs.declared.area.Rect.{Rect}
+use Rattle.lf_units.specs.declared.geometry.Rect.{Rect}
 use Rattle.lf_orient.specs.declared.Orient.{Orient}
 use Rattle.lf_orient.specs.Words.{orient_word}
 use Rattle.lf_floorplan.specs.declared.frame.Frame.{Frame}
@@ -25,8 +25,8 @@ use Rattle.lf_def.specs.declared.components.Component.{Component}
 use Rattle.lf_def.specs.Document.{Document}
 use Rattle.lf_def.specs.Kinds.{is_fixed}
 use Rattle.lf_rules.specs.declared.rule.Broken.{Broken}
-use Rattle.lf_rules.specs.declared.report.Listed.{Listed}
-use Rattle.lf_rules.specs.declared.report.Report.{Report}
+use Rattle.lf_rules.specs.declared.report_types.Listed.{Listed}
+use Rattle.lf_rules.specs.declared.report_types.Report.{Report}
 use Rattle.lf_rules.specs.Legality.{number_of}
 use Rattle.lf_rules.specs.Legalizer.{Legalizer}
 use Rattle.lf_reports.specs.Reports.{broken_among, listed_at, name_among, report_of}
@@ -38,8 +38,8 @@ abbrev pub text_data : List ℕ → Data
 text_data name = if is_utf8 name then string name else null
 
 -- a name of visible characters is told as it is
-abbrev pub NamesAreTold : Type 0
-NamesAreTold = (name : List ℕ) → IsName name → text_data name ≡ string name
+abbrev pub NamesAreWritten : Type 0
+NamesAreWritten = (name : List ℕ) → IsName name → text_data name ≡ string name
 
 -- a name; null if there is none
 abbrev pub text_or_null : Option (List ℕ) → Data
@@ -108,8 +108,8 @@ abbrev pub box_data : Frame → Listed (List ℕ) → Data
 box_data f c = option_map_or (λ p. rect_data (box_at (turned (size_of f (macro_of f c.mac)) p.orient) p.x p.y)) c.place null
 
 -- how a cell faces where it stands; null if it is unplaced
-abbrev pub facing_data : Option Place → Data
-facing_data place = option_map_or (λ p. orient_data p.orient) place null
+abbrev pub orientation_data : Option Place → Data
+orientation_data place = option_map_or (λ p. orient_data p.orient) place null
 
 -- the number of the rule that is broken; null if none is
 abbrev pub rule_data : Option Broken → Data
@@ -127,7 +127,7 @@ cell_data f cells c broken =
     (member (codes "kind") (string (codes "cell"))
     (member (codes "macro") (text_data (macro_of f c.mac).name)
     (member (codes "name") (text_data c.name)
-    (member (codes "orient") (facing_data c.place)
+    (member (codes "orient") (orientation_data c.place)
     (member (codes "other") (text_or_null (other_of cells broken))
     (member (codes "rule") (rule_data broken)
     (member (codes "team") (text_data (team_name f c.team))

@@ -1,25 +1,25 @@
 -- A text that is written piece by piece.
 use Rattle.std.specs.Prelude.{◌≡◌, ℕ, Bool, List, ◌++◌, Option, Result, Ok, Err, false, true}
 use Rattle.std.specs.Io.KnownBytes.{Appends}
-use Rattle.lf_describe.specs.declared.description.Undescribed.{Undescribed}
-use Rattle.lf_describe.specs.declared.description.Undescribed.TheVariants as undescribed
-use Rattle.lf_describe.specs.declared.output.LineFault.{LineFault}
-use Rattle.lf_describe.specs.declared.output.LineFault.TheVariants as line
+use Rattle.lf_describe.specs.declared.description.DescribeFailure.{DescribeFailure}
+use Rattle.lf_describe.specs.declared.description.DescribeFailure.TheVariants as undescribed
+use Rattle.lf_describe.specs.declared.line_output.LineFault.{LineFault}
+use Rattle.lf_describe.specs.declared.line_output.LineFault.TheVariants as line
 
 -- of the text a front is appended, and this rest waits
-abbrev pub Leaves : Option (List ℕ) → Option (List ℕ) → List ℕ → List ℕ → Type 0
-Leaves old new text rest = (front : List ℕ) × (text ≡ front ++ rest) × Appends old new front
+abbrev pub WritesFrontOf : Option (List ℕ) → Option (List ℕ) → List ℕ → List ℕ → Type 0
+WritesFrontOf old new text rest = (front : List ℕ) × (text ≡ front ++ rest) × Appends old new front
 
 -- a front of the text is appended
 abbrev pub AppendsFront : Option (List ℕ) → Option (List ℕ) → List ℕ → Type 0
-AppendsFront old new text = (rest : List ℕ) × Leaves old new text rest
+AppendsFront old new text = (rest : List ℕ) × WritesFrontOf old new text rest
 
 -- the fault is the writer's
 abbrev pub is_line_writers : LineFault → Bool
 is_line_writers line.OutOfMemory = false
 is_line_writers line.Output = true
 
-abbrev pub is_writers : Undescribed → Bool
+abbrev pub is_writers : DescribeFailure → Bool
 is_writers undescribed.OutOfMemory = false
 is_writers undescribed.LineOutOfMemory = false
 is_writers undescribed.Output = true
@@ -29,6 +29,6 @@ abbrev pub is_line_output : {T : Type 0} → Result T LineFault → Bool
 is_line_output (Ok value) = false
 is_line_output (Err fault) = is_line_writers fault
 
-abbrev pub is_output : {T : Type 0} → Result T Undescribed → Bool
+abbrev pub is_output : {T : Type 0} → Result T DescribeFailure → Bool
 is_output (Ok value) = false
 is_output (Err fault) = is_writers fault

@@ -3,8 +3,8 @@
 ghost use Rattle.std.specs.Prelude.{◌≡◌, ◌≤◌, ◌↔◌, ◌||◌, ℕ, All, IfErr, IfOk, IsTrue, OnErr, OnOk, length, map, take};
 ghost use Rattle.std.specs.Io.KnownBytes.{Appends};
 ghost use Rattle.lf_def.specs.Contents.{contents};
-ghost use Rattle.lf_rules.specs.declared.report.Report.{Report};
-ghost use Rattle.lf_rules.specs.FullyLegal.{IsFullyLegal, standing_at};
+ghost use Rattle.lf_rules.specs.declared.report_types.Report.{Report};
+ghost use Rattle.lf_rules.specs.FullyLegal.{IsFullyLegal, design_cells_at};
 ghost use Rattle.lf_rules.specs.Legalizer.{Legalizer};
 ghost use Rattle.lf_rules.specs.Reports.{IsClean};
 ghost use Rattle.lf_reports.specs.Reports.{IsListed, named, report_of};
@@ -12,19 +12,19 @@ ghost use Rattle.lf_describe.specs.Description.{description, fixed_names as name
 ghost use Rattle.lf_describe.specs.Parts.{Counts, parts_text};
 ghost use Rattle.lf_describe.specs.Written.{AppendsFront, is_line_writers, is_output, is_writers};
 
-use crate::cells::{is_clean, listed, verdicts_of};
-use crate::output::LineFault;
-use crate::parts::{counts_in, put_parts};
-use crate::told::Told;
+use crate::counts::{is_clean, listed, verdicts_of};
+use crate::described::DescribedDesign;
+use crate::line_kinds::{counts_in, put_parts};
+use crate::line_output::LineFault;
 use lf_def::{Component, DefDoc, is_fixed};
-use lf_devices::Sink;
 use lf_floorplan::{Frame, Loaded, cell_is_sized};
-use lf_rules::{Listed, legalizer_is_there};
+use lf_io::Sink;
+use lf_rules::{Listed, legalizer_exists};
 use std::alloc::{AllocError, Global};
 
 /// Why a design was not described.
 #[derive(Clone, Copy, Debug, PartialEq, Eq)]
-pub enum Undescribed {
+pub enum DescribeFailure {
     /// An allocation failed before the first line; nothing was written.
     OutOfMemory,
     /// An allocation for a line failed; lines before it may have been written.
@@ -50,22 +50,22 @@ fn fixed_names<'a>(
 }
 
 /// What is told of a fault of the lines.
-fn late(fault: LineFault) -> Undescribed
+fn line_failure(fault: LineFault) -> DescribeFailure
     ensures late { result ≡ Undescribed.OutOfMemory → ⊥ }
     ensures output { is_writers result ≡ is_line_writers fault }
 {
     match fault {
-        LineFault::OutOfMemory => Undescribed::LineOutOfMemory,
-        LineFault::Output => Undescribed::Output,
+        LineFault::OutOfMemory => DescribeFailure::LineOutOfMemory,
+        LineFault::Output => DescribeFailure::Output,
     }
 }
 
 /// Writes what is told; returns whether no cell is unplaced and none breaks a rule.
-fn describe_told<W: Sink>(
+fn write_description<W: Sink>(
     alloc: Global,
-    told: &Told<'_>,
+    told: &DescribedDesign<'_>,
     writer: &mut W,
-) -> Result<bool, Undescribed>
+) -> Result<bool, DescribeFailure>
     ensures text { OnOk result (Appends (W.contents writer.old) (W.contents writer.new) (parts_text told.now)) }
     ensures clean { (report : Report) → Counts told.now report → IfOk result (λ clean. IsTrue clean ↔ IsClean report) }
     ensures cut { OnErr result (AppendsFront (W.contents writer.old) (W.contents writer.new) (parts_text told.now)) }
@@ -75,7 +75,7 @@ fn describe_told<W: Sink>(
 {
     match put_parts(alloc, told, writer) {
         Ok(()) => Ok(is_clean(&counts_in(told))),
-        Err(fault) => Err(late(fault)),
+        Err(fault) => Err(line_failure(fault)),
     }
 }
 
@@ -87,7 +87,7 @@ fn describe_cells<W: Sink>(
     names: &[&[u8]],
     cells: &[Listed<&[u8]>],
     writer: &mut W,
-) -> Result<bool, Undescribed>
+) -> Result<bool, DescribeFailure>
     requires listed { All (λ c. IsListed frame.now (named c)) cells.now }
     requires few { length cells.now ≤ 4000000 }
     ensures text { (l : Legalizer) → OnOk result (Appends (W.contents writer.old) (W.contents writer.new)
@@ -100,15 +100,15 @@ fn describe_cells<W: Sink>(
     ensures held { W.holds writer.new ≡ W.holds writer.old }
 {
     let Ok(verdicts) = verdicts_of(alloc, frame, cells) else {
-        return Err(Undescribed::OutOfMemory);
+        return Err(DescribeFailure::OutOfMemory);
     };
-    let told = Told {
+    let told = DescribedDesign {
         frame,
         names,
         cells,
         verdicts: verdicts.as_slice(),
     };
-    describe_told(alloc, &told, writer)
+    write_description(alloc, &told, writer)
 }
 
 /// Writes the description of a design, each cell at its place in the DEF text, as JSON Lines: an object a line, with the design
@@ -126,9 +126,9 @@ pub fn describe<W: Sink>(
     loaded: &Loaded,
     document: &DefDoc<'_>,
     writer: &mut W,
-) -> Result<bool, Undescribed>
+) -> Result<bool, DescribeFailure>
     ensures text { (l : Legalizer) → OnOk result (Appends (W.contents writer.old) (W.contents writer.new) (description l loaded.now (contents document.now))) }
-    ensures legal { IfOk result (λ legal. IsTrue legal ↔ IsFullyLegal loaded.now.frame (standing_at loaded.now.cells (places_of loaded.now.cells))) }
+    ensures legal { IfOk result (λ legal. IsTrue legal ↔ IsFullyLegal loaded.now.frame (design_cells_at loaded.now.cells (places_of loaded.now.cells))) }
     ensures cut { (l : Legalizer) → OnErr result ((n : ℕ)
         × Appends (W.contents writer.old) (W.contents writer.new) (take n (description l loaded.now (contents document.now)))) }
     ensures unwritten { IfErr result (λ fault. fault ≡ Undescribed.OutOfMemory → writer.new ≡ writer.old) }
@@ -136,12 +136,12 @@ pub fn describe<W: Sink>(
     ensures held { W.holds writer.new ≡ W.holds writer.old }
 {
     cell_is_sized();
-    legalizer_is_there();
+    legalizer_exists();
     let Ok(names) = fixed_names(alloc, document.components.as_slice()) else {
-        return Err(Undescribed::OutOfMemory);
+        return Err(DescribeFailure::OutOfMemory);
     };
     let Ok(cells) = listed(alloc, &loaded.cells) else {
-        return Err(Undescribed::OutOfMemory);
+        return Err(DescribeFailure::OutOfMemory);
     };
     describe_cells(alloc, &loaded.frame, &names, &cells, writer)
 }

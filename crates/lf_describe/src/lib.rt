@@ -9,14 +9,14 @@
 //! ```
 #![tactic(auto)]
 
-mod cells;
+mod counts;
+mod described;
 mod description;
+mod json;
 mod laws;
-mod output;
-mod parts;
-mod told;
-mod values;
+mod line_kinds;
+mod line_output;
 
-pub use description::{Undescribed, describe};
-pub use laws::names_are_told;
-pub use values::text_value;
+pub use description::{DescribeFailure, describe};
+pub use json::name_value;
+pub use laws::names_are_written;

@@ -4,13 +4,13 @@ use Rattle.std.specs.Prelude.{drop, slice_index_or}
 use Rattle.lf_floorplan.specs.declared.frame.Frame.{Frame}
 use Rattle.lf_cells.specs.declared.cell.Cell.{Cell}
 use Rattle.lf_undo.specs.Entries.{entries_of}
-use Rattle.lf_teams.specs.States.{FloorState, TeamState}
-use Rattle.lf_teams.specs.Steps.{floor_of}
-use Rattle.lf_teams.specs.Teams.{team_names}
-use Rattle.lf_state.specs.declared.rows.SavedCell.{SavedCell}
-use Rattle.lf_state.specs.Designs.{NamedTeam}
-use Rattle.lf_state.specs.Saved.{SavedTeam}
-use Rattle.lf_restore.specs.Saved.{AreOfOneDesign, fixed_cells, fixed_of, map_two, named, named_team, restored, restored_cell, restored_team}
+use Rattle.lf_floor_model.specs.States.{FloorState, TeamState}
+use Rattle.lf_floor_model.specs.Steps.{floor_of}
+use Rattle.lf_floor_model.specs.Teams.{team_names}
+use Rattle.lf_state_text.specs.declared.saved_rows.SavedCell.{SavedCell}
+use Rattle.lf_state_text.specs.Designs.{NamedTeam}
+use Rattle.lf_state_text.specs.Saved.{SavedTeam}
+use Rattle.lf_state_restore.specs.Saved.{ShareDesign, fixed_cells, fixed_of, map_two, named, named_team, restored, restored_cell, restored_team}
 
 -- ---- equal lists
 
@@ -42,7 +42,7 @@ named_each (n ∷ ns) (t ∷ ts) (s ∷ ss) is =
     ∙ ap (λ (ms : List NamedTeam). named_team n s ∷ ms) (named_each ns ts ss (same_tail is))
 
 -- floors of one design have the same names
-pub named_alike : (a b : FloorState) → AreOfOneDesign a b → named b ≡ named a
+pub named_alike : (a b : FloorState) → ShareDesign a b → named b ≡ named a
 named_alike a b one =
     ap (λ (f : Frame). record { teams = map_two named_team (team_names f) b.teams; limits = f.limits }) one.frame
     ∙ ap (λ (ts : List NamedTeam). record { teams = ts; limits = a.frame.limits }) (named_each (team_names a.frame) b.teams a.teams one.cells)
@@ -78,13 +78,13 @@ teams_alike (s ∷ ss) (u ∷ us) (t ∷ saved) is =
     ∙ ap (λ (xs : List TeamState). restored_team u t ∷ xs) (teams_alike ss us saved (same_tail is))
 
 -- floors of one design are restored alike
-pub restored_alike : (a b : FloorState) (saved : List SavedTeam) → AreOfOneDesign a b → restored b saved ≡ restored a saved
+pub restored_alike : (a b : FloorState) (saved : List SavedTeam) → ShareDesign a b → restored b saved ≡ restored a saved
 restored_alike a b saved one =
     ap (λ (f : Frame). floor_of f b.components (map_two restored_team b.teams saved)) one.frame
     ∙ ap (λ (cs : List (List ℕ)). floor_of a.frame cs (map_two restored_team b.teams saved)) one.components
     ∙ ap (floor_of a.frame a.components) (teams_alike b.teams a.teams saved one.cells)
 
 -- a floor of the design of one of the design is one of the design
-pub of_one_design : (a b c : FloorState) → AreOfOneDesign a b → AreOfOneDesign b c → AreOfOneDesign a c
+pub of_one_design : (a b c : FloorState) → ShareDesign a b → ShareDesign b c → ShareDesign a c
 of_one_design a b c first next =
     record { frame = next.frame ∙ first.frame; components = next.components ∙ first.components; cells = next.cells ∙ first.cells }

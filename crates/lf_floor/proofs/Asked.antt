@@ -11,27 +11,27 @@ use Rattle.lf_proto.specs.declared.reply.Refusal.{Refusal}
 use Rattle.lf_proto.specs.declared.reply.Refusal.TheVariants.{NoSession, NoTeam}
 use Rattle.lf_proto.specs.declared.reply.Reply.TheVariants.{Def, Refused}
 use Rattle.lf_proto.specs.declared.request.Command.TheVariants.{To}
-use Rattle.lf_proto.specs.declared.request.Order.{Order}
-use Rattle.lf_proto.specs.declared.request.Order.TheVariants.{Within}
+use Rattle.lf_proto.specs.declared.request.TeamCommand.{TeamCommand}
+use Rattle.lf_proto.specs.declared.request.TeamCommand.TheVariants.{Within}
 use Rattle.lf_proto.specs.declared.verb.Action.TheVariants.{Def as AskDef}
-use Rattle.lf_texts.specs.TeamText.{team_text}
-use Rattle.lf_teams.specs.States.{FloorState, TeamState}
-use Rattle.lf_teams.specs.Teams.{setting, team_number}
-use Rattle.lf_teams.specs.VerbLaws.{is_granted}
-use Rattle.lf_teams.specs.Looks.{written}
-use Rattle.lf_teams.specs.Outcomes.{Reaches}
-use Rattle.lf_teams.specs.Sessions.{seen_at}
-use Rattle.lf_teams.specs.Steps.{Answers, Gives, answer_at, answer_by, answer_of, floor_of, ruled}
-use Rattle.lf_teams.specs.Verbs.{outcome_by_slot}
-use Rattle.lf_teams.proofs.Answering.{some_answers}
-use Rattle.lf_teams.proofs.Serving.{gives}
+use Rattle.lf_team_def.specs.TeamText.{team_text}
+use Rattle.lf_floor_model.specs.States.{FloorState, TeamState}
+use Rattle.lf_floor_model.specs.Teams.{team_rules, team_number}
+use Rattle.lf_floor_model.specs.VerbLaws.{is_ok}
+use Rattle.lf_floor_model.specs.Looks.{written}
+use Rattle.lf_floor_model.specs.Outcomes.{IsOutcome}
+use Rattle.lf_floor_model.specs.Sessions.{seen_at}
+use Rattle.lf_floor_model.specs.Steps.{IsAnswerOf, IsGivenAnswer, answer_at, answer_by, answer_of, floor_of, outcome_by_rules}
+use Rattle.lf_floor_model.specs.Verbs.{outcome_by_slot}
+use Rattle.lf_floor_model.proofs.Answering.{some_answers}
+use Rattle.lf_floor_model.proofs.Serving.{gives}
 use Rattle.lf_floor.specs.Responses.{def_text, text_at, text_by}
-use Rattle.lf_tables.specs.Tables.{cells_in, floor_in, frame_of, own_team, teams_in}
-use Rattle.lf_tables.specs.declared.tables.Tables.{Tables}
+use Rattle.lf_floor_verbs.specs.Tables.{cells_in, floor_in, frame_of, own_team, teams_in}
+use Rattle.lf_floor_verbs.specs.declared.tables.Tables.{Tables}
 use Rattle.lf_floor.proofs.Rows.{team_there}
 
 -- the order of that session for the DEF text
-abbrev pub ask : ℕ → Order (List ℕ) Place
+abbrev pub ask : ℕ → TeamCommand (List ℕ) Place
 ask session = Within session AskDef
 
 -- the DEF text of a team by its cells in the table, and of none
@@ -42,15 +42,15 @@ text_there tables name number named within =
 
 -- an open session gets the text, and the team stays
 text_reached : (l : Legalizer) (f : Frame) (number session seen : ℕ) (s : TeamState) → Some seen ≡ seen_at s.slots session
-    → Reaches (ruled l f number (ask session) s) (Def (team_text f number s.cells)) s
+    → IsOutcome (outcome_by_rules l f number (ask session) s) (Def (team_text f number s.cells)) s
 unfolding written
 text_reached l f number session seen s opened =
-    subst (λ (o : Option ℕ). Reaches (outcome_by_slot o (setting l f number s.padding) session AskDef s) (Def (team_text f number s.cells)) s) opened
+    subst (λ (o : Option ℕ). IsOutcome (outcome_by_slot o (team_rules l f number s.padding) session AskDef s) (Def (team_text f number s.cells)) s) opened
     record { reply_is = refl; team_is = refl }
 
 pub def_answers : (l : Legalizer) (tables : Tables) (name : List ℕ) (session seen number : ℕ) → Some number ≡ team_number (frame_of tables) name
     → number < length tables.revisions.items → Some seen ≡ seen_at (own_team number tables).slots session
-    → Answers l (floor_in tables) (To name (ask session)) (Def (def_text (floor_in tables) name)) (floor_in tables)
+    → IsAnswerOf l (floor_in tables) (To name (ask session)) (Def (def_text (floor_in tables) name)) (floor_in tables)
 def_answers l tables name session seen number named within opened =
     let f = frame_of tables in
     let components = tables.placement.cells.components in
@@ -60,9 +60,9 @@ def_answers l tables name session seen number named within opened =
     let same : floor_of f components (slice_set (teams_in tables) number s) ≡ floor_in tables =
     ap (λ (t : TeamState). floor_of f components (slice_set (teams_in tables) number t)) (sym (get_or_from_slice_get (teams_in tables) number s s there))
     ∙ ap (floor_of f components) (set-get_or (teams_in tables) number s) in
-    subst (λ (t : List ℕ). Answers l (floor_in tables) (To name (ask session)) (Def t) (floor_in tables)) (sym (text_there tables name number named within))
+    subst (λ (t : List ℕ). IsAnswerOf l (floor_in tables) (To name (ask session)) (Def t) (floor_in tables)) (sym (text_there tables name number named within))
     (some_answers l (floor_in tables) (floor_in tables) name (ask session) number (Def text) named
-    (subst (λ (v : FloorState). Gives (answer_at (Some number) l (floor_in tables) (ask session)) (Def text) v) same
+    (subst (λ (v : FloorState). IsGivenAnswer (answer_at (Some number) l (floor_in tables) (ask session)) (Def text) v) same
     (gives l f components (teams_in tables) number (ask session) s s (Def text) there (text_reached l f number session seen s opened))))
 
 -- what holds, holds if there is none
@@ -72,11 +72,11 @@ given_none (Some x) P p = tt
 
 -- a DEF text is no refusal
 no_refusal : (text : List ℕ) (refusal : Refusal) → Def text ≡ Refused refusal → ⊥
-no_refusal text refusal same = false≢true (sym (ap is_granted same))
+no_refusal text refusal same = false≢true (sym (ap is_ok same))
 
 -- what no team answers is no DEF text
-pub none_without_team : (l : Legalizer) (floor : FloorState) (name : List ℕ) (order : Order (List ℕ) Place) (text : List ℕ) → None ≡ team_number floor.frame name
-    → Answers l floor (To name order) (Def text) floor → ⊥
+pub none_without_team : (l : Legalizer) (floor : FloorState) (name : List ℕ) (order : TeamCommand (List ℕ) Place) (text : List ℕ) → None ≡ team_number floor.frame name
+    → IsAnswerOf l floor (To name order) (Def text) floor → ⊥
 unfolding answer_of
 none_without_team l floor name order text none answers =
     no_refusal text NoTeam (answers.reply_is ∙ ap (λ (n : Option ℕ). (answer_at n l floor order).reply) (sym none))
@@ -84,7 +84,7 @@ none_without_team l floor name order text none answers =
 -- and neither is what a session gets that is not open
 pub none_without_session : (l : Legalizer) (tables : Tables) (name : List ℕ) (session number : ℕ) (text : List ℕ)
     → Some number ≡ team_number (frame_of tables) name → number < length tables.revisions.items → None ≡ seen_at (own_team number tables).slots session
-    → Answers l (floor_in tables) (To name (ask session)) (Def text) (floor_in tables) → ⊥
+    → IsAnswerOf l (floor_in tables) (To name (ask session)) (Def text) (floor_in tables) → ⊥
 unfolding answer_of
 none_without_session l tables name session number text named within closed answers =
     let f = frame_of tables in
@@ -93,4 +93,4 @@ none_without_session l tables name session number text named within closed answe
     no_refusal text NoSession
     (answers.reply_is ∙ ap (λ (n : Option ℕ). (answer_at n l floor (ask session)).reply) (sym named)
     ∙ ap (λ (t : Option TeamState). (answer_by t l floor number (ask session)).reply) (team_there tables number within)
-    ∙ ap (λ (o : Option ℕ). (outcome_by_slot o (setting l f number s.padding) session AskDef s).reply) (sym closed))
+    ∙ ap (λ (o : Option ℕ). (outcome_by_slot o (team_rules l f number s.padding) session AskDef s).reply) (sym closed))

@@ -2,17 +2,17 @@
 use Rattle.std.proofs.Common.{◌≡◌, ◌∙◌, ◌<◌, ℕ, List, length, map, Option, Some, None, sym, ap, subst}
 use Rattle.std.specs.Prelude.{slice_get, option_map}
 use Rattle.std.proofs.lemmas.Option.{slice_get_within}
-use Rattle.lf_rules.specs.Team.{StandsLegal}
+use Rattle.lf_rules.specs.Team.{IsLegalCell}
 use Rattle.lf_cells.specs.declared.cell.Cell.{Cell}
 use Rattle.lf_cells.specs.declared.cell.CellId.{CellId}
 use Rattle.lf_cells.specs.Cells.{id_in, id_of}
 use Rattle.lf_legalize.specs.Members.{member_of}
-use Rattle.lf_teams.specs.States.{TeamState, FloorState}
-use Rattle.lf_teams.proofs.Standing.{some_one}
-use Rattle.lf_tables.specs.declared.tables.Tables.{Tables}
+use Rattle.lf_floor_model.specs.States.{TeamState, FloorState}
+use Rattle.lf_floor_model.proofs.Standing.{some_one}
+use Rattle.lf_floor_verbs.specs.declared.tables.Tables.{Tables}
 use Rattle.lf_placement.proofs.Moves.{id_there}
-use Rattle.lf_tables.specs.Tables.{cells_in, floor_in, frame_of, own_team, padding_of, teams_in}
-use Rattle.lf_tables.proofs.Standing.{cell_there}
+use Rattle.lf_floor_verbs.specs.Tables.{cells_in, floor_in, frame_of, own_team, padding_of, teams_in}
+use Rattle.lf_floor_verbs.proofs.Standing.{cell_there}
 use Rattle.lf_floor.proofs.Rows.{count_teams, team_there}
 
 -- what is seen of the team of that number
@@ -34,27 +34,27 @@ no_cell_at cells number own none within = go (cell_there cells own within) where
 -- what is said of the cell of an id in the tables is so of the team of its number as it is seen
 pub legal_seen : (tables : Tables) (view : FloorState) (number own sites : ℕ) (id : CellId) (s : TeamState) → floor_in tables ≡ view
     → id_in (cells_in number tables) number own ≡ Some id → sites ≡ padding_of tables number → slice_get view.teams number ≡ Some s
-    → StandsLegal (frame_of tables) id.team sites (map member_of (cells_in id.team tables)) id.own
-    → StandsLegal view.frame number s.padding (map member_of s.cells) own
+    → IsLegalCell (frame_of tables) id.team sites (map member_of (cells_in id.team tables)) id.own
+    → IsLegalCell view.frame number s.padding (map member_of s.cells) own
 legal_seen tables view number own sites id s is there padding at legal =
     let same : id ≡ id_of number own = id_there (cells_in number tables) number own id there in
     let team : s ≡ own_team number tables = seen_is tables view number s is at in
-    subst (λ (v : FloorState). StandsLegal v.frame number s.padding (map member_of s.cells) own) is
-    (subst (λ (t : TeamState). StandsLegal (frame_of tables) number t.padding (map member_of t.cells) own) (sym team)
-    (subst (λ (n : ℕ). StandsLegal (frame_of tables) number n (map member_of (cells_in number tables)) own) padding
-    (subst (λ (i : CellId). StandsLegal (frame_of tables) i.team sites (map member_of (cells_in i.team tables)) i.own) same legal)))
+    subst (λ (v : FloorState). IsLegalCell v.frame number s.padding (map member_of s.cells) own) is
+    (subst (λ (t : TeamState). IsLegalCell (frame_of tables) number t.padding (map member_of t.cells) own) (sym team)
+    (subst (λ (n : ℕ). IsLegalCell (frame_of tables) number n (map member_of (cells_in number tables)) own) padding
+    (subst (λ (i : CellId). IsLegalCell (frame_of tables) i.team sites (map member_of (cells_in i.team tables)) i.own) same legal)))
 
 pub legal_unseen : (tables : Tables) (view : FloorState) (number own sites : ℕ) (id : CellId) (s : TeamState) → floor_in tables ≡ view
     → id_in (cells_in number tables) number own ≡ Some id → sites ≡ padding_of tables number → slice_get view.teams number ≡ Some s
-    → StandsLegal view.frame number s.padding (map member_of s.cells) own
-    → StandsLegal (frame_of tables) id.team sites (map member_of (cells_in id.team tables)) id.own
+    → IsLegalCell view.frame number s.padding (map member_of s.cells) own
+    → IsLegalCell (frame_of tables) id.team sites (map member_of (cells_in id.team tables)) id.own
 legal_unseen tables view number own sites id s is there padding at legal =
     let same : id ≡ id_of number own = id_there (cells_in number tables) number own id there in
     let team : s ≡ own_team number tables = seen_is tables view number s is at in
-    subst (λ (i : CellId). StandsLegal (frame_of tables) i.team sites (map member_of (cells_in i.team tables)) i.own) (sym same)
-    (subst (λ (n : ℕ). StandsLegal (frame_of tables) number n (map member_of (cells_in number tables)) own) (sym padding)
-    (subst (λ (t : TeamState). StandsLegal (frame_of tables) number t.padding (map member_of t.cells) own) team
-    (subst (λ (v : FloorState). StandsLegal v.frame number s.padding (map member_of s.cells) own) (sym is) legal)))
+    subst (λ (i : CellId). IsLegalCell (frame_of tables) i.team sites (map member_of (cells_in i.team tables)) i.own) (sym same)
+    (subst (λ (n : ℕ). IsLegalCell (frame_of tables) number n (map member_of (cells_in number tables)) own) (sym padding)
+    (subst (λ (t : TeamState). IsLegalCell (frame_of tables) number t.padding (map member_of t.cells) own) team
+    (subst (λ (v : FloorState). IsLegalCell v.frame number s.padding (map member_of s.cells) own) (sym is) legal)))
 
 pub within_seen : (tables : Tables) (view : FloorState) (number own : ℕ) (id : CellId) (s : TeamState) → floor_in tables ≡ view
     → id_in (cells_in number tables) number own ≡ Some id → slice_get view.teams number ≡ Some s → own < length s.cells

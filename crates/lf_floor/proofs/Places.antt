@@ -7,14 +7,14 @@ use Rattle.std.proofs.lemmas.Option.{get_or_from_slice_get, slice_get_within}
 use Rattle.lf_floorplan.specs.declared.place.Place.{Place}
 use Rattle.lf_cells.specs.declared.cell.Cell.{Cell}
 use Rattle.lf_cells.specs.declared.cell.CellId.{CellId}
-use Rattle.lf_cells.specs.Cells.{AreAll, cell_at, cells_of, committed_at, component_at, components_of, id_of}
+use Rattle.lf_cells.specs.Cells.{AreAllIds, cell_at, cells_of, committed_at, component_at, components_of, id_of}
 use Rattle.lf_cells.proofs.Owners.{one_some, some_is}
-use Rattle.lf_teams.specs.States.{TeamState}
-use Rattle.lf_teams.specs.Places.{AreCommittedPlaces, IsCommittedAt, cell_in, entry_in}
-use Rattle.lf_teams.proofs.Openings.{map_at, pairs_map}
-use Rattle.lf_tables.specs.declared.tables.Tables.{Tables}
+use Rattle.lf_floor_model.specs.States.{TeamState}
+use Rattle.lf_floor_model.specs.Places.{AreCommittedPlaces, IsCommittedAt, cell_in, entry_in}
+use Rattle.lf_floor_model.proofs.Openings.{map_at, pairs_map}
+use Rattle.lf_floor_verbs.specs.declared.tables.Tables.{Tables}
 use Rattle.lf_floor.specs.Entries.{committed_entry}
-use Rattle.lf_tables.specs.Tables.{AreTables, floor_in, teams_in}
+use Rattle.lf_floor_verbs.specs.Tables.{AreTables, floor_in, teams_in}
 use Rattle.lf_floor.proofs.Rows.{count_teams, team_there}
 
 -- an element of a list, mapped, is an element of the mapped list
@@ -51,7 +51,7 @@ module _ (tables : Tables) (are : AreTables tables) where
   entry_within number own position there =
       omega (arith, row_within tables.placement.cells.components number own position there, are.components, are.revisions)
 
-  module _ (ids : List CellId) (all : AreAll tables.placement.cells ids) where
+  module _ (ids : List CellId) (all : AreAllIds tables.placement.cells ids) where
     -- the entry of a cell that is there
     entry_is : (id : CellId) (position : ℕ) (c : Cell) → component_at tables.placement.cells id ≡ Some position → cell_at tables.placement.cells id ≡ Some c
         → committed_entry tables.placement.cells id ≡ (position, c.committed)

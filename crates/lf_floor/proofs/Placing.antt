@@ -11,19 +11,19 @@ use Rattle.lf_undo.specs.declared.moves.Move.{Move}
 use Rattle.lf_undo.specs.Entries.{Places, entries_of}
 use Rattle.lf_undo.specs.Stacks.{Stacks, stack_of}
 use Rattle.lf_placement.specs.Placings.{BoundsAt, Fits, Placing, places_of}
-use Rattle.lf_teams.specs.States.{FloorState, TeamState}
-use Rattle.lf_teams.specs.Steps.{floor_of}
-use Rattle.lf_teams.specs.Teams.{IsTeamOf}
-use Rattle.lf_state.specs.declared.rows.SavedCell.{SavedCell}
-use Rattle.lf_state.specs.declared.rows.TeamRow.{TeamRow}
-use Rattle.lf_state.specs.Designs.{NamedTeam}
-use Rattle.lf_state.specs.Saved.{SavedTeam, saved_at, team_view, team_views, IsTeamOf as IsSavedTeamOf}
-use Rattle.lf_restore.specs.Saved.{AreDue, map_two, named_team, restored, restored_cell, restored_team, saved_cell}
-use Rattle.lf_restore.specs.Stands.{AreAsMany, without_cells}
-use Rattle.lf_restore.proofs.Framing.{cells_names, due_at, due_each, due_many, restored_each, restored_twice, saved_restored, team_placed}
-use Rattle.lf_tables.specs.declared.tables.Tables.{Tables}
-use Rattle.lf_floor.specs.Saving.{AwaitsEntries, EachAwaits, PlacesTeams, all_standing, standing_as}
-use Rattle.lf_tables.specs.Tables.{AreTables, EntriesFit, cells_in, floor_in, frame_of, own_team, padding_of, revision_of, team_with, teams_in}
+use Rattle.lf_floor_model.specs.States.{FloorState, TeamState}
+use Rattle.lf_floor_model.specs.Steps.{floor_of}
+use Rattle.lf_floor_model.specs.Teams.{IsTeamOf}
+use Rattle.lf_state_text.specs.declared.saved_rows.SavedCell.{SavedCell}
+use Rattle.lf_state_text.specs.declared.saved_rows.TeamRow.{TeamRow}
+use Rattle.lf_state_text.specs.Designs.{NamedTeam}
+use Rattle.lf_state_text.specs.Saved.{SavedTeam, saved_at, team_view, team_views, IsTeamOf as IsSavedTeamOf}
+use Rattle.lf_state_restore.specs.Saved.{MatchDesign, map_two, named_team, restored, restored_cell, restored_team, saved_cell}
+use Rattle.lf_state_restore.specs.Stands.{AreAsMany, without_cells}
+use Rattle.lf_state_restore.proofs.Framing.{cells_names, due_at, due_each, due_many, restored_each, restored_twice, saved_restored, team_placed}
+use Rattle.lf_floor_verbs.specs.declared.tables.Tables.{Tables}
+use Rattle.lf_floor.specs.Saving.{HasNoEntriesYet, FirstHaveNoEntriesYet, PlacesTeams, saved_teams_at, saved_team_at}
+use Rattle.lf_floor_verbs.specs.Tables.{AreTables, EntriesFit, cells_in, floor_in, frame_of, own_team, padding_of, revision_of, team_with, teams_in}
 use Rattle.lf_floor.proofs.Rows.{count_teams, each_team, replicate_each, team_at}
 
 -- ---- rows that were lent to be changed, in their list again
@@ -38,17 +38,17 @@ in_place many rows left is same =
 
 each_told : (teams : List TeamState) (saved : List SavedTeam) (d : TeamState) → length teams ≡ length saved
     → ((k : ℕ) → k < length saved → map saved_cell (get_or teams k d).cells ≡ (saved_at saved k).cells)
-    → map_two standing_as teams (map without_cells saved) ≡ saved
+    → map_two saved_team_at teams (map without_cells saved) ≡ saved
 each_told [] [] d many each = refl
 each_told [] (t ∷ saved) d many each = absurd (omega (arith, many))
 each_told (s ∷ teams) [] d many each = absurd (omega (arith, many))
 each_told (s ∷ teams) (t ∷ saved) d many each =
-    ap (λ (cs : List SavedCell). record t { cells = cs } ∷ map_two standing_as teams (map without_cells saved)) (each zero (omega arith))
+    ap (λ (cs : List SavedCell). record t { cells = cs } ∷ map_two saved_team_at teams (map without_cells saved)) (each zero (omega arith))
     ∙ ap (λ (l : List SavedTeam). t ∷ l) (each_told teams saved d (omega (arith, many)) (λ k less. each (suc k) (omega (arith, less))))
 
 -- ---- all teams' cells are placed
 
-module _ (saved : List SavedTeam) (old : Tables) (are : AreTables old) (due : AreDue (frame_of old).limits (teams_in old) saved) where
+module _ (saved : List SavedTeam) (old : Tables) (are : AreTables old) (due : MatchDesign (frame_of old).limits (teams_in old) saved) where
   long : length saved ≡ length old.revisions.items
   long = due_many (frame_of old).limits (teams_in old) saved due ∙ count_teams old
 
@@ -68,7 +68,7 @@ module _ (saved : List SavedTeam) (old : Tables) (are : AreTables old) (due : Ar
     own_cells : (k : ℕ) → k < length saved → cells_in k new ≡ map_two restored_cell (cells_in k old) (saved_at saved k).cells
     own_cells k less = placed.cells.cells k less
 
-    pub each_awaits : (count : ℕ) (tally : List ℕ) → ((k : ℕ) → BoundsAt new.placement k (places_of (cells_in k new)) tally) → EachAwaits count tally new
+    pub each_awaits : (count : ℕ) (tally : List ℕ) → ((k : ℕ) → BoundsAt new.placement k (places_of (cells_in k new)) tally) → FirstHaveNoEntriesYet count tally new
     each_awaits count tally bounds = λ k less. record { none = none_there k; bounds = bounds k }
 
     placed_team : (k : ℕ) → k < length saved → own_team k new
@@ -137,10 +137,10 @@ module _ (saved : List SavedTeam) (old : Tables) (are : AreTables old) (due : Ar
         ap (λ (cs : List Cell). record { name = []; cells = map (λ c. c.name) cs }) (own_cells k less)
         ∙ ap (λ (ns : List (List ℕ)). record { name = []; cells = ns }) (cells_names (cells_in k old) (saved_at saved k).cells (as_many k less))
 
-    pub due_placed : AreDue (frame_of new).limits (teams_in new) saved
+    pub due_placed : MatchDesign (frame_of new).limits (teams_in new) saved
     due_placed =
         let d = own_team 0 old in
-        subst (λ (f : Frame). AreDue f.limits (teams_in new) saved) (sym placed.frame)
+        subst (λ (f : Frame). MatchDesign f.limits (teams_in new) saved) (sym placed.frame)
         (due_each (frame_of old).limits (teams_in new) saved d (sym new_many)
         (λ k less. subst (λ (s : TeamState). IsSavedTeamOf (frame_of old).limits (named_team [] s) (saved_at saved k)) (sym (team_at new k d (within k less)))
         (subst (λ (t : NamedTeam). IsSavedTeamOf (frame_of old).limits t (saved_at saved k)) (sym (same_named k less)) (due_here k less))))
@@ -169,7 +169,7 @@ module _ (saved : List SavedTeam) (old : Tables) (are : AreTables old) (due : Ar
         ∙ ap (floor_of (frame_of old) old.placement.cells.components) same_teams
 
     -- the saved teams are those that are left of them, with the cells as they stand
-    pub still_told : all_standing new (map without_cells saved) ≡ saved
+    pub still_told : saved_teams_at new (map without_cells saved) ≡ saved
     still_told =
         let d = own_team 0 old in
         each_told (teams_in new) saved d new_many
@@ -179,8 +179,8 @@ module _ (saved : List SavedTeam) (old : Tables) (are : AreTables old) (due : Ar
 
     module _ (rows left : List TeamRow) (same : rows ≡ left) (emptied : team_views left ≡ map without_cells saved) where
       -- so do the rows that are left of them
-      pub rows_told : all_standing new (team_views rows) ≡ saved
-      rows_told = ap (λ (l : List TeamRow). all_standing new (team_views l)) same ∙ ap (all_standing new) emptied ∙ still_told
+      pub rows_told : saved_teams_at new (team_views rows) ≡ saved
+      rows_told = ap (λ (l : List TeamRow). saved_teams_at new (team_views l)) same ∙ ap (saved_teams_at new) emptied ∙ still_told
 
       -- one row for each team
       pub rows_many : length rows ≡ length (teams_in new)
@@ -193,7 +193,7 @@ module _ (saved : List SavedTeam) (old : Tables) (are : AreTables old) (due : Ar
 pub still_awaits : (other : ℕ) (before after : List ℕ) (old mid new : Tables) → mid.placement.cells ≡ old.placement.cells
     → stack_of mid.undo other ≡ stack_of old.undo other → new.placement ≡ mid.placement → new.undo ≡ mid.undo
     → ((at : Places) → BoundsAt old.placement other at before → BoundsAt mid.placement other at after)
-    → AwaitsEntries other before old → AwaitsEntries other after new
+    → HasNoEntriesYet other before old → HasNoEntriesYet other after new
 still_awaits other before after old mid new cells stack placement undo bounds awaits = record {
   none = ap (λ (u : Stacks (List Move)). stack_of u other) undo ∙ stack ∙ awaits.none;
   bounds =
@@ -203,7 +203,7 @@ still_awaits other before after old mid new cells stack placement undo bounds aw
 }
 
 -- the teams before the last one await theirs still
-pub rest_awaits : (count more : ℕ) (before after : List ℕ) (old new : Tables) → more ≡ count + 1 → EachAwaits more before old
-    → ((other : ℕ) → other ≢ count → AwaitsEntries other before old → AwaitsEntries other after new) → EachAwaits count after new
+pub rest_awaits : (count more : ℕ) (before after : List ℕ) (old new : Tables) → more ≡ count + 1 → FirstHaveNoEntriesYet more before old
+    → ((other : ℕ) → other ≢ count → HasNoEntriesYet other before old → HasNoEntriesYet other after new) → FirstHaveNoEntriesYet count after new
 rest_awaits count more before after old new is each stay = λ k less.
     stay k (λ same. absurd (omega (arith, less, same))) (each k (omega (arith, less, is)))

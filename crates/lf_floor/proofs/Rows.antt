@@ -16,18 +16,18 @@ use Rattle.lf_undo.specs.Stacks.{stack_of}
 use Rattle.lf_undo.specs.Entries.{Places, entries_of}
 use Rattle.lf_undo.specs.declared.moves.Move.{Move}
 use Rattle.lf_sessions.specs.Slots.{slots_of}
-use Rattle.lf_teams.specs.Outcomes.{places_of}
-use Rattle.lf_teams.specs.States.{TeamState, FloorState}
-use Rattle.lf_teams.specs.Steps.{floor_of}
-use Rattle.lf_teams.specs.Teams.{team_number, state_at, state_of, IsTeamOf}
+use Rattle.lf_floor_model.specs.Outcomes.{places_of}
+use Rattle.lf_floor_model.specs.States.{TeamState, FloorState}
+use Rattle.lf_floor_model.specs.Steps.{floor_of}
+use Rattle.lf_floor_model.specs.Teams.{team_number, state_at, state_of, IsTeamOf}
 use Rattle.lf_rules.specs.FullyLegal.{IsFullyLegal}
-use Rattle.lf_teams.specs.Committed.{IsCommittedLegal, StandAsLoaded, loaded_design}
-use Rattle.lf_teams.specs.Designs.{opening, opening_team, opening_teams}
-use Rattle.lf_teams.proofs.Loading.{loaded_committed, loaded_places}
-use Rattle.lf_teams.proofs.Openings.{opened_at, opening_whole}
-use Rattle.lf_tables.specs.declared.tables.Tables.{Tables}
-use Rattle.lf_tables.specs.Tables.{AreOpening, AreTables, EntriesFit, IsServed, OthersStay, cells_in, floor_in, frame_of, own_team, padding_of, revision_of, sites_in, team_with, teams_in}
-use Rattle.lf_tables.proofs.Fitting.{entries_stay}
+use Rattle.lf_floor_model.specs.Committed.{IsCommittedLegal, AreAtLoadedPlaces, loaded_design}
+use Rattle.lf_floor_model.specs.Designs.{initial_floor, initial_team, initial_teams}
+use Rattle.lf_floor_model.proofs.Loading.{loaded_committed, loaded_places}
+use Rattle.lf_floor_model.proofs.Openings.{opened_at, opening_whole}
+use Rattle.lf_floor_verbs.specs.declared.tables.Tables.{Tables}
+use Rattle.lf_floor_verbs.specs.Tables.{AreInitial, AreTables, EntriesFit, IsServed, KeepsOtherTeams, cells_in, floor_in, frame_of, own_team, padding_of, revision_of, sites_in, team_with, teams_in}
+use Rattle.lf_floor_verbs.proofs.Fitting.{entries_stay}
 
 -- ---- one team among all
 
@@ -50,7 +50,7 @@ each_team P tables k all within =
     subst P (team_at tables k t within) (all k t (rw (count_teams tables) within))
 
 -- if the other teams stay, one team alone has changed
-pub one_changed : (old new : Tables) (k : ℕ) → OthersStay k old new → teams_in new ≡ slice_set (teams_in old) k (own_team k new)
+pub one_changed : (old new : Tables) (k : ℕ) → KeepsOtherTeams k old new → teams_in new ≡ slice_set (teams_in old) k (own_team k new)
 one_changed old new k others =
     let here : TeamState = own_team k new in
     let long : length (set (teams_in old) k here) ≡ length new.revisions.items =
@@ -89,7 +89,7 @@ served tables number are within = record {
 }
 
 -- where the team's entries fit, and the others have not changed, all fit
-pub all_fit : (number : ℕ) (old new : Tables) → OthersStay number old new → ((other : ℕ) → EntriesFit other old) → EntriesFit number new
+pub all_fit : (number : ℕ) (old new : Tables) → KeepsOtherTeams number old new → ((other : ℕ) → EntriesFit other old) → EntriesFit number new
     → (other : ℕ) → EntriesFit other new
 all_fit number old new others fit own other = ⊎_elim
     (λ (same : other ≡ number). rw same own)
@@ -97,14 +97,14 @@ all_fit number old new others fit own other = ⊎_elim
     (cases_eq other number)
 
 -- the floor, where one team alone has changed
-pub floor_changed : (old new : Tables) (k : ℕ) → OthersStay k old new
+pub floor_changed : (old new : Tables) (k : ℕ) → KeepsOtherTeams k old new
     → floor_in new ≡ floor_of (frame_of old) old.placement.cells.components (slice_set (teams_in old) k (own_team k new))
 floor_changed old new k others =
     ap (λ (f : Frame). floor_of f new.placement.cells.components (teams_in new)) others.ground.frame
     ∙ ap (λ (cs : List (List ℕ)). floor_of (frame_of old) cs (teams_in new)) others.components
     ∙ ap (floor_of (frame_of old) old.placement.cells.components) (one_changed old new k others)
 
-pub tables_still : (old new : Tables) (k : ℕ) → OthersStay k old new → AreTables old → IsTeamOf (frame_of old) (own_team k new) → EntriesFit k new
+pub tables_still : (old new : Tables) (k : ℕ) → KeepsOtherTeams k old new → AreTables old → IsTeamOf (frame_of old) (own_team k new) → EntriesFit k new
     → AreTables new
 tables_still old new k others are own fit =
     let many : length (frame_of old).teams + 1 ≡ length (frame_of new).teams + 1 = ap (λ (f : Frame). length f.teams + 1) (sym others.ground.frame) in
@@ -129,7 +129,7 @@ replicate_each zero k = refl
 replicate_each (suc n) zero = refl
 replicate_each (suc n) (suc k) = replicate_each n k
 
-module _ (design : Loaded) (tables : Tables) (opens : AreOpening design tables) where
+module _ (design : Loaded) (tables : Tables) (opens : AreInitial design tables) where
   abbrev pub count : ℕ
   count = length design.frame.teams + 1
 
@@ -139,7 +139,7 @@ module _ (design : Loaded) (tables : Tables) (opens : AreOpening design tables) 
   paddings_are : length (sites_in tables) ≡ count
   paddings_are = ap (λ (xs : List ℕ). length xs) opens.paddings ∙ length-replicate count 0
 
-  opened_team : (k : ℕ) → k < count → own_team k tables ≡ opening_team design k
+  opened_team : (k : ℕ) → k < count → own_team k tables ≡ initial_team design k
   opened_team k within =
       let cells : cells_in k tables ≡ own_cells k design.cells =
       ap (λ (cs : List (List Cell)). slice_index_or cs k []) opens.cells
@@ -157,12 +157,12 @@ module _ (design : Loaded) (tables : Tables) (opens : AreOpening design tables) 
       ∙ ap (λ (n : ℕ). record { cells = own_cells k design.cells; revision = 0; entries = []; slots = replicate design.frame.limits.sessions None; padding = n }) padding
 
   -- the tables that are built of a design give its opening teams
-  pub opened_teams : teams_in tables ≡ opening_teams design 0 count
+  pub opened_teams : teams_in tables ≡ initial_teams design 0 count
   opened_teams =
-      let d = opening_team design 0 in
-      subst (λ (n : ℕ). map (λ (number : ℕ). own_team number tables) (range_with_len 0 n) ≡ opening_teams design 0 count) (sym revisions_are)
-      (sym (fill_by_all (λ (number : ℕ). own_team number tables) (opening_teams design 0 count) count d (opening_whole design).0
-      (λ k within. opened_at design 0 count k d within ∙ ap (λ (n : ℕ). opening_team design n) (zero-add k) ∙ sym (opened_team k within))))
+      let d = initial_team design 0 in
+      subst (λ (n : ℕ). map (λ (number : ℕ). own_team number tables) (range_with_len 0 n) ≡ initial_teams design 0 count) (sym revisions_are)
+      (sym (fill_by_all (λ (number : ℕ). own_team number tables) (initial_teams design 0 count) count d (opening_whole design).0
+      (λ k within. opened_at design 0 count k d within ∙ ap (λ (n : ℕ). initial_team design n) (zero-add k) ∙ sym (opened_team k within))))
 
   -- there is no entry yet
   no_entries : (k : ℕ) → EntriesFit k tables
@@ -190,14 +190,14 @@ module _ (design : Loaded) (tables : Tables) (opens : AreOpening design tables) 
     fit = no_entries;
   }
 
-  pub opened_floor : floor_in tables ≡ opening design
+  pub opened_floor : floor_in tables ≡ initial_floor design
   opened_floor =
       ap (λ (f : Frame). floor_of f tables.placement.cells.components (teams_in tables)) opens.frame
       ∙ ap (floor_of design.frame tables.placement.cells.components) opened_teams
-      ∙ ap (λ (cs : List (List ℕ)). floor_of design.frame cs (opening_teams design 0 count)) opens.components
+      ∙ ap (λ (cs : List (List ℕ)). floor_of design.frame cs (initial_teams design 0 count)) opens.components
 
-  pub opened_as_loaded : StandAsLoaded design (floor_in tables)
-  opened_as_loaded = subst (λ (f : FloorState). StandAsLoaded design f) (sym opened_floor) (loaded_places design)
+  pub opened_as_loaded : AreAtLoadedPlaces design (floor_in tables)
+  opened_as_loaded = subst (λ (f : FloorState). AreAtLoadedPlaces design f) (sym opened_floor) (loaded_places design)
 
   pub opened_legal : IsCommittedLegal (floor_in tables) ↔ IsFullyLegal design.frame (loaded_design design)
   opened_legal = subst (λ (f : FloorState). IsCommittedLegal f ↔ IsFullyLegal design.frame (loaded_design design)) (sym opened_floor) (loaded_committed design)

@@ -16,24 +16,24 @@ use Rattle.lf_undo.specs.Entries.{Places, entries_of}
 use Rattle.lf_undo.specs.Stacks.{Stacks, stack_of}
 use Rattle.lf_placement.specs.Placings.{Fits, Placing}
 use Rattle.lf_rules.specs.FullyLegal.{IsFullyLegal}
-use Rattle.lf_teams.specs.Committed.{IsCommittedLegal}
-use Rattle.lf_teams.specs.Outcomes.{places_of}
-use Rattle.lf_teams.specs.States.{FloorState, TeamState}
-use Rattle.lf_teams.specs.Steps.{floor_of}
-use Rattle.lf_teams.specs.Teams.{IsTeamOf, team_names}
-use Rattle.lf_state.specs.Designs.{NamedTeam, team_of}
-use Rattle.lf_state.specs.declared.rows.TeamRow.{TeamRow}
-use Rattle.lf_state.specs.declared.fault.StateError.{StateError}
-use Rattle.lf_state.specs.declared.fault.StateError.TheVariants.{Memory, Fault}
-use Rattle.lf_state.specs.Reading.{FailsAt, state_of}
-use Rattle.lf_state.specs.Saved.{AreOf, IsInRange, SavedTeam, saved_at, team_view, team_views, IsTeamOf as IsSavedTeamOf}
-use Rattle.lf_restore.specs.Saved.{AreDue, AreOfOneDesign, IsRestoredFrom, IsStateText, RestoredIsCommitted, SavedRestores, Tells, map_two, named, named_team, restored, restored_team, saved_design}
-use Rattle.lf_restore.specs.Stands.{entries_in, EntriesFit as StackFits, OthersStay as CellsStay}
-use Rattle.lf_restore.proofs.Telling.{floor_told}
-use Rattle.lf_restore.proofs.Framing.{all_due, last_due, last_restored, still_of_design, team_restored}
-use Rattle.lf_tables.specs.declared.tables.Tables.{Tables}
-use Rattle.lf_floor.specs.Saving.{HasNumbers, told, told_team}
-use Rattle.lf_tables.specs.Tables.{AreTables, EntriesFit, HasRows, IsServed, KeepsRooms, OthersStay, cells_in, floor_in, frame_of, own_team, padding_of, revision_of, sites_in, teams_in}
+use Rattle.lf_floor_model.specs.Committed.{IsCommittedLegal}
+use Rattle.lf_floor_model.specs.Outcomes.{places_of}
+use Rattle.lf_floor_model.specs.States.{FloorState, TeamState}
+use Rattle.lf_floor_model.specs.Steps.{floor_of}
+use Rattle.lf_floor_model.specs.Teams.{IsTeamOf, team_names}
+use Rattle.lf_state_text.specs.Designs.{NamedTeam, team_of}
+use Rattle.lf_state_text.specs.declared.saved_rows.TeamRow.{TeamRow}
+use Rattle.lf_state_text.specs.declared.fault.StateError.{StateError}
+use Rattle.lf_state_text.specs.declared.fault.StateError.TheVariants.{Memory, Fault}
+use Rattle.lf_state_text.specs.Reading.{FailsAt, state_of}
+use Rattle.lf_state_text.specs.Saved.{AreOf, IsInRange, SavedTeam, saved_at, team_view, team_views, IsTeamOf as IsSavedTeamOf}
+use Rattle.lf_state_restore.specs.Saved.{MatchDesign, ShareDesign, IsRestoredFrom, IsStateText, RestoredIsCommitted, SavedRestores, AreSavedTeams, map_two, named, named_team, restored, restored_team, saved_design}
+use Rattle.lf_state_restore.specs.Stands.{entries_in, EntriesFit as StackFits, OthersStay as CellsStay}
+use Rattle.lf_state_restore.proofs.Telling.{floor_told}
+use Rattle.lf_state_restore.proofs.Framing.{all_due, last_due, last_restored, still_of_design, team_restored}
+use Rattle.lf_floor_verbs.specs.declared.tables.Tables.{Tables}
+use Rattle.lf_floor.specs.Saving.{HasNumbers, saved_teams_of, saved_team_of}
+use Rattle.lf_floor_verbs.specs.Tables.{AreTables, EntriesFit, HasRows, IsServed, KeepsRooms, KeepsOtherTeams, cells_in, floor_in, frame_of, own_team, padding_of, revision_of, sites_in, teams_in}
 use Rattle.lf_floor.proofs.Rows.{count_teams, one_changed, served, tables_still, team_at}
 
 -- ---- the design
@@ -91,19 +91,19 @@ module _ (tables : Tables) (are : AreTables tables) where
 
 -- ---- what is told
 
-pub told_many : (tables : Tables) → length (told tables) ≡ length tables.revisions.items
-told_many tables = length-map-range_with_len (λ (number : ℕ). told_team number tables) 0 (length tables.revisions.items)
+pub told_many : (tables : Tables) → length (saved_teams_of tables) ≡ length tables.revisions.items
+told_many tables = length-map-range_with_len (λ (number : ℕ). saved_team_of number tables) 0 (length tables.revisions.items)
 
-pub told_at : (tables : Tables) (k : ℕ) → k < length tables.revisions.items → saved_at (told tables) k ≡ told_team k tables
+pub told_at : (tables : Tables) (k : ℕ) → k < length tables.revisions.items → saved_at (saved_teams_of tables) k ≡ saved_team_of k tables
 told_at tables k less =
-    get_or-map-range_with_len (λ (number : ℕ). told_team number tables) 0 (length tables.revisions.items) k k
+    get_or-map-range_with_len (λ (number : ℕ). saved_team_of number tables) 0 (length tables.revisions.items) k k
     record { revision = 0; padding = 0; slots = []; cells = []; entries = [] } less (zero-add k)
 
-pub one_told : (tables : Tables) (k : ℕ) → k < length (told tables) → saved_at (told tables) k ≡ told_team k tables
+pub one_told : (tables : Tables) (k : ℕ) → k < length (saved_teams_of tables) → saved_at (saved_teams_of tables) k ≡ saved_team_of k tables
 one_told tables k less = told_at tables k (subst (λ (n : ℕ). k < n) (told_many tables) less)
 
 -- a team that is told of has an undo stack
-pub there_told : (tables : Tables) → AreTables tables → (k : ℕ) → k < length (told tables) → k < length tables.undo.lists
+pub there_told : (tables : Tables) → AreTables tables → (k : ℕ) → k < length (saved_teams_of tables) → k < length tables.undo.lists
 there_told tables are k less = subst (λ (n : ℕ). k < n) (told_many tables ∙ are.revisions ∙ sym are.undo) less
 
 pub option_twice : {X Y Z : Type 0} (g : X → Y) (f : Y → Z) (o : Option X) → option_map (λ x. f (g x)) o ≡ option_map f (option_map g o)
@@ -118,7 +118,7 @@ get_mapped f (x ∷ xs) (suc k) = get_mapped f xs k
 range_many : (from n : ℕ) → length (range_with_len from n) ≡ n
 range_many from n = sym (length-map (range_with_len from n) (λ (k : ℕ). k)) ∙ length-map-range_with_len (λ (k : ℕ). k) from n
 
-pub tables_told : (tables : Tables) → AreTables tables → length (frame_of tables).teams ≤ 1024 → All IsInRange (told tables) → Tells (floor_in tables) (told tables)
+pub tables_told : (tables : Tables) → AreTables tables → length (frame_of tables).teams ≤ 1024 → All IsInRange (saved_teams_of tables) → AreSavedTeams (floor_in tables) (saved_teams_of tables)
 tables_told tables are few range =
     let n = length tables.revisions.items in
     let ks = range_with_len 0 n in
@@ -198,7 +198,7 @@ module _ (k : ℕ) (old new : Tables) (mid : Tables) (revision padding : ℕ) (s
       ∙ ap (λ (ss : List (Option ℕ)). record { cells = cells_in other old; revision = revision_of old other; entries = es; slots = ss; padding = padding_of new other }) slots_are
       ∙ ap (λ (n : ℕ). record { cells = cells_in other old; revision = revision_of old other; entries = es; slots = slots_of old.sessions other; padding = n }) padding_is
 
-  pub others_are : OthersStay k old new
+  pub others_are : KeepsOtherTeams k old new
   others_are = record {
     teams = other_team;
     components = ap (λ (p : Placing). p.cells.components) numbers.placement ∙ stay.components;
@@ -220,7 +220,7 @@ pub record AreLeft (start now : Tables) (all left : List SavedTeam) : Type 0 whe
   pub frame : frame_of now ≡ frame_of start
   pub components : now.placement.cells.components ≡ start.placement.cells.components
   pub few : length left ≤ length (teams_in now)
-  pub due : AreDue (frame_of now).limits (take (length left) (teams_in now)) left
+  pub due : MatchDesign (frame_of now).limits (take (length left) (teams_in now)) left
   pub whole : map_two restored_team (teams_in now) left ++ drop (length left) (teams_in now) ≡ map_two restored_team (teams_in start) all
 
 all_taken : {X : Type 0} (xs : List X) (n : ℕ) → n ≡ length xs → take n xs ≡ xs
@@ -232,14 +232,14 @@ none_left [] (suc n) past = refl
 none_left (x ∷ xs) zero past = absurd (omega (arith, past))
 none_left (x ∷ xs) (suc n) past = none_left xs n (omega (arith, past))
 
-pub first_left : (tables : Tables) (saved : List SavedTeam) → AreTables tables → AreDue (frame_of tables).limits (teams_in tables) saved → length saved ≡ length (teams_in tables)
+pub first_left : (tables : Tables) (saved : List SavedTeam) → AreTables tables → MatchDesign (frame_of tables).limits (teams_in tables) saved → length saved ≡ length (teams_in tables)
     → AreLeft tables tables saved saved
 first_left tables saved are due many = record {
   tables = are;
   frame = refl;
   components = refl;
   few = omega (arith, many);
-  due = subst (λ (ts : List TeamState). AreDue (frame_of tables).limits ts saved) (sym (all_taken (teams_in tables) (length saved) many)) due;
+  due = subst (λ (ts : List TeamState). MatchDesign (frame_of tables).limits ts saved) (sym (all_taken (teams_in tables) (length saved) many)) due;
   whole =
       ap (λ (ts : List TeamState). map_two restored_team (teams_in tables) saved ++ ts) (none_left (teams_in tables) (length saved) (omega (arith, many)))
       ∙ append-nil (map_two restored_team (teams_in tables) saved);
@@ -259,18 +259,18 @@ module _ (start now : Tables) (all rest left : List SavedTeam) (t : SavedTeam) (
   less : length rest < length (teams_in now)
   less = let few = so_far.few in omega (arith, few, long)
 
-  parts : (d : TeamState) → IsSavedTeamOf (frame_of now).limits (named_team [] (get_or (teams_in now) (length rest) d)) t × AreDue (frame_of now).limits (take (length rest) (teams_in now)) rest
+  parts : (d : TeamState) → IsSavedTeamOf (frame_of now).limits (named_team [] (get_or (teams_in now) (length rest) d)) t × MatchDesign (frame_of now).limits (take (length rest) (teams_in now)) rest
   parts d =
       last_due (frame_of now).limits (teams_in now) rest t d less
-      (subst (λ (l : List SavedTeam). AreDue (frame_of now).limits (take (length rest + 1) (teams_in now)) l) is
-      (subst (λ (n : ℕ). AreDue (frame_of now).limits (take n (teams_in now)) left) long so_far.due))
+      (subst (λ (l : List SavedTeam). MatchDesign (frame_of now).limits (take (length rest + 1) (teams_in now)) l) is
+      (subst (λ (n : ℕ). MatchDesign (frame_of now).limits (take n (teams_in now)) left) long so_far.due))
 
   pub last_is_due : IsSavedTeamOf (frame_of now).limits (named_team [] (own_team (length rest) now)) t
   last_is_due =
       subst (λ (s : TeamState). IsSavedTeamOf (frame_of now).limits (named_team [] s) t) (team_at now (length rest) (own_team (length rest) now) last_there)
       (parts (own_team (length rest) now)).0
 
-  pub one_less : (after : Tables) → own_team (length rest) after ≡ restored_team (own_team (length rest) now) t → OthersStay (length rest) now after
+  pub one_less : (after : Tables) → own_team (length rest) after ≡ restored_team (own_team (length rest) now) t → KeepsOtherTeams (length rest) now after
       → EntriesFit (length rest) after → AreLeft start after all rest
   one_less after team others fit =
       let k = length rest in
@@ -288,9 +288,9 @@ module _ (start now : Tables) (all rest left : List SavedTeam) (t : SavedTeam) (
         components = others.components ∙ so_far.components;
         few = let few = so_far.few in omega (arith, few, long, ap (λ (ts : List TeamState). length ts) set_is, length-set (teams_in now) k (restored_team (get_or (teams_in now) k d) t));
         due =
-            subst (λ (f : Frame). AreDue f.limits (take k (teams_in after)) rest) (sym frame)
-            (subst (λ (ts : List TeamState). AreDue (frame_of now).limits (take k ts) rest) (sym set_is)
-            (subst (λ (ts : List TeamState). AreDue (frame_of now).limits ts rest) (sym (take-set-le k (teams_in now) k (restored_team (get_or (teams_in now) k d) t) (omega arith))) (parts d).1));
+            subst (λ (f : Frame). MatchDesign f.limits (take k (teams_in after)) rest) (sym frame)
+            (subst (λ (ts : List TeamState). MatchDesign (frame_of now).limits (take k ts) rest) (sym set_is)
+            (subst (λ (ts : List TeamState). MatchDesign (frame_of now).limits ts rest) (sym (take-set-le k (teams_in now) k (restored_team (get_or (teams_in now) k d) t) (omega arith))) (parts d).1));
         whole =
             ap (λ (ts : List TeamState). map_two restored_team ts rest ++ drop k ts) set_is
             ∙ last_restored (teams_in now) rest t d less
@@ -306,10 +306,10 @@ module _ (start now : Tables) (all rest left : List SavedTeam) (t : SavedTeam) (
   pub number_due : (k : ℕ) → k ≡ length rest → IsSavedTeamOf (frame_of now).limits (named_team [] (own_team k now)) t
   number_due k at = subst (λ (n : ℕ). IsSavedTeamOf (frame_of now).limits (named_team [] (own_team n now)) t) (sym at) last_is_due
 
-  pub number_less : (k : ℕ) → k ≡ length rest → (after : Tables) → own_team k after ≡ restored_team (own_team k now) t → OthersStay k now after → EntriesFit k after
+  pub number_less : (k : ℕ) → k ≡ length rest → (after : Tables) → own_team k after ≡ restored_team (own_team k now) t → KeepsOtherTeams k now after → EntriesFit k after
       → AreLeft start after all rest
   number_less k at after team others fit =
-      one_less after (subst (λ (n : ℕ). own_team n after ≡ restored_team (own_team n now) t) at team) (subst (λ (n : ℕ). OthersStay n now after) at others)
+      one_less after (subst (λ (n : ℕ). own_team n after ≡ restored_team (own_team n now) t) at team) (subst (λ (n : ℕ). KeepsOtherTeams n now after) at others)
       (subst (λ (n : ℕ). EntriesFit n after) at fit)
 
 two_none : (teams : List TeamState) → map_two restored_team teams [] ≡ []
@@ -329,11 +329,11 @@ all_left start now all left so_far none =
 -- ---- what was read
 
 -- each team that was read is one of the floor's
-due_of : (tables : Tables) → AreTables tables → (saved : List SavedTeam) → AreOf (named (floor_in tables)) saved → AreDue (frame_of tables).limits (teams_in tables) saved
+due_of : (tables : Tables) → AreTables tables → (saved : List SavedTeam) → AreOf (named (floor_in tables)) saved → MatchDesign (frame_of tables).limits (teams_in tables) saved
 due_of tables are saved of = all_due (frame_of tables).limits (team_names (frame_of tables)) (teams_in tables) saved (as_many tables are) of
 
 pub rows_due : {X E : Type 0} (view : X → List SavedTeam) (tables : Tables) → AreTables tables → (result : Result X E)
-    → IfOk result (λ rows. AreOf (named (floor_in tables)) (view rows)) → IfOk result (λ rows. AreDue (frame_of tables).limits (teams_in tables) (view rows))
+    → IfOk result (λ rows. AreOf (named (floor_in tables)) (view rows)) → IfOk result (λ rows. MatchDesign (frame_of tables).limits (teams_in tables) (view rows))
 rows_due view tables are (Ok rows) of = due_of tables are (view rows) of
 rows_due view tables are (Err e) of = tt
 
@@ -351,24 +351,24 @@ no_views [] few = refl
 no_views (r ∷ rows) few = absurd (omega (arith, few))
 
 -- what is restored is of the design
-pub of_design : (start now : Tables) (saved : List SavedTeam) → AreDue (frame_of start).limits (teams_in start) saved → floor_in now ≡ restored (floor_in start) saved
-    → AreOfOneDesign (floor_in start) (floor_in now)
+pub of_design : (start now : Tables) (saved : List SavedTeam) → MatchDesign (frame_of start).limits (teams_in start) saved → floor_in now ≡ restored (floor_in start) saved
+    → ShareDesign (floor_in start) (floor_in now)
 of_design start now saved due is =
-    subst (λ (f : FloorState). AreOfOneDesign (floor_in start) f) (sym is) (still_of_design (floor_in start) saved due)
+    subst (λ (f : FloorState). ShareDesign (floor_in start) f) (sym is) (still_of_design (floor_in start) saved due)
 
 -- ---- what a text says
 
 same_ok : {X E : Type 0} {x y : X} → ◌≡◌ {A = Result X E} (Ok x) (Ok y) → x ≡ y
 same_ok e = cc
 
-pub back_again : SavedRestores → (begin floor now : FloorState) (text : List ℕ) → IsRestoredFrom begin text now → AreOfOneDesign begin floor → IsStateText floor text
+pub back_again : SavedRestores → (begin floor now : FloorState) (text : List ℕ) → IsRestoredFrom begin text now → ShareDesign begin floor → IsStateText floor text
     → now ≡ floor
 back_again law begin floor now text from one is =
-    let told = law begin floor text one is in
-    let same : from.0 ≡ told.0 = same_ok (sym from.1 ∙ told.1) in
-    from.2 ∙ ap (λ (saved : List SavedTeam). restored begin saved) same ∙ told.2
+    let saved_teams_of = law begin floor text one is in
+    let same : from.0 ≡ saved_teams_of.0 = same_ok (sym from.1 ∙ saved_teams_of.1) in
+    from.2 ∙ ap (λ (saved : List SavedTeam). restored begin saved) same ∙ saved_teams_of.2
 
-pub only_memory : SavedRestores → (begin floor : FloorState) (text : List ℕ) (error : StateError) → FailsAt error (state_of (named begin) text) → AreOfOneDesign begin floor
+pub only_memory : SavedRestores → (begin floor : FloorState) (text : List ℕ) (error : StateError) → FailsAt error (state_of (named begin) text) → ShareDesign begin floor
     → IsStateText floor text → error ≡ Memory
 only_memory law begin floor text Memory fails one is = refl
 only_memory law begin floor text (Fault f) fails one is = absurd (differ (sym (law begin floor text one is).1 ∙ fails)) where

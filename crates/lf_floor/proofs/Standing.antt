@@ -2,72 +2,72 @@
 use Rattle.std.proofs.Common.{◌≡◌, ◌<◌, ◌≤◌, ℕ, suc, ◌+◌, List, [], ◌∷◌, ◌++◌, length, map, get_or, refl, ap, sym, subst, ◌∙◌, arith}
 use Rattle.std.proofs.lemmas.List.{length-append}
 use Rattle.lf_cells.specs.Cells.{Cells, cells_of}
-use Rattle.lf_teams.specs.States.{TeamState}
-use Rattle.lf_state.specs.Saved.{SavedTeam, IsTeamOf as IsSavedTeamOf}
-use Rattle.lf_restore.specs.Saved.{map_two, named_team, restored, restored_team, saved_cell}
-use Rattle.lf_tables.specs.declared.tables.Tables.{Tables}
-use Rattle.lf_tables.specs.Tables.{EntriesFit, IsServed, OthersStay, floor_in, frame_of, own_team, teams_in}
-use Rattle.lf_floor.specs.Saving.{all_standing, standing_as}
+use Rattle.lf_floor_model.specs.States.{TeamState}
+use Rattle.lf_state_text.specs.Saved.{SavedTeam, IsTeamOf as IsSavedTeamOf}
+use Rattle.lf_state_restore.specs.Saved.{map_two, named_team, restored, restored_team, saved_cell}
+use Rattle.lf_floor_verbs.specs.declared.tables.Tables.{Tables}
+use Rattle.lf_floor_verbs.specs.Tables.{EntriesFit, IsServed, KeepsOtherTeams, floor_in, frame_of, own_team, teams_in}
+use Rattle.lf_floor.specs.Saving.{saved_teams_at, saved_team_at}
 use Rattle.lf_floor.proofs.Rows.{count_teams, team_at}
 use Rattle.lf_floor.proofs.Saving.{AreLeft, all_left, number_due, number_less, number_served}
 
-standing_none : (teams : List TeamState) → map_two standing_as teams [] ≡ []
+standing_none : (teams : List TeamState) → map_two saved_team_at teams [] ≡ []
 standing_none [] = refl
 standing_none (s ∷ teams) = refl
 
-standing_many : (teams : List TeamState) (saved : List SavedTeam) → length saved ≤ length teams → length (map_two standing_as teams saved) ≡ length saved
+standing_many : (teams : List TeamState) (saved : List SavedTeam) → length saved ≤ length teams → length (map_two saved_team_at teams saved) ≡ length saved
 standing_many [] [] few = refl
 standing_many [] (t ∷ saved) few = absurd (omega (arith, few))
 standing_many (s ∷ teams) [] few = refl
 standing_many (s ∷ teams) (t ∷ saved) few = ap suc (standing_many teams saved (omega (arith, few)))
 
 standing_last : (teams : List TeamState) (rest : List SavedTeam) (t : SavedTeam) (d : TeamState) → length rest < length teams
-    → map_two standing_as teams (rest ++ t ∷ []) ≡ map_two standing_as teams rest ++ standing_as (get_or teams (length rest) d) t ∷ []
+    → map_two saved_team_at teams (rest ++ t ∷ []) ≡ map_two saved_team_at teams rest ++ saved_team_at (get_or teams (length rest) d) t ∷ []
 standing_last [] rest t d less = absurd (omega (arith, less))
 standing_last (s ∷ []) [] t d less = refl
 standing_last (s ∷ u ∷ teams) [] t d less = refl
 standing_last (s ∷ teams) (r ∷ rest) t d less =
-    ap (λ (l : List SavedTeam). standing_as s r ∷ l) (standing_last teams rest t d (omega (arith, less)))
+    ap (λ (l : List SavedTeam). saved_team_at s r ∷ l) (standing_last teams rest t d (omega (arith, less)))
 
 -- the last team of those that are left
 module _ (start now : Tables) (all left rest : List SavedTeam) (t : SavedTeam) (k : ℕ) (is : left ≡ rest ++ t ∷ []) (at : k ≡ length rest)
-    (few : length left ≤ length (teams_in start)) (cells : now.placement.cells ≡ start.placement.cells) (so_far : AreLeft start now all (all_standing start left)) where
+    (few : length left ≤ length (teams_in start)) (cells : now.placement.cells ≡ start.placement.cells) (so_far : AreLeft start now all (saved_teams_at start left)) where
   long : length left ≡ length rest + 1
   long = ap (λ (l : List SavedTeam). length l) is ∙ length-append rest (t ∷ [])
 
   -- as it stood at the start
   abbrev stood : SavedTeam
-  stood = standing_as (own_team k start) t
+  stood = saved_team_at (own_team k start) t
 
-  last_is : all_standing start left ≡ all_standing start rest ++ stood ∷ []
+  last_is : saved_teams_at start left ≡ saved_teams_at start rest ++ stood ∷ []
   last_is =
       let d = own_team k start in
-      ap (all_standing start) is
+      ap (saved_teams_at start) is
       ∙ standing_last (teams_in start) rest t d (omega (arith, few, long))
-      ∙ ap (λ (s : TeamState). all_standing start rest ++ standing_as s t ∷ [])
+      ∙ ap (λ (s : TeamState). saved_teams_at start rest ++ saved_team_at s t ∷ [])
       (ap (λ (n : ℕ). get_or (teams_in start) n d) (sym at) ∙ team_at start k d (omega (arith, few, long, at, count_teams start)))
 
-  number_is : k ≡ length (all_standing start rest)
+  number_is : k ≡ length (saved_teams_at start rest)
   number_is = at ∙ sym (standing_many (teams_in start) rest (omega (arith, few, long)))
 
   -- it stands so still
-  same : standing_as (own_team k now) t ≡ stood
+  same : saved_team_at (own_team k now) t ≡ stood
   same = ap (λ (cs : Cells). record t { cells = map saved_cell (cells_of cs k) }) cells
 
   pub standing_served : IsServed k now
-  standing_served = number_served start now all (all_standing start rest) (all_standing start left) stood so_far last_is k number_is
+  standing_served = number_served start now all (saved_teams_at start rest) (saved_teams_at start left) stood so_far last_is k number_is
 
-  pub standing_due : IsSavedTeamOf (frame_of now).limits (named_team [] (own_team k now)) (standing_as (own_team k now) t)
+  pub standing_due : IsSavedTeamOf (frame_of now).limits (named_team [] (own_team k now)) (saved_team_at (own_team k now) t)
   standing_due =
       subst (λ (u : SavedTeam). IsSavedTeamOf (frame_of now).limits (named_team [] (own_team k now)) u) (sym same)
-      (number_due start now all (all_standing start rest) (all_standing start left) stood so_far last_is k number_is)
+      (number_due start now all (saved_teams_at start rest) (saved_teams_at start left) stood so_far last_is k number_is)
 
-  pub standing_less : (after : Tables) → own_team k after ≡ restored_team (own_team k now) (standing_as (own_team k now) t) → OthersStay k now after
-      → EntriesFit k after → AreLeft start after all (all_standing start rest)
+  pub standing_less : (after : Tables) → own_team k after ≡ restored_team (own_team k now) (saved_team_at (own_team k now) t) → KeepsOtherTeams k now after
+      → EntriesFit k after → AreLeft start after all (saved_teams_at start rest)
   standing_less after team others fit =
-      number_less start now all (all_standing start rest) (all_standing start left) stood so_far last_is k number_is after
+      number_less start now all (saved_teams_at start rest) (saved_teams_at start left) stood so_far last_is k number_is after
       (team ∙ ap (λ (u : SavedTeam). restored_team (own_team k now) u) same) others fit
 
-pub all_stood : (start now : Tables) (all left : List SavedTeam) → AreLeft start now all (all_standing start left) → left ≡ [] → floor_in now ≡ restored (floor_in start) all
+pub all_stood : (start now : Tables) (all left : List SavedTeam) → AreLeft start now all (saved_teams_at start left) → left ≡ [] → floor_in now ≡ restored (floor_in start) all
 all_stood start now all left so_far none =
-    all_left start now all (all_standing start left) so_far (ap (all_standing start) none ∙ standing_none (teams_in start))
+    all_left start now all (saved_teams_at start left) so_far (ap (saved_teams_at start) none ∙ standing_none (teams_in start))

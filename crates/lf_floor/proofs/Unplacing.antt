@@ -12,24 +12,24 @@ use Rattle.lf_floorplan.specs.declared.place.Place.{Place}
 use Rattle.lf_floorplan.specs.Bounds.{IsName}
 use Rattle.lf_cells.specs.declared.cell.Cell.{Cell}
 use Rattle.lf_cells.specs.Cells.{Cells, as_committed, cells_of, moved}
-use Rattle.lf_cells.specs.Openings.{opening_cells, opening_components, own_cells}
+use Rattle.lf_cells.specs.Openings.{initial_cells, initial_components, own_cells}
 use Rattle.lf_legalize.specs.Members.{IsSizedCell}
 use Rattle.lf_placement.specs.Placings.{AreSized, Fits}
 use Rattle.lf_placement.proofs.Moves.{same_moved}
 use Rattle.lf_undo.specs.declared.moves.Move.{Move}
 use Rattle.lf_undo.specs.Entries.{Places, entries_of}
 use Rattle.lf_undo.specs.Stacks.{stack_of}
-use Rattle.lf_teams.specs.Designs.{opening}
-use Rattle.lf_teams.specs.Outcomes.{places_of}
-use Rattle.lf_teams.specs.States.{FloorState, TeamState}
-use Rattle.lf_teams.specs.Teams.{IsTeamOf}
-use Rattle.lf_teams.proofs.Kept.{sized_as}
-use Rattle.lf_teams.proofs.Openings.{opened_team}
-use Rattle.lf_restore.specs.Saved.{AreOfOneDesign, fixed_cells, fixed_of}
-use Rattle.lf_restore.proofs.KeepingDesign.{committed_fixed}
-use Rattle.lf_restore.proofs.Placed.{fixed_same}
-use Rattle.lf_tables.specs.declared.tables.Tables.{Tables}
-use Rattle.lf_tables.specs.Tables.{AreOpening, AreTables, EntriesFit, cells_in, floor_in, frame_of, own_team, teams_in}
+use Rattle.lf_floor_model.specs.Designs.{initial_floor}
+use Rattle.lf_floor_model.specs.Outcomes.{places_of}
+use Rattle.lf_floor_model.specs.States.{FloorState, TeamState}
+use Rattle.lf_floor_model.specs.Teams.{IsTeamOf}
+use Rattle.lf_floor_model.proofs.Kept.{sized_as}
+use Rattle.lf_floor_model.proofs.Openings.{opened_team}
+use Rattle.lf_state_restore.specs.Saved.{ShareDesign, fixed_cells, fixed_of}
+use Rattle.lf_state_restore.proofs.KeepingDesign.{committed_fixed}
+use Rattle.lf_state_restore.proofs.Placed.{fixed_same}
+use Rattle.lf_floor_verbs.specs.declared.tables.Tables.{Tables}
+use Rattle.lf_floor_verbs.specs.Tables.{AreInitial, AreTables, EntriesFit, cells_in, floor_in, frame_of, own_team, teams_in}
 use Rattle.lf_floor.specs.Bare.{AreOfDesign, AreSameCells, loaded_cells}
 use Rattle.lf_floor.proofs.Alike.{names_alike, same_head, same_tail}
 use Rattle.lf_floor.proofs.Rows.{count_teams, each_team, opened_floor, opened_tables, replicate_each, team_at}
@@ -68,7 +68,7 @@ pub one_committed : (old new : Cells) (team : ℕ) → new.cells ≡ slice_set o
     → new.components ≡ old.components → AreSameCells old new
 one_committed old new team is components = one_set old new team (map as_committed (cells_of old team)) (committed_fixed (cells_of old team)) is components
 
-pub same_loaded : (design : Loaded) (built bare : Cells) → built.cells ≡ opening_cells design → built.components ≡ opening_components design
+pub same_loaded : (design : Loaded) (built bare : Cells) → built.cells ≡ initial_cells design → built.components ≡ initial_components design
     → AreSameCells built bare → AreSameCells (loaded_cells design) bare
 same_loaded design built bare cells components same = record {
   cells = λ k. same.cells k ∙ ap (λ (table : List (List Cell)). map fixed_of (slice_index_or table k [])) cells;
@@ -164,7 +164,7 @@ module _ (design : Loaded) (tables : Tables) (are : AreOfDesign design tables) w
   abbrev opened : Tables
   opened = record tables { placement = record tables.placement { cells = loaded_cells design } }
 
-  opens : AreOpening design opened
+  opens : AreInitial design opened
   opens = record {
     frame = are.frame;
     cells = refl;
@@ -220,7 +220,7 @@ module _ (design : Loaded) (tables : Tables) (are : AreOfDesign design tables) w
       let there : k < length tables.revisions.items = subst (λ (n : ℕ). k < n) (count_teams opened) less in
       ap fixed_cells (team_at tables k d there) ∙ are.cells.cells k ∙ sym (ap fixed_cells (team_at opened k d there)))
 
-  pub bare_design : AreOfOneDesign (opening design) (floor_in tables)
+  pub bare_design : ShareDesign (initial_floor design) (floor_in tables)
   bare_design =
-      subst (λ (f : FloorState). AreOfOneDesign f (floor_in tables)) (opened_floor design opened opens)
+      subst (λ (f : FloorState). ShareDesign f (floor_in tables)) (opened_floor design opened opens)
       record { frame = refl; components = are.cells.components; cells = same_teams }

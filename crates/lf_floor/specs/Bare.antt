@@ -2,10 +2,10 @@
 use Rattle.std.specs.Prelude.{◌≡◌, ℕ, ◌+◌, [], None, length, map, replicate}
 use Rattle.lf_floorplan.specs.declared.loaded.Loaded.{Loaded}
 use Rattle.lf_cells.specs.Cells.{Cells, cells_of}
-use Rattle.lf_cells.specs.Openings.{opening_cells, opening_components}
-use Rattle.lf_restore.specs.Saved.{fixed_of}
-use Rattle.lf_tables.specs.declared.tables.Tables.{Tables}
-use Rattle.lf_tables.specs.Tables.{frame_of, sites_in}
+use Rattle.lf_cells.specs.Openings.{initial_cells, initial_components}
+use Rattle.lf_state_restore.specs.Saved.{fixed_of}
+use Rattle.lf_floor_verbs.specs.declared.tables.Tables.{Tables}
+use Rattle.lf_floor_verbs.specs.Tables.{frame_of, sites_in}
 
 -- the cells of each team are the same, wherever they stand
 pub record AreSameCells (old new : Cells) : Type 0 where
@@ -14,7 +14,7 @@ pub record AreSameCells (old new : Cells) : Type 0 where
 
 -- the cells of a design as it is loaded
 abbrev pub loaded_cells : Loaded → Cells
-loaded_cells design = record { cells = opening_cells design; components = opening_components design }
+loaded_cells design = record { cells = initial_cells design; components = initial_components design }
 
 -- the tables are those of the design as it is loaded, wherever its cells stand
 pub record AreOfDesign (design : Loaded) (tables : Tables) : Type 0 where

@@ -7,13 +7,13 @@ use Rattle.lf_proto.specs.declared.reply.Reply.{Reply}
 use Rattle.lf_proto.specs.declared.reply.Reply.TheVariants.{Def}
 use Rattle.lf_proto.specs.declared.request.Command.{Command}
 use Rattle.lf_proto.specs.declared.request.Command.TheVariants.{Bye, To}
-use Rattle.lf_proto.specs.declared.request.Order.{Order}
-use Rattle.lf_proto.specs.declared.request.Order.TheVariants.{Within}
+use Rattle.lf_proto.specs.declared.request.TeamCommand.{TeamCommand}
+use Rattle.lf_proto.specs.declared.request.TeamCommand.TheVariants.{Within}
 use Rattle.lf_proto.specs.declared.verb.Action.TheVariants.{Def as AskDef}
-use Rattle.lf_texts.specs.TeamText.{team_text}
-use Rattle.lf_teams.specs.States.{FloorState, TeamState}
-use Rattle.lf_teams.specs.Steps.{Answers}
-use Rattle.lf_teams.specs.Teams.{state_at, team_number}
+use Rattle.lf_team_def.specs.TeamText.{team_text}
+use Rattle.lf_floor_model.specs.States.{FloorState, TeamState}
+use Rattle.lf_floor_model.specs.Steps.{IsAnswerOf}
+use Rattle.lf_floor_model.specs.Teams.{state_at, team_number}
 use Rattle.lf_floor.specs.declared.response.Response.{Response}
 use Rattle.lf_floor.specs.declared.response.Response.TheVariants.{Whole, Def as Apart}
 
@@ -42,17 +42,17 @@ reply_in floor team (Whole reply) = reply
 reply_in floor team (Apart length) = Def (def_text floor team)
 
 -- the order asks for the team's DEF text
-abbrev pub AsksText : Order (List ℕ) Place → Type 0
-AsksText (Within session AskDef) = Unit {0}
-AsksText _ = ⊥
+abbrev pub AsksForTeamText : TeamCommand (List ℕ) Place → Type 0
+AsksForTeamText (Within session AskDef) = Unit {0}
+AsksForTeamText _ = ⊥
 
 -- the same of a command
 abbrev pub AsksForText : Command (List ℕ) Place → Type 0
 AsksForText Bye = ⊥
-AsksForText (To team order) = AsksText order
+AsksForText (To team order) = AsksForTeamText order
 
 -- a DEF text that the rules answer is the response; but one of 2^64 bytes or more, which cannot be counted, may be refused
-abbrev pub GivesText : FloorState → Command (List ℕ) Place → Response → Type 0
-GivesText floor command response =
-    (l : Legalizer) (text : List ℕ) → AsksForText command → Answers l floor command (Def text) floor
+abbrev pub RespondsWithText : FloorState → Command (List ℕ) Place → Response → Type 0
+RespondsWithText floor command response =
+    (l : Legalizer) (text : List ℕ) → AsksForText command → IsAnswerOf l floor command (Def text) floor
     → (response ≡ Apart (length text)) ⊎ (2 ^ 64 ≤ length text)

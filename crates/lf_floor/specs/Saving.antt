@@ -2,19 +2,19 @@
 use Rattle.std.specs.Prelude.{◌≡◌, ℕ, ◌+◌, ◌<◌, List, [], Option, length, map, replicate, slice_set}
 use Rattle.std.specs.List.{range_with_len}
 use Rattle.lf_undo.specs.Stacks.{stack_of}
-use Rattle.lf_teams.specs.States.{TeamState}
-use Rattle.lf_state.specs.Designs.{NamedDesign}
+use Rattle.lf_floor_model.specs.States.{TeamState}
+use Rattle.lf_state_text.specs.Designs.{NamedDesign}
 use Rattle.lf_placement.specs.Placings.{BoundsAt, places_of}
-use Rattle.lf_state.specs.Saved.{SavedTeam, moves_within, state_text}
-use Rattle.lf_restore.specs.Saved.{map_two, saved_cell}
-use Rattle.lf_restore.specs.Stands.{ArePlaced}
-use Rattle.lf_tables.specs.declared.tables.Tables.{Tables}
-use Rattle.lf_tables.specs.Tables.{cells_in, frame_of, padding_of, revision_of, sites_in, teams_in}
+use Rattle.lf_state_text.specs.Saved.{SavedTeam, moves_within, state_text}
+use Rattle.lf_state_restore.specs.Saved.{map_two, saved_cell}
+use Rattle.lf_state_restore.specs.Stands.{ArePlaced}
+use Rattle.lf_floor_verbs.specs.declared.tables.Tables.{Tables}
+use Rattle.lf_floor_verbs.specs.Tables.{cells_in, frame_of, padding_of, revision_of, sites_in, teams_in}
 use Rattle.lf_sessions.specs.Slots.{slots_of}
 
 -- what is told of the team of that number: of its undo entries the moves of its cells
-abbrev pub told_team : ℕ → Tables → SavedTeam
-told_team number tables = record {
+abbrev pub saved_team_of : ℕ → Tables → SavedTeam
+saved_team_of number tables = record {
   revision = revision_of tables number;
   padding = padding_of tables number;
   slots = slots_of tables.sessions number;
@@ -23,12 +23,12 @@ told_team number tables = record {
 }
 
 -- of all teams
-abbrev pub told : Tables → List SavedTeam
-told tables = map (λ number. told_team number tables) (range_with_len 0 (length tables.revisions.items))
+abbrev pub saved_teams_of : Tables → List SavedTeam
+saved_teams_of tables = map (λ number. saved_team_of number tables) (range_with_len 0 (length tables.revisions.items))
 
 -- the text of a design's saved teams
-abbrev pub text_of : NamedDesign × List SavedTeam → List ℕ
-text_of saved = state_text saved.0 saved.1
+abbrev pub state_text_of : NamedDesign × List SavedTeam → List ℕ
+state_text_of saved = state_text saved.0 saved.1
 
 -- the team has these numbers and slots, and nothing else differs
 pub record HasNumbers (number revision padding : ℕ) (slots : List (Option ℕ)) (old new : Tables) : Type 0 where
@@ -49,18 +49,18 @@ pub record PlacesTeams (saved : List SavedTeam) (old new : Tables) : Type 0 wher
   pub paddings : new.paddings ≡ old.paddings
 
 -- the team has nothing to undo, and the tally bounds its working places
-pub record AwaitsEntries (number : ℕ) (tally : List ℕ) (tables : Tables) : Type 0 where
+pub record HasNoEntriesYet (number : ℕ) (tally : List ℕ) (tables : Tables) : Type 0 where
   pub none : stack_of tables.undo number ≡ []
   pub bounds : BoundsAt tables.placement number (places_of (cells_in number tables)) tally
 
 -- so it is for the first so many teams
-abbrev pub EachAwaits : ℕ → List ℕ → Tables → Type 0
-EachAwaits count tally tables = (number : ℕ) → number < count → AwaitsEntries number tally tables
+abbrev pub FirstHaveNoEntriesYet : ℕ → List ℕ → Tables → Type 0
+FirstHaveNoEntriesYet count tally tables = (number : ℕ) → number < count → HasNoEntriesYet number tally tables
 
 -- the saved team with the team's cells as they stand: it tells all else of the team
-abbrev pub standing_as : TeamState → SavedTeam → SavedTeam
-standing_as s t = record t { cells = map saved_cell s.cells }
+abbrev pub saved_team_at : TeamState → SavedTeam → SavedTeam
+saved_team_at s t = record t { cells = map saved_cell s.cells }
 
 -- so it is for each team of the tables
-abbrev pub all_standing : Tables → List SavedTeam → List SavedTeam
-all_standing tables saved = map_two standing_as (teams_in tables) saved
+abbrev pub saved_teams_at : Tables → List SavedTeam → List SavedTeam
+saved_teams_at tables saved = map_two saved_team_at (teams_in tables) saved

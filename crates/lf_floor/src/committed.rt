@@ -2,7 +2,7 @@
 
 ghost use Rattle.std.specs.Prelude.{◌≡◌, IfOk, IsSome, List, length, map, slice_get};
 ghost use Rattle.lf_cells.specs.declared.cell.CellId.{CellId};
-ghost use Rattle.lf_cells.specs.Cells.{AreAll, component_at};
+ghost use Rattle.lf_cells.specs.Cells.{AreAllIds, component_at};
 ghost use Rattle.lf_floor.specs.Entries.{committed_entry};
 
 use lf_cells::{CellId, CellTable};
@@ -26,9 +26,9 @@ pub(crate) fn all_committed(
     alloc: Global,
     cells: &CellTable,
 ) -> Result<Vec<(usize, Option<Place>)>, AllocError>
-    ensures { IfOk result (λ places. (ids : List CellId) × AreAll cells.now ids × (places.items ≡ map (committed_entry cells.now) ids)) }
+    ensures { IfOk result (λ places. (ids : List CellId) × AreAllIds cells.now ids × (places.items ≡ map (committed_entry cells.now) ids)) }
 {
-    let ids = cells.all();
+    let ids = cells.cell_ids();
     let mut places = Vec::with_capacity(alloc, ids.len())?;
     for id in ids {
         places.push(committed_entry(cells, *id))?;
@@ -48,29 +48,29 @@ pub struct CommittedPlaces<'a> {
 impl<'a> Model for CommittedPlaces<'a> {
     ghost use Rattle.std.specs.Prelude.{ℕ, List, Option, map};
     ghost use Rattle.lf_floorplan.specs.declared.place.Place.{Place};
-    ghost use Rattle.lf_cells.specs.Cells.{AreAll};
+    ghost use Rattle.lf_cells.specs.Cells.{AreAllIds};
     ghost use Rattle.lf_floor.specs.Entries.{committed_entry};
 
     ghost Value = { List (ℕ × Option Place) };
 
     ghost view = { λ p. map (committed_entry p.cells.now) p.ids.now };
 
-    ghost invariant = { λ p. AreAll p.cells.now p.ids.now };
+    ghost invariant = { λ p. AreAllIds p.cells.now p.ids.now };
 }
 
 /// Those of the cells.
 pub(crate) fn committed_of(cells: &CellTable) -> CommittedPlaces<'_>
-    ensures { (ids : List CellId) × AreAll cells.now ids × (result ≡ map (committed_entry cells.now) ids) }
+    ensures { (ids : List CellId) × AreAllIds cells.now ids × (result ≡ map (committed_entry cells.now) ids) }
 {
     CommittedPlaces {
         cells,
-        ids: cells.all(),
+        ids: cells.cell_ids(),
     }
 }
 
 /// The entry of the cell at that position of the list.
 fn entry_at(cells: &CellTable, ids: &[CellId], at: usize) -> Option<(usize, Option<Place>)>
-    requires { AreAll cells.now ids.now }
+    requires { AreAllIds cells.now ids.now }
     ensures { result ≡ slice_get (map (committed_entry cells.now) ids.now) at }
 {
     if at >= ids.len() {

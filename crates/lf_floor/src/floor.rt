@@ -7,27 +7,27 @@ ghost use Rattle.lf_floorplan.specs.Fences.{ground_name};
 ghost use Rattle.lf_rules.specs.Legalizer.{Legalizer};
 ghost use Rattle.lf_rules.specs.FullyLegal.{IsFullyLegal};
 ghost use Rattle.lf_proto.specs.Commands.{command_of, order_of};
-ghost use Rattle.lf_teams.specs.States.{TeamState};
-ghost use Rattle.lf_teams.specs.Places.{AreCommittedPlaces};
-ghost use Rattle.lf_tables.specs.Tables.{AreTables, floor_in, frame_of};
-ghost use Rattle.lf_teams.specs.Teams.{IsTeamOf, team_number, state_of};
-ghost use Rattle.lf_teams.specs.Outcomes.{name_at};
+ghost use Rattle.lf_floor_model.specs.States.{TeamState};
+ghost use Rattle.lf_floor_model.specs.Places.{AreCommittedPlaces};
+ghost use Rattle.lf_floor_verbs.specs.Tables.{AreTables, floor_in, frame_of};
+ghost use Rattle.lf_floor_model.specs.Teams.{IsTeamOf, team_number, state_of};
+ghost use Rattle.lf_floor_model.specs.Outcomes.{name_at};
 ghost use Rattle.lf_cells.specs.Cells.{working_at};
-ghost use Rattle.lf_teams.specs.Verbs.{is_tested, takes_memory};
-ghost use Rattle.lf_teams.specs.Designs.{opening};
-ghost use Rattle.lf_teams.specs.Runs.{Run, IsIsolated};
-ghost use Rattle.lf_teams.specs.Journals.{IsBackup, MayBeLeftOut, lasting, lasting_replies};
-ghost use Rattle.lf_teams.specs.Committed.{IsCommittedLegal, StandAsLoaded, loaded_design};
-ghost use Rattle.lf_teams.specs.CommittedRuns.{CommitsMakeLegal, EachTidiedCommits, LegalRun};
-ghost use Rattle.lf_teams.specs.Steps.{Answers, CommitsLegally, Gives, KeepsIfRefused, LegalizesLegally, PlacesLegally, SwapsLegally, TidiesLegally};
-ghost use Rattle.lf_teams.specs.Steps.{StaysShort, RunsShort, Step, IsTo, answer_at};
+ghost use Rattle.lf_floor_model.specs.Verbs.{is_tested, takes_memory};
+ghost use Rattle.lf_floor_model.specs.Designs.{initial_floor};
+ghost use Rattle.lf_floor_model.specs.Runs.{Run, IsIsolated};
+ghost use Rattle.lf_floor_model.specs.Journals.{IsBackup, AreOmittable, lasting, lasting_replies};
+ghost use Rattle.lf_floor_model.specs.Committed.{IsCommittedLegal, AreAtLoadedPlaces, loaded_design};
+ghost use Rattle.lf_floor_model.specs.CommittedRuns.{CommitsMakeLegal, EachTidiedCommits, LegalRun};
+ghost use Rattle.lf_floor_model.specs.Steps.{IsAnswerOf, CommitsLegally, IsGivenAnswer, KeepsIfRefused, LegalizesLegally, PlacesLegally, SwapsLegally, TidiesLegally};
+ghost use Rattle.lf_floor_model.specs.Steps.{IsOutOfMemoryAnswer, MayRunOutOfMemory, Step, IsTo, answer_at};
 
 use crate::committed::{CommittedPlaces, all_committed, committed_of};
+use lf_floor_verbs::{Tables, TeamContext};
 use lf_floorplan::{Frame, Loaded, Place};
 use lf_legalize::Seeker;
-use lf_proto::{Command, Order, Refusal, Reply, Request, RequestList};
-use lf_rules::{legal_in_range, legalizer_is_there};
-use lf_tables::{Surroundings, Tables};
+use lf_proto::{Command, Refusal, Reply, Request, RequestList, TeamCommand};
+use lf_rules::{legal_in_range, legalizer_exists};
 use std::alloc::{AllocError, Global};
 use std::marker::Model;
 
@@ -48,8 +48,8 @@ pub struct Floor<S: Seeker> {
 }
 
 impl<S: Seeker> Model for Floor<S> {
-    ghost use Rattle.lf_teams.specs.States.{FloorState};
-    ghost use Rattle.lf_tables.specs.Tables.{AreTables, floor_in};
+    ghost use Rattle.lf_floor_model.specs.States.{FloorState};
+    ghost use Rattle.lf_floor_verbs.specs.Tables.{AreTables, floor_in};
 
     ghost Value = { FloorState };
 
@@ -67,7 +67,7 @@ fn is_outside(name: &[u8]) -> bool
 
 /// The number of the team of that name: the fence teams in the frame's order, then the one
 /// named `-`.
-pub(crate) fn team_named(frame: &Frame, name: &[u8]) -> Option<usize>
+pub(crate) fn team_with_name(frame: &Frame, name: &[u8]) -> Option<usize>
     ensures found { result ≡ team_number frame.now name.now }
     ensures within { IfSome result (λ number. number < length frame.now.teams + 1) }
 {
@@ -95,18 +95,18 @@ fn fence_named(frame: &Frame, name: &[u8]) -> Option<usize>
 }
 
 /// Answers an order to the team of that number, unless an allocation fails.
-fn serve_at<S: Seeker>(
+fn run_team_command<S: Seeker>(
     alloc: Global,
     seeker: &S,
     number: usize,
     tables: &mut Tables,
-    order: &Order<&[u8]>,
+    order: &TeamCommand<&[u8]>,
 ) -> Result<Reply, AllocError>
     requires within { number < length (frame_of tables.old).teams + 1 }
     requires tables { AreTables tables.old }
-    ensures ok { (l : Legalizer) → IfOk result (λ reply. Gives
+    ensures ok { (l : Legalizer) → IfOk result (λ reply. IsGivenAnswer
         (answer_at (Some number) l (floor_in tables.old) (order_of order.now)) reply (floor_in tables.new)) }
-    ensures err { (l : Legalizer) → OnErr result (StaysShort
+    ensures err { (l : Legalizer) → OnErr result (IsOutOfMemoryAnswer
         (answer_at (Some number) l (floor_in tables.old) (order_of order.now)) (floor_in tables.old) (floor_in tables.new)) }
     ensures takes { OnErr result (takes_memory (order_of order.now) ≡ true) }
     ensures untested { (l : Legalizer) → OnErr result (is_tested (order_of order.now)
@@ -114,14 +114,14 @@ fn serve_at<S: Seeker>(
     ensures frame { frame_of tables.new ≡ frame_of tables.old }
     ensures tables { AreTables tables.new }
 {
-    legalizer_is_there();
-    let around = Surroundings {
+    legalizer_exists();
+    let around = TeamContext {
         alloc,
         seeker,
         number,
         padding: tables.padding(number),
     };
-    tables.serve(&around, order)
+    tables.run_command(&around, order)
 }
 
 /// Appends a reply, if there is room.
@@ -143,11 +143,11 @@ impl<S: Seeker + Drop> Floor<S> {
     ///
     /// `Err` if an allocation fails; the design and the seeker are then dropped.
     pub fn start(alloc: Global, loaded: Loaded, seeker: S) -> Result<Floor<S>, AllocError>
-        ensures opens { IfOk result (λ floor. floor ≡ opening loaded) }
-        ensures committed { IfOk result (λ floor. StandAsLoaded loaded floor) }
+        ensures opens { IfOk result (λ floor. floor ≡ initial_floor loaded) }
+        ensures committed { IfOk result (λ floor. AreAtLoadedPlaces loaded floor) }
         ensures legal { IfOk result (λ floor. IsCommittedLegal floor ↔ IsFullyLegal loaded.frame (loaded_design loaded)) }
     {
-        let tables = Tables::opening(alloc, loaded)?;
+        let tables = Tables::initial(alloc, loaded)?;
         Ok(Floor {
             alloc,
             seeker,
@@ -161,7 +161,7 @@ impl<S: Seeker + Drop> Floor<S> {
     pub fn place_of(&self, team: &[u8], own: usize) -> Option<Place>
         ensures { result ≡ option_and_then (λ s. working_at s.cells own) (state_of self.now team.now) }
     {
-        let number = team_named(self.tables.placement.frame(), team)?;
+        let number = team_with_name(self.tables.placement.frame(), team)?;
         self.tables.working(self.tables.cell_at(number, own)?)
     }
 
@@ -173,7 +173,7 @@ impl<S: Seeker + Drop> Floor<S> {
         ensures name { option_map (λ name. name.now) result ≡ option_and_then (λ s. name_at s.cells own) (state_of self.now team.now) }
         ensures printed { IfSome result (λ name. IsName name.now) }
     {
-        let number = team_named(self.tables.placement.frame(), team)?;
+        let number = team_with_name(self.tables.placement.frame(), team)?;
         let id = self.tables.cell_at(number, own)?;
         Some(self.tables.placement.cells().cell(id)?.name)
     }
@@ -200,7 +200,7 @@ impl<S: Seeker + Drop> Floor<S> {
     /// seen a later revision than the team's.
     ///
     /// The laws on runs ask this of the floor before them (as `run_stays_legal` does): call this first.
-    pub fn teams_are_of_the_frame(&self)
+    pub fn teams_match_frame(&self)
         ensures { All (λ s. IsTeamOf self.now.frame s) self.now.teams }
     {
         let _ = &self.tables;
@@ -210,21 +210,21 @@ impl<S: Seeker + Drop> Floor<S> {
 impl<S: Seeker + Drop> Floor<S> {
     /// Answers one command, unless an allocation fails.
     fn try_step(&mut self, request: &Request) -> Result<Reply, AllocError>
-        ensures ok { (l : Legalizer) → IfOk result (λ reply. Answers l self.old (command_of request.now) reply self.new) }
-        ensures err { (l : Legalizer) → OnErr result (RunsShort l self.old (command_of request.now) self.new) }
+        ensures ok { (l : Legalizer) → IfOk result (λ reply. IsAnswerOf l self.old (command_of request.now) reply self.new) }
+        ensures err { (l : Legalizer) → OnErr result (MayRunOutOfMemory l self.old (command_of request.now) self.new) }
     {
         match request {
             Command::Bye => Ok(Reply::Done),
             Command::To { team, order } => {
-                let Some(number) = team_named(self.tables.placement.frame(), team) else {
+                let Some(number) = team_with_name(self.tables.placement.frame(), team) else {
                     return Ok(Reply::Refused(Refusal::NoTeam));
                 };
-                serve_at(self.alloc, &self.seeker, number, &mut self.tables, order)
+                run_team_command(self.alloc, &self.seeker, number, &mut self.tables, order)
             }
         }
     }
 
-    /// Answers one command by the rules (`Step` of `lf_teams`): the team that it names answers by its own
+    /// Answers one command by the rules (`Step` of `lf_floor_model`): the team that it names answers by its own
     /// state alone, and no other team changes, nor does the frame, nor the positions of components.
     ///
     /// `NoTeam` comes before any refusal of a team. `OutOfMemory` only replaces the reply to an accepted
@@ -246,9 +246,9 @@ impl<S: Seeker + Drop> Floor<S> {
         ensures legal { IsCommittedLegal self.old → IsCommittedLegal self.new }
         ensures refused { KeepsIfRefused result self.old self.new }
     {
-        legalizer_is_there();
+        legalizer_exists();
         legal_in_range();
-        self.teams_are_of_the_frame();
+        self.teams_match_frame();
         match self.try_step(request) {
             Ok(reply) => reply,
             Err(_) => Reply::Refused(Refusal::OutOfMemory),
@@ -274,16 +274,16 @@ impl<S: Seeker + Drop> Floor<S> {
         ensures legal { (l : Legalizer) → IfOk result (λ replies. IsCommittedLegal self.old → LegalRun l self.old requests.now replies.items self.new) }
         ensures commits { IfOk result (λ replies. CommitsMakeLegal self.old requests.now replies.items self.new) }
         ensures tidied { IfOk result (λ replies. EachTidiedCommits self.old requests.now replies.items) }
-        ensures left_out { (l : Legalizer) → IfOk result (λ replies. MayBeLeftOut l self.old requests.now replies.items self.new) }
+        ensures left_out { (l : Legalizer) → IfOk result (λ replies. AreOmittable l self.old requests.now replies.items self.new) }
         ensures backed_up { (l : Legalizer)
             → IfOk result (λ replies. IsBackup l self.old (lasting requests.now replies.items)
             (lasting_replies requests.now replies.items) self.new) }
         ensures components { self.new.components ≡ self.old.components }
         ensures err { OnErr result (self.new ≡ self.old) }
     {
-        legalizer_is_there();
+        legalizer_exists();
         legal_in_range();
-        self.teams_are_of_the_frame();
+        self.teams_match_frame();
         let mut replies = Vec::with_capacity(self.alloc, requests.len())?;
         for i in 0..requests.len() {
             let Some(request) = requests.request(i) else {

@@ -5,36 +5,36 @@ ghost use Rattle.lf_rules.specs.Legalizer.{Legalizer};
 ghost use Rattle.lf_proto.specs.Commands.{command_of, order_of};
 ghost use Rattle.lf_proto.specs.declared.reply.Reply.{Reply};
 ghost use Rattle.lf_proto.specs.declared.reply.Reply.TheVariants.{Def};
-ghost use Rattle.lf_proto.specs.declared.request.Order.TheVariants.{Within};
+ghost use Rattle.lf_proto.specs.declared.request.TeamCommand.TheVariants.{Within};
 ghost use Rattle.lf_proto.specs.declared.verb.Action.TheVariants.{Def as AskDef};
-ghost use Rattle.lf_teams.specs.Committed.{IsCommittedLegal};
-ghost use Rattle.lf_teams.specs.Steps.{Answers, IsTested, IsTo, Step, TakesNone};
-ghost use Rattle.lf_teams.specs.Teams.{state_of};
-ghost use Rattle.lf_texts.specs.Output.{IsLengthOf, Puts};
-ghost use Rattle.lf_floor.specs.Responses.{AsksForText, AsksText, GivesText, def_text, reply_in, team_of};
+ghost use Rattle.lf_floor_model.specs.Committed.{IsCommittedLegal};
+ghost use Rattle.lf_floor_model.specs.Steps.{IsAnswerOf, IsTested, IsTo, Step, AllocatesNothing};
+ghost use Rattle.lf_floor_model.specs.Teams.{state_of};
+ghost use Rattle.lf_team_def.specs.Output.{IsLengthOf, PutsText};
+ghost use Rattle.lf_floor.specs.Responses.{AsksForText, AsksForTeamText, RespondsWithText, def_text, reply_in, team_of};
 ghost use Rattle.lf_floor.specs.declared.response.Response.TheVariants.{Def as Apart};
 
-use crate::floor::{Floor, team_named};
+use crate::floor::{Floor, team_with_name};
 use lf_legalize::Seeker;
-use lf_proto::{Action, Command, Order, Refusal, Reply, Request};
-use lf_texts::{Output, put_team_def, team_def_length};
+use lf_proto::{Action, Command, Refusal, Reply, Request, TeamCommand};
+use lf_team_def::{Output, team_def_length, write_team_def};
 
 /// The reply to a request, but for a DEF text, of which it has the length.
 #[derive(Drop)]
 pub enum Response {
     /// The reply.
     Whole(Reply),
-    /// The DEF text of the team that was asked, of so many bytes: `Floor::put_def` puts it.
+    /// The DEF text of the team that was asked, of so many bytes: `Floor::write_def` puts it.
     Def(usize),
 }
 
 /// The session for which the order asks for the team's DEF text, if it does.
-fn def_session(order: &Order<&[u8]>) -> Option<u32>
+fn def_session(order: &TeamCommand<&[u8]>) -> Option<u32>
     ensures is { IfSome result (λ session. order_of order.now ≡ Within session AskDef) }
-    ensures none { IfNone result (AsksText (order_of order.now) → ⊥) }
+    ensures none { IfNone result (AsksForTeamText (order_of order.now) → ⊥) }
 {
     match order {
-        Order::Within {
+        TeamCommand::Within {
             session,
             action: Action::Def,
         } => Some(*session),
@@ -45,13 +45,13 @@ fn def_session(order: &Order<&[u8]>) -> Option<u32>
 impl<S: Seeker + Drop> Floor<S> {
     /// Puts the DEF text of the team of that name, its cells at their working places, and takes no memory. Nothing is put
     /// if there is no such team.
-    pub fn put_def<O: Output>(&self, team: &[u8], out: &mut O)
-        ensures { Puts O.took out.old out.new (def_text self.now team.now) }
+    pub fn write_def<O: Output>(&self, team: &[u8], out: &mut O)
+        ensures { PutsText O.took out.old out.new (def_text self.now team.now) }
     {
-        let Some(number) = team_named(self.tables.placement.frame(), team) else {
+        let Some(number) = team_with_name(self.tables.placement.frame(), team) else {
             return;
         };
-        put_team_def(
+        write_team_def(
             out,
             self.tables.placement.frame(),
             self.tables.placement.cells(),
@@ -63,7 +63,7 @@ impl<S: Seeker + Drop> Floor<S> {
     fn def_length(&self, team: &[u8]) -> Option<usize>
         ensures { IsLengthOf (def_text self.now team.now) result }
     {
-        let Some(number) = team_named(self.tables.placement.frame(), team) else {
+        let Some(number) = team_with_name(self.tables.placement.frame(), team) else {
             return Some(0);
         };
         team_def_length(
@@ -75,18 +75,18 @@ impl<S: Seeker + Drop> Floor<S> {
 
     /// The team of which the request asks for the DEF text, if that is its reply.
     fn def_asked<'a>(&self, request: &Request<'a>) -> Option<&'a [u8]>
-        ensures asked { (l : Legalizer) → IfSome result (λ team. Answers l self.now (command_of request.now) (Def (def_text self.now team.now)) self.now) }
+        ensures asked { (l : Legalizer) → IfSome result (λ team. IsAnswerOf l self.now (command_of request.now) (Def (def_text self.now team.now)) self.now) }
         ensures team { IfSome result (λ team. team.now ≡ team_of (command_of request.now)) }
-        ensures takes { IfSome result (λ team. TakesNone (command_of request.now) → ⊥) }
+        ensures takes { IfSome result (λ team. AllocatesNothing (command_of request.now) → ⊥) }
         ensures untested { (reply : Reply) → IfSome result (λ team. IsTested (command_of request.now) reply → ⊥) }
         ensures none { (l : Legalizer) (text : List ℕ)
-            → IfNone result (AsksForText (command_of request.now) → Answers l self.now (command_of request.now) (Def text) self.now → ⊥) }
+            → IfNone result (AsksForText (command_of request.now) → IsAnswerOf l self.now (command_of request.now) (Def text) self.now → ⊥) }
     {
         let Command::To { team, order } = request else {
             return None;
         };
         let session = def_session(order)?;
-        let number = team_named(self.tables.placement.frame(), team)?;
+        let number = team_with_name(self.tables.placement.frame(), team)?;
         self.tables.sessions.seen(number, session)?;
         Some(*team)
     }
@@ -96,7 +96,7 @@ impl<S: Seeker + Drop> Floor<S> {
     pub fn respond(&mut self, request: &Request) -> Response
         ensures step { (l : Legalizer) → Step l self.old (command_of request.now) (reply_in self.new (team_of (command_of request.now)) result) self.new }
         ensures length { (count : ℕ) → result ≡ Apart count → count ≡ length (def_text self.new (team_of (command_of request.now))) }
-        ensures text { GivesText self.old (command_of request.now) result }
+        ensures text { RespondsWithText self.old (command_of request.now) result }
         ensures others { (team : List ℕ) → ¬ IsTo team (command_of request.now) → state_of self.new team ≡ state_of self.old team }
         ensures frame { self.new.frame ≡ self.old.frame }
         ensures components { self.new.components ≡ self.old.components }

@@ -2,7 +2,7 @@
 use Rattle.std.proofs.Common.{◌⊎◌, inl, inr, ℕ, ℤ, ◌≤ℤ◌, ◌<ℤ◌, List, ap, arith}
 use Rattle.std.proofs.lemmas.Int.{ints}
 use Rattle.std.proofs.lemmas.Grind.{not_there}
-use Rattle.lf_units.specs.declared.area.Rect.{Rect}
+use Rattle.lf_units.specs.declared.geometry.Rect.{Rect}
 use Rattle.lf_floorplan.specs.declared.macros.Macro.{Macro}
 use Rattle.lf_floorplan.specs.Bounds.{IsDefRange, IsDefRect, IsNearDefRange, IsNearDefRect}
 use Rattle.lf_floorplan.specs.Obstacles.{IsMacroBox, IsObstacle}

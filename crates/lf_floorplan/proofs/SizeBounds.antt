@@ -1,6 +1,6 @@
 -- The size of a box stays small.
 use Rattle.std.proofs.Common.{pos, ◌≤ℤ◌, ◌<ℤ◌, ℕ}
-use Rattle.lf_units.specs.declared.area.Point.{Point}
+use Rattle.lf_units.specs.declared.geometry.Point.{Point}
 use Rattle.lf_orient.specs.declared.Orient.{Orient}
 use Rattle.lf_orient.specs.declared.Orient.TheVariants.{N, W, S, E, FN, FW, FS, FE}
 use Rattle.lf_floorplan.specs.declared.frame.Frame.{Frame}

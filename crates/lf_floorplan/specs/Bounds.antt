@@ -1,21 +1,21 @@
 -- The ranges of numbers that the types of a frame keep.
 use Rattle.std.specs.Prelude.{ℕ, ℤ, pos, negsuc, ◌≤◌, ◌≤ℤ◌, ◌<ℤ◌, List, All, length}
-use Rattle.lf_units.specs.declared.area.Point.{Point}
-use Rattle.lf_units.specs.declared.area.Rect.{Rect}
+use Rattle.lf_units.specs.declared.geometry.Point.{Point}
+use Rattle.lf_units.specs.declared.geometry.Rect.{Rect}
 
 -- from 1 to the largest value
-pub record IsWithin (value largest : ℕ) : Type 0 where
+pub record IsLimit (value largest : ℕ) : Type 0 where
   pub least : 1 ≤ value
   pub most : value ≤ largest
 
 -- each limit is from 1 to its largest value
-pub record AreAllowed (rows fences components sessions undo revisions : ℕ) : Type 0 where
-  pub rows_within : IsWithin rows 65535
-  pub fences_within : IsWithin fences 1024
-  pub components_within : IsWithin components 4000000
-  pub sessions_within : IsWithin sessions 64
-  pub undo_within : IsWithin undo 1024
-  pub revisions_within : IsWithin revisions 4000000000
+pub record AreLimits (rows fences components sessions undo revisions : ℕ) : Type 0 where
+  pub rows_within : IsLimit rows 65535
+  pub fences_within : IsLimit fences 1024
+  pub components_within : IsLimit components 4000000
+  pub sessions_within : IsLimit sessions 64
+  pub undo_within : IsLimit undo 1024
+  pub revisions_within : IsLimit revisions 4000000000
 
 -- a coordinate that a DEF text can hold: from -2147483647 to 2147483647
 pub record IsDefNumber (v : ℤ) : Type 0 where

@@ -1,6 +1,6 @@
 -- The macros of a frame by their numbers, and their sizes (LEF MACRO SIZE).
 use Rattle.std.specs.Prelude.{ℕ, pos, ◌<ℤ◌, [], false, slice_get, unwrap_or}
-use Rattle.lf_units.specs.declared.area.Point.{Point}
+use Rattle.lf_units.specs.declared.geometry.Point.{Point}
 use Rattle.lf_units.specs.Length.{IsLength}
 use Rattle.lf_orient.specs.declared.Rail.TheVariants.{Ground}
 use Rattle.lf_floorplan.specs.Sizes.{size_in_dbu}

@@ -1,6 +1,6 @@
 -- Teams, their ground and the obstacles (DEF REGIONS, BLOCKAGES).
 use Rattle.std.specs.Prelude.{◌≡◌, ◌≢◌, ℕ, ℤ, ◌≤◌, All, Any, length, slice_get, MatchOption}
-use Rattle.lf_units.specs.declared.area.Rect.{Rect}
+use Rattle.lf_units.specs.declared.geometry.Rect.{Rect}
 use Rattle.lf_units.specs.Area.{Covers, SharesPoint, CoveredBy}
 use Rattle.lf_floorplan.specs.declared.frame.Frame.{Frame}
 use Rattle.lf_floorplan.specs.Bounds.{IsNearDefRect}
@@ -40,5 +40,5 @@ TeamsStayApart = (f : Frame) (s t : ℕ) (a b : Rect) → s ≢ t → StaysInGro
 
 -- an obstacle has its lower left corner in the range of DEF coordinates, and reaches past the largest by at most a macro's
 -- largest size
-abbrev pub ObstaclesStayNear : Type 0
-ObstaclesStayNear = (f : Frame) → All IsNearDefRect f.obstacles
+abbrev pub ObstaclesAreBounded : Type 0
+ObstaclesAreBounded = (f : Frame) → All IsNearDefRect f.obstacles

@@ -1,6 +1,6 @@
 -- What a frame keeps of its obstacles (DEF BLOCKAGES, COMPONENTS).
 use Rattle.std.specs.Prelude.{◌≡◌, ℕ, ◌⊎◌, List, Contains}
-use Rattle.lf_units.specs.declared.area.Rect.{Rect}
+use Rattle.lf_units.specs.declared.geometry.Rect.{Rect}
 use Rattle.lf_orient.specs.declared.Orient.{Orient}
 use Rattle.lf_floorplan.specs.declared.macros.Macro.{Macro}
 use Rattle.lf_floorplan.specs.Bounds.{IsDefNumber, IsDefRect}

@@ -4,7 +4,7 @@ use Rattle.std.proofs.Common.{ap, sym, ◌∙◌, subst}
 use Rattle.std.specs.Int.Signed.{lt_z_yes}
 use Rattle.lf_orient.specs.declared.Orient.{Orient}
 use Rattle.lf_floorplan.specs.declared.place.Place.{Place}
-use Rattle.lf_floorplan.specs.declared.packed.PackedPlace.TheInside.{Inside}
+use Rattle.lf_floorplan.specs.declared.packed_place.PackedPlace.TheInside.{Inside}
 
 -- the place of these fields; none if there is no orientation
 abbrev pub place_of : (x y : ℤ) → Option Orient → negsuc 2147483647 <ℤ x → negsuc 2147483647 <ℤ y → Option Place
@@ -25,20 +25,20 @@ pub record IsPacked (p : Inside) : Type 0 where
   pub y_is_0 : p.orient ≡ None → p.y ≡ pos 0
 
 -- a number of DEF
-abbrev Num : Type 0
-Num = (z : ℤ) × (negsuc 2147483647 <ℤ z)
+abbrev DefNumber : Type 0
+DefNumber = (z : ℤ) × (negsuc 2147483647 <ℤ z)
 
-from_nums : Num → Num → Option Orient → Inside
+from_nums : DefNumber → DefNumber → Option Orient → Inside
 from_nums x y o = record { x = x.0; y = y.0; orient = o; x_in_def = x.1; y_in_def = y.1 }
 
-at_0 : (x : ℤ) (k : negsuc 2147483647 <ℤ x) → x ≡ pos 0 → ◌≡◌ {A = Num} (pos 0, lt_z_yes tt) (x, k)
-at_0 x k e = subst (λ z. (h : negsuc 2147483647 <ℤ z) → ◌≡◌ {A = Num} (pos 0, lt_z_yes tt) (z, h)) (sym e) (λ h. refl) k
+at_0 : (x : ℤ) (k : negsuc 2147483647 <ℤ x) → x ≡ pos 0 → ◌≡◌ {A = DefNumber} (pos 0, lt_z_yes tt) (x, k)
+at_0 x k e = subst (λ z. (h : negsuc 2147483647 <ℤ z) → ◌≡◌ {A = DefNumber} (pos 0, lt_z_yes tt) (z, h)) (sym e) (λ h. refl) k
 
 back : (x y : ℤ) (o : Option Orient) (k : negsuc 2147483647 <ℤ x) (l : negsuc 2147483647 <ℤ y) → (o ≡ None → x ≡ pos 0) → (o ≡ None → y ≡ pos 0) →
     packed (place_of x y o k l) ≡ from_nums (x, k) (y, l) o
 unfolding from_nums
 back x y (Some o) k l x_is y_is = refl
-back x y None k l x_is y_is = ap (λ (n : Num). from_nums n (pos 0, lt_z_yes tt) None) (at_0 x k (x_is refl)) ∙ ap (λ (n : Num). from_nums (x, k) n None) (at_0 y l (y_is refl))
+back x y None k l x_is y_is = ap (λ (n : DefNumber). from_nums n (pos 0, lt_z_yes tt) None) (at_0 x k (x_is refl)) ∙ ap (λ (n : DefNumber). from_nums (x, k) n None) (at_0 y l (y_is refl))
 
 -- the fields are those of their place
 pub packed_back : (p : Inside) → IsPacked p → packed (place_in p) ≡ p

@@ -1,7 +1,7 @@
 -- Core sites and rows (LEF SITE, DEF ROW), and what a frame keeps of them.
 use Rattle.std.specs.Prelude.{ℕ, pos, ◌+ℤ◌, ◌*ℤ◌, ◌≤ℤ◌, ◌<ℤ◌, ◌≤◌, List, AllPairs, IsSome}
-use Rattle.lf_units.specs.declared.area.Point.{Point}
-use Rattle.lf_units.specs.declared.area.Rect.{Rect}
+use Rattle.lf_units.specs.declared.geometry.Point.{Point}
+use Rattle.lf_units.specs.declared.geometry.Rect.{Rect}
 use Rattle.lf_units.specs.Area.{SharesPoint}
 use Rattle.lf_units.specs.Length.{IsLength}
 use Rattle.lf_orient.specs.Orientation.{rail_below}
@@ -28,7 +28,7 @@ row_area pitch r = record {
 
 -- a row of core sites: its corner has coordinates of DEF, it has a site or more, it ends within those coordinates, and it is N,
 -- S, FN or FS
-pub record IsHeeded (pitch : Point) (r : Row) : Type 0 where
+pub record IsCoreRow (pitch : Point) (r : Row) : Type 0 where
   pub x_in_def : IsDefNumber r.x
   pub y_in_def : IsDefNumber r.y
   pub has_site : 1 ≤ r.sites

@@ -1,7 +1,7 @@
 -- Sizes in database units, and boxes of a size (LEF SIZE, DEF COMPONENTS).
 use Rattle.std.specs.Prelude.{◌≡◌, ℕ, ℤ, ◌+ℤ◌}
-use Rattle.lf_units.specs.declared.area.Point.{Point}
-use Rattle.lf_units.specs.declared.area.Rect.{Rect}
+use Rattle.lf_units.specs.declared.geometry.Point.{Point}
+use Rattle.lf_units.specs.declared.geometry.Rect.{Rect}
 use Rattle.lf_units.specs.Length.{in_dbu}
 use Rattle.lf_orient.specs.declared.Orient.{Orient}
 use Rattle.lf_orient.specs.declared.Orient.TheVariants.{W, E, FW, FE}
@@ -23,5 +23,5 @@ abbrev pub box_at : Point → ℤ → ℤ → Rect
 box_at size x y = record { x1 = x; y1 = y; x2 = x +ℤ size.x; y2 = y +ℤ size.y }
 
 -- turning a size twice by the same orientation gives the size back
-abbrev pub TurnsBack : Type 0
-TurnsBack = (size : Point) (o : Orient) → turned (turned size o) o ≡ size
+abbrev pub TurningTwiceIsIdentity : Type 0
+TurningTwiceIsIdentity = (size : Point) (o : Orient) → turned (turned size o) o ≡ size

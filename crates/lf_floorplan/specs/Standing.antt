@@ -1,7 +1,7 @@
 -- A box that stands on rows (DEF ROW): its height in sites, its bottom row, and the rows above that one.
 use Rattle.std.specs.Prelude.{◌≡◌, ℕ, ℤ, zero, suc, pos, ◌≤◌, ◌<◌, ◌+ℤ◌, ◌-ℤ◌, ◌*ℤ◌, ◌≤ℤ◌, ◌<ℤ◌, All, Contains, MatchOption, Option, Some, slice_get}
 use Rattle.std.specs.Option.{IsSomeAnd, option_map}
-use Rattle.lf_units.specs.declared.area.Rect.{Rect}
+use Rattle.lf_units.specs.declared.geometry.Rect.{Rect}
 use Rattle.lf_orient.specs.declared.Rail.{Rail}
 use Rattle.lf_orient.specs.Orientation.{rail_below, other_rail}
 use Rattle.lf_floorplan.specs.declared.frame.Frame.{Frame}
@@ -43,7 +43,7 @@ changed zero rail = rail
 changed (suc j) rail = other_rail (changed j rail)
 
 -- row s carries the box: it is the box's row j, and its rail is the bottom row's, alternated j times
-pub record Carries (f : Frame) (box : Rect) (bottom : Row) (j : ℕ) (s : Row) : Type 0 where
+pub record Supports (f : Frame) (box : Rect) (bottom : Row) (j : ℕ) (s : Row) : Type 0 where
   pub heeded : Contains f.rows s
   pub at_row : IsRowOfBox f box j s
   pub rail : rail_below s.orient ≡ option_map (changed j) (rail_below bottom.orient)
@@ -57,23 +57,23 @@ abbrev pub HasBottomRow : Frame → Rect → Type 0
 HasBottomRow f box = (r : Row) × IsBottomRow f box r
 
 -- for each j below the height, a row of core sites carries the box as its row j
-abbrev pub IsCarried : Frame → Rect → Type 0
-IsCarried f box =
-    (k : ℕ) (r : Row) → IsSitesHigh f box k → IsBottomRow f box r → (j : ℕ) → j < k → (s : Row) × Carries f box r j s
+abbrev pub IsSupported : Frame → Rect → Type 0
+IsSupported f box =
+    (k : ℕ) (r : Row) → IsSitesHigh f box k → IsBottomRow f box r → (j : ℕ) → j < k → (s : Row) × Supports f box r j s
 
 -- the box stands on rows: it has a height and a bottom row, and rows carry it over its height
-pub record StandsOn (f : Frame) (box : Rect) : Type 0 where
+pub record RestsOnRows (f : Frame) (box : Rect) : Type 0 where
   pub height : HasHeight f box
   pub row : HasBottomRow f box
-  pub stand : IsCarried f box
+  pub stand : IsSupported f box
 
 -- a box has one height in sites, and one bottom row if it has points
-pub record StandingIsOne : Type 0 where
+pub record BottomRowIsUnique : Type 0 where
   pub height : (f : Frame) (box : Rect) (j k : ℕ) → IsSitesHigh f box j → IsSitesHigh f box k → j ≡ k
   pub bottom : (f : Frame) (box : Rect) (r s : Row) → box.x1 <ℤ box.x2 → IsBottomRow f box r → IsBottomRow f box s → r ≡ s
 
 -- at most one row of a frame lies at a y and extends over an x
-abbrev pub RowAtIsOne : Type 0
-RowAtIsOne =
+abbrev pub RowAtIsUnique : Type 0
+RowAtIsUnique =
     (f : Frame) (y x : ℤ) (m n : ℕ) (r s : Row) → slice_get f.rows m ≡ Some r → slice_get f.rows n ≡ Some s → ExtendsOver f y x r → ExtendsOver f y x s →
     m ≡ n

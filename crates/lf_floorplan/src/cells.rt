@@ -2,9 +2,9 @@
 
 ghost use Rattle.std.specs.Prelude.{◌≡◌, ◌≢◌, ◌++◌, ◌∷◌, [], All, IfOk, OnErr, OnOk, length, slice_get};
 ghost use Rattle.std.specs.Option.{option_map};
-ghost use Rattle.lf_floorplan.specs.LoadedCells.{lent, with_name, with_names};
+ghost use Rattle.lf_floorplan.specs.LoadedCells.{borrowed_cell, with_name, with_names};
 
-use crate::packed::PackedPlace;
+use crate::packed_place::PackedPlace;
 use crate::place::Place;
 use lf_names::NameTable;
 use std::alloc::{AllocError, Global};
@@ -12,7 +12,7 @@ use std::marker::Model;
 
 /// A movable cell without its name.
 #[derive(Clone, Copy)]
-pub struct PlainCell {
+pub struct UnnamedCell {
     /// The number of its team.
     pub team: u32,
     /// The position of its macro in the frame.
@@ -25,7 +25,7 @@ pub struct PlainCell {
 
 /// A movable cell, whose name is borrowed from the list of cells.
 #[derive(Clone, Copy)]
-pub struct LentCell<'a> {
+pub struct CellRef<'a> {
     pub name: &'a [u8],
     /// The number of its team.
     pub team: usize,
@@ -41,7 +41,7 @@ pub struct LentCell<'a> {
 #[derive(Drop)]
 pub struct CellParts {
     pub names: NameTable,
-    pub cells: Vec<PlainCell>,
+    pub cells: Vec<UnnamedCell>,
 }
 
 /// The movable cells of a design, in loading order: each name stands once, in a table that `into_parts` hands on. Contracts see
@@ -72,7 +72,7 @@ impl Model for LoadedCells {
 }
 
 /// Appends a cell, for which there is room if its name could be added.
-fn push_cell(parts: &mut CellParts, name: &[u8], cell: PlainCell) -> Result<(), AllocError>
+fn push_cell(parts: &mut CellParts, name: &[u8], cell: UnnamedCell) -> Result<(), AllocError>
     requires { All (λ n. n ≢ name.now) parts.old.names }
     ensures names { OnOk result (parts.new.names ≡ parts.old.names ++ name.now ∷ []) }
     ensures cells { OnOk result (parts.new.cells.items ≡ parts.old.cells.items ++ cell ∷ []) }
@@ -86,7 +86,7 @@ fn push_cell(parts: &mut CellParts, name: &[u8], cell: PlainCell) -> Result<(), 
 }
 
 /// The cell of this position; none if there is none.
-fn plain_at(cells: &[PlainCell], at: usize) -> Option<PlainCell>
+fn plain_at(cells: &[UnnamedCell], at: usize) -> Option<UnnamedCell>
     ensures { result ≡ slice_get cells.now at }
 {
     match cells.get(at) {
@@ -123,7 +123,7 @@ impl LoadedCells {
     /// Appends a cell whose name no other cell has, behind the others.
     ///
     /// `Err` if an allocation fails; the list is then unchanged.
-    pub fn push(&mut self, name: &[u8], cell: PlainCell) -> Result<(), AllocError>
+    pub fn push(&mut self, name: &[u8], cell: UnnamedCell) -> Result<(), AllocError>
         requires { All (λ c. c.name ≢ name.now) self.old }
         ensures ok { OnOk result (self.new ≡ self.old ++ with_name name.now cell ∷ []) }
         ensures err { OnErr result (self.new ≡ self.old) }
@@ -140,12 +140,12 @@ impl LoadedCells {
     }
 
     /// The cell of this position, its name borrowed from the list; none iff there is none.
-    pub fn get(&self, at: usize) -> Option<LentCell<'_>>
-        ensures { option_map lent result ≡ slice_get self.now at }
+    pub fn get(&self, at: usize) -> Option<CellRef<'_>>
+        ensures { option_map borrowed_cell result ≡ slice_get self.now at }
     {
         let name = self.parts.names.name_at(at)?;
         let cell = plain_at(self.parts.cells.as_slice(), at)?;
-        Some(LentCell {
+        Some(CellRef {
             name,
             team: cell.team as usize,
             mac: cell.mac as usize,

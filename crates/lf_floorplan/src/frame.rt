@@ -1,9 +1,9 @@
 //! The frame, with what loading has checked.
 
 ghost use Rattle.std.specs.Prelude.{◌≡◌, ℕ, ◌<◌, ◌≤◌, All, length};
-ghost use Rattle.lf_floorplan.specs.Bounds.{IsDefRect, IsWithin, IsLefSize};
+ghost use Rattle.lf_floorplan.specs.Bounds.{IsDefRect, IsLimit, IsLefSize};
 ghost use Rattle.lf_floorplan.specs.Obstacles.{IsObstacle};
-ghost use Rattle.lf_floorplan.specs.Rows.{IsPitch, IsHeeded, RowsApart};
+ghost use Rattle.lf_floorplan.specs.Rows.{IsPitch, IsCoreRow, RowsApart};
 ghost use Rattle.lf_floorplan.specs.Fences.{IsFence, FencesNamed, FencesApart};
 
 use crate::limits::Limits;
@@ -42,12 +42,12 @@ pub struct Frame {
     /// The header of the DEF text.
     pub header: Header,
     pub limits: Limits,
-    pub ghost units_in_range: { IsWithin header.units 20000 },
+    pub ghost units_in_range: { IsLimit header.units 20000 },
     pub ghost site_in_lef: { IsLefSize site.size },
     pub ghost pitch_whole: { IsPitch header.units site.size pitch },
     pub ghost has_row: { 0 < length rows },
     pub ghost few_rows: { length rows ≤ limits.rows },
-    pub ghost rows_heeded: { All (λ r. IsHeeded pitch r) rows },
+    pub ghost rows_heeded: { All (λ r. IsCoreRow pitch r) rows },
     pub ghost rows_apart: { RowsApart pitch rows },
     pub ghost few_fences: { length teams ≤ limits.fences },
     pub ghost fences_whole: { All IsFence teams },

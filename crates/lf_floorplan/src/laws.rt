@@ -1,13 +1,13 @@
 //! Laws on the definitions of boxes, ground and rows.
 
-ghost use Rattle.lf_floorplan.specs.Sizes.{TurnsBack};
+ghost use Rattle.lf_floorplan.specs.Sizes.{TurningTwiceIsIdentity};
 ghost use Rattle.lf_floorplan.specs.Design.{CellIsSized};
-ghost use Rattle.lf_floorplan.specs.Ground.{ObstaclesStayNear, PointHasOneTeam, TeamsStayApart};
-ghost use Rattle.lf_floorplan.specs.Standing.{RowAtIsOne, StandingIsOne};
+ghost use Rattle.lf_floorplan.specs.Ground.{ObstaclesAreBounded, PointHasOneTeam, TeamsStayApart};
+ghost use Rattle.lf_floorplan.specs.Standing.{RowAtIsUnique, BottomRowIsUnique};
 
 /// Turning a size twice by the same orientation gives the size back.
-pub fn size_turns_back()
-    ensures { TurnsBack }
+pub fn turning_twice_is_identity()
+    ensures { TurningTwiceIsIdentity }
 {}
 
 /// Each point is ground of exactly one team: of the fence that covers it, or else of the ground team.
@@ -22,18 +22,18 @@ pub fn teams_stay_apart()
 
 /// Each obstacle has its lower left corner in the range of DEF coordinates, and reaches past the largest of them by at
 /// most the largest size of a macro.
-pub fn obstacles_stay_near()
-    ensures { ObstaclesStayNear }
+pub fn obstacles_are_bounded()
+    ensures { ObstaclesAreBounded }
 {}
 
 /// A box has one height in sites at most, and a box with a width has one bottom row at most.
-pub fn standing_is_one()
-    ensures { StandingIsOne }
+pub fn bottom_row_is_unique()
+    ensures { BottomRowIsUnique }
 {}
 
 /// At most one row of a frame lies at a y and extends over an x.
-pub fn row_at_is_one()
-    ensures { RowAtIsOne }
+pub fn row_at_is_unique()
+    ensures { RowAtIsUnique }
 {}
 
 /// The macro of a cell has a size that is whole in database units and above 0.

@@ -6,7 +6,7 @@
 //! outside the fences.
 //!
 //! A contract sees of `LoadedCells` the list of the cells with their names, and of a `PackedPlace` the place or none.
-//! `Near` is what legality asks of a frame, however it is looked up.
+//! `FrameQuery` is what legality asks of a frame, however it is looked up.
 //!
 //! ```
 //! let limits = Limits::standard(); // 65,535 rows, 1,024 fences, 4,000,000 components, ..
@@ -18,31 +18,31 @@
 mod cells;
 mod design;
 mod frame;
+mod frame_query;
 mod laws;
 mod limits;
 mod loaded;
 mod macros;
 mod measure;
-mod near;
-mod packed;
+mod packed_place;
 mod parts;
 mod place;
 mod sites;
 mod sizes;
 
-pub use cells::{CellParts, LentCell, LoadedCells, PlainCell};
+pub use cells::{CellParts, CellRef, LoadedCells, UnnamedCell};
 pub use design::{is_sized, mac_at};
 pub use frame::Frame;
+pub use frame_query::FrameQuery;
 pub use laws::{
-    cell_is_sized, obstacles_stay_near, point_has_one_team, row_at_is_one, size_turns_back,
-    standing_is_one, teams_stay_apart,
+    bottom_row_is_unique, cell_is_sized, obstacles_are_bounded, point_has_one_team,
+    row_at_is_unique, teams_stay_apart, turning_twice_is_identity,
 };
 pub use limits::Limits;
 pub use loaded::{Cell, Loaded};
 pub use macros::Macro;
-pub use near::Near;
-pub use packed::PackedPlace;
+pub use packed_place::PackedPlace;
 pub use parts::{Header, Row, Team};
-pub use place::{Place, are_alike};
+pub use place::{Place, same_place};
 pub use sites::Site;
 pub use sizes::{macro_box, size_in_units};

@@ -1,7 +1,7 @@
 //! The limits of a design.
 
 ghost use Rattle.std.specs.Prelude.{◌≡◌, ◌≤◌, ◌<◌, ◌↔◌, IsSome, IfSome};
-ghost use Rattle.lf_floorplan.specs.Bounds.{IsWithin, AreAllowed};
+ghost use Rattle.lf_floorplan.specs.Bounds.{IsLimit, AreLimits};
 
 /// The limits of a design, each from 1 to its largest value. Loading refuses a design above those of rows, fences or
 /// components.
@@ -19,7 +19,7 @@ pub struct Limits {
     pub undo: u32,
     /// Revisions of a team, at most 4,000,000,000.
     pub revisions: u32,
-    pub ghost allowed: { AreAllowed rows fences components sessions undo revisions },
+    pub ghost allowed: { AreLimits rows fences components sessions undo revisions },
 }
 
 impl Limits {
@@ -52,7 +52,7 @@ impl Limits {
         undo: u32,
         revisions: u32,
     ) -> Option<Self>
-        ensures exactly { IsSome result ↔ AreAllowed rows fences components sessions undo revisions }
+        ensures exactly { IsSome result ↔ AreLimits rows fences components sessions undo revisions }
         ensures same_rows { IfSome result (λ l. l.rows ≡ rows) }
         ensures same_fences { IfSome result (λ l. l.fences ≡ fences) }
         ensures same_components { IfSome result (λ l. l.components ≡ components) }

@@ -1,7 +1,7 @@
 //! Rows measured in database units.
 
 ghost use Rattle.std.specs.Prelude.{◌≡◌, pos, ◌*ℤ◌, ◌<ℤ◌, ◌≤ℤ◌};
-ghost use Rattle.lf_floorplan.specs.Rows.{row_area, IsHeeded};
+ghost use Rattle.lf_floorplan.specs.Rows.{row_area, IsCoreRow};
 
 use crate::parts::Row;
 use lf_units::{Point, Rect};
@@ -9,7 +9,7 @@ use lf_units::{Point, Rect};
 impl Row {
     /// The width of all sites of the row.
     fn width(&self, pitch: &Point) -> i64
-        requires heeded { IsHeeded pitch.now self.now }
+        requires heeded { IsCoreRow pitch.now self.now }
         requires wide { pos 0 <ℤ pitch.now.x }
         ensures { result ≡ pos self.now.sites *ℤ pitch.now.x }
     {
@@ -19,7 +19,7 @@ impl Row {
     /// The x at which the row ends, the first one that is not in it. `pitch` is the size of a core site in database units. Row and
     /// pitch are as a frame has them.
     pub fn right_edge(&self, pitch: &Point) -> i64
-        requires heeded { IsHeeded pitch.now self.now }
+        requires heeded { IsCoreRow pitch.now self.now }
         requires wide { pos 0 <ℤ pitch.now.x }
         ensures { result ≡ (row_area pitch.now self.now).x2 }
     {
@@ -29,7 +29,7 @@ impl Row {
     /// The points of the row, one site height high. `pitch` is the size of a core site in database units. Row and pitch are as a
     /// frame has them.
     pub fn area(&self, pitch: &Point) -> Rect
-        requires heeded { IsHeeded pitch.now self.now }
+        requires heeded { IsCoreRow pitch.now self.now }
         requires wide { pos 0 <ℤ pitch.now.x }
         requires high { pos 0 <ℤ pitch.now.y }
         requires low { pitch.now.y ≤ℤ pos 20000000000 }

@@ -38,7 +38,7 @@ fn is_one_place(a: &Place, b: &Place) -> bool
 }
 
 /// Whether both are one place, or both none.
-pub fn are_alike(a: Option<Place>, b: Option<Place>) -> bool
+pub fn same_place(a: Option<Place>, b: Option<Place>) -> bool
     ensures { IsTrue result ↔ a ≡ b }
 {
     match (a, b) {

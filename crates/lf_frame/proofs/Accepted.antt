@@ -6,7 +6,7 @@ use Rattle.std.proofs.lemmas.Bool.{and_parts, false≢true}
 use Rattle.std.proofs.lemmas.Int.{ints}
 use Rattle.std.proofs.lemmas.Option.{none-some}
 use Rattle.std.proofs.lemmas.List.Elements.{All-head, All-tail}
-use Rattle.lf_units.specs.declared.area.Point.{Point}
+use Rattle.lf_units.specs.declared.geometry.Point.{Point}
 use Rattle.lf_units.specs.Length.{in_dbu}
 use Rattle.lf_lex.specs.declared.fault.FaultNumber.TheVariants.{NoRows, NoSize, NotWhole}
 use Rattle.lf_names.specs.Names.{position_of}
@@ -14,19 +14,19 @@ use Rattle.lf_floorplan.specs.declared.sites.Site.{Site}
 use Rattle.lf_floorplan.specs.declared.macros.Macro.{Macro}
 use Rattle.lf_lef.specs.Contents.{IsMacro, macro_names}
 use Rattle.lf_def.specs.declared.components.Component.{Component}
-use Rattle.lf_def.specs.declared.components.Placement.{Placement}
+use Rattle.lf_def.specs.declared.components.PlacementClause.{PlacementClause}
 use Rattle.lf_def.specs.declared.components.PlacementKind.TheVariants.{Fixed, Cover, Placed, Unplaced}
 use Rattle.lf_def.specs.Kinds.{is_fixed, is_cover, is_movable}
-use Rattle.lf_refusals.specs.Loading.{macro_named, has_size, IsWholeSize, at_place}
+use Rattle.lf_frame_checks.specs.Loading.{macro_named, has_size, IsWholeSize, at_place}
 use Rattle.lf_floorplan.specs.Sizes.{size_in_dbu}
-use Rattle.lf_refusals.specs.Refusals.{HasNoSize, HasPartUnits}
-use Rattle.lf_refusals.specs.Findings.{Inputs, units_in, core_in, Finding, OfCore, WhereWhole, OfPitch, CoreHasPartUnits, IsAccepted}
+use Rattle.lf_frame_checks.specs.Refusals.{HasNoSize, HasPartUnits}
+use Rattle.lf_frame_checks.specs.Findings.{LoadInputs, units_in, core_in, Finding, OfCore, WhereWhole, OfPitch, CoreHasPartUnits, IsAccepted}
 use Rattle.lf_frame.specs.Loads.{IsSizedIn, FixedIsSized, AreInRange}
-use Rattle.lf_refusals.proofs.CoreLemmas.{pitch_of_core, above}
-use Rattle.lf_refusals.proofs.Gathered.{none_of_name}
+use Rattle.lf_frame_checks.proofs.CoreLemmas.{pitch_of_core, above}
+use Rattle.lf_frame_checks.proofs.Gathered.{none_of_name}
 
 -- there is a core site
-pub core_there : (i : Inputs) → IsAccepted i → IsSome (core_in i)
+pub core_there : (i : LoadInputs) → IsAccepted i → IsSome (core_in i)
 core_there i a = by (core_in i) (a NoRows)
   where
     by : (found : Option Site) → None ≡ cond (is_some found) None (Some i.document.header.design) → IsSome found
@@ -38,10 +38,10 @@ lent_there None {found} same there = rw (← same) at there
 lent_there (Some s) {found} same there = refl
 
 -- what is found of the core site
-pub of_core : (i : Inputs) (core : Site) (finds : Site → Finding) → core_in i ≡ Some core → OfCore i finds None → finds core None
+pub of_core : (i : LoadInputs) (core : Site) (finds : Site → Finding) → core_in i ≡ Some core → OfCore i finds None → finds core None
 of_core i core finds is h = rw is at h
 
-pub of_pitch : (i : Inputs) (core : Site) (finds : Site → Point → Finding) → core_in i ≡ Some core → IsWholeSize (units_in i) core.size → OfPitch i finds None →
+pub of_pitch : (i : LoadInputs) (core : Site) (finds : Site → Point → Finding) → core_in i ≡ Some core → IsWholeSize (units_in i) core.size → OfPitch i finds None →
     finds core (size_in_dbu (units_in i) core.size) None
 of_pitch i core finds is whole h =
     let at : WhereWhole i core (finds core (size_in_dbu (units_in i) core.size)) None = rw is at h in
@@ -52,7 +52,7 @@ first_nothing (inl both) = both
 first_nothing (inr some) = absurd (false≢true some.0)
 
 -- the core site's size is not other than whole
-pub core_whole : (i : Inputs) (core : Site) → core_in i ≡ Some core → IsAccepted i → (IsWholeSize (units_in i) core.size → ⊥) → ⊥
+pub core_whole : (i : LoadInputs) (core : Site) → core_in i ≡ Some core → IsAccepted i → (IsWholeSize (units_in i) core.size → ⊥) → ⊥
 core_whole i core is a not_whole =
     let found : CoreHasPartUnits i core None = of_core i core (CoreHasPartUnits i) is (first_nothing (a NotWhole)).0 in
     none-some core.name (found.part not_whole)
@@ -102,7 +102,7 @@ sized_macro units (Some m) some few range has whole =
     }
 
 -- the macro of a component other than COVER has a size that is whole in database units
-pub macros_sized : (i : Inputs) → AreInRange i → IsAccepted i →
+pub macros_sized : (i : LoadInputs) → AreInRange i → IsAccepted i →
     All (λ c. is_cover c ≡ false → IfSome (macro_named i.library c.mac) (IsSizedIn (units_in i))) i.document.components
 macros_sized i range a k d within uncovered =
     let c : Component = get_or i.document.components k d in
@@ -116,8 +116,8 @@ macros_sized i range a k d within uncovered =
 fixed_uncovered : (c : Component) → is_fixed c ≡ true → is_cover c ≡ false
 fixed_uncovered c = by c.placement
   where
-    by : (p : Option Placement) → Rattle.lf_def.specs.Kinds.says Rattle.lf_def.specs.Kinds.is_fixed_kind p ≡ true →
-        Rattle.lf_def.specs.Kinds.says Rattle.lf_def.specs.Kinds.is_cover_kind p ≡ false
+    by : (p : Option PlacementClause) → Rattle.lf_def.specs.Kinds.has_kind Rattle.lf_def.specs.Kinds.is_fixed_kind p ≡ true →
+        Rattle.lf_def.specs.Kinds.has_kind Rattle.lf_def.specs.Kinds.is_cover_kind p ≡ false
     by None e = absurd (false≢true e)
     by (Some p) e = kind p.kind e
       where
@@ -128,5 +128,5 @@ fixed_uncovered c = by c.placement
         kind Placed e = refl
         kind Unplaced e = refl
 
-pub fixed_sized : (i : Inputs) → AreInRange i → IsAccepted i → All (FixedIsSized i.library (units_in i)) i.document.components
+pub fixed_sized : (i : LoadInputs) → AreInRange i → IsAccepted i → All (FixedIsSized i.library (units_in i)) i.document.components
 fixed_sized i range a k d within fixed = macros_sized i range a k d within (fixed_uncovered (get_or i.document.components k d) fixed)

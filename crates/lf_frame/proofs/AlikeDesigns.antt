@@ -3,8 +3,8 @@ use Rattle.std.proofs.Common.{◌≡◌, ℕ, ◌+◌, inl, inr, Bool, true, fal
 use Rattle.std.specs.Prelude.{filter_map, flat_map, MatchOption, option_map}
 use Rattle.std.specs.Option.{option_and_then}
 use Rattle.std.specs.List.{AllZip}
-use Rattle.lf_units.specs.declared.area.Point.{Point}
-use Rattle.lf_units.specs.declared.area.Rect.{Rect}
+use Rattle.lf_units.specs.declared.geometry.Point.{Point}
+use Rattle.lf_units.specs.declared.geometry.Rect.{Rect}
 use Rattle.lf_lex.specs.declared.fault.FaultNumber.{FaultNumber}
 use Rattle.lf_lex.specs.declared.fault.FaultNumber.TheVariants.{BadToken, UnexpectedEnd, Unexpected, BadNumber, WrongEnd, UnknownStatement, NoUnits, NoSite}
 use Rattle.lf_lex.specs.declared.fault.FaultNumber.TheVariants.{NoRows, VerticalRow, BadStep, RowOrient, RowsOverlap, NoMacro, NoSize, NotWhole, SecondName}
@@ -13,7 +13,7 @@ use Rattle.lf_floorplan.specs.declared.sites.Site.{Site}
 use Rattle.lf_lef.specs.Contents.{Contents, macro_names}
 use Rattle.lf_names.specs.Names.{position_of}
 use Rattle.lf_def.specs.declared.components.Component.{Component}
-use Rattle.lf_def.specs.declared.components.Placement.{Placement}
+use Rattle.lf_def.specs.declared.components.PlacementClause.{PlacementClause}
 use Rattle.lf_def.specs.declared.components.Location.{Location}
 use Rattle.lf_def.specs.declared.components.PlacementKind.{PlacementKind}
 use Rattle.lf_def.specs.declared.components.PlacementKind.TheVariants.{Fixed, Cover, Placed, Unplaced}
@@ -22,22 +22,22 @@ use Rattle.lf_floorplan.specs.declared.frame.Frame.{Frame}
 use Rattle.lf_floorplan.specs.declared.loaded.Cell.{Cell}
 use Rattle.lf_floorplan.specs.declared.loaded.Loaded.{Loaded}
 use Rattle.lf_def.specs.Kinds.{is_movable}
-use Rattle.lf_claims.specs.Teams.{IsTeamOf}
+use Rattle.lf_frame_claims.specs.Teams.{IsTeamOf}
 use Rattle.lf_floorplan.specs.Sizes.{size_in_dbu}
-use Rattle.lf_claims.specs.Refusals.{BearsEarlierName, IsClaimedTwice}
-use Rattle.lf_refusals.specs.Refusals.{HasBadStep, MeetsEarlierRow, HasNoMacro, HasNoSize, HasPartUnits, IsComponentTooMany, EndsTooFar}
-use Rattle.lf_refusals.specs.Findings.{Inputs, units_in, core_in, Finding, NameOfFirst, InTurn, OfCore, WhereWhole, OfPitch, CoreHasPartUnits, Finds}
+use Rattle.lf_frame_claims.specs.Refusals.{HasEarlierName, IsClaimedTwice}
+use Rattle.lf_frame_checks.specs.Refusals.{HasBadStep, OverlapsEarlierRow, HasNoMacro, HasNoSize, HasPartUnits, IsComponentTooMany, EndsTooFar}
+use Rattle.lf_frame_checks.specs.Findings.{LoadInputs, units_in, core_in, Finding, NameOfFirst, FirstOf, OfCore, WhereWhole, OfPitch, CoreHasPartUnits, Finds}
 use Rattle.lf_frame.specs.Loads.{location, fixed_box, blocked, obstacles_in, movables_from, IsFrameOf, IsCellOf, IsLoadedFrom}
-use Rattle.lf_frame.specs.Alike.{settled, AreAlike, FindAlike, AcceptedAlike, RefusedAlike, LoadedAlike}
+use Rattle.lf_frame.specs.Alike.{without_movable_place, AreAlike, FindAlike, AcceptedAlike, RefusedAlike, LoadedAlike}
 use Rattle.lf_frame.proofs.AlikeEntries.{Same, SameAll, settled_without, name_same, mac_same, movable_same, name_alike, no_macro_respects, no_size_respects}
 use Rattle.lf_frame.proofs.AlikeEntries.{part_units_respects, earlier_name_respects, claimed_twice_respects, too_many_respects}
 
 -- the inputs with these components
-abbrev pub with_components : Inputs → List Component → Inputs
+abbrev pub with_components : LoadInputs → List Component → LoadInputs
 with_components i cs = record i { document = record i.document { components = cs } }
 
 -- inputs that are alike differ in their components alone
-but_components : (i j : Inputs) → AreAlike i j → i ≡ with_components j i.document.components
+but_components : (i j : LoadInputs) → AreAlike i j → i ≡ with_components j i.document.components
 but_components i j alike = λ d. record {
   library = alike.library d;
   document = record {
@@ -51,14 +51,14 @@ but_components i j alike = λ d. record {
   limits = alike.limits d;
 }
 
-components_alike : (i j : Inputs) → AreAlike i j → map without_places i.document.components ≡ map without_places j.document.components
+components_alike : (i j : LoadInputs) → AreAlike i j → map without_places i.document.components ≡ map without_places j.document.components
 components_alike i j alike = ap (λ d. d.components) alike.document
 
 -- components whose positions alone differ are the same
 pub same_without : (xs ys : List Component) → map without_places xs ≡ map without_places ys → SameAll xs ys
-same_without xs ys same = sym (of_map xs) ∙ ap (map settled) same ∙ of_map ys
+same_without xs ys same = sym (of_map xs) ∙ ap (map without_movable_place) same ∙ of_map ys
   where
-    of_map : (cs : List Component) → map settled (map without_places cs) ≡ map settled cs
+    of_map : (cs : List Component) → map without_movable_place (map without_places cs) ≡ map without_movable_place cs
     of_map [] = refl
     of_map (c ∷ cs) = rw (settled_without c, of_map cs)
 
@@ -66,11 +66,11 @@ same_without xs ys same = sym (of_map xs) ∙ ap (map settled) same ∙ of_map y
 abbrev Carries : Finding → Finding → Type 0
 Carries one other = (found : Option (List ℕ)) → one found → other found
 
-turn_carries : (first first' second second' : Finding) → Carries first first' → Carries second second' → Carries (InTurn first second) (InTurn first' second')
+turn_carries : (first first' second second' : Finding) → Carries first first' → Carries second second' → Carries (FirstOf first second) (FirstOf first' second')
 turn_carries first first' second second' one two found (inl h) = inl (one None h.0, two found h.1)
 turn_carries first first' second second' one two found (inr h) = inr (h.0, one found h.1)
 
-pitch_same : (i : Inputs) (xs ys : List Component) (finds : Site → Point → Finding) →
+pitch_same : (i : LoadInputs) (xs ys : List Component) (finds : Site → Point → Finding) →
     Carries (OfPitch (with_components i xs) finds) (OfPitch (with_components i ys) finds)
 pitch_same i xs ys finds found = by (core_in i)
   where
@@ -81,7 +81,7 @@ pitch_same i xs ys finds found = by (core_in i)
     by None h = h
     by (Some core) h = record { whole = h.whole; part = h.part }
 
-core_units_same : (i : Inputs) (xs ys : List Component) →
+core_units_same : (i : LoadInputs) (xs ys : List Component) →
     Carries (OfCore (with_components i xs) (CoreHasPartUnits (with_components i xs))) (OfCore (with_components i ys) (CoreHasPartUnits (with_components i ys)))
 core_units_same i xs ys found = by (core_in i)
   where
@@ -91,7 +91,7 @@ core_units_same i xs ys found = by (core_in i)
     by (Some core) h = record { whole = h.whole; part = h.part }
 
 -- what a refusal finds does not turn on where movable components stand
-pub finds_same : (i : Inputs) (xs ys : List Component) → SameAll xs ys → (n : FaultNumber) →
+pub finds_same : (i : LoadInputs) (xs ys : List Component) → SameAll xs ys → (n : FaultNumber) →
     Carries (Finds (with_components i xs) n) (Finds (with_components i ys) n)
 finds_same i xs ys same NoUnits = λ found h. h
 finds_same i xs ys same NoSite = λ found h. h
@@ -99,13 +99,13 @@ finds_same i xs ys same NoRows = λ found h. h
 finds_same i xs ys same VerticalRow = λ found h. h
 finds_same i xs ys same BadStep = pitch_same i xs ys (λ core pitch. NameOfFirst (λ r. r.name) (HasBadStep core pitch) i.document.rows)
 finds_same i xs ys same RowOrient = λ found h. h
-finds_same i xs ys same RowsOverlap = pitch_same i xs ys (λ core pitch. NameOfFirst (λ r. r.name) (MeetsEarlierRow core pitch) i.document.rows)
+finds_same i xs ys same RowsOverlap = pitch_same i xs ys (λ core pitch. NameOfFirst (λ r. r.name) (OverlapsEarlierRow core pitch) i.document.rows)
 finds_same i xs ys same NoMacro = name_alike (λ c. c.mac) (λ c. refl) (HasNoMacro i.library) (no_macro_respects i.library) xs ys same
 finds_same i xs ys same NoSize = name_alike (λ c. c.mac) (λ c. refl) (HasNoSize i.library) (no_size_respects i.library) xs ys same
 finds_same i xs ys same NotWhole =
     turn_carries _ _ _ _ (core_units_same i xs ys)
     (name_alike (λ c. c.mac) (λ c. refl) (HasPartUnits i.library (units_in i)) (part_units_respects i.library (units_in i)) xs ys same)
-finds_same i xs ys same SecondName = name_alike (λ c. c.name) (λ c. refl) BearsEarlierName earlier_name_respects xs ys same
+finds_same i xs ys same SecondName = name_alike (λ c. c.name) (λ c. refl) HasEarlierName earlier_name_respects xs ys same
 finds_same i xs ys same SecondRegion = λ found h. h
 finds_same i xs ys same NoRegion = λ found h. h
 finds_same i xs ys same TeamName = λ found h. h
@@ -148,15 +148,15 @@ refused_alike i j alike fault h = record {
 
 -- A frame and cells.
 
-box_settled : (library : Contents) (units : ℕ) (c : Component) → fixed_box library units (settled c) ≡ fixed_box library units c
+box_settled : (library : Contents) (units : ℕ) (c : Component) → fixed_box library units (without_movable_place c) ≡ fixed_box library units c
 box_settled library units c = by c.placement
   where
-    by : (p : Option Placement) → fixed_box library units (settled (record c { placement = p })) ≡ fixed_box library units (record c { placement = p })
+    by : (p : Option PlacementClause) → fixed_box library units (without_movable_place (record c { placement = p })) ≡ fixed_box library units (record c { placement = p })
     by None = refl
     by (Some p) = kinds p.kind p.place p.start p.stop
       where
         kinds : (kind : PlacementKind) (place : Option Location) (start stop : ℕ) →
-            fixed_box library units (settled (record c { placement = Some (record { kind = kind; place = place; start = start; stop = stop }) }))
+            fixed_box library units (without_movable_place (record c { placement = Some (record { kind = kind; place = place; start = start; stop = stop }) }))
             ≡ fixed_box library units (record c { placement = Some (record { kind = kind; place = place; start = start; stop = stop }) })
         kinds Fixed place start stop = refl
         kinds Cover place start stop = refl
@@ -164,18 +164,18 @@ box_settled library units c = by c.placement
         kinds Unplaced place start stop = refl
 
 boxes_settled : (library : Contents) (units : ℕ) (cs : List Component) →
-    filter_map (fixed_box library units) (map settled cs) ≡ filter_map (fixed_box library units) cs
+    filter_map (fixed_box library units) (map without_movable_place cs) ≡ filter_map (fixed_box library units) cs
 boxes_settled library units [] = refl
 boxes_settled library units (c ∷ cs) = rw (box_settled library units c, boxes_settled library units cs)
 
-obstacles_same : (i : Inputs) (xs ys : List Component) → SameAll xs ys → obstacles_in (with_components i xs) ≡ obstacles_in (with_components i ys)
+obstacles_same : (i : LoadInputs) (xs ys : List Component) → SameAll xs ys → obstacles_in (with_components i xs) ≡ obstacles_in (with_components i ys)
 obstacles_same i xs ys same =
     let box : Component → Option Rect = fixed_box i.library (units_in i) in
     let boxes : filter_map box xs ≡ filter_map box ys = sym (boxes_settled i.library (units_in i) xs) ∙ ap (filter_map box) same
     ∙ boxes_settled i.library (units_in i) ys in
     ap (λ l. l ++ flat_map blocked i.document.blockages) boxes
 
-pub frame_same : (i : Inputs) (xs ys : List Component) → SameAll xs ys → (f : Frame) → IsFrameOf (with_components i xs) f → IsFrameOf (with_components i ys) f
+pub frame_same : (i : LoadInputs) (xs ys : List Component) → SameAll xs ys → (f : Frame) → IsFrameOf (with_components i xs) f → IsFrameOf (with_components i ys) f
 frame_same i xs ys same f is = record {
   site = is.site;
   rows = is.rows;
@@ -213,16 +213,16 @@ cells_same kept alike P Q made k (a ∷ xs) (b ∷ ys) same cells zip =
 -- Positions alone.
 
 one_without : (a b : Component) → without_places a ≡ without_places b → Same a b
-one_without a b same = sym (settled_without a) ∙ ap settled same ∙ settled_without b
+one_without a b same = sym (settled_without a) ∙ ap without_movable_place same ∙ settled_without b
 
-place_without : (p : Option Placement) → option_and_then (λ q. q.place) (option_map placement_without_places p) ≡ option_and_then (λ q. q.place) p
+place_without : (p : Option PlacementClause) → option_and_then (λ q. q.place) (option_map placement_without_places p) ≡ option_and_then (λ q. q.place) p
 place_without None = refl
 place_without (Some p) = refl
 
 location_without : (a b : Component) → without_places a ≡ without_places b → location a ≡ location b
 location_without a b same = sym (place_without a.placement) ∙ ap location same ∙ place_without b.placement
 
-cell_without : (i : Inputs) (xs ys : List Component) (k : ℕ) (a b : Component) (c : Cell) → without_places a ≡ without_places b →
+cell_without : (i : LoadInputs) (xs ys : List Component) (k : ℕ) (a b : Component) (c : Cell) → without_places a ≡ without_places b →
     IsCellOf (with_components i xs) (k, a) c → IsCellOf (with_components i ys) (k, b) c
 cell_without i xs ys k a b c same is =
     let alike : Same a b = one_without a b same in
@@ -234,7 +234,7 @@ cell_without i xs ys k a b c same is =
       component = is.component;
     }
 
-loaded_same : (i : Inputs) (xs ys : List Component) → map without_places xs ≡ map without_places ys → (l : Loaded) → IsLoadedFrom (with_components i xs) l →
+loaded_same : (i : LoadInputs) (xs ys : List Component) → map without_places xs ≡ map without_places ys → (l : Loaded) → IsLoadedFrom (with_components i xs) l →
     IsLoadedFrom (with_components i ys) l
 loaded_same i xs ys same l h = record {
   accepted = λ n. finds_same i xs ys (same_without xs ys same) n None (h.accepted n);

@@ -6,57 +6,57 @@ use Rattle.std.proofs.lemmas.Option.{slice_get-map}
 use Rattle.lf_def.specs.declared.regions.Region.{Region}
 use Rattle.lf_def.specs.declared.groups.Group.{Group}
 use Rattle.lf_def.specs.declared.components.Component.{Component}
-use Rattle.lf_def.specs.declared.components.Placement.{Placement}
+use Rattle.lf_def.specs.declared.components.PlacementClause.{PlacementClause}
 use Rattle.lf_def.specs.declared.components.PlacementKind.{PlacementKind}
 use Rattle.lf_def.specs.declared.components.PlacementKind.TheVariants.{Fixed, Cover, Placed, Unplaced}
 use Rattle.lf_def.specs.declared.components.Location.{Location}
 use Rattle.lf_def.specs.Laws.{without_places}
 use Rattle.lf_lef.specs.Contents.{Contents}
-use Rattle.lf_claims.specs.Entries.{FirstIs}
-use Rattle.lf_def.specs.Kinds.{is_fixed_kind, is_cover_kind, says, is_fixed, is_cover, is_movable}
-use Rattle.lf_refusals.specs.Loading.{at_place, macro_named, has_size, IsWholeSize}
-use Rattle.lf_claims.specs.Refusals.{BearsEarlierName, HasTwoFences, IsClaimedTwice}
-use Rattle.lf_refusals.specs.Refusals.{HasNoMacro, HasNoSize, HasPartUnits, IsComponentTooMany}
-use Rattle.lf_refusals.specs.Findings.{NameOfFirst}
-use Rattle.lf_frame.specs.Alike.{settled}
+use Rattle.lf_frame_claims.specs.Entries.{FirstIs}
+use Rattle.lf_def.specs.Kinds.{is_fixed_kind, is_cover_kind, has_kind, is_fixed, is_cover, is_movable}
+use Rattle.lf_frame_checks.specs.Loading.{at_place, macro_named, has_size, IsWholeSize}
+use Rattle.lf_frame_claims.specs.Refusals.{HasEarlierName, HasTwoFences, IsClaimedTwice}
+use Rattle.lf_frame_checks.specs.Refusals.{HasNoMacro, HasNoSize, HasPartUnits, IsComponentTooMany}
+use Rattle.lf_frame_checks.specs.Findings.{NameOfFirst}
+use Rattle.lf_frame.specs.Alike.{without_movable_place}
 use Rattle.lf_units.proofs.Any.{name_of_any, any_of_name}
 
 -- they are the same component, but that a movable one may stand elsewhere
 abbrev pub Same : Component → Component → Type 0
-Same a b = settled a ≡ settled b
+Same a b = without_movable_place a ≡ without_movable_place b
 
 -- they are the same components, but that the movable ones may stand elsewhere
 abbrev pub SameAll : List Component → List Component → Type 0
-SameAll xs ys = map settled xs ≡ map settled ys
+SameAll xs ys = map without_movable_place xs ≡ map without_movable_place ys
 
 -- What is said of every component is said of every one that is the same.
 
-abbrev settled_placement : Option Placement → Option Placement
-settled_placement p = (settled (record { name = []; mac = []; placement = p; semicolon = 0 })).placement
+abbrev settled_placement : Option PlacementClause → Option PlacementClause
+settled_placement p = (without_movable_place (record { name = []; mac = []; placement = p; semicolon = 0 })).placement
 
-says_settled : (is_kind : PlacementKind → Bool) → is_kind Placed ≡ false → is_kind Unplaced ≡ false → (p : Option Placement)
-    → says is_kind (settled_placement p) ≡ says is_kind p
+says_settled : (is_kind : PlacementKind → Bool) → is_kind Placed ≡ false → is_kind Unplaced ≡ false → (p : Option PlacementClause)
+    → has_kind is_kind (settled_placement p) ≡ has_kind is_kind p
 says_settled is_kind placed unplaced None = refl
 says_settled is_kind placed unplaced (Some p) = by p.kind p.place p.start p.stop
   where
     by : (kind : PlacementKind) (place : Option Location) (start stop : ℕ) →
-        says is_kind (settled_placement (Some (record { kind = kind; place = place; start = start; stop = stop }))) ≡ is_kind kind
+        has_kind is_kind (settled_placement (Some (record { kind = kind; place = place; start = start; stop = stop }))) ≡ is_kind kind
     by Fixed place start stop = refl
     by Cover place start stop = refl
     by Placed place start stop = sym placed
     by Unplaced place start stop = sym unplaced
 
 -- a component whose positions are left out is the same
-pub settled_without : (c : Component) → settled (without_places c) ≡ settled c
+pub settled_without : (c : Component) → without_movable_place (without_places c) ≡ without_movable_place c
 settled_without c = by c.placement
   where
-    by : (p : Option Placement) → settled (without_places (record c { placement = p })) ≡ settled (record c { placement = p })
+    by : (p : Option PlacementClause) → without_movable_place (without_places (record c { placement = p })) ≡ without_movable_place (record c { placement = p })
     by None = refl
     by (Some p) = kinds p.kind p.place p.start p.stop
       where
         kinds : (kind : PlacementKind) (place : Option Location) (start stop : ℕ) →
-            settled (without_places (record c { placement = Some (record { kind = kind; place = place; start = start; stop = stop }) }))
-            ≡ settled (record c { placement = Some (record { kind = kind; place = place; start = start; stop = stop }) })
+            without_movable_place (without_places (record c { placement = Some (record { kind = kind; place = place; start = start; stop = stop }) }))
+            ≡ without_movable_place (record c { placement = Some (record { kind = kind; place = place; start = start; stop = stop }) })
         kinds Fixed place start stop = refl
         kinds Cover place start stop = refl
         kinds Placed place start stop = refl
@@ -80,22 +80,22 @@ movable_same a b same = rw (fixed_same a b same, cover_same a b same)
 -- Of lists that are the same, the same stands at each place.
 
 pub length_same : (xs ys : List Component) → SameAll xs ys → length xs ≡ length ys
-length_same xs ys same = sym (length-map xs settled) ∙ ap length same ∙ length-map ys settled
+length_same xs ys same = sym (length-map xs without_movable_place) ∙ ap length same ∙ length-map ys without_movable_place
 
 take_same : (xs ys : List Component) (k : ℕ) → SameAll xs ys → SameAll (take k xs) (take k ys)
-take_same xs ys k same = sym (take-map settled k xs) ∙ ap (take k) same ∙ take-map settled k ys
+take_same xs ys k same = sym (take-map without_movable_place k xs) ∙ ap (take k) same ∙ take-map without_movable_place k ys
 
 entry_same : (xs ys : List Component) (k : ℕ) (d : Component) → SameAll xs ys → k < length ys → Same (get_or xs k d) (get_or ys k d)
 entry_same xs ys k d same within =
     let there : k < length xs = omega (arith, length_same xs ys same) in
-    sym (get_or-map settled xs k d d there) ∙ ap (λ l. get_or l k d) same ∙ get_or-map settled ys k d d within
+    sym (get_or-map without_movable_place xs k d d there) ∙ ap (λ l. get_or l k d) same ∙ get_or-map without_movable_place ys k d d within
 
 -- the names that components have
-names_same : (name_of : Component → List ℕ) → ((c : Component) → name_of (settled c) ≡ name_of c) → (xs ys : List Component) → SameAll xs ys →
+names_same : (name_of : Component → List ℕ) → ((c : Component) → name_of (without_movable_place c) ≡ name_of c) → (xs ys : List Component) → SameAll xs ys →
     map name_of xs ≡ map name_of ys
 names_same name_of without xs ys same = of_map xs ∙ ap (map name_of) same ∙ sym (of_map ys)
   where
-    of_map : (cs : List Component) → map name_of cs ≡ map name_of (map settled cs)
+    of_map : (cs : List Component) → map name_of cs ≡ map name_of (map without_movable_place cs)
     of_map [] = refl
     of_map (c ∷ cs) = rw (without c, of_map cs)
 
@@ -124,14 +124,14 @@ first_alike breaks respects xs ys same (Some n) first =
           first.none_before k d before (broken_same breaks respects ys xs (sym same) k d there broken);
     }
 
-named_alike : (name_of : Component → List ℕ) → ((c : Component) → name_of (settled c) ≡ name_of c) → (xs ys : List Component) → SameAll xs ys →
+named_alike : (name_of : Component → List ℕ) → ((c : Component) → name_of (without_movable_place c) ≡ name_of c) → (xs ys : List Component) → SameAll xs ys →
     (place : Option ℕ) → option_map name_of (at_place xs place) ≡ option_map name_of (at_place ys place)
 named_alike name_of without xs ys same None = refl
 named_alike name_of without xs ys same (Some n) =
     sym (slice_get-map name_of xs n) ∙ ap (λ l. slice_get l n) (names_same name_of without xs ys same) ∙ slice_get-map name_of ys n
 
 -- the first component that breaks a rule has the same name
-pub name_alike : (name_of : Component → List ℕ) → ((c : Component) → name_of (settled c) ≡ name_of c) → (breaks : List Component → Component → Type 0) →
+pub name_alike : (name_of : Component → List ℕ) → ((c : Component) → name_of (without_movable_place c) ≡ name_of c) → (breaks : List Component → Component → Type 0) →
     Respects breaks →
     (xs ys : List Component) → SameAll xs ys → (found : Option (List ℕ)) → NameOfFirst name_of breaks xs found → NameOfFirst name_of breaks ys found
 name_alike name_of without breaks respects xs ys same found n = record {
@@ -153,7 +153,7 @@ pub part_units_respects : (library : Contents) (units : ℕ) → Respects (HasPa
 part_units_respects library units xs ys a b all same h =
     (sym (cover_same a b same) ∙ h.0, subst (λ name. IsSomeAnd (macro_named library name) (λ m. IsWholeSize units m.size → ⊥)) (mac_same a b same) h.1)
 
-pub earlier_name_respects : Respects BearsEarlierName
+pub earlier_name_respects : Respects HasEarlierName
 earlier_name_respects xs ys a b all same h =
     let names : map (λ c. c.name) xs ≡ map (λ c. c.name) ys = names_same (λ c. c.name) (λ c. refl) xs ys all in
     any_of_name (λ c. c.name) ys b.name (rw (names, name_same a b same) at (name_of_any (λ c. c.name) xs a.name h))

@@ -10,13 +10,13 @@ use Rattle.lf_def.specs.declared.regions.Region.{Region}
 use Rattle.lf_def.specs.declared.groups.Group.{Group}
 use Rattle.lf_def.specs.declared.components.Component.{Component}
 use Rattle.lf_floorplan.specs.declared.loaded.Cell.{Cell}
-use Rattle.lf_claims.specs.Entries.{NoneBreaks}
-use Rattle.lf_claims.specs.Refusals.{BearsEarlierName, HasTwoFences}
-use Rattle.lf_claims.specs.Teams.{IsTeamOf}
-use Rattle.lf_claims.specs.ClaimTables.{Told, IsTableOf, TellsTeam}
+use Rattle.lf_frame_claims.specs.Entries.{NoneBreaks}
+use Rattle.lf_frame_claims.specs.Refusals.{HasEarlierName, HasTwoFences}
+use Rattle.lf_frame_claims.specs.Teams.{IsTeamOf}
+use Rattle.lf_frame_claims.specs.ClaimTables.{ClaimFacts, IsTableOf, FindsTeam}
 use Rattle.lf_def.specs.Kinds.{is_movable}
-use Rattle.lf_refusals.specs.MacroTables.{macro_of, macros_of, macro_at}
-use Rattle.lf_refusals.specs.Findings.{Inputs}
+use Rattle.lf_frame_checks.specs.MacroTables.{macro_of, macros_of, macro_at}
+use Rattle.lf_frame_checks.specs.Findings.{LoadInputs}
 use Rattle.lf_frame.specs.Loads.{movables, movables_from, IsCellOf}
 
 -- what the table of macros has at its number is the macro of a component
@@ -30,31 +30,31 @@ macro_read library components macros k c made within is =
     )
 
 -- what the table of claims has there is its team, unless two fences claim it
-pub team_read : (regions : List Region) (groups : List Group) (components : List Component) (table : Told) (k : ℕ) (c : Component) (team : ℕ) →
-    TellsTeam table k team → IsTableOf regions groups components table → NoneBreaks BearsEarlierName components → k < length components →
+pub team_read : (regions : List Region) (groups : List Group) (components : List Component) (table : ClaimFacts) (k : ℕ) (c : Component) (team : ℕ) →
+    FindsTeam table k team → IsTableOf regions groups components table → NoneBreaks HasEarlierName components → k < length components →
     c ≡ get_or components k c → (HasTwoFences regions groups c.name → ⊥) → IsTeamOf regions groups c.name team
 team_read regions groups components table k c team tells of differ within is once =
     tells regions groups components of differ c (slice_get_read components (length components) k c refl within is) once
 
 -- whatever cells the components from this one on have, after these they are the cells of all
-abbrev pub GoesOn : Inputs → List Component → ℕ → List Cell → Type 0
+abbrev pub GoesOn : LoadInputs → List Component → ℕ → List Cell → Type 0
 GoesOn i components k cells = (more : List Cell) → AllZip (IsCellOf i) (movables_from k (drop k components)) more → AllZip (IsCellOf i) (movables components) (cells ++ more)
 
 left : (components : List Component) (k : ℕ) (c : Component) → k < length components → c ≡ get_or components k c →
     drop k components ≡ c ∷ drop (k + 1) components
 left components k c within is = grind (arith, common_steps)
 
-pub cell_more : (i : Inputs) (components : List Component) (k : ℕ) (c : Component) (cells : List Cell) (cell : Cell) → k < length components →
+pub cell_more : (i : LoadInputs) (components : List Component) (k : ℕ) (c : Component) (cells : List Cell) (cell : Cell) → k < length components →
     c ≡ get_or components k c → is_movable c ≡ true → IsCellOf i (k, c) cell → GoesOn i components k cells → GoesOn i components (k + 1) (cells ++ cell ∷ [])
 cell_more i components k c cells cell within is movable made before more zip =
     let same : cells ++ cell ∷ more ≡ (cells ++ cell ∷ []) ++ more = grind (arith, common_steps) in
     rw same at (before (cell ∷ more) (rw (left components k c within is, movable) (made, zip)))
 
-pub none_more : (i : Inputs) (components : List Component) (k : ℕ) (c : Component) (cells : List Cell) → k < length components → c ≡ get_or components k c →
+pub none_more : (i : LoadInputs) (components : List Component) (k : ℕ) (c : Component) (cells : List Cell) → k < length components → c ≡ get_or components k c →
     is_movable c ≡ false → GoesOn i components k cells → GoesOn i components (k + 1) cells
 none_more i components k c cells within is stays before more zip = before more (rw (left components k c within is, stays) zip)
 
-pub all_made : (i : Inputs) (components : List Component) (k : ℕ) (cells : List Cell) → length components ≤ k → GoesOn i components k cells →
+pub all_made : (i : LoadInputs) (components : List Component) (k : ℕ) (cells : List Cell) → length components ≤ k → GoesOn i components k cells →
     AllZip (IsCellOf i) (movables components) cells
 all_made i components k cells past before =
     let nothing : drop k components ≡ [] = grind (arith, common_steps) in
@@ -108,7 +108,7 @@ one_earlier components k c cells cell within is name early m d inside =
     ]
 
 -- so the name of this component is new
-pub is_new : (components : List Component) (k : ℕ) (c : Component) (cells : List Cell) → NoneBreaks BearsEarlierName components → k < length components →
+pub is_new : (components : List Component) (k : ℕ) (c : Component) (cells : List Cell) → NoneBreaks HasEarlierName components → k < length components →
     c ≡ get_or components k c → AreEarlier components k cells → All (λ d. d.name ≢ c.name) cells
 is_new components k c cells none within is early m d inside same =
     let e = early m d inside in

@@ -27,15 +27,15 @@ use Rattle.lf_floorplan.specs.Bounds.{IsPrinted, IsName}
 use Rattle.lf_floorplan.specs.Boxes.{IsSized}
 use Rattle.lf_floorplan.specs.Ground.{IsTeam}
 use Rattle.lf_floorplan.specs.Design.{IsCell, MakeDesign}
-use Rattle.lf_claims.specs.Entries.{NoneBreaks}
+use Rattle.lf_frame_claims.specs.Entries.{NoneBreaks}
 use Rattle.lf_def.specs.Kinds.{is_cover, is_fixed, is_movable}
-use Rattle.lf_claims.specs.Teams.{fences, fence_names, IsTeamOf}
-use Rattle.lf_refusals.specs.Loading.{macro_named}
-use Rattle.lf_claims.specs.Refusals.{BearsEarlierName, IsClaimedTwice}
-use Rattle.lf_refusals.specs.Refusals.{HasNoMacro, IsComponentTooMany}
-use Rattle.lf_refusals.specs.Findings.{Inputs, units_in, IsAccepted}
+use Rattle.lf_frame_claims.specs.Teams.{fences, fence_names, IsTeamOf}
+use Rattle.lf_frame_checks.specs.Loading.{macro_named}
+use Rattle.lf_frame_claims.specs.Refusals.{HasEarlierName, IsClaimedTwice}
+use Rattle.lf_frame_checks.specs.Refusals.{HasNoMacro, IsComponentTooMany}
+use Rattle.lf_frame_checks.specs.Findings.{LoadInputs, units_in, IsAccepted}
 use Rattle.lf_frame.specs.Loads.{IsSizedIn, AreInRange, IsFrameOf, movables, CanBeCell, IsCellOf}
-use Rattle.lf_refusals.proofs.Gathered.{none_of_name}
+use Rattle.lf_frame_checks.proofs.Gathered.{none_of_name}
 use Rattle.lf_frame.proofs.Accepted.{first_nothing, macros_sized}
 
 -- what holds of each entry holds of the one that belongs to it
@@ -82,12 +82,12 @@ known : (o : Option Macro) → (o ≡ None → ⊥) → IsSome o
 known None there = absurd (there refl)
 known (Some m) there = refl
 
-placed : (macros : List Macro) (place : Option ℕ) → IsSome (Rattle.lf_refusals.specs.Loading.at_place macros place) → IsSome place
+placed : (macros : List Macro) (place : Option ℕ) → IsSome (Rattle.lf_frame_checks.specs.Loading.at_place macros place) → IsSome place
 placed macros None there = there
 placed macros (Some k) there = refl
 
 -- a movable component of an accepted design can be a cell
-pub can_be_cells : (i : Inputs) → IsAccepted i → All (λ c. is_movable c ≡ true → CanBeCell i c) i.document.components
+pub can_be_cells : (i : LoadInputs) → IsAccepted i → All (λ c. is_movable c ≡ true → CanBeCell i c) i.document.components
 can_be_cells i a k d within movable =
     let c : Component = get_or i.document.components k d in
     let none = none_of_name {breaks = HasNoMacro i.library} (a NoMacro) k d within in
@@ -124,10 +124,10 @@ macro_within macros name place is =
     omega (arith, many)
 
 -- what is asked of an entry
-abbrev IsEntry : Inputs → ℕ × Component → Type 0
+abbrev IsEntry : LoadInputs → ℕ × Component → Type 0
 IsEntry i e = IsComponent e.1 × ((is_movable e.1 ≡ true) × (is_cover e.1 ≡ false → IfSome (macro_named i.library e.1.mac) (IsSizedIn (units_in i))))
 
-sized_in : (f : Frame) (i : Inputs) (m : Macro) (k : ℕ) → IsFrameOf i f → slice_get f.macros k ≡ Some m → IsSizedIn (units_in i) m → IsSized f m
+sized_in : (f : Frame) (i : LoadInputs) (m : Macro) (k : ℕ) → IsFrameOf i f → slice_get f.macros k ≡ Some m → IsSizedIn (units_in i) m → IsSized f m
 sized_in f i m k is at sized =
     let units : f.header.units ≡ units_in i = ap (λ (h : Rattle.lf_floorplan.specs.declared.parts.Header.Header). h.units) is.header in
     let within : k < length f.macros = slice_get_within f.macros k m at in
@@ -141,7 +141,7 @@ sized_in f i m k is at sized =
       high = rw units sized.whole.high;
     }
 
-team_there : (i : Inputs) (f : Frame) (name : List ℕ) (team : ℕ) → IsFrameOf i f → IsTeamOf i.document.regions i.document.groups name team → IsTeam f team
+team_there : (i : LoadInputs) (f : Frame) (name : List ℕ) (team : ℕ) → IsFrameOf i f → IsTeamOf i.document.regions i.document.groups name team → IsTeam f team
 team_there i f name team is of =
     let count : length f.teams ≡ length (fences i.document.regions) = ap (λ (ts : List Rattle.lf_floorplan.specs.declared.parts.Team.Team). length ts) is.teams ∙ (grind (arith, common_steps)) in
     by count of
@@ -153,7 +153,7 @@ team_there i f name team is of =
         omega (arith, count, same)
     by count (inr ground) = omega (arith, count, ground.1)
 
-is_cell : (i : Inputs) (f : Frame) → IsFrameOf i f → (e : ℕ × Component) (c : Cell) → IsEntry i e → IsCellOf i e c → IsCell f c
+is_cell : (i : LoadInputs) (f : Frame) → IsFrameOf i f → (e : ℕ × Component) (c : Cell) → IsEntry i e → IsCellOf i e c → IsCell f c
 is_cell i f is e c entry of =
     let many : length (macro_names i.library.macros) ≡ length i.library.macros = grind (arith, common_steps) in
     let within : c.mac < length (macro_names i.library.macros) = position_within (macro_names i.library.macros) e.1.mac c.mac of.mac in
@@ -166,17 +166,17 @@ is_cell i f is e c entry of =
       name_printed = rw of.name (name_printed e.1.name entry.0.name);
     }
 
-apart : (i : Inputs) → IsAccepted i → AllPairs (λ a b. (a.1.name ≢ b.1.name) × (a.0 < b.0)) (enumerate_from 0 i.document.components)
+apart : (i : LoadInputs) → IsAccepted i → AllPairs (λ a b. (a.1.name ≢ b.1.name) × (a.0 < b.0)) (enumerate_from 0 i.document.components)
 apart i a j k d below within =
     let long : length (enumerate_from 0 i.document.components) ≡ length i.document.components = length-enumerate_from 0 i.document.components in
     let behind : k < length i.document.components = omega (arith, long) in
     let first = get_or-enumerate_from 0 i.document.components j d (omega (arith, long)) in
     let second = get_or-enumerate_from 0 i.document.components k d behind in
-    let none = none_of_name {breaks = BearsEarlierName} (a SecondName) k d.1 behind in
+    let none = none_of_name {breaks = HasEarlierName} (a SecondName) k d.1 behind in
     rw (first, second) ((λ same. none (j, get_or i.document.components j d.1, grind (arith, common_steps), grind (arith, common_steps, get_or_default i.document.components j (get_or i.document.components j d.1) d.1), same)), omega arith)
 
 -- there are at most as many components as the limit
-pub few : (i : Inputs) → IsAccepted i → length i.document.components ≤ i.limits.components
+pub few : (i : LoadInputs) → IsAccepted i → length i.document.components ≤ i.limits.components
 few i a =
     let behind_rows = (first_nothing (a TooMany)).1 in
     let behind_fences = (first_nothing behind_rows).1 in
@@ -206,7 +206,7 @@ fewer p (x ∷ xs) = by (p x) refl (fewer p xs)
     by true is rest = rw is (omega arith)
     by false is rest = rw is (omega arith)
 
-entries_known : (i : Inputs) → AreInRange i → IsAccepted i → All (IsEntry i) (movables i.document.components)
+entries_known : (i : LoadInputs) → AreInRange i → IsAccepted i → All (IsEntry i) (movables i.document.components)
 entries_known i range a =
     let test : ℕ × Component → Bool = λ e. is_movable e.1 in
     let entries : List (ℕ × Component) = enumerate_from 0 i.document.components in
@@ -216,7 +216,7 @@ entries_known i range a =
     (all_numbered (λ c. is_cover c ≡ false → IfSome (macro_named i.library c.mac) (IsSizedIn (units_in i))) 0 i.document.components (macros_sized i range a)) in
     λ k d within. (ranged k d within, (movable k d within, sized k d within))
 
-pub design_made : (i : Inputs) (f : Frame) (cells : List Cell) → AreInRange i → IsAccepted i → IsFrameOf i f →
+pub design_made : (i : LoadInputs) (f : Frame) (cells : List Cell) → AreInRange i → IsAccepted i → IsFrameOf i f →
     AllZip (IsCellOf i) (movables i.document.components) cells → MakeDesign f cells
 design_made i f cells range a is zip =
     let cs : List Component = i.document.components in

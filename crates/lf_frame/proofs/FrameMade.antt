@@ -8,8 +8,8 @@ use Rattle.std.proofs.lemmas.Grind.{merely}
 use Rattle.std.proofs.lemmas.Int.{ints}
 use Rattle.std.proofs.lemmas.Option.{slice_get_within, get_or_from_slice_get}
 use Rattle.std.proofs.lemmas.List.Elements.{All-nil, All-append, All-weaker}
-use Rattle.lf_units.specs.declared.area.Point.{Point}
-use Rattle.lf_units.specs.declared.area.Rect.{Rect}
+use Rattle.lf_units.specs.declared.geometry.Point.{Point}
+use Rattle.lf_units.specs.declared.geometry.Rect.{Rect}
 use Rattle.lf_units.specs.Area.{SharesPoint}
 use Rattle.lf_orient.specs.declared.Rail.{Rail}
 use Rattle.lf_orient.specs.Orientation.{rail_below}
@@ -23,24 +23,24 @@ use Rattle.lf_def.specs.declared.rows.Row.{Row}
 use Rattle.lf_def.specs.declared.regions.Region.{Region}
 use Rattle.lf_def.specs.declared.components.Component.{Component}
 use Rattle.lf_def.specs.declared.components.Location.{Location}
-use Rattle.lf_def.specs.declared.components.Placement.{Placement}
+use Rattle.lf_def.specs.declared.components.PlacementClause.{PlacementClause}
 use Rattle.lf_def.specs.declared.blockages.Blockage.{Blockage}
 use Rattle.lf_def.specs.Ranges.{IsCoordinate, IsRect, IsRow, IsRegion, IsComponent, IsBlockage, IsLocation, IsPlacement}
 use Rattle.lf_floorplan.specs.Bounds.{IsDefNumber, IsLefLength, IsLefSize, IsDefRect}
 use Rattle.lf_floorplan.specs.Obstacles.{IsMacroBox, IsObstacle}
-use Rattle.lf_floorplan.specs.Rows.{row_area, IsPitch, IsHeeded, RowsApart}
+use Rattle.lf_floorplan.specs.Rows.{row_area, IsPitch, IsCoreRow, RowsApart}
 use Rattle.lf_floorplan.specs.Fences.{IsFence, AreApart, FencesNamed, FencesApart}
 use Rattle.lf_floorplan.specs.Sizes.{turned, box_at, size_in_dbu}
-use Rattle.lf_claims.specs.Entries.{NoneBreaks}
+use Rattle.lf_frame_claims.specs.Entries.{NoneBreaks}
 use Rattle.lf_def.specs.Kinds.{is_fence, is_fixed}
-use Rattle.lf_claims.specs.Teams.{fences}
-use Rattle.lf_refusals.specs.Loading.{at_place, is_heeded, frame_row, macro_named, has_size, IsWholeSize}
-use Rattle.lf_refusals.specs.Refusals.{IsTurned, MeetsEarlierRow, EndsTooFar, BearsEarlierFence, BearsGroundName, SharePoint, MeetsEarlierFence, IsRowTooMany}
-use Rattle.lf_refusals.specs.Refusals.{IsFenceTooMany}
-use Rattle.lf_refusals.specs.Findings.{Inputs, units_in, core_in, NameOfFirst, IsAccepted}
+use Rattle.lf_frame_claims.specs.Teams.{fences}
+use Rattle.lf_frame_checks.specs.Loading.{at_place, is_core_row, frame_row, macro_named, has_size, IsWholeSize}
+use Rattle.lf_frame_checks.specs.Refusals.{IsSideways, OverlapsEarlierRow, EndsTooFar, HasEarlierFenceName, HasGroundName, SharePoint, OverlapsEarlierFence, IsRowTooMany}
+use Rattle.lf_frame_checks.specs.Refusals.{IsFenceTooMany}
+use Rattle.lf_frame_checks.specs.Findings.{LoadInputs, units_in, core_in, NameOfFirst, IsAccepted}
 use Rattle.lf_frame.specs.Loads.{frame_team, location, IsSizedIn, FixedIsSized, fixed_box, blocked, softly_blocked, obstacles_in, soft_in, AreInRange}
-use Rattle.lf_refusals.proofs.Gathered.{none_of_name, pairs_from_none, all_kept, pairs_kept, few_kept, all_filter_map, all_flat_map}
-use Rattle.lf_refusals.proofs.CoreLemmas.{pitch_of_core, core_heeded}
+use Rattle.lf_frame_checks.proofs.Gathered.{none_of_name, pairs_from_none, all_kept, pairs_kept, few_kept, all_filter_map, all_flat_map}
+use Rattle.lf_frame_checks.proofs.CoreLemmas.{pitch_of_core, core_heeded}
 use Rattle.lf_frame.proofs.Accepted.{of_core, of_pitch, first_nothing, fixed_sized}
 
 lef_length : (v : ℤ) → IsInRange v → IsLefLength v
@@ -65,7 +65,7 @@ not_above x near =
     ]
 
 heeded_row : (pitch : Point) (r : Row) → IsRow r → ((IsSome (rail_below r.orient) → ⊥) → ⊥) → (pos 2147483647 <ℤ (row_area pitch (frame_row r)).x2 → ⊥) →
-    IsHeeded pitch (frame_row r)
+    IsCoreRow pitch (frame_row r)
 heeded_row pitch r range standing near = record {
   x_in_def = def_number r.x range.x;
   y_in_def = def_number r.y range.y;
@@ -74,16 +74,16 @@ heeded_row pitch r range standing near = record {
   upright = upright (rail_below r.orient) standing;
 }
 
-rows_heeded : (core : Site) (pitch : Point) (rows : List Row) → All IsRow rows → NoneBreaks (IsTurned core) rows → NoneBreaks (EndsTooFar core pitch) rows →
-    All (λ r. IsHeeded pitch r) (map frame_row (filter (is_heeded core) rows))
+rows_heeded : (core : Site) (pitch : Point) (rows : List Row) → All IsRow rows → NoneBreaks (IsSideways core) rows → NoneBreaks (EndsTooFar core pitch) rows →
+    All (λ r. IsCoreRow pitch r) (map frame_row (filter (is_core_row core) rows))
 rows_heeded core pitch rows range standing near =
-    all_kept (λ r. IsHeeded pitch r) frame_row (is_heeded core) rows (λ k d within is. heeded_row pitch (get_or rows k d) (range k d within) (λ turned. standing k d within (is, turned)) (λ far. near k d within (is, far)))
+    all_kept (λ r. IsCoreRow pitch r) frame_row (is_core_row core) rows (λ k d within is. heeded_row pitch (get_or rows k d) (range k d within) (λ turned. standing k d within (is, turned)) (λ far. near k d within (is, far)))
 
-rows_apart : (core : Site) (pitch : Point) (rows : List Row) → NoneBreaks (MeetsEarlierRow core pitch) rows →
-    RowsApart pitch (map frame_row (filter (is_heeded core) rows))
+rows_apart : (core : Site) (pitch : Point) (rows : List Row) → NoneBreaks (OverlapsEarlierRow core pitch) rows →
+    RowsApart pitch (map frame_row (filter (is_core_row core) rows))
 rows_apart core pitch rows none =
-    pairs_kept (λ a b. SharesPoint (row_area pitch a) (row_area pitch b) → ⊥) frame_row (is_heeded core) rows
-    (pairs_from_none (is_heeded core) (λ e r. SharesPoint (row_area pitch (frame_row e)) (row_area pitch (frame_row r))) rows none)
+    pairs_kept (λ a b. SharesPoint (row_area pitch a) (row_area pitch b) → ⊥) frame_row (is_core_row core) rows
+    (pairs_from_none (is_core_row core) (λ e r. SharesPoint (row_area pitch (frame_row e)) (row_area pitch (frame_row r))) rows none)
 
 def_rect : (r : Rect) → IsRect r → IsDefRect r
 def_rect r c = record {
@@ -91,7 +91,7 @@ def_rect r c = record {
   up = record { from = def_number r.y1 c.y1; to = def_number r.y2 c.y2; in_order = c.up };
 }
 
-fences_whole : (regions : List Region) → All IsRegion regions → NoneBreaks BearsGroundName regions → All IsFence (map frame_team (fences regions))
+fences_whole : (regions : List Region) → All IsRegion regions → NoneBreaks HasGroundName regions → All IsFence (map frame_team (fences regions))
 fences_whole regions range none =
     all_kept IsFence frame_team is_fence regions (λ k d within is. record {
       named = λ same. none k d within (is, same);
@@ -99,10 +99,10 @@ fences_whole regions range none =
       rects_in_def = All-weaker IsRect IsDefRect def_rect (get_or regions k d).rects (range k d within).rects;
     })
 
-fences_named : (regions : List Region) → NoneBreaks BearsEarlierFence regions → FencesNamed (map frame_team (fences regions))
+fences_named : (regions : List Region) → NoneBreaks HasEarlierFenceName regions → FencesNamed (map frame_team (fences regions))
 fences_named regions none = pairs_kept (λ a b. a.name ≢ b.name) frame_team is_fence regions (pairs_from_none is_fence (λ e r. e.name ≡ r.name) regions none)
 
-fences_apart : (regions : List Region) → NoneBreaks MeetsEarlierFence regions → FencesApart (map frame_team (fences regions))
+fences_apart : (regions : List Region) → NoneBreaks OverlapsEarlierFence regions → FencesApart (map frame_team (fences regions))
 fences_apart regions none =
     pairs_kept AreApart frame_team is_fence regions
     (λ i j d below within a b. record { no_point = λ x y in_a in_b. pairs_from_none is_fence (λ e r. SharePoint e.rects r.rects) regions none i j d below within a b (record { x = x; y = y; in_first = in_a; in_second = in_b }) })
@@ -139,8 +139,8 @@ fixed_obstacle library units c range sized = by (is_fixed c) refl
     found (Some p) None at_range mac_sized known = tt
     found (Some p) (Some m) at_range mac_sized known = merely (inr (fixed_at units library.macros m p at_range (known m refl) mac_sized))
 
-    placed : (p : Option Placement) → IfSome p (λ q. IsPlacement q) →
-        IfSome (Rattle.std.specs.Option.option_and_then (λ (q : Placement). q.place) p) (λ at. IsLocation at)
+    placed : (p : Option PlacementClause) → IfSome p (λ q. IsPlacement q) →
+        IfSome (Rattle.std.specs.Option.option_and_then (λ (q : PlacementClause). q.place) p) (λ at. IsLocation at)
     placed None placement = tt
     placed (Some q) placement = placement
 
@@ -155,7 +155,7 @@ blocked_obstacles units macros b range = by (b.soft || b.partial) refl
     by true is = rw is (All-nil (IsObstacle units macros))
     by false is = rw is (All-weaker IsRect (IsObstacle units macros) (λ r rect. merely (inl (def_rect r rect))) b.rects range.rects)
 
-obstacles_in_range : (i : Inputs) → AreInRange i → IsAccepted i → All (IsObstacle (units_in i) i.library.macros) (obstacles_in i)
+obstacles_in_range : (i : LoadInputs) → AreInRange i → IsAccepted i → All (IsObstacle (units_in i) i.library.macros) (obstacles_in i)
 obstacles_in_range i range a =
     let Obstacle : Rect → Type 0 = IsObstacle (units_in i) i.library.macros in
     All-append Obstacle (filter_map (fixed_box i.library (units_in i)) i.document.components) (flat_map blocked i.document.blockages)
@@ -171,7 +171,7 @@ softly_blocked_in_def b range = by (b.soft && not b.partial) refl
     by false is = rw is (All-nil IsDefRect)
     by true is = rw is (All-weaker IsRect IsDefRect def_rect b.rects range.rects)
 
-soft_in_def : (i : Inputs) → AreInRange i → All IsDefRect (soft_in i)
+soft_in_def : (i : LoadInputs) → AreInRange i → All IsDefRect (soft_in i)
 soft_in_def i range =
     all_flat_map IsDefRect softly_blocked i.document.blockages
     (λ k d within. softly_blocked_in_def (get_or i.document.blockages k d) (range.blockages k d within))
@@ -180,7 +180,7 @@ macros_in_lef : (macros : List Macro) → All IsMacro macros → All (λ m. IsLe
 macros_in_lef macros range = All-weaker IsMacro (λ m. IsLefSize m.size × IsLefSize m.origin) (λ m is. (lef_size m.size is.size, lef_size m.origin is.origin)) macros range
 
 -- no row ends too far
-near_rows : (i : Inputs) (core : Site) → core_in i ≡ Some core → IsWholeSize (units_in i) core.size → IsAccepted i →
+near_rows : (i : LoadInputs) (core : Site) → core_in i ≡ Some core → IsWholeSize (units_in i) core.size → IsAccepted i →
     NoneBreaks (EndsTooFar core (size_in_dbu (units_in i) core.size)) i.document.rows
 near_rows i core is whole a =
     let behind_rows = (first_nothing (a TooMany)).1 in
@@ -188,26 +188,26 @@ near_rows i core is whole a =
     none_of_name (of_pitch i core (λ s pitch. NameOfFirst (λ r. r.name) (EndsTooFar s pitch) i.document.rows) is whole (first_nothing behind_fences).1)
 
 -- there are at most as many rows of core sites as the limit
-few_rows : (i : Inputs) (core : Site) → core_in i ≡ Some core → IsAccepted i → length (map frame_row (filter (is_heeded core) i.document.rows)) ≤ i.limits.rows
+few_rows : (i : LoadInputs) (core : Site) → core_in i ≡ Some core → IsAccepted i → length (map frame_row (filter (is_core_row core) i.document.rows)) ≤ i.limits.rows
 few_rows i core is a =
-    few_kept frame_row (is_heeded core) i.limits.rows i.document.rows
+    few_kept frame_row (is_core_row core) i.limits.rows i.document.rows
     (none_of_name (of_core i core (λ s. NameOfFirst (λ r. r.name) (IsRowTooMany s i.limits.rows) i.document.rows) is (first_nothing (a TooMany)).0))
 
 -- nor are there more fences than their limit
-pub few_fences : (i : Inputs) → IsAccepted i → length (map frame_team (fences i.document.regions)) ≤ i.limits.fences
+pub few_fences : (i : LoadInputs) → IsAccepted i → length (map frame_team (fences i.document.regions)) ≤ i.limits.fences
 few_fences i a =
     let behind_rows = (first_nothing (a TooMany)).1 in
     few_kept frame_team is_fence i.limits.fences i.document.regions (none_of_name {breaks = IsFenceTooMany i.limits.fences} (first_nothing behind_rows).0)
 
 -- what a frame keeps of the rows that are of core sites, the fences, the obstacles, the soft blockages and the macros of an accepted
 -- design with this core site
-pub record IsFrameKept (i : Inputs) (core : Site) : Type 0 where
+pub record IsFrameKept (i : LoadInputs) (core : Site) : Type 0 where
   pub site_in_lef : IsLefSize core.size
   pub pitch_whole : IsPitch (units_in i) core.size (size_in_dbu (units_in i) core.size)
-  pub has_row : 0 < length (map frame_row (filter (is_heeded core) i.document.rows))
-  pub few_rows : length (map frame_row (filter (is_heeded core) i.document.rows)) ≤ i.limits.rows
-  pub rows_heeded : All (λ r. IsHeeded (size_in_dbu (units_in i) core.size) r) (map frame_row (filter (is_heeded core) i.document.rows))
-  pub rows_apart : RowsApart (size_in_dbu (units_in i) core.size) (map frame_row (filter (is_heeded core) i.document.rows))
+  pub has_row : 0 < length (map frame_row (filter (is_core_row core) i.document.rows))
+  pub few_rows : length (map frame_row (filter (is_core_row core) i.document.rows)) ≤ i.limits.rows
+  pub rows_heeded : All (λ r. IsCoreRow (size_in_dbu (units_in i) core.size) r) (map frame_row (filter (is_core_row core) i.document.rows))
+  pub rows_apart : RowsApart (size_in_dbu (units_in i) core.size) (map frame_row (filter (is_core_row core) i.document.rows))
   pub few_fences : length (map frame_team (fences i.document.regions)) ≤ i.limits.fences
   pub fences_whole : All IsFence (map frame_team (fences i.document.regions))
   pub fences_named : FencesNamed (map frame_team (fences i.document.regions))
@@ -216,12 +216,12 @@ pub record IsFrameKept (i : Inputs) (core : Site) : Type 0 where
   pub soft_in_def : All IsDefRect (soft_in i)
   pub macros_in_lef : All (λ m. IsLefSize m.size × IsLefSize m.origin) i.library.macros
 
-pub frame_kept : (i : Inputs) (core : Site) → AreInRange i → IsAccepted i → core_in i ≡ Some core → HasRange core.size → has_size core.size ≡ true →
+pub frame_kept : (i : LoadInputs) (core : Site) → AreInRange i → IsAccepted i → core_in i ≡ Some core → HasRange core.size → has_size core.size ≡ true →
     IsWholeSize (units_in i) core.size → IsFrameKept i core
 frame_kept i core range a is site sized whole =
     let at : Point = size_in_dbu (units_in i) core.size in
-    let turned = none_of_name (of_core i core (λ s. NameOfFirst (λ r. r.name) (IsTurned s) i.document.rows) is (a RowOrient)) in
-    let meeting = none_of_name (of_pitch i core (λ s pitch. NameOfFirst (λ r. r.name) (MeetsEarlierRow s pitch) i.document.rows) is whole (a RowsOverlap)) in
+    let turned = none_of_name (of_core i core (λ s. NameOfFirst (λ r. r.name) (IsSideways s) i.document.rows) is (a RowOrient)) in
+    let meeting = none_of_name (of_pitch i core (λ s pitch. NameOfFirst (λ r. r.name) (OverlapsEarlierRow s pitch) i.document.rows) is whole (a RowsOverlap)) in
     record {
       site_in_lef = lef_size core.size site;
       pitch_whole = pitch_of_core (units_in i) core.size range.units.least range.units.most site sized whole;

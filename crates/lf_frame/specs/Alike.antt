@@ -6,31 +6,31 @@ use Rattle.lf_def.specs.declared.components.Component.{Component}
 use Rattle.lf_def.specs.Laws.{placement_without_places, document_without_places}
 use Rattle.lf_def.specs.Kinds.{is_movable}
 use Rattle.lf_floorplan.specs.declared.loaded.Loaded.{Loaded}
-use Rattle.lf_refusals.specs.Findings.{Inputs, Finds, IsAccepted, IsFault}
+use Rattle.lf_frame_checks.specs.Findings.{LoadInputs, Finds, IsAccepted, IsFault}
 use Rattle.lf_frame.specs.Loads.{IsLoadedFrom}
 
 -- what teams cannot change of a component: all but the placement of a movable one; its positions in the text are left out
-abbrev pub settled : Component → Component
-settled c = record { name = c.name; mac = c.mac; placement = cond (is_movable c) None (option_map placement_without_places c.placement); semicolon = 0 }
+abbrev pub without_movable_place : Component → Component
+without_movable_place c = record { name = c.name; mac = c.mac; placement = cond (is_movable c) None (option_map placement_without_places c.placement); semicolon = 0 }
 
 -- they differ in the byte positions of components and of their placement clauses alone
-pub record AreAlike (i j : Inputs) : Type 0 where
+pub record AreAlike (i j : LoadInputs) : Type 0 where
   pub library : i.library ≡ j.library
   pub document : document_without_places i.document ≡ document_without_places j.document
   pub limits : i.limits ≡ j.limits
 
 -- on inputs that are alike, every refusal finds the same
 abbrev pub FindAlike : Type 0
-FindAlike = (i j : Inputs) → AreAlike i j → (n : FaultNumber) (found : Option (List ℕ)) → Finds i n found → Finds j n found
+FindAlike = (i j : LoadInputs) → AreAlike i j → (n : FaultNumber) (found : Option (List ℕ)) → Finds i n found → Finds j n found
 
 -- of inputs that are alike, if one is accepted so is the other
 abbrev pub AcceptedAlike : Type 0
-AcceptedAlike = (i j : Inputs) → AreAlike i j → IsAccepted i → IsAccepted j
+AcceptedAlike = (i j : LoadInputs) → AreAlike i j → IsAccepted i → IsAccepted j
 
 -- of inputs that are alike, a fault of one is the fault of the other
 abbrev pub RefusedAlike : Type 0
-RefusedAlike = (i j : Inputs) → AreAlike i j → (fault : LoadFault) → IsFault i fault → IsFault j fault
+RefusedAlike = (i j : LoadInputs) → AreAlike i j → (fault : LoadFault) → IsFault i fault → IsFault j fault
 
 -- of inputs that are alike, a design that is loaded from one is loaded from the other
 abbrev pub LoadedAlike : Type 0
-LoadedAlike = (i j : Inputs) → AreAlike i j → (l : Loaded) → IsLoadedFrom i l → IsLoadedFrom j l
+LoadedAlike = (i j : LoadInputs) → AreAlike i j → (l : Loaded) → IsLoadedFrom i l → IsLoadedFrom j l

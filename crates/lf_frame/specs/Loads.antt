@@ -2,7 +2,7 @@
 use Rattle.std.specs.Prelude.{◌≡◌, ℕ, cond, true, ◌||◌, ◌&&◌, not, List, [], ◌++◌, map, filter, filter_map, flat_map, Option, Some, None, option_map, IfSome, IsSome, pos, ◌<ℤ◌, All}
 use Rattle.std.specs.List.{AllZip, enumerate_from}
 use Rattle.std.specs.Option.{option_and_then}
-use Rattle.lf_units.specs.declared.area.Rect.{Rect}
+use Rattle.lf_units.specs.declared.geometry.Rect.{Rect}
 use Rattle.lf_names.specs.Names.{position_of}
 use Rattle.lf_floorplan.specs.declared.macros.Macro.{Macro}
 use Rattle.lf_lef.specs.Contents.{Contents, macro_names, IsSite, IsMacro}
@@ -17,17 +17,17 @@ use Rattle.lf_floorplan.specs.declared.parts.Team.{Team}
 use Rattle.lf_floorplan.specs.declared.frame.Frame.{Frame}
 use Rattle.lf_floorplan.specs.declared.loaded.Cell.{Cell}
 use Rattle.lf_floorplan.specs.declared.loaded.Loaded.{Loaded}
-use Rattle.lf_floorplan.specs.Bounds.{IsWithin}
+use Rattle.lf_floorplan.specs.Bounds.{IsLimit}
 use Rattle.lf_floorplan.specs.Rows.{IsPitch}
 use Rattle.lf_floorplan.specs.Sizes.{turned, box_at, size_in_dbu}
 use Rattle.lf_def.specs.Kinds.{is_fixed, is_movable}
-use Rattle.lf_claims.specs.Teams.{fences, IsTeamOf}
-use Rattle.lf_refusals.specs.Loading.{macro_named, is_heeded, frame_row}
-use Rattle.lf_claims.specs.Refusals.{HasTwoFences}
-use Rattle.lf_refusals.specs.Findings.{Inputs, units_in, core_in, IsAccepted}
+use Rattle.lf_frame_claims.specs.Teams.{fences, IsTeamOf}
+use Rattle.lf_frame_checks.specs.Loading.{macro_named, is_core_row, frame_row}
+use Rattle.lf_frame_claims.specs.Refusals.{HasTwoFences}
+use Rattle.lf_frame_checks.specs.Findings.{LoadInputs, units_in, core_in, IsAccepted}
 
 -- the header of the document, with its database units per micron
-abbrev pub header_in : Inputs → Header
+abbrev pub header_in : LoadInputs → Header
 header_in i = record {
   version = i.document.header.version;
   divider = i.document.header.divider;
@@ -68,16 +68,16 @@ abbrev pub softly_blocked : Blockage → List Rect
 softly_blocked b = cond (b.soft && not b.partial) b.rects []
 
 -- the obstacles: the boxes of FIXED components, and then the rectangles of blockages
-abbrev pub obstacles_in : Inputs → List Rect
+abbrev pub obstacles_in : LoadInputs → List Rect
 obstacles_in i = filter_map (fixed_box i.library (units_in i)) i.document.components ++ flat_map blocked i.document.blockages
 
 -- the rectangles of the soft blockages
-abbrev pub soft_in : Inputs → List Rect
+abbrev pub soft_in : LoadInputs → List Rect
 soft_in i = flat_map softly_blocked i.document.blockages
 
 -- the ranges that texts keep of names, lengths and coordinates
-pub record AreInRange (i : Inputs) : Type 0 where
-  pub units : IsWithin (units_in i) 20000
+pub record AreInRange (i : LoadInputs) : Type 0 where
+  pub units : IsLimit (units_in i) 20000
   pub sites : All IsSite i.library.sites
   pub macros : All IsMacro i.library.macros
   pub rows : All IsRow i.document.rows
@@ -86,9 +86,9 @@ pub record AreInRange (i : Inputs) : Type 0 where
   pub blockages : All IsBlockage i.document.blockages
 
 -- the frame of these inputs
-pub record IsFrameOf (i : Inputs) (f : Frame) : Type 0 where
+pub record IsFrameOf (i : LoadInputs) (f : Frame) : Type 0 where
   pub site : core_in i ≡ Some f.site
-  pub rows : f.rows ≡ map frame_row (filter (is_heeded f.site) i.document.rows)
+  pub rows : f.rows ≡ map frame_row (filter (is_core_row f.site) i.document.rows)
   pub teams : f.teams ≡ map frame_team (fences i.document.regions)
   pub obstacles : f.obstacles ≡ obstacles_in i
   pub soft : f.soft ≡ soft_in i
@@ -105,7 +105,7 @@ abbrev pub movables : List Component → List (ℕ × Component)
 movables components = movables_from 0 components
 
 -- a LEF text has the macro of the component, and no two fences claim it
-pub record CanBeCell (i : Inputs) (c : Component) : Type 0 where
+pub record CanBeCell (i : LoadInputs) (c : Component) : Type 0 where
   pub mac : IsSome (position_of (macro_names i.library.macros) c.mac)
   pub once : HasTwoFences i.document.regions i.document.groups c.name → ⊥
 
@@ -114,7 +114,7 @@ abbrev pub as_location : Place → Location
 as_location p = record { x = p.x; y = p.y; orient = p.orient }
 
 -- the cell of a movable component
-pub record IsCellOf (i : Inputs) (entry : ℕ × Component) (c : Cell) : Type 0 where
+pub record IsCellOf (i : LoadInputs) (entry : ℕ × Component) (c : Cell) : Type 0 where
   pub name : c.name ≡ entry.1.name
   pub team : IsTeamOf i.document.regions i.document.groups entry.1.name c.team
   pub mac : position_of (macro_names i.library.macros) entry.1.mac ≡ Some c.mac
@@ -122,7 +122,7 @@ pub record IsCellOf (i : Inputs) (entry : ℕ × Component) (c : Cell) : Type 0 
   pub component : c.component ≡ entry.0
 
 -- the design of these inputs: no refusal finds anything, and its frame and its cells, in the order of the text, are these
-pub record IsLoadedFrom (i : Inputs) (l : Loaded) : Type 0 where
+pub record IsLoadedFrom (i : LoadInputs) (l : Loaded) : Type 0 where
   pub accepted : IsAccepted i
   pub frame : IsFrameOf i l.frame
   pub cells : AllZip (IsCellOf i) (movables i.document.components) l.cells

@@ -5,20 +5,20 @@ ghost use Rattle.std.specs.List.{AllZip};
 ghost use Rattle.lf_def.specs.Ranges.{IsComponent};
 ghost use Rattle.lf_floorplan.specs.LoadedCells.{with_name};
 ghost use Rattle.lf_def.specs.Kinds.{is_movable as is_movable_component};
-ghost use Rattle.lf_claims.specs.Teams.{fences, IsTeamOf};
-ghost use Rattle.lf_claims.specs.Entries.{NoneBreaks};
-ghost use Rattle.lf_claims.specs.Refusals.{BearsEarlierName};
-ghost use Rattle.lf_claims.specs.ClaimTables.{IsTableOf};
-ghost use Rattle.lf_refusals.specs.Findings.{Inputs, inputs};
-ghost use Rattle.lf_refusals.specs.MacroTables.{macro_of, macros_of};
+ghost use Rattle.lf_frame_claims.specs.Teams.{fences, IsTeamOf};
+ghost use Rattle.lf_frame_claims.specs.Entries.{NoneBreaks};
+ghost use Rattle.lf_frame_claims.specs.Refusals.{HasEarlierName};
+ghost use Rattle.lf_frame_claims.specs.ClaimTables.{IsTableOf};
+ghost use Rattle.lf_frame_checks.specs.Findings.{LoadInputs, inputs};
+ghost use Rattle.lf_frame_checks.specs.MacroTables.{macro_of, macros_of};
 ghost use Rattle.lf_frame.specs.Loads.{location as location_of, as_location, movables, CanBeCell, IsCellOf};
 
-use crate::copies::{location, place_at};
-use lf_claims::ClaimTable;
+use crate::convert::{location, place_at};
 use lf_def::{Component, DefDoc, is_movable};
-use lf_floorplan::{Limits, LoadedCells, PackedPlace, Place, PlainCell};
+use lf_floorplan::{Limits, LoadedCells, PackedPlace, Place, UnnamedCell};
+use lf_frame_checks::MacroTable;
+use lf_frame_claims::ClaimTable;
 use lf_lef::Library;
-use lf_refusals::MacroTable;
 use std::alloc::{AllocError, Global};
 
 /// The component's place; none if it is unplaced.
@@ -41,18 +41,18 @@ fn in_32_bits(number: usize) -> u32
 }
 
 /// The cell of a movable component of that team, macro and number, without its name.
-fn cell_of(team: usize, mac: usize, number: usize, component: &Component) -> PlainCell
+fn cell_of(team: usize, mac: usize, number: usize, component: &Component) -> UnnamedCell
     requires few_teams { team ≤ 1024 }
     requires few_macros { mac < 1000000 }
     requires few_components { number < 4000000 }
     requires range { IsComponent component.now }
-    ensures { (i : Inputs) → IsTeamOf i.document.regions i.document.groups component.now.name team
+    ensures { (i : LoadInputs) → IsTeamOf i.document.regions i.document.groups component.now.name team
         → macro_of i.library component.now ≡ Some mac → IsCellOf i (number, component.now) (with_name component.now.name result) }
 {
     let own_team = in_32_bits(team);
     let own_macro = in_32_bits(mac);
     let entry = in_32_bits(number);
-    PlainCell {
+    UnnamedCell {
         team: own_team,
         mac: own_macro,
         component: entry,
@@ -73,7 +73,7 @@ pub(crate) fn movable_cells(
     requires few_components { length document.now.components ≤ 4000000 }
     requires claims { IsTableOf document.now.regions document.now.groups document.now.components claims.now }
     requires macros { macros.now ≡ macros_of library.now document.now.components }
-    requires differ { NoneBreaks BearsEarlierName document.now.components }
+    requires differ { NoneBreaks HasEarlierName document.now.components }
     requires ranged { All IsComponent document.now.components }
     requires able { All (λ c. is_movable_component c ≡ true → CanBeCell (inputs library.now document.now limits.now) c) document.now.components }
     ensures { IfOk result (λ cells. AllZip (IsCellOf (inputs library.now document.now limits.now)) (movables document.now.components) cells) }

@@ -4,22 +4,24 @@ ghost use Rattle.std.specs.Prelude.{◌≡◌, ◌++◌, ◌⊎◌, IfOk, IfErr,
 ghost use Rattle.lf_lex.specs.declared.fault.ReadError.TheVariants.{Memory};
 ghost use Rattle.lf_lex.specs.Faults.{load_fault_of};
 ghost use Rattle.lf_floorplan.specs.Design.{MakeDesign};
-ghost use Rattle.lf_claims.specs.ClaimTables.{IsTableOf};
-ghost use Rattle.lf_refusals.specs.Findings.{inputs, units_in, IsAccepted, IsFault};
-ghost use Rattle.lf_refusals.specs.MacroTables.{macros_of};
+ghost use Rattle.lf_frame_claims.specs.ClaimTables.{IsTableOf};
+ghost use Rattle.lf_frame_checks.specs.Findings.{inputs, units_in, IsAccepted, IsFault};
+ghost use Rattle.lf_frame_checks.specs.MacroTables.{macros_of};
 ghost use Rattle.lf_frame.specs.Loads.{fixed_box, blocked, FixedIsSized, AreInRange, IsFrameOf, IsLoadedFrom};
 
 use crate::cells::movable_cells;
-use crate::copies::{
-    copy_header, copy_macros, copy_site, fence_teams, fixed_boxes, heeded_rows, push_blockages,
+use crate::convert::{
+    copy_header, copy_macros, copy_site, core_rows, fence_teams, fixed_boxes, push_blockages,
     soft_rects,
 };
-use lf_claims::{ClaimTable, claim_table};
 use lf_def::DefDoc;
 use lf_floorplan::{Frame, Limits, Loaded, LoadedCells};
+use lf_frame_checks::{
+    MacroTable, core_pitch, first_finding, macro_table, sized_core_site, units_of,
+};
+use lf_frame_claims::{ClaimTable, claim_table};
 use lf_lef::Library;
 use lf_lex::{LoadFault, ReadError};
-use lf_refusals::{MacroTable, core_pitch, first_refusal, macro_table, sized_core_site, units_of};
 use lf_units::{Rect, Sequence};
 use std::alloc::{AllocError, Global};
 
@@ -65,7 +67,7 @@ fn frame_of(
     Ok(Frame {
         site: copy_site(alloc, core)?,
         pitch: pitch.size,
-        rows: heeded_rows(alloc, document.rows.as_slice(), core)?,
+        rows: core_rows(alloc, document.rows.as_slice(), core)?,
         teams: fence_teams(alloc, document.regions.as_slice())?,
         obstacles: obstacles_of(alloc, library, document, units)?,
         soft: soft_rects(alloc, document.blockages.as_slice())?,
@@ -147,7 +149,7 @@ pub fn load<'d>(
     let Ok(macros) = macro_table(alloc, document.components.as_slice(), library) else {
         return Err(out_of_memory());
     };
-    match first_refusal(alloc, &claims, &macros, library, document, &limits) {
+    match first_finding(alloc, &claims, &macros, library, document, &limits) {
         Ok(Some(fault)) => return Err(fault),
         Ok(None) => {}
         Err(_) => return Err(out_of_memory()),

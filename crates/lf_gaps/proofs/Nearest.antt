@@ -6,13 +6,13 @@ use Rattle.std.proofs.lemmas.List.{get_or_default, get_or-take, get_or-drop, len
 use Rattle.std.proofs.lemmas.List.Elements.{All-cons, All-drop, All-nil}
 use Rattle.std.proofs.lemmas.List.Quantifiers.{Any-push}
 use Rattle.lf_spans.specs.declared.span.Span.{Span}
-use Rattle.lf_spans.specs.Spans.{IsFilled, LiesIn, LiesInOne, IsRising, IsMeetAll}
-use Rattle.lf_spans.specs.Steps.{In}
+use Rattle.lf_spans.specs.Spans.{IsFilled, LiesIn, LiesInOneOf, IsRising, IsMeetAll}
+use Rattle.lf_spans.specs.Steps.{ContainsSpan}
 use Rattle.lf_spans.proofs.Anys.{any_cases, any_head, any_tail, any_left, any_split, any_weaker, all_at}
 use Rattle.lf_spans.proofs.Edges.{InOne, in_of_lies, in_one_of_lies, rising_drop}
-use Rattle.lf_spans.specs.declared.grid.Grid.{Grid}
-use Rattle.lf_gaps.specs.declared.row.Wanted.{Wanted}
-use Rattle.lf_spans.specs.Grids.{FindsNearest, FitsSpan, IsBoundedSpan, IsNoFarther, IsWithin, distance}
+use Rattle.lf_spans.specs.declared.grid.SiteGrid.{SiteGrid}
+use Rattle.lf_gaps.specs.declared.row.Target.{Target}
+use Rattle.lf_spans.specs.Grids.{FindsNearest, FitsSpan, IsBoundedSpan, IsNoFarther, LiesInSpanFrom, distance}
 use Rattle.lf_gaps.specs.Gaps.{FitsRows}
 use Rattle.lf_gaps.specs.Steps.{FitsOne, IsBefore, IsNearerOf, IsPast}
 
@@ -102,11 +102,11 @@ ends_earlier xs k m d s r in_k in_m order is = elim same_or [
     same_or : (m ≡ k) ⊎ (m < k)
     same_or = grind arith
 
-fits_front : (spans : List Span) (g : Grid) (width : ℤ) (k : ℕ) (x : ℤ) → FitsOne (take k spans) g width x → FitsOne spans g width x
-fits_front spans g width k x f = record { on_grid = f.on_grid; within = of_front (λ s. IsWithin s width x) k spans f.within }
+fits_front : (spans : List Span) (g : SiteGrid) (width : ℤ) (k : ℕ) (x : ℤ) → FitsOne (take k spans) g width x → FitsOne spans g width x
+fits_front spans g width k x f = record { on_grid = f.on_grid; within = of_front (λ s. LiesInSpanFrom s width x) k spans f.within }
 
 -- one span more
-pub found_more : (spans : List Span) (g : Grid) (width t : ℤ) (k : ℕ) (d : Span) (best next found : Option ℤ) → k < length spans →
+pub found_more : (spans : List Span) (g : SiteGrid) (width t : ℤ) (k : ℕ) (d : Span) (best next found : Option ℤ) → k < length spans →
     FindsNearest (λ x. FitsOne (take k spans) g width x) t best → FindsNearest (λ x. FitsSpan (get_or spans k d) g width x) t next → IsNearerOf best next t
     found →
     FindsNearest (λ x. FitsOne (take (k + 1) spans) g width x) t found
@@ -119,7 +119,7 @@ found_more spans g width t k d best next found within p q n =
 
     split : (x : ℤ) → FitsOne (take (k + 1) spans) g width x → FitsOne (take k spans) g width x ⊎ FitsSpan (get_or spans k d) g width x
     split x f =
-        let P : Span → Type 0 = λ s. IsWithin s width x in
+        let P : Span → Type 0 = λ s. LiesInSpanFrom s width x in
         let whole : Any P (take k spans ++ get_or spans k d ∷ []) = subst (λ (xs : List Span). Any P xs) parts f.within in
         elim (any_split P (take k spans) (get_or spans k d ∷ []) whole) [
           | inl a ↦ inl record { on_grid = f.on_grid; within = a }
@@ -131,16 +131,16 @@ found_more spans g width t k d best next found within p q n =
 
     left : (x : ℤ) → FitsOne (take k spans) g width x → FitsOne (take (k + 1) spans) g width x
     left x f =
-        let P : Span → Type 0 = λ s. IsWithin s width x in
+        let P : Span → Type 0 = λ s. LiesInSpanFrom s width x in
         record { on_grid = f.on_grid; within = subst (λ (xs : List Span). Any P xs) (sym parts) (any_left P (take k spans) (get_or spans k d ∷ []) f.within) }
 
     right : (x : ℤ) → FitsSpan (get_or spans k d) g width x → FitsOne (take (k + 1) spans) g width x
     right x f =
-        let P : Span → Type 0 = λ s. IsWithin s width x in
+        let P : Span → Type 0 = λ s. LiesInSpanFrom s width x in
         record { on_grid = f.on_grid; within = subst (λ (xs : List Span). Any P xs) (sym parts) (Any-push P (take k spans) (get_or spans k d) f.within) }
 
 -- the rest lies too far right
-pub found_in_front : (spans : List Span) (g : Grid) (width t : ℤ) (k : ℕ) (d : Span) (best : Option ℤ) → IsRising spans → k < length spans →
+pub found_in_front : (spans : List Span) (g : SiteGrid) (width t : ℤ) (k : ℕ) (d : Span) (best : Option ℤ) → IsRising spans → k < length spans →
     FindsNearest (λ x. FitsOne (take k spans) g width x) t best → IsPast (get_or spans k d) best t → FindsNearest (λ x. FitsOne spans g width x) t best
 found_in_front spans g width t k d None r within p past = absurd past
 found_in_front spans g width t k d (Some z) r within p past =
@@ -151,16 +151,16 @@ found_in_front spans g width t k d (Some z) r within p past =
 
     far : (x : ℤ) → FitsOne spans g width x → FitsOne (take k spans) g width x ⊎ (distance t z < distance t x)
     far x f =
-        let a : Any (λ s. IsWithin s width x) spans = f.within in
+        let a : Any (λ s. LiesInSpanFrom s width x) spans = f.within in
         elim (below_or a.0) [
-          | inl h ↦ inl record { on_grid = f.on_grid; within = in_front (λ s. IsWithin s width x) k spans a h }
+          | inl h ↦ inl record { on_grid = f.on_grid; within = in_front (λ s. LiesInSpanFrom s width x) k spans a h }
           | inr h ↦
               let begins = begins_later spans k a.0 d a.1 r within a.2 h a.3 in
-              let held : IsWithin a.1 width x = a.4 in
+              let held : LiesInSpanFrom a.1 width x = a.4 in
               inr (past x (omega (arith, ints, begins, held.low)))
         ]
 
-pub found_all : (spans : List Span) (g : Grid) (width t : ℤ) (k : ℕ) (best : Option ℤ) → length spans ≤ k →
+pub found_all : (spans : List Span) (g : SiteGrid) (width t : ℤ) (k : ℕ) (best : Option ℤ) → length spans ≤ k →
     FindsNearest (λ x. FitsOne (take k spans) g width x) t best →
     FindsNearest (λ x. FitsOne spans g width x) t best
 found_all spans g width t k best past p = subst (λ (xs : List Span). FindsNearest (λ x. FitsOne xs g width x) t best) (take_all k spans past) p
@@ -170,7 +170,7 @@ found_all spans g width t k best past p = subst (λ (xs : List Span). FindsNeare
 from_place : (xs : List Span) (n : ℕ) (d : Span) → n < length xs → drop n xs ≡ get_or xs n d ∷ drop (n + 1) xs
 from_place xs n d within = cc (drop-cons xs n d within, add-one n)
 
-pub found_before : (spans : List Span) (g : Grid) (width t : ℤ) (k : ℕ) (d : Span) (best next found : Option ℤ) → k < length spans →
+pub found_before : (spans : List Span) (g : SiteGrid) (width t : ℤ) (k : ℕ) (d : Span) (best next found : Option ℤ) → k < length spans →
     FindsNearest (λ x. FitsOne (drop (k + 1) spans) g width x) t best → FindsNearest (λ x. FitsSpan (get_or spans k d) g width x) t next → IsNearerOf best
     next t found →
     FindsNearest (λ x. FitsOne (drop k spans) g width x) t found
@@ -183,7 +183,7 @@ found_before spans g width t k d best next found within p q n =
 
     split : (x : ℤ) → FitsOne (drop k spans) g width x → FitsOne (drop (k + 1) spans) g width x ⊎ FitsSpan (get_or spans k d) g width x
     split x f =
-        let P : Span → Type 0 = λ s. IsWithin s width x in
+        let P : Span → Type 0 = λ s. LiesInSpanFrom s width x in
         let whole : Any P (get_or spans k d ∷ drop (k + 1) spans) = subst (λ (xs : List Span). Any P xs) parts f.within in
         elim (any_cases P (get_or spans k d) (drop (k + 1) spans) whole) [
           | inl h ↦ inr record { on_grid = f.on_grid; within = h }
@@ -192,15 +192,15 @@ found_before spans g width t k d best next found within p q n =
 
     left : (x : ℤ) → FitsOne (drop (k + 1) spans) g width x → FitsOne (drop k spans) g width x
     left x f =
-        let P : Span → Type 0 = λ s. IsWithin s width x in
+        let P : Span → Type 0 = λ s. LiesInSpanFrom s width x in
         record { on_grid = f.on_grid; within = subst (λ (xs : List Span). Any P xs) (sym parts) (any_tail P (get_or spans k d) (drop (k + 1) spans) f.within) }
 
     right : (x : ℤ) → FitsSpan (get_or spans k d) g width x → FitsOne (drop k spans) g width x
     right x f =
-        let P : Span → Type 0 = λ s. IsWithin s width x in
+        let P : Span → Type 0 = λ s. LiesInSpanFrom s width x in
         record { on_grid = f.on_grid; within = subst (λ (xs : List Span). Any P xs) (sym parts) (any_head P (get_or spans k d) (drop (k + 1) spans) f.within) }
 
-pub place_before : (spans : List Span) (g : Grid) (width t : ℤ) (i : ℕ) (best : Option ℤ) → 0 < i →
+pub place_before : (spans : List Span) (g : SiteGrid) (width t : ℤ) (i : ℕ) (best : Option ℤ) → 0 < i →
     FindsNearest (λ x. FitsOne (drop i spans) g width x) t best →
     FindsNearest (λ x. FitsOne (drop (i - 1 + 1) spans) g width x) t best
 place_before spans g width t i best some p =
@@ -218,25 +218,25 @@ in_back {X} P k xs (m, x, within, is, p) above =
     (m - k, x, omega (arith, within, above, length-drop k xs), get_or-drop k xs (m - k) x ∙ subst At place is, p)
 
 -- the rest lies too far left
-pub found_in_back : (spans : List Span) (g : Grid) (wanted : Wanted) (k : ℕ) (d : Span) (best : Option ℤ) → IsRising spans → k < length spans →
+pub found_in_back : (spans : List Span) (g : SiteGrid) (wanted : Target) (k : ℕ) (d : Span) (best : Option ℤ) → IsRising spans → k < length spans →
     FindsNearest (λ x. FitsOne (drop (k + 1) spans) g wanted.width x) wanted.target best → IsBefore (get_or spans k d) best wanted →
     FindsNearest (λ x. FitsOne spans g wanted.width x) wanted.target best
 found_in_back spans g wanted k d None r within p before = absurd before
 found_in_back spans g wanted k d (Some z) r within p before =
     nearest_of_near (λ x. FitsOne (drop (k + 1) spans) g wanted.width x) (λ x. FitsOne spans g wanted.width x) wanted.target (Some z)
-    (λ x f. record { on_grid = f.on_grid; within = of_back (λ s. IsWithin s wanted.width x) (k + 1) spans f.within }) p far
+    (λ x f. record { on_grid = f.on_grid; within = of_back (λ s. LiesInSpanFrom s wanted.width x) (k + 1) spans f.within }) p far
   where
     above_or : (m : ℕ) → (k + 1 ≤ m) ⊎ (m ≤ k)
     above_or m = grind arith
 
     far : (x : ℤ) → FitsOne spans g wanted.width x → FitsOne (drop (k + 1) spans) g wanted.width x ⊎ (distance wanted.target z < distance wanted.target x)
     far x f =
-        let a : Any (λ s. IsWithin s wanted.width x) spans = f.within in
+        let a : Any (λ s. LiesInSpanFrom s wanted.width x) spans = f.within in
         elim (above_or a.0) [
-          | inl h ↦ inl record { on_grid = f.on_grid; within = in_back (λ s. IsWithin s wanted.width x) (k + 1) spans a h }
+          | inl h ↦ inl record { on_grid = f.on_grid; within = in_back (λ s. LiesInSpanFrom s wanted.width x) (k + 1) spans a h }
           | inr h ↦
               let ends = ends_earlier spans k a.0 d a.1 r within a.2 h a.3 in
-              let held : IsWithin a.1 wanted.width x = a.4 in
+              let held : LiesInSpanFrom a.1 wanted.width x = a.4 in
               inr (before x (omega (arith, ints, ends, held.high)))
         ]
 
@@ -245,7 +245,7 @@ found_in_back spans g wanted k d (Some z) r within p before =
 pub rest_from : {X : Type 0} (xs : List X) (n : ℕ) → take (length xs - n) (drop n xs) ≡ drop n xs
 rest_from xs n = take_all (length xs - n) (drop n xs) (omega (arith, length-drop n xs))
 
-pub found_behind : (spans : List Span) (g : Grid) (width t : ℤ) (n : ℕ) (best : Option ℤ) →
+pub found_behind : (spans : List Span) (g : SiteGrid) (width t : ℤ) (n : ℕ) (best : Option ℤ) →
     FindsNearest (λ x. FitsOne (take (length spans - n) (drop n spans)) g width x) t best →
     FindsNearest (λ x. FitsOne (drop n spans) g width x) t best
 found_behind spans g width t n best p = subst (λ (xs : List Span). FindsNearest (λ x. FitsOne xs g width x) t best) (rest_from spans n) p
@@ -256,7 +256,7 @@ rising_behind spans n r = subst (λ (xs : List Span). IsRising xs) (sym (rest_fr
 pub near_behind : (spans : List Span) (n : ℕ) → All IsBoundedSpan spans → All IsBoundedSpan (take (length spans - n) (drop n spans))
 near_behind spans n near = subst (λ (xs : List Span). All IsBoundedSpan xs) (sym (rest_from spans n)) (All-drop IsBoundedSpan n spans near)
 
-pub found_at_last : (spans : List Span) (g : Grid) (width t : ℤ) (n : ℕ) (best : Option ℤ) → n ≤ 0 →
+pub found_at_last : (spans : List Span) (g : SiteGrid) (width t : ℤ) (n : ℕ) (best : Option ℤ) → n ≤ 0 →
     FindsNearest (λ x. FitsOne (drop n spans) g width x) t best →
     FindsNearest (λ x. FitsOne spans g width x) t best
 found_at_last spans g width t n best none p =
@@ -269,42 +269,42 @@ found_at_last spans g width t n best none p =
 abbrev from_on : ℤ → ℤ → Span
 from_on x width = record { lo = x; hi = x +ℤ width }
 
-lies_of_within : (s : Span) (width x : ℤ) → IsWithin s width x → LiesIn (from_on x width) s
+lies_of_within : (s : Span) (width x : ℤ) → LiesInSpanFrom s width x → LiesIn (from_on x width) s
 lies_of_within s width x w y h = record { low = omega (arith, ints, w.low, h.low); high = omega (arith, ints, w.high, h.high) }
 
-within_of_lies : (s : Span) (width x : ℤ) → pos 0 <ℤ width → LiesIn (from_on x width) s → IsWithin s width x
+within_of_lies : (s : Span) (width x : ℤ) → pos 0 <ℤ width → LiesIn (from_on x width) s → LiesInSpanFrom s width x
 within_of_lies s width x some lies =
-    let e : In (from_on x width) s = in_of_lies (from_on x width) s (omega (arith, ints, some)) lies in
+    let e : ContainsSpan (from_on x width) s = in_of_lies (from_on x width) s (omega (arith, ints, some)) lies in
     record { low = e.low; high = e.high }
 
-rows_of_met : (lists : List (List Span)) (met : List Span) (g : Grid) (width x : ℤ) → pos 0 <ℤ width → IsMeetAll lists met → FitsOne met g width x →
+rows_of_met : (lists : List (List Span)) (met : List Span) (g : SiteGrid) (width x : ℤ) → pos 0 <ℤ width → IsMeetAll lists met → FitsOne met g width x →
     FitsRows lists g width x
 rows_of_met lists met g width x some m f =
     let filled : IsFilled (from_on x width) = omega (arith, ints, some) in
-    let inside : LiesInOne met (from_on x width) = any_weaker (λ s. IsWithin s width x) (λ s. LiesIn (from_on x width) s) (λ s. lies_of_within s width x)
+    let inside : LiesInOneOf met (from_on x width) = any_weaker (λ s. LiesInSpanFrom s width x) (λ s. LiesIn (from_on x width) s) (λ s. lies_of_within s width x)
     met f.within in
-    let each : All (λ spans. LiesInOne spans (from_on x width)) lists = (m.exact (from_on x width) filled).0 inside in
+    let each : All (λ spans. LiesInOneOf spans (from_on x width)) lists = (m.exact (from_on x width) filled).0 inside in
     record {
       on_grid = f.on_grid;
-      within = λ k d below. any_weaker (λ s. LiesIn (from_on x width) s) (λ s. IsWithin s width x) (λ s. within_of_lies s width x some) (get_or lists k d)
+      within = λ k d below. any_weaker (λ s. LiesIn (from_on x width) s) (λ s. LiesInSpanFrom s width x) (λ s. within_of_lies s width x some) (get_or lists k d)
           (each k d below);
     }
 
-met_of_rows : (lists : List (List Span)) (met : List Span) (g : Grid) (width x : ℤ) → pos 0 <ℤ width → IsMeetAll lists met → FitsRows lists g width x →
+met_of_rows : (lists : List (List Span)) (met : List Span) (g : SiteGrid) (width x : ℤ) → pos 0 <ℤ width → IsMeetAll lists met → FitsRows lists g width x →
     FitsOne met g width x
 met_of_rows lists met g width x some m f =
     let filled : IsFilled (from_on x width) = omega (arith, ints, some) in
-    let each : All (λ spans. LiesInOne spans (from_on x width)) lists =
-    λ k d below. any_weaker (λ s. IsWithin s width x) (λ s. LiesIn (from_on x width) s) (λ s. lies_of_within s width x) (get_or lists k d)
+    let each : All (λ spans. LiesInOneOf spans (from_on x width)) lists =
+    λ k d below. any_weaker (λ s. LiesInSpanFrom s width x) (λ s. LiesIn (from_on x width) s) (λ s. lies_of_within s width x) (get_or lists k d)
     (f.within k d below) in
-    let inside : LiesInOne met (from_on x width) = (m.exact (from_on x width) filled).1 each in
+    let inside : LiesInOneOf met (from_on x width) = (m.exact (from_on x width) filled).1 each in
     record {
       on_grid = f.on_grid;
-      within = any_weaker (λ s. LiesIn (from_on x width) s) (λ s. IsWithin s width x) (λ s. within_of_lies s width x some) met
+      within = any_weaker (λ s. LiesIn (from_on x width) s) (λ s. LiesInSpanFrom s width x) (λ s. within_of_lies s width x some) met
           inside;
     }
 
-pub found_in_rows : (lists : List (List Span)) (met : List Span) (g : Grid) (width target w t : ℤ) (best : Option ℤ) → pos 0 <ℤ width → w ≡ width →
+pub found_in_rows : (lists : List (List Span)) (met : List Span) (g : SiteGrid) (width target w t : ℤ) (best : Option ℤ) → pos 0 <ℤ width → w ≡ width →
     t ≡ target → IsMeetAll lists met →
     FindsNearest (λ x. FitsOne met g w x) t best → FindsNearest (λ x. FitsRows lists g width x) target best
 found_in_rows lists met g width target w t best some same_width same_target m p =
@@ -319,7 +319,7 @@ pub meet_of_one : (spans : List Span) → IsRising spans → IsMeetAll (spans �
 meet_of_one spans rising = record {
   rising = rising;
   exact = λ s filled. (
-    λ lies. All-cons (λ xs. LiesInOne xs s) spans [] lies (All-nil (λ xs. LiesInOne xs s)),
+    λ lies. All-cons (λ xs. LiesInOneOf xs s) spans [] lies (All-nil (λ xs. LiesInOneOf xs s)),
     λ all. all 0 [] (omega arith),
   );
 }
@@ -336,11 +336,11 @@ pub near_met : (lists : List (List Span)) (met : List Span) → 0 < length lists
 near_met lists met some near m k d within =
     let s : Span = get_or met k d in
     let filled : IsFilled s = m.rising.filled k d within in
-    let itself : LiesInOne met s = (k, s, within, get_or_default met k s d within, λ x h. h) in
-    let first : LiesInOne (get_or lists 0 []) s = (m.exact s filled).0 itself 0 [] some in
+    let itself : LiesInOneOf met s = (k, s, within, get_or_default met k s d within, λ x h. h) in
+    let first : LiesInOneOf (get_or lists 0 []) s = (m.exact s filled).0 itself 0 [] some in
     let inside : InOne (get_or lists 0 []) s = in_one_of_lies s (get_or lists 0 []) filled first in
-    let outer : IsBoundedSpan inside.1 = all_at IsBoundedSpan (λ t. In s t) (get_or lists 0 []) (near []) inside in
-    let held : In s inside.1 = inside.4 in
+    let outer : IsBoundedSpan inside.1 = all_at IsBoundedSpan (λ t. ContainsSpan s t) (get_or lists 0 []) (near []) inside in
+    let held : ContainsSpan s inside.1 = inside.4 in
     let low = outer.low in
     let high = outer.high in
     record {
@@ -354,7 +354,7 @@ pub near_met_of : (lists : List (Vec Span Global)) (met : List Span) → 0 < len
 near_met_of [] met some near m = absurd (omega (arith, some))
 near_met_of (v ∷ vs) met some near m = near_met (map (λ list. list.items) (v ∷ vs)) met (omega arith) (λ d. near 0 v some) m
 
-pub before_is : (span : Span) (best : Option ℤ) (wanted : Wanted) (x : ℤ) → best ≡ Some x → (span.hi -ℤ wanted.width) ≤ℤ wanted.target →
+pub before_is : (span : Span) (best : Option ℤ) (wanted : Target) (x : ℤ) → best ≡ Some x → (span.hi -ℤ wanted.width) ≤ℤ wanted.target →
     distance wanted.target x < distance wanted.target (span.hi -ℤ wanted.width) → IsBefore span best wanted
 before_is span best wanted x e left less =
     subst (λ (o : Option ℤ). IsBefore span o wanted) (sym e) (λ y h. omega (arith, ints, h, left, less))

@@ -7,25 +7,25 @@ ghost use Rattle.lf_spans.specs.Spans.{IsMeetAll, IsRising};
 ghost use Rattle.lf_gaps.specs.Gaps.{FitsRows};
 ghost use Rattle.lf_gaps.specs.Steps.{FitsOne, IsBefore, IsNearerOf, IsPast, IsWanted};
 
-use lf_spans::{Grid, Span, nearest_fit, spans_meet_all};
+use lf_spans::{SiteGrid, Span, nearest_fit, spans_meet_all};
 use std::alloc::{AllocError, Global};
 
 /// The width that a gap must have, and the target that it is to be near.
 #[derive(Clone, Copy)]
-struct Wanted {
+struct Target {
     width: i64,
     target: i64,
 }
 
-fn wanted_of(width: i64, target: i64) -> Wanted
+fn wanted_of(width: i64, target: i64) -> Target
     ensures width { result.width ≡ width }
     ensures target { result.target ≡ target }
 {
-    Wanted { width, target }
+    Target { width, target }
 }
 
 /// The nearest number at which the width fits into the span.
-fn nearest_in_span(span: &Span, grid: &Grid, wanted: &Wanted) -> Option<i64>
+fn nearest_in_span(span: &Span, grid: &SiteGrid, wanted: &Target) -> Option<i64>
     requires grid { IsGrid grid.now }
     requires bounded { IsBoundedSpan span.now }
     requires wanted { IsWanted wanted.now }
@@ -35,7 +35,7 @@ fn nearest_in_span(span: &Span, grid: &Grid, wanted: &Wanted) -> Option<i64>
 }
 
 /// Whether the first number is nearer to the target than the second, or equally near and less.
-fn is_nearer(first: &i64, second: &i64, wanted: &Wanted) -> bool
+fn is_nearer(first: &i64, second: &i64, wanted: &Target) -> bool
     ensures yes { OnTrue result (IsNoFarther wanted.now.target first.now second.now) }
     ensures other { OnFalse result (IsNoFarther wanted.now.target second.now first.now) }
 {
@@ -48,7 +48,7 @@ fn is_nearer(first: &i64, second: &i64, wanted: &Wanted) -> bool
 }
 
 /// The nearer of two options; the other one if one is none.
-fn nearer_of(best: &Option<i64>, next: &Option<i64>, wanted: &Wanted) -> Option<i64>
+fn nearer_of(best: &Option<i64>, next: &Option<i64>, wanted: &Target) -> Option<i64>
     ensures { IsNearerOf best.now next.now wanted.now.target result }
 {
     let Some(first) = best else {
@@ -65,7 +65,7 @@ fn nearer_of(best: &Option<i64>, next: &Option<i64>, wanted: &Wanted) -> Option<
 }
 
 /// Whether nothing in the span or right of it can be as near as the best so far.
-fn is_past(span: &Span, best: &Option<i64>, wanted: &Wanted) -> bool
+fn is_past(span: &Span, best: &Option<i64>, wanted: &Target) -> bool
     ensures { IsTrue result → IsPast span.now best.now wanted.now.target }
 {
     let Some(found) = best else {
@@ -78,7 +78,7 @@ fn is_past(span: &Span, best: &Option<i64>, wanted: &Wanted) -> bool
 }
 
 /// Whether nothing in the span or left of it can be as near as the best so far.
-fn is_before(span: &Span, best: &Option<i64>, wanted: &Wanted) -> bool
+fn is_before(span: &Span, best: &Option<i64>, wanted: &Target) -> bool
     requires bounded { IsBoundedSpan span.now }
     requires wanted { IsWanted wanted.now }
     ensures { IsTrue result → IsBefore span.now best.now wanted.now }
@@ -95,7 +95,7 @@ fn is_before(span: &Span, best: &Option<i64>, wanted: &Wanted) -> bool
 
 /// The nearest number at which the width fits into one of the spans. They are searched from left to
 /// right until the rest is too far right.
-fn nearest_rightwards(spans: &[Span], grid: &Grid, wanted: &Wanted) -> Option<i64>
+fn nearest_rightwards(spans: &[Span], grid: &SiteGrid, wanted: &Target) -> Option<i64>
     requires grid { IsGrid grid.now }
     requires rising { IsRising spans.now }
     requires bounded { All IsBoundedSpan spans.now }
@@ -114,7 +114,7 @@ fn nearest_rightwards(spans: &[Span], grid: &Grid, wanted: &Wanted) -> Option<i6
 
 /// The nearest number at which the width fits into one of the spans. The search goes outwards from
 /// the target, first right and then left, and ends where the rest is too far.
-fn nearest_of(spans: &[Span], grid: &Grid, wanted: &Wanted) -> Option<i64>
+fn nearest_of(spans: &[Span], grid: &SiteGrid, wanted: &Target) -> Option<i64>
     requires grid { IsGrid grid.now }
     requires rising { IsRising spans.now }
     requires bounded { All IsBoundedSpan spans.now }
@@ -143,7 +143,7 @@ fn nearest_of(spans: &[Span], grid: &Grid, wanted: &Wanted) -> Option<i64>
 pub fn best_in_row(
     alloc: Global,
     lists: &[Vec<Span>],
-    grid: &Grid,
+    grid: &SiteGrid,
     width: i64,
     target: i64,
 ) -> Result<Option<i64>, AllocError>

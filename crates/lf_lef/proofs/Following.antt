@@ -2,11 +2,11 @@
 use Rattle.std.proofs.Common.{◌≡◌, ℕ, ◌^◌, Bool, true, false, ◌||◌, List, [], ◌∷◌, ◌++◌, ℤ, Ok, refl, ap}
 use Rattle.std.specs.Prelude.{codes}
 use Rattle.std.specs.Str.{bytes_eq}
-use Rattle.lf_units.specs.declared.area.Point.{Point}
+use Rattle.lf_units.specs.declared.geometry.Point.{Point}
 use Rattle.lf_units.specs.Number.{fixed_of}
 use Rattle.lf_orient.specs.declared.Symmetry.{Symmetry}
 use Rattle.lf_lex.specs.Tokens.{Lexeme, plain}
-use Rattle.lf_lex.specs.Reading.{turn, token, is, word, keyword, name, end_name, to_semicolon, block, first_stands}
+use Rattle.lf_lex.specs.Reading.{turn, token, is, word, keyword, name, end_name, to_semicolon, block, first_counts}
 use Rattle.lf_lex.proofs.Runs.{Follows, Goes, same, bind, choose, given, pure, fault, token_follows, takes_one, takes_first, block_follows, alike_states}
 use Rattle.lf_lex.proofs.Following.{text_alike, is_alike, keyword_follows, word_follows, name_follows, end_name_follows, to_semicolon_follows, to_end_follows}
 use Rattle.lf_lex.proofs.Following.{number_again}
@@ -103,16 +103,16 @@ site_statement_from_follows name s t t' e =
     (bind same same (end_name name) (end_name name) _ _ (end_name_follows name) (λ x x' ex. pure same (turn s false) (turn s false) refl))
     (choose same (is (codes "CLASS") t) (is (codes "CLASS") t') _ _ _ _ (is_alike (codes "CLASS") t t' e)
     (bind same same one_word one_word _ _ one_word_follows (λ x x' ex.
-    pure same (turn (record s { core = first_stands s.core (bytes_eq x (codes "CORE")) }) true)
-    (turn (record s { core = first_stands s.core (bytes_eq x' (codes "CORE")) }) true)
-    (ap (λ (z : List ℕ). turn (record s { core = first_stands s.core (bytes_eq z (codes "CORE")) }) true) ex)))
+    pure same (turn (record s { core = first_counts s.core (bytes_eq x (codes "CORE")) }) true)
+    (turn (record s { core = first_counts s.core (bytes_eq x' (codes "CORE")) }) true)
+    (ap (λ (z : List ℕ). turn (record s { core = first_counts s.core (bytes_eq z (codes "CORE")) }) true) ex)))
     (choose same (is (codes "SYMMETRY") t) (is (codes "SYMMETRY") t') _ _ _ _ (is_alike (codes "SYMMETRY") t t' e)
-    (bind same same symmetry symmetry _ _ symmetry_follows (λ x x' ex. pure same (turn (record s { symmetry = first_stands s.symmetry x }) true)
-    (turn (record s { symmetry = first_stands s.symmetry x' }) true)
-    (ap (λ (z : Symmetry). turn (record s { symmetry = first_stands s.symmetry z }) true) ex)))
+    (bind same same symmetry symmetry _ _ symmetry_follows (λ x x' ex. pure same (turn (record s { symmetry = first_counts s.symmetry x }) true)
+    (turn (record s { symmetry = first_counts s.symmetry x' }) true)
+    (ap (λ (z : Symmetry). turn (record s { symmetry = first_counts s.symmetry z }) true) ex)))
     (choose same (is (codes "SIZE") t) (is (codes "SIZE") t') _ _ _ _ (is_alike (codes "SIZE") t t' e)
-    (bind same same size size _ _ size_follows (λ x x' ex. pure same (turn (record s { size = first_stands s.size x }) true)
-    (turn (record s { size = first_stands s.size x' }) true) (ap (λ (z : Point). turn (record s { size = first_stands s.size z }) true) ex)))
+    (bind same same size size _ _ size_follows (λ x x' ex. pure same (turn (record s { size = first_counts s.size x }) true)
+    (turn (record s { size = first_counts s.size x' }) true) (ap (λ (z : Point). turn (record s { size = first_counts s.size z }) true) ex)))
     (choose same (is (codes ";") t) (is (codes ";") t') _ _ _ _ (is_alike (codes ";") t t' e) (pure same _ _ refl)
     (bind same same to_semicolon to_semicolon _ _ to_semicolon_follows (λ x x' ex. pure same (turn s true) (turn s true) refl)))))))
 
@@ -181,9 +181,9 @@ pin_statement_from_follows name s t t' e =
     (choose same (is (codes "END") t) (is (codes "END") t') _ _ _ _ (is_alike (codes "END") t t' e)
     (bind same same (end_name name) (end_name name) _ _ (end_name_follows name) (λ x x' ex. pure same (turn s false) (turn s false) refl))
     (choose same (is (codes "USE") t) (is (codes "USE") t') _ _ _ _ (is_alike (codes "USE") t t' e)
-    (bind same same one_word one_word _ _ one_word_follows (λ x x' ex. pure same (turn (record s { supply = first_stands s.supply (use_named x) }) true)
-    (turn (record s { supply = first_stands s.supply (use_named x') }) true)
-    (ap (λ (z : List ℕ). turn (record s { supply = first_stands s.supply (use_named z) }) true) ex)))
+    (bind same same one_word one_word _ _ one_word_follows (λ x x' ex. pure same (turn (record s { supply = first_counts s.supply (use_named x) }) true)
+    (turn (record s { supply = first_counts s.supply (use_named x') }) true)
+    (ap (λ (z : List ℕ). turn (record s { supply = first_counts s.supply (use_named z) }) true) ex)))
     (choose same (is (codes "PORT") t) (is (codes "PORT") t') _ _ _ _ (is_alike (codes "PORT") t t' e)
     (bind same same (block port_statement s.reaches) (block port_statement s.reaches) _ _ (port_statements_follow s.reaches)
     (λ x x' ex. pure same (turn (record s { reaches = x }) true) (turn (record s { reaches = x' }) true)
@@ -251,15 +251,15 @@ macro_statement_from_follows name s t t' e =
     (choose same (is (codes "END") t) (is (codes "END") t') _ _ _ _ (is_alike (codes "END") t t' e)
     (bind same same (end_name name) (end_name name) _ _ (end_name_follows name) (λ x x' ex. pure same (turn s false) (turn s false) refl))
     (choose same (is (codes "ORIGIN") t) (is (codes "ORIGIN") t') _ _ _ _ (is_alike (codes "ORIGIN") t t' e)
-    (bind same same origin origin _ _ origin_follows (λ x x' ex. pure same (turn (record s { origin = first_stands s.origin x }) true)
-    (turn (record s { origin = first_stands s.origin x' }) true) (ap (λ (z : Point). turn (record s { origin = first_stands s.origin z }) true) ex)))
+    (bind same same origin origin _ _ origin_follows (λ x x' ex. pure same (turn (record s { origin = first_counts s.origin x }) true)
+    (turn (record s { origin = first_counts s.origin x' }) true) (ap (λ (z : Point). turn (record s { origin = first_counts s.origin z }) true) ex)))
     (choose same (is (codes "SIZE") t) (is (codes "SIZE") t') _ _ _ _ (is_alike (codes "SIZE") t t' e)
-    (bind same same size size _ _ size_follows (λ x x' ex. pure same (turn (record s { size = first_stands s.size x }) true)
-    (turn (record s { size = first_stands s.size x' }) true) (ap (λ (z : Point). turn (record s { size = first_stands s.size z }) true) ex)))
+    (bind same same size size _ _ size_follows (λ x x' ex. pure same (turn (record s { size = first_counts s.size x }) true)
+    (turn (record s { size = first_counts s.size x' }) true) (ap (λ (z : Point). turn (record s { size = first_counts s.size z }) true) ex)))
     (choose same (is (codes "SYMMETRY") t) (is (codes "SYMMETRY") t') _ _ _ _ (is_alike (codes "SYMMETRY") t t' e)
-    (bind same same symmetry symmetry _ _ symmetry_follows (λ x x' ex. pure same (turn (record s { symmetry = first_stands s.symmetry x }) true)
-    (turn (record s { symmetry = first_stands s.symmetry x' }) true)
-    (ap (λ (z : Symmetry). turn (record s { symmetry = first_stands s.symmetry z }) true) ex)))
+    (bind same same symmetry symmetry _ _ symmetry_follows (λ x x' ex. pure same (turn (record s { symmetry = first_counts s.symmetry x }) true)
+    (turn (record s { symmetry = first_counts s.symmetry x' }) true)
+    (ap (λ (z : Symmetry). turn (record s { symmetry = first_counts s.symmetry z }) true) ex)))
     (choose same (is (codes "PIN") t) (is (codes "PIN") t') _ _ _ _ (is_alike (codes "PIN") t t' e)
     (bind same same pin pin _ _ pin_follows (λ x x' ex. pure same (turn (record s { pins = s.pins ++ x ∷ [] }) true)
     (turn (record s { pins = s.pins ++ x' ∷ [] }) true) (ap (λ (z : Pin). turn (record s { pins = s.pins ++ z ∷ [] }) true) ex)))

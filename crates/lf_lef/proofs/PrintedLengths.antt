@@ -10,15 +10,15 @@ use Rattle.lf_units.proofs.Same.{same_point}
 use Rattle.lf_orient.specs.declared.Symmetry.{Symmetry}
 use Rattle.lf_lex.specs.declared.tokens.TokenKind.TheVariants.{Word}
 use Rattle.lf_lex.specs.declared.fault.FaultNumber.TheVariants.{Unexpected}
-use Rattle.lf_lex.specs.Tokens.{Lexed, Lexeme, Plain, plain}
+use Rattle.lf_lex.specs.Tokens.{Lexed, Lexeme, PlainToken, plain}
 use Rattle.lf_lex.specs.Splices.{word_of}
-use Rattle.lf_lex.specs.Reading.{◌>>=◌, Reader, Turn, turn, goes_on, ends, fault_at, token, is, keyword, word, to_semicolon, or_bad_number}
+use Rattle.lf_lex.specs.Reading.{◌>>=◌, Reader, Turn, turn, continues, finishes, fault_at, token, is, keyword, word, to_semicolon, or_bad_number}
 use Rattle.lf_lex.proofs.Runs.{same}
 use Rattle.lf_lex.proofs.Back.{BackAt, TurnsAt, token_with, back_pure, at_bind, at_map, at_first, at_yes, at_no, at_given, at_known, at_last, at_more, at_block}
 use Rattle.lf_lex.proofs.BackWords.{text_is, is_of, not_eq, later, not_first, keyword_back, word_back, to_semicolon_at}
 use Rattle.lf_lef.specs.Lengths.{micros_of, micros, point_from, point, size, origin}
 use Rattle.lf_lef.specs.Sites.{one_word, symmetry_word, no_symmetry, symmetry}
-use Rattle.lf_lef.specs.Printed.{Writes, with_semicolon, IsPassedOver}
+use Rattle.lf_lef.specs.Printed.{Writes, with_semicolon, IsSkipped}
 use Rattle.lf_lef.specs.PrintedMacros.{PrintedLength, IsPrintedLength, PrintedPoint, IsPrintedPoint, point_words, point_of, SymmetryWord, about_x, about_y}
 use Rattle.lf_lef.specs.PrintedMacros.{turned, symmetry_tokens, with_symmetries}
 use Rattle.lf_lef.proofs.Following.{point_at}
@@ -113,23 +113,23 @@ one_word_back w h =
 
 abbrev symmetry_from : Symmetry → Lexeme → Reader (Turn Symmetry)
 symmetry_from s t l =
-    cond (is (codes ";") t) (ends s l) (cond (is (codes "X") t) (goes_on (record s { x = true }) l) (cond (is (codes "Y") t) (goes_on (record s { y = true }) l)
-    (cond (is (codes "R90") t) (goes_on s l) (fault_at Unexpected t.line))))
+    cond (is (codes ";") t) (finishes s l) (cond (is (codes "X") t) (continues (record s { x = true }) l) (cond (is (codes "Y") t) (continues (record s { y = true }) l)
+    (cond (is (codes "R90") t) (continues s l) (fault_at Unexpected t.line))))
 
 -- one more word of SYMMETRY
-word_turns : (s s1 y : Symmetry) (u : Plain) (rest : List Plain)
-    → ((t : Lexeme) (l : Lexed) → symmetry_from s (record t { text = u.text; kind = u.kind }) l ≡ goes_on s1 l)
+word_turns : (s s1 y : Symmetry) (u : PlainToken) (rest : List PlainToken)
+    → ((t : Lexeme) (l : Lexed) → symmetry_from s (record t { text = u.text; kind = u.kind }) l ≡ continues s1 l)
     → TurnsAt same symmetry_word s1 rest y → TurnsAt same symmetry_word s (u ∷ rest) y
 unfolding symmetry_word
 word_turns s s1 y u rest is_read next =
     at_more same symmetry_word s s1 y (u ∷ []) rest (omega arith)
-    (at_known same (symmetry_from s) (λ l. goes_on s1 l) u [] (turn s1 true) is_read (back_pure same (turn s1 true) (turn s1 true) refl)) (λ s' e. rw e next)
+    (at_known same (symmetry_from s) (λ l. continues s1 l) u [] (turn s1 true) is_read (back_pure same (turn s1 true) (turn s1 true) refl)) (λ s' e. rw e next)
 
 stop_turns : (s : Symmetry) → TurnsAt same symmetry_word s (word_of (codes ";") ∷ []) s
 unfolding symmetry_word
 stop_turns s =
     at_last same symmetry_word s s (word_of (codes ";") ∷ [])
-    (at_known same (symmetry_from s) (λ l. ends s l) (word_of (codes ";")) [] (turn s false) (λ t l. refl) (back_pure same (turn s false) (turn s false) refl))
+    (at_known same (symmetry_from s) (λ l. finishes s l) (word_of (codes ";")) [] (turn s false) (λ t l. refl) (back_pure same (turn s false) (turn s false) refl))
 
 words_turns : (ws : List SymmetryWord) (s : Symmetry) → TurnsAt same symmetry_word s (symmetry_tokens ws) (with_symmetries s ws)
 words_turns [] s = stop_turns s
@@ -147,19 +147,19 @@ symmetries_back ws = at_block same symmetry_word no_symmetry (with_symmetries no
 -- Statements that are skipped.
 
 -- a statement that is skipped, where a semicolon alone is skipped and any other first token but those
-pub passed_back : {S : Type 0} (from : Lexeme → Reader (Turn S)) (s : S) (others : List (List ℕ)) (ts : List Plain) → IsPassedOver others ts
-    → ((t : Lexeme) (l : Lexed) → from (record t { text = codes ";"; kind = Word }) l ≡ goes_on s l)
-    → ((u : Plain) → All (λ w. u.text ≢ w) others → u.text ≢ codes ";" → (t : Lexeme) (l : Lexed)
-    → from (record t { text = u.text; kind = u.kind }) l ≡ (to_semicolon l >>= λ stop. goes_on s stop.rest))
+pub passed_back : {S : Type 0} (from : Lexeme → Reader (Turn S)) (s : S) (others : List (List ℕ)) (ts : List PlainToken) → IsSkipped others ts
+    → ((t : Lexeme) (l : Lexed) → from (record t { text = codes ";"; kind = Word }) l ≡ continues s l)
+    → ((u : PlainToken) → All (λ w. u.text ≢ w) others → u.text ≢ codes ";" → (t : Lexeme) (l : Lexed)
+    → from (record t { text = u.text; kind = u.kind }) l ≡ (to_semicolon l >>= λ stop. continues s stop.rest))
     → BackAt same (λ l. token l >>= λ t. from t.value t.rest) (with_semicolon ts) (turn s true)
 passed_back from s others [] h empty other =
-    at_known same from (λ l. goes_on s l) (word_of (codes ";")) [] (turn s true) empty (back_pure same (turn s true) (turn s true) refl)
+    at_known same from (λ l. continues s l) (word_of (codes ";")) [] (turn s true) empty (back_pure same (turn s true) (turn s true) refl)
 passed_back from s others (u ∷ us) h empty other =
-    at_known same from (λ l. to_semicolon l >>= λ stop. goes_on s stop.rest) u (with_semicolon us) (turn s true)
+    at_known same from (λ l. to_semicolon l >>= λ stop. continues s stop.rest) u (with_semicolon us) (turn s true)
     (other u h.0 (not_first (codes ";") u us h.1))
     (at_map same same to_semicolon (λ (z : Unit {0}). turn s true) (with_semicolon us) tt (turn s true) (to_semicolon_at us (later (codes ";" ∷ []) u us h.1))
     (λ x e. refl))
 
-pub some_passed : (ts : List Plain) → 0 < length (with_semicolon ts)
+pub some_passed : (ts : List PlainToken) → 0 < length (with_semicolon ts)
 some_passed [] = omega arith
 some_passed (t ∷ ts) = omega arith

@@ -10,10 +10,10 @@ use Rattle.lf_orient.specs.declared.Rail.{Rail}
 use Rattle.lf_names.specs.Names.{position_of}
 use Rattle.lf_lex.specs.declared.tokens.TokenKind.TheVariants.{Word}
 use Rattle.lf_lex.specs.declared.fault.ReadFault.{ReadFault}
-use Rattle.lf_lex.specs.Tokens.{Lexed, Lexeme, Plain, plain, with_tokens}
+use Rattle.lf_lex.specs.Tokens.{Lexed, Lexeme, PlainToken, plain, with_tokens}
 use Rattle.lf_lex.specs.Splices.{word_of}
-use Rattle.lf_lex.specs.Passing.{HaveNowhere}
-use Rattle.lf_lex.specs.Reading.{◌>>=◌, Reader, Taken, Turn, Statement, taken, turn, goes_on, name, to_end, to_word, statements}
+use Rattle.lf_lex.specs.Passing.{OccurNowhere}
+use Rattle.lf_lex.specs.Reading.{◌>>=◌, Reader, ReadValue, Turn, Statement, taken, turn, continues, name, to_end, to_word, statements}
 use Rattle.lf_lex.proofs.Runs.{Goes, same, with_both}
 use Rattle.lf_lex.proofs.Back.{BackAt, halves, token_with, at_bind, at_map, at_known}
 use Rattle.lf_lex.proofs.BackWords.{text_is, not_eq, same_bytes, short_name_back, to_end_at, to_end_before, to_word_at}
@@ -25,19 +25,19 @@ use Rattle.lf_lef.specs.Contents.{Contents, site_names, macro_names}
 use Rattle.lf_lef.specs.Sites.{site_parts, site_of, no_symmetry, no_site_parts}
 use Rattle.lf_lef.specs.Macros.{no_macro_parts, macro_parts, macro_of}
 use Rattle.lf_lef.specs.Library.{with_site, with_macro, to_named_end, passed_from, statement_from, statement, library}
-use Rattle.lf_lef.specs.Printed.{Spells, IsPrintable, end_words, macro_words, pin_words, NamedGroup, layer, via, via_rule, rule, array, PassesOver}
+use Rattle.lf_lef.specs.Printed.{Spells, IsPrintable, end_words, macro_words, pin_words, NamedGroup, layer, via, via_rule, rule, array, SkipsStatements}
 use Rattle.lf_lef.specs.Printed.{site_words}
 use Rattle.lf_lef.specs.Printed.{ReadsSite, ReadsMacro}
-use Rattle.lf_lef.specs.Printed.{Group, group_word, units, property_definitions, spacing, ir_drop, noise_table, correction_table, Passed, plain_statement}
-use Rattle.lf_lef.specs.Printed.{named, grouped, extension, passed_tokens}
-use Rattle.lf_lef.specs.Printed.{with_semicolon, IsPassedOver, other_statements, IsWhole, tokens_behind}
+use Rattle.lf_lef.specs.Printed.{Group, group_word, units, property_definitions, spacing, ir_drop, noise_table, correction_table, Skipped, plain_statement}
+use Rattle.lf_lef.specs.Printed.{named, grouped, extension, skipped_tokens}
+use Rattle.lf_lef.specs.Printed.{with_semicolon, IsSkipped, other_statements, IsWhole, tokens_behind}
 use Rattle.lf_lef.specs.PrintedMacros.{PrintedLength, PrintedPoint, IsPrintedPoint, PrintedRect, IsPrintedRect, port_rect, pin_use, pin_port, MacroStatement}
 use Rattle.lf_lef.specs.PrintedMacros.{macro_origin, macro_size, macro_symmetry, macro_pin}
-use Rattle.lf_lef.specs.PrintedMacros.{IsPortStatement, IsPinStatement, IsMacroStatement, macro_body_tokens, macro_tokens, with_statements, said_macro}
+use Rattle.lf_lef.specs.PrintedMacros.{IsPortStatement, IsPinStatement, IsMacroStatement, macro_body_tokens, macro_tokens, with_statements, described_macro}
 use Rattle.lf_lef.specs.PrintedMacros.{ReadsMacroOf}
 use Rattle.lf_lef.specs.PrintedMacros.{SymmetryWord, about_x, about_y, with_symmetries}
 use Rattle.lf_lef.specs.PrintedSites.{SiteStatement, site_class, site_symmetry, site_size, IsSiteStatement, site_body_tokens, site_tokens, with_site_statements}
-use Rattle.lf_lef.specs.PrintedSites.{said_site, ReadsSiteOf}
+use Rattle.lf_lef.specs.PrintedSites.{described_site, ReadsSiteOf}
 use Rattle.lf_lef.proofs.Whole.{due_statement, due_token, with_token_left, statement_goes}
 use Rattle.lf_lef.proofs.PrintedLengths.{passed_back}
 use Rattle.lf_lef.proofs.PrintedSites.{site_parts_back}
@@ -48,7 +48,7 @@ has_room n lt = grind (arith, nat_tests)
 
 -- Statements that are skipped.
 
-plain_due : (c : Contents) (ts : List Plain) → IsPassedOver other_statements ts → BackAt same (due_statement c) (with_semicolon ts) (turn c true)
+plain_due : (c : Contents) (ts : List PlainToken) → IsSkipped other_statements ts → BackAt same (due_statement c) (with_semicolon ts) (turn c true)
 unfolding due_statement statement_from passed_from
 plain_due c ts h =
     passed_back (statement_from c) c other_statements ts h (λ t l. refl) (λ u d o t l.
@@ -73,10 +73,10 @@ plain_due c ts h =
       not_eq u.text (codes ";") o,
     ) refl)
 
-abbrev ToEndOf : List ℕ → List Plain → Type 0
-ToEndOf name between = HaveNowhere (codes "END" ∷ name ∷ []) (between ++ word_of (codes "END") ∷ [])
+abbrev ToEndOf : List ℕ → List PlainToken → Type 0
+ToEndOf name between = OccurNowhere (codes "END" ∷ name ∷ []) (between ++ word_of (codes "END") ∷ [])
 
-named_back : (n : List ℕ) (between : List Plain) → IsPrintable n → ToEndOf n between
+named_back : (n : List ℕ) (between : List PlainToken) → IsPrintable n → ToEndOf n between
     → BackAt same to_named_end (word_of n ∷ (between ++ map word_of (end_words n))) tt
 unfolding to_named_end
 named_back n between p h =
@@ -84,16 +84,16 @@ named_back n between p h =
     rw (text_is n t e) (to_end_before n (same_bytes n) between h))
 
 -- a keyword after which something is skipped
-keyword_due : (c : Contents) (w : List ℕ) (r : Reader (Unit {0})) (vs : List Plain)
-    → ((t : Lexeme) (l : Lexed) → statement_from c (record t { text = w; kind = Word }) l ≡ (r l >>= λ stop. goes_on c stop.rest)) → BackAt same r vs tt
+keyword_due : (c : Contents) (w : List ℕ) (r : Reader (Unit {0})) (vs : List PlainToken)
+    → ((t : Lexeme) (l : Lexed) → statement_from c (record t { text = w; kind = Word }) l ≡ (r l >>= λ stop. continues c stop.rest)) → BackAt same r vs tt
     → BackAt same (due_statement c) (word_of w ∷ vs) (turn c true)
 unfolding due_statement
 keyword_due c w r vs is_read back =
-    at_known same (statement_from c) (λ l. r l >>= λ stop. goes_on c stop.rest) (word_of w) vs (turn c true) is_read
+    at_known same (statement_from c) (λ l. r l >>= λ stop. continues c stop.rest) (word_of w) vs (turn c true) is_read
     (at_map same same r (λ (z : Unit {0}). turn c true) vs tt (turn c true) back (λ z e. refl))
 
-named_due : (c : Contents) (keyword : NamedGroup) (n : List ℕ) (between : List Plain) → IsPrintable n → ToEndOf n between
-    → BackAt same (due_statement c) (passed_tokens (named keyword n between)) (turn c true)
+named_due : (c : Contents) (keyword : NamedGroup) (n : List ℕ) (between : List PlainToken) → IsPrintable n → ToEndOf n between
+    → BackAt same (due_statement c) (skipped_tokens (named keyword n between)) (turn c true)
 unfolding statement_from passed_from
 named_due c layer n between p h = keyword_due c (codes "LAYER") to_named_end (word_of n ∷ (between ++ map word_of (end_words n))) (λ t l. refl)
     (named_back n between p h)
@@ -106,13 +106,13 @@ named_due c rule n between p h = keyword_due c (codes "NONDEFAULTRULE") to_named
 named_due c array n between p h = keyword_due c (codes "ARRAY") to_named_end (word_of n ∷ (between ++ map word_of (end_words n))) (λ t l. refl)
     (named_back n between p h)
 
-group_by : (c : Contents) (w : List ℕ) (between : List Plain) → bytes_eq (codes "END") w ≡ false → HaveNowhere (codes "END" ∷ w ∷ []) between
-    → ((t : Lexeme) (l : Lexed) → statement_from c (record t { text = w; kind = Word }) l ≡ (to_end w l >>= λ stop. goes_on c stop.rest))
+group_by : (c : Contents) (w : List ℕ) (between : List PlainToken) → bytes_eq (codes "END") w ≡ false → OccurNowhere (codes "END" ∷ w ∷ []) between
+    → ((t : Lexeme) (l : Lexed) → statement_from c (record t { text = w; kind = Word }) l ≡ (to_end w l >>= λ stop. continues c stop.rest))
     → BackAt same (due_statement c) (word_of w ∷ (between ++ map word_of (end_words w))) (turn c true)
 group_by c w between other h is_read = keyword_due c w (to_end w) (between ++ map word_of (end_words w)) is_read (to_end_at w (same_bytes w) other between h)
 
-group_due : (c : Contents) (keyword : Group) (between : List Plain) → HaveNowhere (codes "END" ∷ group_word keyword ∷ []) between
-    → BackAt same (due_statement c) (passed_tokens (grouped keyword between)) (turn c true)
+group_due : (c : Contents) (keyword : Group) (between : List PlainToken) → OccurNowhere (codes "END" ∷ group_word keyword ∷ []) between
+    → BackAt same (due_statement c) (skipped_tokens (grouped keyword between)) (turn c true)
 unfolding statement_from passed_from
 group_due c units between h = group_by c (codes "UNITS") between refl h (λ t l. refl)
 group_due c property_definitions between h = group_by c (codes "PROPERTYDEFINITIONS") between refl h (λ t l. refl)
@@ -121,14 +121,14 @@ group_due c ir_drop between h = group_by c (codes "IRDROP") between refl h (λ t
 group_due c noise_table between h = group_by c (codes "NOISETABLE") between refl h (λ t l. refl)
 group_due c correction_table between h = group_by c (codes "CORRECTIONTABLE") between refl h (λ t l. refl)
 
-extension_due : (c : Contents) (between : List Plain) → HaveNowhere (codes "ENDEXT" ∷ []) between
-    → BackAt same (due_statement c) (passed_tokens (extension between)) (turn c true)
+extension_due : (c : Contents) (between : List PlainToken) → OccurNowhere (codes "ENDEXT" ∷ []) between
+    → BackAt same (due_statement c) (skipped_tokens (extension between)) (turn c true)
 unfolding statement_from passed_from
 extension_due c between h =
     keyword_due c (codes "BEGINEXT") (to_word (codes "ENDEXT")) (between ++ word_of (codes "ENDEXT") ∷ []) (λ t l. refl)
     (to_word_at (codes "ENDEXT") refl between h)
 
-whole_due : (c : Contents) (p : Passed) → IsWhole p → BackAt same (due_statement c) (passed_tokens p) (turn c true)
+whole_due : (c : Contents) (p : Skipped) → IsWhole p → BackAt same (due_statement c) (skipped_tokens p) (turn c true)
 whole_due c (plain_statement tokens) h = plain_due c tokens h
 whole_due c (named keyword n between) h = named_due c keyword n between h.0 h.1
 whole_due c (grouped keyword between) h = group_due c keyword between h
@@ -147,7 +147,7 @@ same_rest one n n' false s k later = refl
 
 same_from : {S : Type 0} (one : Statement S) → Goes one → (n n' : ℕ) (s : S) (l : Lexed) → length l.tokens < suc n → length l.tokens < suc n'
     → ((s : S) (k : Lexed) → length k.tokens < n → length k.tokens < n' → statements one n s k ≡ statements one n' s k)
-    → (o : Result (Taken (Turn S)) ReadFault) → one s l ≡ o
+    → (o : Result (ReadValue (Turn S)) ReadFault) → one s l ≡ o
     → (o >>= λ t. cond t.value.more (statements one n t.value.state t.rest) (taken t.value.state t.rest)) ≡ (o >>= λ t.
     cond t.value.more (statements one n' t.value.state t.rest) (taken t.value.state t.rest))
 same_from one goes n n' s l lt lt' later (Err e) h = refl
@@ -171,28 +171,28 @@ library_turn c c' l k h =
     rw h (same_turns statement statement_goes (length l.tokens) (suc (length k.tokens)) c' k shorter (omega arith))
 
 -- a statement of these tokens is read, whatever stands after
-library_step : (c c' : Contents) (ts : List Plain) (p : List Lexeme) (k : Lexed) → BackAt same (due_statement c) ts (turn c' true) → Spells p ts
+library_step : (c c' : Contents) (ts : List PlainToken) (p : List Lexeme) (k : Lexed) → BackAt same (due_statement c) ts (turn c' true) → Spells p ts
     → library c (with_tokens p k) ≡ library c' k
 library_step c c' ts p k back e =
     let a = back p e in
     library_turn c c' (with_tokens p k) k (when_due c (with_tokens p k) k (turn c' true) (with_tokens p k).tokens refl
     (a.takes k ∙ ap (λ (z : Turn Contents). taken z k) a.alike))
 
-pass_all : (ps : List Passed) (c : Contents) (ts : List Plain) (p : List Lexeme) (k : Lexed) (r : Result (Taken Contents) ReadFault) → All IsWhole ps
+pass_all : (ps : List Skipped) (c : Contents) (ts : List PlainToken) (p : List Lexeme) (k : Lexed) (r : Result (ReadValue Contents) ReadFault) → All IsWhole ps
     → Spells p (tokens_behind ps ts)
     → ((q : List Lexeme) → Spells q ts → library c (with_tokens q k) ≡ r) → library c (with_tokens p k) ≡ r
 pass_all [] c ts p k r h e final = final p e
 pass_all (first ∷ ps) c ts p k r h e final =
-    let cut = halves p (passed_tokens first) (tokens_behind ps ts) e in
+    let cut = halves p (skipped_tokens first) (tokens_behind ps ts) e in
     ap (λ (z : List Lexeme). library c (with_tokens z k)) cut.whole ∙ ap (λ (z : Lexed). library c z) (with_both cut.front cut.back k)
-    ∙ library_step c c (passed_tokens first) cut.front (with_tokens cut.back k) (whole_due c first (All-head IsWhole first ps h)) cut.front_is
+    ∙ library_step c c (skipped_tokens first) cut.front (with_tokens cut.back k) (whole_due c first (All-head IsWhole first ps h)) cut.front_is
     ∙ pass_all ps c ts cut.back k r (All-tail IsWhole first ps h) cut.back_is final
 
 nothing_spelled : (q : List Lexeme) (k : Lexed) → Spells q [] → with_tokens q k ≡ k
 nothing_spelled [] k e = refl
 nothing_spelled (t ∷ q) k e = absurd cc
 
-pub passes_over : (c : Contents) → PassesOver c
+pub passes_over : (c : Contents) → SkipsStatements c
 passes_over c ps p k h e = pass_all ps c [] p k (library c k) h e (λ q eq. ap (λ (z : Lexed). library c z) (nothing_spelled q k eq))
 
 -- X and Y, where they are said
@@ -212,10 +212,10 @@ with_one c s = record c { sites = c.sites ++ s ∷ [] }
 
 with_site_back : (c : Contents) (n : List ℕ) (xs : List SiteStatement) → IsPrintable n → All IsSiteStatement xs → position_of (site_names c.sites) n ≡ None
     → length c.sites < 1000000
-    → BackAt same (with_site c) (word_of n ∷ site_body_tokens n xs) (with_one c (said_site n xs))
+    → BackAt same (with_site c) (word_of n ∷ site_body_tokens n xs) (with_one c (described_site n xs))
 unfolding with_site
 with_site_back c n xs h hs fresh room =
-    let v = with_one c (said_site n xs) in
+    let v = with_one c (described_site n xs) in
     at_bind plain same name _ (word_of n ∷ []) (site_body_tokens n xs) (token_with n) v (short_name_back n h.word h.short) (λ t e.
     rw (text_is n t e, fresh, has_room (length c.sites) room)
     (at_map same same (site_parts n) (λ (z : SiteParts). with_one c (site_of n z)) (site_body_tokens n xs) (with_site_statements no_site_parts xs) v
@@ -224,12 +224,12 @@ with_site_back c n xs h hs fresh room =
 
 site_due : (c : Contents) (n : List ℕ) (xs : List SiteStatement) → IsPrintable n → All IsSiteStatement xs → position_of (site_names c.sites) n ≡ None
     → length c.sites < 1000000
-    → BackAt same (due_statement c) (site_tokens n xs) (turn (with_one c (said_site n xs)) true)
+    → BackAt same (due_statement c) (site_tokens n xs) (turn (with_one c (described_site n xs)) true)
 unfolding due_statement statement_from
 site_due c n xs h hs fresh room =
-    let v = with_one c (said_site n xs) in
+    let v = with_one c (described_site n xs) in
     let behind = word_of n ∷ site_body_tokens n xs in
-    at_known same (statement_from c) (λ l. with_site c l >>= λ new. goes_on new.value new.rest) (word_of (codes "SITE")) behind (turn v true) (λ t l. refl)
+    at_known same (statement_from c) (λ l. with_site c l >>= λ new. continues new.value new.rest) (word_of (codes "SITE")) behind (turn v true) (λ t l. refl)
     (at_map same same (with_site c) (λ (z : Contents). turn z true) behind v (turn v true) (with_site_back c n xs h hs fresh room)
     (λ z e. ap (λ (x : Contents). turn x true) e))
 
@@ -237,7 +237,7 @@ site_due c n xs h hs fresh room =
 pub reads_site_of : (c : Contents) (s : Site) (xs : List SiteStatement) → ReadsSiteOf c s xs
 reads_site_of c s xs ps p k hp hn hs said fresh room e =
     pass_all ps c (site_tokens s.name xs) p k (library (with_one c s) k) hp e (λ q eq.
-    library_step c (with_one c (said_site s.name xs)) (site_tokens s.name xs) q k (site_due c s.name xs hn hs fresh room) eq
+    library_step c (with_one c (described_site s.name xs)) (site_tokens s.name xs) q k (site_due c s.name xs hn hs fresh room) eq
     ∙ ap (λ (z : Site). library (with_one c z) k) said)
 
 -- CLASS, SYMMETRY and SIZE
@@ -263,7 +263,7 @@ reads_site c s ps class w h p k hp hn hc core hw hh fresh room e =
     let xs = one_site class s.symmetry width height in
     let all : All IsSiteStatement xs = All-from_recursion IsSiteStatement xs (hc, (tt, ((hw, hh), tt))) in
     reads_site_of c s xs ps p k hp hn all (site_is s _ _ core (words_say s.symmetry.x s.symmetry.y)) fresh room
-    (e ∙ ap (λ (z : List Plain). tokens_behind ps z) (site_words_are s.name class w h s.size.x s.size.y s.symmetry.x s.symmetry.y))
+    (e ∙ ap (λ (z : List PlainToken). tokens_behind ps z) (site_words_are s.name class w h s.size.x s.size.y s.symmetry.x s.symmetry.y))
 
 -- Macros.
 
@@ -272,10 +272,10 @@ with_said c m = record c { macros = c.macros ++ m ∷ [] }
 
 with_macro_back : (c : Contents) (n : List ℕ) (xs : List MacroStatement) → IsPrintable n → All IsMacroStatement xs → position_of (macro_names c.macros) n ≡ None
     → length c.macros < 1000000
-    → BackAt same (with_macro c) (word_of n ∷ macro_body_tokens n xs) (with_said c (said_macro n xs))
+    → BackAt same (with_macro c) (word_of n ∷ macro_body_tokens n xs) (with_said c (described_macro n xs))
 unfolding with_macro
 with_macro_back c n xs h hs fresh room =
-    let v = with_said c (said_macro n xs) in
+    let v = with_said c (described_macro n xs) in
     at_bind plain same name _ (word_of n ∷ []) (macro_body_tokens n xs) (token_with n) v (short_name_back n h.word h.short) (λ t e.
     rw (text_is n t e, fresh, has_room (length c.macros) room)
     (at_map same same (macro_parts n) (λ (z : MacroParts). with_said c (macro_of n z)) (macro_body_tokens n xs) (with_statements no_macro_parts xs) v
@@ -284,11 +284,11 @@ with_macro_back c n xs h hs fresh room =
 
 macro_due : (c : Contents) (n : List ℕ) (xs : List MacroStatement) → IsPrintable n → All IsMacroStatement xs → position_of (macro_names c.macros) n ≡ None
     → length c.macros < 1000000
-    → BackAt same (due_statement c) (macro_tokens n xs) (turn (with_said c (said_macro n xs)) true)
+    → BackAt same (due_statement c) (macro_tokens n xs) (turn (with_said c (described_macro n xs)) true)
 unfolding due_statement statement_from
 macro_due c n xs h hs fresh room =
-    let v = with_said c (said_macro n xs) in
-    at_known same (statement_from c) (λ l. with_macro c l >>= λ new. goes_on new.value new.rest) (word_of (codes "MACRO")) (word_of n ∷ macro_body_tokens n xs)
+    let v = with_said c (described_macro n xs) in
+    at_known same (statement_from c) (λ l. with_macro c l >>= λ new. continues new.value new.rest) (word_of (codes "MACRO")) (word_of n ∷ macro_body_tokens n xs)
     (turn v true) (λ t l. refl)
     (at_map same same (with_macro c) (λ (z : Contents). turn z true) (word_of n ∷ macro_body_tokens n xs) v (turn v true)
     (with_macro_back c n xs h hs fresh room)
@@ -298,7 +298,7 @@ macro_due c n xs h hs fresh room =
 pub reads_macro_of : (c : Contents) (m : Macro) (xs : List MacroStatement) → ReadsMacroOf c m xs
 reads_macro_of c m xs ps p k hp hn hs said fresh room e =
     pass_all ps c (macro_tokens m.name xs) p k (library (with_said c m) k) hp e (λ q eq.
-    library_step c (with_said c (said_macro m.name xs)) (macro_tokens m.name xs) q k (macro_due c m.name xs hn hs fresh room) eq
+    library_step c (with_said c (described_macro m.name xs)) (macro_tokens m.name xs) q k (macro_due c m.name xs hn hs fresh room) eq
     ∙ ap (λ (z : Macro). library (with_said c z) k) said)
 
 -- One PIN of one PORT of one RECT.
@@ -324,7 +324,7 @@ same_words n x y w h v u x1 y1 x2 y2 ox oy sx sy left low right high true false 
 same_words n x y w h v u x1 y1 x2 y2 ox oy sx sy left low right high false true = refl
 same_words n x y w h v u x1 y1 x2 y2 ox oy sx sy left low right high false false = refl
 
-nothing_nowhere : (word : List ℕ) → HaveNowhere (word ∷ []) []
+nothing_nowhere : (word : List ℕ) → OccurNowhere (word ∷ []) []
 nothing_nowhere word [] after e = absurd cc
 nothing_nowhere word (w ∷ before) after e = absurd cc
 
@@ -351,5 +351,5 @@ reads_macro c m ps x y w h v u x1 y1 x2 y2 low high left right p k hp hn hv hu h
     let pin_is : All IsPinStatement pin = All-from_recursion IsPinStatement pin (hu, (port_is, tt)) in
     let all : All IsMacroStatement xs = All-from_recursion IsMacroStatement xs (origin, ((hw, hh), (tt, ((hv, pin_is), tt)))) in
     reads_macro_of c m xs ps p k hp hn all (macro_is m _ _ rail (words_say m.symmetry.x m.symmetry.y)) fresh room
-    (e ∙ ap (λ (z : List Plain). tokens_behind ps z)
+    (e ∙ ap (λ (z : List PlainToken). tokens_behind ps z)
     (same_words m.name x y w h v u x1 y1 x2 y2 m.origin.x m.origin.y m.size.x m.size.y left low right high m.symmetry.x m.symmetry.y))

@@ -4,12 +4,12 @@ use Rattle.std.proofs.Common.{arith}
 use Rattle.std.specs.Prelude.{codes, IfSome}
 use Rattle.std.specs.Str.{bytes_eq}
 use Rattle.std.proofs.lemmas.List.Elements.{All-head, All-tail, recursion_from_All}
-use Rattle.lf_units.specs.declared.area.Point.{Point}
+use Rattle.lf_units.specs.declared.geometry.Point.{Point}
 use Rattle.lf_orient.specs.declared.Symmetry.{Symmetry}
 use Rattle.lf_lex.specs.declared.fault.ReadFault.{ReadFault}
-use Rattle.lf_lex.specs.Tokens.{Lexeme, Plain, plain}
+use Rattle.lf_lex.specs.Tokens.{Lexeme, PlainToken, plain}
 use Rattle.lf_lex.specs.Splices.{word_of}
-use Rattle.lf_lex.specs.Reading.{◌>>=◌, Reader, Taken, Turn, taken, turn, goes_on, ends, token, is, name, end_name, to_semicolon, to_end, block, first_stands}
+use Rattle.lf_lex.specs.Reading.{◌>>=◌, Reader, ReadValue, Turn, taken, turn, continues, finishes, token, is, name, end_name, to_semicolon, to_end, block, first_counts}
 use Rattle.lf_lex.proofs.Runs.{same, left}
 use Rattle.lf_lex.proofs.Back.{BackAt, TurnsAt, token_of, token_with, at_token, back_pure, at_bind, at_map, at_first, at_yes, at_no, at_known, at_last, at_more}
 use Rattle.lf_lex.proofs.Back.{at_block}
@@ -22,7 +22,7 @@ use Rattle.lf_lef.specs.Sites.{one_word, symmetry, no_symmetry}
 use Rattle.lf_lef.specs.Pins.{past_mask, past_iterate, reach_of, rect, port_statement_from, port_statement, use_named, pin_statement_from, pin_statement}
 use Rattle.lf_lef.specs.Pins.{no_pin, pin}
 use Rattle.lf_lef.specs.Macros.{passed_statement, passed_group, passed_from, macro_statement_from, macro_statement, no_macro_parts, macro_parts}
-use Rattle.lf_lef.specs.Printed.{IsPrintable, with_semicolon, IsPassedOver}
+use Rattle.lf_lef.specs.Printed.{IsPrintable, with_semicolon, IsSkipped}
 use Rattle.lf_lef.specs.PrintedMacros.{PrintedLength, IsPrintedLength, PrintedPoint, point_words, point_of}
 use Rattle.lf_lef.specs.PrintedMacros.{PrintedRect, IsPrintedRect, mask_words, iterate_words, PortStatement, port_rect, port_passed, port_statement_tokens}
 use Rattle.lf_lef.specs.PrintedMacros.{IsPortStatement, port_tokens, with_rect, with_rects}
@@ -39,8 +39,8 @@ use Rattle.lf_lef.proofs.PrintedLengths.{one_word_back, passed_back, some_passed
 
 -- Ports.
 
-mask_back : {B D : Type 0} (bare : B → D) (k : Taken Lexeme → Result (Taken B) ReadFault) (m : Option PrintedLength) → IfSome m IsPrintedLength
-    → (u : Plain) (vs : List Plain) (y : B) → bytes_eq u.text (codes "MASK") ≡ false → ((t : Lexeme) → plain t ≡ u → BackAt bare (λ l. k (left t l)) vs y)
+mask_back : {B D : Type 0} (bare : B → D) (k : ReadValue Lexeme → Result (ReadValue B) ReadFault) (m : Option PrintedLength) → IfSome m IsPrintedLength
+    → (u : PlainToken) (vs : List PlainToken) (y : B) → bytes_eq u.text (codes "MASK") ≡ false → ((t : Lexeme) → plain t ≡ u → BackAt bare (λ l. k (left t l)) vs y)
     → BackAt bare (λ l. token l >>= λ t. (past_mask t.value t.rest >>= k)) (map word_of (mask_words m) ++ u ∷ vs) y
 unfolding past_mask
 mask_back bare k None h u vs y other next =
@@ -51,9 +51,9 @@ mask_back bare k (Some n) h u vs y other next =
     (at_yes plain (is (codes "MASK") t) _ _ (word_of n.word ∷ u ∷ []) (token_of u) (is_of (codes "MASK") (word_of (codes "MASK")) t e)
     (at_bind same plain micros _ (word_of n.word ∷ []) (u ∷ []) n.length (token_of u) (micros_at n h) (λ v ev. at_token u))) next)
 
-iterate_back : {B D : Type 0} (bare : B → D) (k : Taken Lexeme → Result (Taken B) ReadFault) (m : Option PrintedLength) → IfSome m IsPrintedLength
+iterate_back : {B D : Type 0} (bare : B → D) (k : ReadValue Lexeme → Result (ReadValue B) ReadFault) (m : Option PrintedLength) → IfSome m IsPrintedLength
     → (iterate : Bool)
-    → (u : Plain) (vs : List Plain) (y : B) → bytes_eq u.text (codes "MASK") ≡ false → bytes_eq u.text (codes "ITERATE") ≡ false
+    → (u : PlainToken) (vs : List PlainToken) (y : B) → bytes_eq u.text (codes "MASK") ≡ false → bytes_eq u.text (codes "ITERATE") ≡ false
     → ((t : Lexeme) → plain t ≡ u → BackAt bare (λ l. k (left t l)) vs y)
     → BackAt bare (λ l. token l >>= λ t. (past_mask t.value t.rest >>= λ p. (past_iterate p.value p.rest >>= k)))
     (map word_of (mask_words m) ++ (map word_of (iterate_words iterate) ++ u ∷ vs)) y
@@ -73,14 +73,14 @@ no_iterate : (x : PrintedLength) (b : Bool) → IsPrintedLength x → bytes_eq (
 no_iterate x true h = refl
 no_iterate x false h = no_keyword x h (codes "ITERATE") refl
 
-abbrev rect_with : Option PrintedLength → Bool → PrintedLength → PrintedLength → Bool → PrintedPoint → List Plain → PrintedRect
+abbrev rect_with : Option PrintedLength → Bool → PrintedLength → PrintedLength → Bool → PrintedPoint → List PlainToken → PrintedRect
 rect_with m iterate x y b o more = record { mask = m; iterate = iterate; corner = point_with x y b; opposite = o; more = more }
 
 reach_alike : (a b : ℤ) (p q : Point) → p.y ≡ a → q.y ≡ b → reach_of p.y q.y ≡ reach_of a b
 reach_alike a b p q e f = rw (e, f) refl
 
 -- what stands after RECT, its first corner taken apart
-corner_back : (m : Option PrintedLength) (iterate : Bool) (x y : PrintedLength) (b : Bool) (o : PrintedPoint) (more : List Plain)
+corner_back : (m : Option PrintedLength) (iterate : Bool) (x y : PrintedLength) (b : Bool) (o : PrintedPoint) (more : List PlainToken)
     → IsPrintedRect (rect_with m iterate x y b o more)
     → BackAt same rect (map word_of (mask_words m) ++ (map word_of (iterate_words iterate) ++
     (word_of (first_word x b) ∷ (map word_of (rest_words x y b) ++ (map word_of (point_words o) ++ with_semicolon more)))))
@@ -97,11 +97,11 @@ corner_back m iterate x y b o more h =
     at_map same same to_semicolon (λ (z : Unit {0}). reach_of p.y q.y) (with_semicolon more) tt v (to_semicolon_at more h.more) (λ z ez.
     reach_alike y.length o.y.length p q (ap (λ (c : Point). c.y) ep) (ap (λ (c : Point). c.y) eq)))))
 
-abbrev behind_rect : PrintedRect → List Plain
+abbrev behind_rect : PrintedRect → List PlainToken
 behind_rect r = map word_of (mask_words r.mask) ++ (map word_of (iterate_words r.iterate) ++
     (map word_of (point_words r.corner) ++ (map word_of (point_words r.opposite) ++ with_semicolon r.more)))
 
-rect_by : (m : Option PrintedLength) (iterate : Bool) (x y : PrintedLength) (b : Bool) (o : PrintedPoint) (more : List Plain)
+rect_by : (m : Option PrintedLength) (iterate : Bool) (x y : PrintedLength) (b : Bool) (o : PrintedPoint) (more : List PlainToken)
     → IsPrintedRect (rect_with m iterate x y b o more)
     → BackAt same rect (behind_rect (rect_with m iterate x y b o more)) (reach_of y.length o.y.length)
 rect_by m iterate x y true o more h = corner_back m iterate x y true o more h
@@ -115,7 +115,7 @@ port_statement_back : (s : List Reach) (x : PortStatement) → IsPortStatement x
 unfolding port_statement port_statement_from
 port_statement_back s (port_rect r) h =
     let v = turn (with_rect s (port_rect r)) true in
-    at_known same (port_statement_from s) (λ l. rect l >>= λ z. goes_on (s ++ z.value ∷ []) z.rest) (word_of (codes "RECT")) (behind_rect r) v (λ t l. refl)
+    at_known same (port_statement_from s) (λ l. rect l >>= λ z. continues (s ++ z.value ∷ []) z.rest) (word_of (codes "RECT")) (behind_rect r) v (λ t l. refl)
     (at_map same same rect (λ (z : Reach). turn (s ++ z ∷ []) true) (behind_rect r) (reach_of r.corner.y.length r.opposite.y.length) v (rect_back r h)
     (λ z e. ap (λ (c : Reach). turn (s ++ c ∷ []) true) e))
 port_statement_back s (port_passed ts) h =
@@ -131,7 +131,7 @@ port_turns : (s : List Reach) (xs : List PortStatement) → All IsPortStatement 
 unfolding port_statement port_statement_from
 port_turns s [] h =
     at_last same port_statement s s (word_of (codes "END") ∷ [])
-    (at_known same (port_statement_from s) (λ l. ends s l) (word_of (codes "END")) [] (turn s false) (λ t l. refl)
+    (at_known same (port_statement_from s) (λ l. finishes s l) (word_of (codes "END")) [] (turn s false) (λ t l. refl)
     (back_pure same (turn s false) (turn s false) refl))
 port_turns s (x ∷ xs) h =
     at_more same port_statement s (with_rect s x) (with_rects s (x ∷ xs)) (port_statement_tokens x) (port_tokens xs) (some_port x)
@@ -144,7 +144,7 @@ pin_statement_back : (n : List ℕ) (s : Pin) (x : PinStatement) → IsPinStatem
     → BackAt same (pin_statement n s) (pin_statement_tokens x) (turn (with_pin_statement s x) true)
 unfolding pin_statement pin_statement_from
 pin_statement_back n s (pin_use w) h =
-    let with_use : List ℕ → Turn Pin = λ z. turn (record s { supply = first_stands s.supply (use_named z) }) true in
+    let with_use : List ℕ → Turn Pin = λ z. turn (record s { supply = first_counts s.supply (use_named z) }) true in
     at_known same (pin_statement_from n s) (λ l. one_word l >>= λ z. taken (with_use z.value) z.rest) (word_of (codes "USE"))
     (word_of w ∷ word_of (codes ";") ∷ []) (with_use w) (λ t l. refl)
     (at_map same same one_word with_use (word_of w ∷ word_of (codes ";") ∷ []) w (with_use w) (one_word_back w h) (λ z e. ap with_use e))
@@ -177,7 +177,7 @@ pin_turns : (n : List ℕ) (s : Pin) (xs : List PinStatement) → All IsPinState
 unfolding pin_statement pin_statement_from
 pin_turns n s [] h =
     at_last same (pin_statement n) s s (word_of (codes "END") ∷ word_of n ∷ [])
-    (at_known same (pin_statement_from n s) (λ l. end_name n l >>= λ stop. ends s stop.rest) (word_of (codes "END")) (word_of n ∷ []) (turn s false)
+    (at_known same (pin_statement_from n s) (λ l. end_name n l >>= λ stop. finishes s stop.rest) (word_of (codes "END")) (word_of n ∷ []) (turn s false)
     (λ t l. refl)
     (at_map same same (end_name n) (λ (z : Unit {0}). turn s false) (word_of n ∷ []) tt (turn s false) (end_back n (same_bytes n)) (λ z e. refl)))
 pin_turns n s (x ∷ xs) h =
@@ -195,9 +195,9 @@ pin_back n xs h hs =
 -- Macros.
 
 abbrev layers_from : Lexeme → Reader (Turn (Unit {0}))
-layers_from t l = cond (is (codes "END") t) (ends tt l) (cond (is (codes ";") t) (goes_on tt l) (to_semicolon l >>= λ stop. goes_on tt stop.rest))
+layers_from t l = cond (is (codes "END") t) (finishes tt l) (cond (is (codes ";") t) (continues tt l) (to_semicolon l >>= λ stop. continues tt stop.rest))
 
-layers_turns : (xs : List (List Plain)) → All (IsPassedOver (codes "END" ∷ [])) xs → TurnsAt same passed_statement tt (layers_tokens xs) tt
+layers_turns : (xs : List (List PlainToken)) → All (IsSkipped (codes "END" ∷ [])) xs → TurnsAt same passed_statement tt (layers_tokens xs) tt
 unfolding passed_statement
 layers_turns [] h =
     at_last same passed_statement tt tt (word_of (codes "END") ∷ []) (at_first same _ (word_of (codes "END")) [] (turn tt false) (λ t e.
@@ -205,25 +205,25 @@ layers_turns [] h =
     (back_pure same (turn tt false) (turn tt false) refl)))
 layers_turns (x ∷ xs) h =
     at_more same passed_statement tt tt tt (with_semicolon x) (layers_tokens xs) (some_passed x)
-    (passed_back layers_from tt (codes "END" ∷ []) x (All-head (IsPassedOver (codes "END" ∷ [])) x xs h) (λ t l. refl) (λ u d n t l.
+    (passed_back layers_from tt (codes "END" ∷ []) x (All-head (IsSkipped (codes "END" ∷ [])) x xs h) (λ t l. refl) (λ u d n t l.
     let others = recursion_from_All (λ w. u.text ≢ w) (codes "END" ∷ []) d in
-    rw (not_eq u.text (codes "END") others.0, not_eq u.text (codes ";") n) refl)) (λ s e. layers_turns xs (All-tail (IsPassedOver (codes "END" ∷ [])) x xs h))
+    rw (not_eq u.text (codes "END") others.0, not_eq u.text (codes ";") n) refl)) (λ s e. layers_turns xs (All-tail (IsSkipped (codes "END" ∷ [])) x xs h))
 
-passed_group_back : (xs : List (List Plain)) → All (IsPassedOver (codes "END" ∷ [])) xs → BackAt same passed_group (layers_tokens xs) tt
+passed_group_back : (xs : List (List PlainToken)) → All (IsSkipped (codes "END" ∷ [])) xs → BackAt same passed_group (layers_tokens xs) tt
 passed_group_back xs h = at_block same passed_statement tt tt (layers_tokens xs) (layers_turns xs h)
 
 abbrev other_words : List (List ℕ)
 other_words = codes "END" ∷ codes "ORIGIN" ∷ codes "SIZE" ∷ codes "SYMMETRY" ∷ codes "PIN" ∷ codes "OBS" ∷ codes "DENSITY" ∷ codes "TIMING" ∷ []
 
-layers_back : (n : List ℕ) (s : MacroParts) (k : Layers) (xs : List (List Plain)) → All (IsPassedOver (codes "END" ∷ [])) xs
+layers_back : (n : List ℕ) (s : MacroParts) (k : Layers) (xs : List (List PlainToken)) → All (IsSkipped (codes "END" ∷ [])) xs
     → BackAt same (macro_statement n s) (word_of (layers_word k) ∷ layers_tokens xs) (turn s true)
 unfolding macro_statement macro_statement_from passed_from
 layers_back n s obstructions xs h =
-    at_known same (macro_statement_from n s) (λ l. passed_group l >>= λ stop. goes_on s stop.rest) (word_of (codes "OBS")) (layers_tokens xs) (turn s true)
+    at_known same (macro_statement_from n s) (λ l. passed_group l >>= λ stop. continues s stop.rest) (word_of (codes "OBS")) (layers_tokens xs) (turn s true)
     (λ t l. refl)
     (at_map same same passed_group (λ (z : Unit {0}). turn s true) (layers_tokens xs) tt (turn s true) (passed_group_back xs h) (λ z e. refl))
 layers_back n s density xs h =
-    at_known same (macro_statement_from n s) (λ l. passed_group l >>= λ stop. goes_on s stop.rest) (word_of (codes "DENSITY")) (layers_tokens xs) (turn s true)
+    at_known same (macro_statement_from n s) (λ l. passed_group l >>= λ stop. continues s stop.rest) (word_of (codes "DENSITY")) (layers_tokens xs) (turn s true)
     (λ t l. refl)
     (at_map same same passed_group (λ (z : Unit {0}). turn s true) (layers_tokens xs) tt (turn s true) (passed_group_back xs h) (λ z e. refl))
 
@@ -231,19 +231,19 @@ macro_statement_back : (n : List ℕ) (s : MacroParts) (x : MacroStatement) → 
     → BackAt same (macro_statement n s) (macro_statement_tokens x) (turn (with_statement s x) true)
 unfolding macro_statement macro_statement_from passed_from
 macro_statement_back n s (macro_origin p) h =
-    let made : Point → Turn MacroParts = λ z. turn (record s { origin = first_stands s.origin z }) true in
+    let made : Point → Turn MacroParts = λ z. turn (record s { origin = first_counts s.origin z }) true in
     let behind = map word_of (point_words p) ++ word_of (codes ";") ∷ [] in
     at_known same (macro_statement_from n s) (λ l. origin l >>= λ z. taken (made z.value) z.rest) (word_of (codes "ORIGIN")) behind (made (point_of p))
     (λ t l. refl)
     (at_map same same origin made behind (point_of p) (made (point_of p)) (origin_back p h) (λ z e. ap made e))
 macro_statement_back n s (macro_size w hh) h =
-    let made : Point → Turn MacroParts = λ z. turn (record s { size = first_stands s.size z }) true in
+    let made : Point → Turn MacroParts = λ z. turn (record s { size = first_counts s.size z }) true in
     let v = point_at w.length hh.length in
     let behind = word_of w.word ∷ word_of (codes "BY") ∷ word_of hh.word ∷ word_of (codes ";") ∷ [] in
     at_known same (macro_statement_from n s) (λ l. size l >>= λ z. taken (made z.value) z.rest) (word_of (codes "SIZE")) behind (made v) (λ t l. refl)
     (at_map same same size made behind v (made v) (size_back w hh h.0 h.1) (λ z e. ap made e))
 macro_statement_back n s (macro_symmetry ws) h =
-    let made : Symmetry → Turn MacroParts = λ z. turn (record s { symmetry = first_stands s.symmetry z }) true in
+    let made : Symmetry → Turn MacroParts = λ z. turn (record s { symmetry = first_counts s.symmetry z }) true in
     let v = with_symmetries no_symmetry ws in
     at_known same (macro_statement_from n s) (λ l. symmetry l >>= λ z. taken (made z.value) z.rest) (word_of (codes "SYMMETRY")) (symmetry_tokens ws) (made v)
     (λ t l. refl)
@@ -257,7 +257,7 @@ macro_statement_back n s (macro_pin m xs) h =
 macro_statement_back n s (macro_layers k xs) h = layers_back n s k xs h
 macro_statement_back n s (macro_timing between) h =
     let behind = between ++ word_of (codes "END") ∷ word_of (codes "TIMING") ∷ [] in
-    at_known same (macro_statement_from n s) (λ l. to_end (codes "TIMING") l >>= λ stop. goes_on s stop.rest) (word_of (codes "TIMING")) behind (turn s true)
+    at_known same (macro_statement_from n s) (λ l. to_end (codes "TIMING") l >>= λ stop. continues s stop.rest) (word_of (codes "TIMING")) behind (turn s true)
     (λ t l. refl)
     (at_map same same (to_end (codes "TIMING")) (λ (z : Unit {0}). turn s true) behind tt (turn s true) (to_end_at (codes "TIMING") refl refl between h)
     (λ z e. refl))
@@ -290,7 +290,7 @@ macro_turns : (n : List ℕ) (s : MacroParts) (xs : List MacroStatement) → All
 unfolding macro_statement macro_statement_from
 macro_turns n s [] h =
     at_last same (macro_statement n) s s (word_of (codes "END") ∷ word_of n ∷ [])
-    (at_known same (macro_statement_from n s) (λ l. end_name n l >>= λ stop. ends s stop.rest) (word_of (codes "END")) (word_of n ∷ []) (turn s false)
+    (at_known same (macro_statement_from n s) (λ l. end_name n l >>= λ stop. finishes s stop.rest) (word_of (codes "END")) (word_of n ∷ []) (turn s false)
     (λ t l. refl)
     (at_map same same (end_name n) (λ (z : Unit {0}). turn s false) (word_of n ∷ []) tt (turn s false) (end_back n (same_bytes n)) (λ z e. refl)))
 macro_turns n s (x ∷ xs) h =

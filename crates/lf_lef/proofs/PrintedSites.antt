@@ -3,10 +3,10 @@ use Rattle.std.proofs.Common.{◌≢◌, ℕ, ◌<◌, true, false, List, [], �
 use Rattle.std.specs.Prelude.{codes}
 use Rattle.std.specs.Str.{bytes_eq}
 use Rattle.std.proofs.lemmas.List.Elements.{All-head, All-tail, recursion_from_All}
-use Rattle.lf_units.specs.declared.area.Point.{Point}
+use Rattle.lf_units.specs.declared.geometry.Point.{Point}
 use Rattle.lf_orient.specs.declared.Symmetry.{Symmetry}
 use Rattle.lf_lex.specs.Splices.{word_of}
-use Rattle.lf_lex.specs.Reading.{◌>>=◌, Turn, taken, turn, ends, end_name, first_stands}
+use Rattle.lf_lex.specs.Reading.{◌>>=◌, Turn, taken, turn, finishes, end_name, first_counts}
 use Rattle.lf_lex.proofs.Runs.{same}
 use Rattle.lf_lex.proofs.Back.{BackAt, TurnsAt, at_map, at_known, at_last, at_more, at_block}
 use Rattle.lf_lex.proofs.BackWords.{not_eq, same_bytes, end_back}
@@ -23,18 +23,18 @@ site_statement_back : (n : List ℕ) (s : SiteParts) (x : SiteStatement) → IsS
     → BackAt same (site_statement n s) (site_statement_tokens x) (turn (with_site_statement s x) true)
 unfolding site_statement site_statement_from
 site_statement_back n s (site_class class) h =
-    let made : List ℕ → Turn SiteParts = λ z. turn (record s { core = first_stands s.core (bytes_eq z (codes "CORE")) }) true in
+    let made : List ℕ → Turn SiteParts = λ z. turn (record s { core = first_counts s.core (bytes_eq z (codes "CORE")) }) true in
     let behind = word_of class ∷ word_of (codes ";") ∷ [] in
     at_known same (site_statement_from n s) (λ l. one_word l >>= λ z. taken (made z.value) z.rest) (word_of (codes "CLASS")) behind (made class) (λ t l. refl)
     (at_map same same one_word made behind class (made class) (one_word_back class h) (λ z e. ap made e))
 site_statement_back n s (site_symmetry ws) h =
-    let made : Symmetry → Turn SiteParts = λ z. turn (record s { symmetry = first_stands s.symmetry z }) true in
+    let made : Symmetry → Turn SiteParts = λ z. turn (record s { symmetry = first_counts s.symmetry z }) true in
     let v = with_symmetries no_symmetry ws in
     at_known same (site_statement_from n s) (λ l. symmetry l >>= λ z. taken (made z.value) z.rest) (word_of (codes "SYMMETRY")) (symmetry_tokens ws) (made v)
     (λ t l. refl)
     (at_map same same symmetry made (symmetry_tokens ws) v (made v) (symmetries_back ws) (λ z e. ap made e))
 site_statement_back n s (site_size w hh) h =
-    let made : Point → Turn SiteParts = λ z. turn (record s { size = first_stands s.size z }) true in
+    let made : Point → Turn SiteParts = λ z. turn (record s { size = first_counts s.size z }) true in
     let v = point_at w.length hh.length in
     let behind = word_of w.word ∷ word_of (codes "BY") ∷ word_of hh.word ∷ word_of (codes ";") ∷ [] in
     at_known same (site_statement_from n s) (λ l. size l >>= λ z. taken (made z.value) z.rest) (word_of (codes "SIZE")) behind (made v) (λ t l. refl)
@@ -62,7 +62,7 @@ site_turns : (n : List ℕ) (s : SiteParts) (xs : List SiteStatement) → All Is
 unfolding site_statement site_statement_from
 site_turns n s [] h =
     at_last same (site_statement n) s s (word_of (codes "END") ∷ word_of n ∷ [])
-    (at_known same (site_statement_from n s) (λ l. end_name n l >>= λ stop. ends s stop.rest) (word_of (codes "END")) (word_of n ∷ []) (turn s false)
+    (at_known same (site_statement_from n s) (λ l. end_name n l >>= λ stop. finishes s stop.rest) (word_of (codes "END")) (word_of n ∷ []) (turn s false)
     (λ t l. refl)
     (at_map same same (end_name n) (λ (z : Unit {0}). turn s false) (word_of n ∷ []) tt (turn s false) (end_back n (same_bytes n)) (λ z e. refl)))
 site_turns n s (x ∷ xs) h =

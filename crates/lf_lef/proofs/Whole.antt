@@ -9,7 +9,7 @@ use Rattle.lf_lex.specs.declared.tokens.LexFault.{LexFault}
 use Rattle.lf_lex.specs.declared.fault.FaultNumber.TheVariants.{TooMany}
 use Rattle.lf_lex.specs.declared.fault.ReadFault.{ReadFault}
 use Rattle.lf_lex.specs.Tokens.{Lexed, Lexeme, plain, with_tokens, tokens_of, tokens_from}
-use Rattle.lf_lex.specs.Reading.{◌>>=◌, Taken, Turn, Statement, taken, turn, fault_at, token, first_of, next_of, end_or_fault, behind, is, name, end_name}
+use Rattle.lf_lex.specs.Reading.{◌>>=◌, ReadValue, Turn, Statement, taken, turn, fault_at, token, first_of, next_of, end_or_fault, behind, is, name, end_name}
 use Rattle.lf_lex.specs.Reading.{statements, block, value_of}
 use Rattle.lf_lex.proofs.Runs.{Follows, Goes, same, bind, choose, given, pure, token_follows, takes_one, block_follows, same_run, ok_is, alike_states}
 use Rattle.lf_lex.proofs.Following.{text_alike, is_alike, name_follows, end_name_follows, to_semicolon_follows, to_word_follows, named_end}
@@ -168,7 +168,7 @@ statement_goes c c1 l m h = goes_with c c1 l m l.tokens refl h
 nothing_left : (l m : Lexed) → l.tokens ≡ [] → m ≡ l → m.tokens ≡ []
 nothing_left l m e f = ap (λ (x : Lexed). x.tokens) f ∙ e
 
-ended : (t : Turn Contents) → t.more ≡ false → (a b v : Result (Taken Contents) ReadFault) → cond t.more a b ≡ v → b ≡ v
+ended : (t : Turn Contents) → t.more ≡ false → (a b v : Result (ReadValue Contents) ReadFault) → cond t.more a b ≡ v → b ≡ v
 ended t e a b v h = rw e at h
 
 due_rest : (n : ℕ) (c' : Contents) (m : Lexed) → (m.tokens ≡ [] → ⊥)
@@ -180,7 +180,7 @@ due_rest n c' m left later false s k f = f
 
 due_turn : (n : ℕ) (c c' : Contents) (l m : Lexed) → (m.tokens ≡ [] → ⊥)
     → ((s : Contents) (k : Lexed) → statements statement n s k ≡ taken c' m → statements due_statement n s k ≡ taken c' m)
-    → (ts : List Lexeme) → l.tokens ≡ ts → (o : Result (Taken (Turn Contents)) ReadFault) → statement c l ≡ o
+    → (ts : List Lexeme) → l.tokens ≡ ts → (o : Result (ReadValue (Turn Contents)) ReadFault) → statement c l ≡ o
     → (o >>= λ t. cond t.value.more (statements statement n t.value.state t.rest) (taken t.value.state t.rest)) ≡ taken c' m
     → (due_statement c l >>= λ t. cond t.value.more (statements due_statement n t.value.state t.rest) (taken t.value.state t.rest)) ≡ taken c' m
 due_turn n c c' l m left later ts e (Err q) h f = absurd cc
@@ -216,7 +216,7 @@ plain_rest n c' m later false s k f = f
 
 plain_turn : (n : ℕ) (c c' : Contents) (l m : Lexed) → ((s : Contents) (k : Lexed) → statements due_statement n s k ≡ taken c' m
     → statements statement n s k ≡ taken c' m)
-    → (ts : List Lexeme) → l.tokens ≡ ts → (o : Result (Taken (Turn Contents)) ReadFault) → due_statement c l ≡ o
+    → (ts : List Lexeme) → l.tokens ≡ ts → (o : Result (ReadValue (Turn Contents)) ReadFault) → due_statement c l ≡ o
     → (o >>= λ t. cond t.value.more (statements due_statement n t.value.state t.rest) (taken t.value.state t.rest)) ≡ taken c' m
     → (statement c l >>= λ t. cond t.value.more (statements statement n t.value.state t.rest) (taken t.value.state t.rest)) ≡ taken c' m
 plain_turn n c c' l m later ts e (Err q) h f = absurd cc
@@ -246,4 +246,4 @@ ends_before old new text read t after e h bytes =
     let cut = cut_tokens text bytes read t after e in
     let r = unread old new read (behind (t ∷ after) (tokens_of text)) (tokens_from 0 t.start t.line bytes) (not_empty t after)
     (sym (ap (λ (z : Lexed). library old z) whole) ∙ h) in
-    ap (λ (z : Lexed). value_of (library old z)) cut ∙ ap (λ (z : Result (Taken Contents) ReadFault). value_of z) r
+    ap (λ (z : Lexed). value_of (library old z)) cut ∙ ap (λ (z : Result (ReadValue Contents) ReadFault). value_of z) r

@@ -14,27 +14,27 @@ EndsBefore old new text = (read : List Lexeme) (t : Lexeme) (unread : List Lexem
     → library old (tokens_of text) ≡ taken new (behind (t ∷ unread) (tokens_of text)) → (bytes : List ℕ) → library_after old (take t.start text ++ bytes) ≡ Ok new
 
 -- what the first statement of a kind said is kept
-abbrev pub Stands : {A : Type 0} → Option A → Option A → Type 0
-Stands old new = (said : _) → old ≡ Some said → new ≡ Some said
+abbrev pub IsKept : {A : Type 0} → Option A → Option A → Type 0
+IsKept old new = (said : _) → old ≡ Some said → new ≡ Some said
 
 -- all that was read stays at the front
 abbrev pub StaysInFront : {A : Type 0} → List A → List A → Type 0
 StaysInFront old new = take (length old) new ≡ old
 
 -- the first CLASS, SYMMETRY and SIZE of a site count
-pub record SiteStands (old new : SiteParts) : Type 0 where
-  pub core : Stands old.core new.core
-  pub symmetry : Stands old.symmetry new.symmetry
-  pub size : Stands old.size new.size
+pub record FirstSiteStatementsCount (old new : SiteParts) : Type 0 where
+  pub core : IsKept old.core new.core
+  pub symmetry : IsKept old.symmetry new.symmetry
+  pub size : IsKept old.size new.size
 
 -- the first USE of a pin counts, and every RECT
-pub record PinStands (old new : Pin) : Type 0 where
-  pub supply : Stands old.supply new.supply
+pub record FirstPinUseCounts (old new : Pin) : Type 0 where
+  pub supply : IsKept old.supply new.supply
   pub reaches : StaysInFront old.reaches new.reaches
 
 -- the first SIZE, ORIGIN and SYMMETRY of a macro count, and every PIN
-pub record MacroStands (old new : MacroParts) : Type 0 where
-  pub size : Stands old.size new.size
-  pub origin : Stands old.origin new.origin
-  pub symmetry : Stands old.symmetry new.symmetry
+pub record FirstMacroStatementsCount (old new : MacroParts) : Type 0 where
+  pub size : IsKept old.size new.size
+  pub origin : IsKept old.origin new.origin
+  pub symmetry : IsKept old.symmetry new.symmetry
   pub pins : StaysInFront old.pins new.pins

@@ -7,7 +7,7 @@ use Rattle.lf_lex.specs.declared.fault.LoadFault.{LoadFault}
 use Rattle.lf_lex.specs.declared.fault.ReadError.TheVariants.{Memory, Fault}
 use Rattle.lf_lex.specs.Faults.{load_fault_of}
 use Rattle.lf_lex.specs.Tokens.{Lexeme, tokens_of}
-use Rattle.lf_lex.specs.Reading.{◌>>=◌, Reader, Statement, Turn, taken, goes_on, ends, fault_at, next, is, name, end_name, to_semicolon, to_end, to_word, block}
+use Rattle.lf_lex.specs.Reading.{◌>>=◌, Reader, Statement, Turn, taken, continues, finishes, fault_at, next, is, name, end_name, to_semicolon, to_end, to_word, block}
 use Rattle.lf_lex.specs.Reading.{value_of}
 use Rattle.lf_lef.specs.Contents.{Contents, site_names, macro_names}
 use Rattle.lf_lef.specs.Sites.{site_parts, site_of}
@@ -66,14 +66,14 @@ passed_from t l =
 -- A statement of the text, after its first token: SITE and MACRO count, and others are skipped.
 unfoldable pub statement_from : Contents → Lexeme → Reader (Turn Contents)
 statement_from c t l =
-    if is (codes "END") t then (end_name (codes "LIBRARY") l >>= λ stop. ends c stop.rest)
-    else if is (codes "SITE") t then (with_site c l >>= λ new. goes_on new.value new.rest)
-    else if is (codes "MACRO") t then (with_macro c l >>= λ new. goes_on new.value new.rest)
-    else (passed_from t l >>= λ stop. goes_on c stop.rest)
+    if is (codes "END") t then (end_name (codes "LIBRARY") l >>= λ stop. finishes c stop.rest)
+    else if is (codes "SITE") t then (with_site c l >>= λ new. continues new.value new.rest)
+    else if is (codes "MACRO") t then (with_macro c l >>= λ new. continues new.value new.rest)
+    else (passed_from t l >>= λ stop. continues c stop.rest)
 
 -- the end of the text between statements ends the library too
 abbrev pub statement_or_end : Contents → Option Lexeme → Reader (Turn Contents)
-statement_or_end c None l = ends c l
+statement_or_end c None l = finishes c l
 statement_or_end c (Some t) l = statement_from c t l
 
 unfoldable pub statement : Statement Contents

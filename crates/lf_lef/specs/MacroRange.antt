@@ -1,6 +1,6 @@
 -- The range of what a macro's statements say.
 use Rattle.std.specs.Prelude.{Option, IfSome}
-use Rattle.lf_units.specs.declared.area.Point.{Point}
+use Rattle.lf_units.specs.declared.geometry.Point.{Point}
 use Rattle.lf_lef.specs.Lengths.{HasRange}
 
 -- SIZE and ORIGIN, if they are there, are lengths of LEF

@@ -1,8 +1,8 @@
 -- LEF MACRO: MACRO name, its statements, END name.
 use Rattle.std.specs.Prelude.{ℕ, ◌||◌, List, [], ◌∷◌, ◌++◌, None, codes, unwrap_or, if◌then◌else◌}
-use Rattle.lf_units.specs.declared.area.Point.{Point}
+use Rattle.lf_units.specs.declared.geometry.Point.{Point}
 use Rattle.lf_lex.specs.Tokens.{Lexeme}
-use Rattle.lf_lex.specs.Reading.{◌>>=◌, Reader, Statement, Turn, taken, goes_on, ends, token, is, end_name, to_semicolon, to_end, block, first_stands}
+use Rattle.lf_lex.specs.Reading.{◌>>=◌, Reader, Statement, Turn, taken, continues, finishes, token, is, end_name, to_semicolon, to_end, block, first_counts}
 use Rattle.lf_floorplan.specs.declared.macros.Macro.{Macro}
 use Rattle.lf_lef.specs.declared.macros.MacroParts.{MacroParts}
 use Rattle.lf_lef.specs.Lengths.{size, origin}
@@ -13,9 +13,9 @@ use Rattle.lf_lef.specs.Pins.{pin, rail_of}
 unfoldable pub passed_statement : Statement (Unit {0})
 passed_statement _ l = do
   t ← token l
-  if is (codes "END") t.value then ends tt t.rest
-      else if is (codes ";") t.value then goes_on tt t.rest
-      else (to_semicolon t.rest >>= λ stop. goes_on tt stop.rest)
+  if is (codes "END") t.value then finishes tt t.rest
+      else if is (codes ";") t.value then continues tt t.rest
+      else (to_semicolon t.rest >>= λ stop. continues tt stop.rest)
 
 -- OBS or DENSITY after its keyword
 abbrev pub passed_group : Reader (Unit {0})
@@ -33,12 +33,12 @@ passed_from t l =
 -- skipped.
 unfoldable pub macro_statement_from : List ℕ → MacroParts → Lexeme → Reader (Turn MacroParts)
 macro_statement_from name parts t l =
-    if is (codes "END") t then (end_name name l >>= λ stop. ends parts stop.rest)
-    else if is (codes "ORIGIN") t then (origin l >>= λ p. goes_on (record parts { origin = first_stands parts.origin p.value }) p.rest)
-    else if is (codes "SIZE") t then (size l >>= λ s. goes_on (record parts { size = first_stands parts.size s.value }) s.rest)
-    else if is (codes "SYMMETRY") t then (symmetry l >>= λ s. goes_on (record parts { symmetry = first_stands parts.symmetry s.value }) s.rest)
-    else if is (codes "PIN") t then (pin l >>= λ p. goes_on (record parts { pins = parts.pins ++ p.value ∷ [] }) p.rest)
-    else (passed_from t l >>= λ stop. goes_on parts stop.rest)
+    if is (codes "END") t then (end_name name l >>= λ stop. finishes parts stop.rest)
+    else if is (codes "ORIGIN") t then (origin l >>= λ p. continues (record parts { origin = first_counts parts.origin p.value }) p.rest)
+    else if is (codes "SIZE") t then (size l >>= λ s. continues (record parts { size = first_counts parts.size s.value }) s.rest)
+    else if is (codes "SYMMETRY") t then (symmetry l >>= λ s. continues (record parts { symmetry = first_counts parts.symmetry s.value }) s.rest)
+    else if is (codes "PIN") t then (pin l >>= λ p. continues (record parts { pins = parts.pins ++ p.value ∷ [] }) p.rest)
+    else (passed_from t l >>= λ stop. continues parts stop.rest)
 
 unfoldable pub macro_statement : List ℕ → Statement MacroParts
 macro_statement name parts l = do

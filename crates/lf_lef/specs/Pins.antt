@@ -6,7 +6,7 @@ use Rattle.std.specs.Str.{bytes_eq}
 use Rattle.lf_orient.specs.declared.Rail.{Rail}
 use Rattle.lf_orient.specs.declared.Rail.TheVariants as rail
 use Rattle.lf_lex.specs.Tokens.{Lexeme}
-use Rattle.lf_lex.specs.Reading.{◌>>=◌, Reader, Statement, Turn, taken, goes_on, ends, token, is, name, end_name, to_semicolon, block, first_stands}
+use Rattle.lf_lex.specs.Reading.{◌>>=◌, Reader, Statement, Turn, taken, continues, finishes, token, is, name, end_name, to_semicolon, block, first_counts}
 use Rattle.lf_lef.specs.declared.pins.PinUse.{PinUse}
 use Rattle.lf_lef.specs.declared.pins.PinUse.TheVariants.{Power, Ground, Other}
 use Rattle.lf_lef.specs.declared.pins.Reach.{Reach}
@@ -40,10 +40,10 @@ rect l = do
 -- A statement of a port, after its first token: every RECT counts, others are skipped, and an END alone is the last.
 unfoldable pub port_statement_from : List Reach → Lexeme → Reader (Turn (List Reach))
 port_statement_from reaches t l =
-    if is (codes "END") t then ends reaches l
-    else if is (codes "RECT") t then (rect l >>= λ r. goes_on (reaches ++ r.value ∷ []) r.rest)
-    else if is (codes ";") t then goes_on reaches l
-    else (to_semicolon l >>= λ stop. goes_on reaches stop.rest)
+    if is (codes "END") t then finishes reaches l
+    else if is (codes "RECT") t then (rect l >>= λ r. continues (reaches ++ r.value ∷ []) r.rest)
+    else if is (codes ";") t then continues reaches l
+    else (to_semicolon l >>= λ stop. continues reaches stop.rest)
 
 unfoldable pub port_statement : Statement (List Reach)
 port_statement reaches l = do
@@ -57,11 +57,11 @@ use_named w = if bytes_eq w (codes "POWER") then Power else if bytes_eq w (codes
 -- A statement of a pin, after its first token: the first USE counts, every PORT counts, and others are skipped.
 unfoldable pub pin_statement_from : List ℕ → Pin → Lexeme → Reader (Turn Pin)
 pin_statement_from name pin t l =
-    if is (codes "END") t then (end_name name l >>= λ stop. ends pin stop.rest)
-    else if is (codes "USE") t then (one_word l >>= λ w. goes_on (record pin { supply = first_stands pin.supply (use_named w.value) }) w.rest)
-    else if is (codes "PORT") t then (block port_statement pin.reaches l >>= λ r. goes_on (record pin { reaches = r.value }) r.rest)
-    else if is (codes ";") t then goes_on pin l
-    else (to_semicolon l >>= λ stop. goes_on pin stop.rest)
+    if is (codes "END") t then (end_name name l >>= λ stop. finishes pin stop.rest)
+    else if is (codes "USE") t then (one_word l >>= λ w. continues (record pin { supply = first_counts pin.supply (use_named w.value) }) w.rest)
+    else if is (codes "PORT") t then (block port_statement pin.reaches l >>= λ r. continues (record pin { reaches = r.value }) r.rest)
+    else if is (codes ";") t then continues pin l
+    else (to_semicolon l >>= λ stop. continues pin stop.rest)
 
 unfoldable pub pin_statement : List ℕ → Statement Pin
 pin_statement name pin l = do

@@ -4,9 +4,9 @@ use Rattle.std.specs.Str.{bytes_eq}
 use Rattle.lf_units.specs.Number.{fixed_of}
 use Rattle.lf_orient.specs.declared.Symmetry.{Symmetry}
 use Rattle.lf_names.specs.Names.{position_of}
-use Rattle.lf_lex.specs.Tokens.{Lexed, Lexeme, Plain, plain, with_tokens}
+use Rattle.lf_lex.specs.Tokens.{Lexed, Lexeme, PlainToken, plain, with_tokens}
 use Rattle.lf_lex.specs.Splices.{word_of}
-use Rattle.lf_lex.specs.Passing.{HaveNowhere}
+use Rattle.lf_lex.specs.Passing.{OccurNowhere}
 use Rattle.lf_floorplan.specs.declared.sites.Site.{Site}
 use Rattle.lf_floorplan.specs.declared.macros.Macro.{Macro}
 use Rattle.lf_lef.specs.Contents.{Contents, site_names, macro_names}
@@ -14,7 +14,7 @@ use Rattle.lf_lef.specs.Pins.{rail_of, reach_of, use_named}
 use Rattle.lf_lef.specs.Library.{library}
 
 -- the tokens have these kinds and bytes, wherever they are
-abbrev pub Spells : List Lexeme → List Plain → Type 0
+abbrev pub Spells : List Lexeme → List PlainToken → Type 0
 Spells tokens printed = map plain tokens ≡ printed
 
 -- the word writes the length
@@ -103,31 +103,31 @@ group_word noise_table = codes "NOISETABLE"
 group_word correction_table = codes "CORRECTIONTABLE"
 
 -- words and quoted texts, and a semicolon
-abbrev pub with_semicolon : List Plain → List Plain
+abbrev pub with_semicolon : List PlainToken → List PlainToken
 with_semicolon tokens = tokens ++ word_of (codes ";") ∷ []
 
 -- The statement is skipped up to its semicolon: it has no other, and begins with none of the words that begin a statement that is
 -- read otherwise. A semicolon alone is one too.
-abbrev pub IsPassedOver : List (List ℕ) → List Plain → Type 0
-IsPassedOver others [] = Unit {0}
-IsPassedOver others (t ∷ ts) = All (λ word. t.text ≢ word) others × HaveNowhere (codes ";" ∷ []) (t ∷ ts)
+abbrev pub IsSkipped : List (List ℕ) → List PlainToken → Type 0
+IsSkipped others [] = Unit {0}
+IsSkipped others (t ∷ ts) = All (λ word. t.text ≢ word) others × OccurNowhere (codes ";" ∷ []) (t ∷ ts)
 
 -- a statement other than SITE and MACRO, with any words and quoted texts
-pub data Passed : Type 0 where
+pub data Skipped : Type 0 where
   -- all up to a semicolon
-  plain_statement : List Plain → Passed
+  plain_statement : List PlainToken → Skipped
   -- a keyword and a name, what is in between, END and the name
-  named : NamedGroup → List ℕ → List Plain → Passed
+  named : NamedGroup → List ℕ → List PlainToken → Skipped
   -- a keyword, what is in between, END and the keyword
-  grouped : Group → List Plain → Passed
+  grouped : Group → List PlainToken → Skipped
   -- BEGINEXT, what is in between, ENDEXT
-  extension : List Plain → Passed
+  extension : List PlainToken → Skipped
 
-abbrev pub passed_tokens : Passed → List Plain
-passed_tokens (plain_statement tokens) = with_semicolon tokens
-passed_tokens (named keyword name between) = word_of (named_word keyword) ∷ word_of name ∷ (between ++ map word_of (end_words name))
-passed_tokens (grouped keyword between) = word_of (group_word keyword) ∷ (between ++ map word_of (end_words (group_word keyword)))
-passed_tokens (extension between) = word_of (codes "BEGINEXT") ∷ (between ++ word_of (codes "ENDEXT") ∷ [])
+abbrev pub skipped_tokens : Skipped → List PlainToken
+skipped_tokens (plain_statement tokens) = with_semicolon tokens
+skipped_tokens (named keyword name between) = word_of (named_word keyword) ∷ word_of name ∷ (between ++ map word_of (end_words name))
+skipped_tokens (grouped keyword between) = word_of (group_word keyword) ∷ (between ++ map word_of (end_words (group_word keyword)))
+skipped_tokens (extension between) = word_of (codes "BEGINEXT") ∷ (between ++ word_of (codes "ENDEXT") ∷ [])
 
 -- the words that begin a statement that is not skipped up to a semicolon
 abbrev pub other_statements : List (List ℕ)
@@ -136,27 +136,27 @@ other_statements =
     ∷ codes "UNITS" ∷ codes "PROPERTYDEFINITIONS" ∷ codes "SPACING" ∷ codes "IRDROP" ∷ codes "NOISETABLE" ∷ codes "CORRECTIONTABLE" ∷ codes "BEGINEXT" ∷ []
 
 -- the statement ends with its last word and not before: nowhere earlier does the name directly follow END
-abbrev pub IsWhole : Passed → Type 0
-IsWhole (plain_statement tokens) = IsPassedOver other_statements tokens
-IsWhole (named keyword name between) = IsPrintable name × HaveNowhere (codes "END" ∷ name ∷ []) (between ++ word_of (codes "END") ∷ [])
-IsWhole (grouped keyword between) = HaveNowhere (codes "END" ∷ group_word keyword ∷ []) between
-IsWhole (extension between) = HaveNowhere (codes "ENDEXT" ∷ []) between
+abbrev pub IsWhole : Skipped → Type 0
+IsWhole (plain_statement tokens) = IsSkipped other_statements tokens
+IsWhole (named keyword name between) = IsPrintable name × OccurNowhere (codes "END" ∷ name ∷ []) (between ++ word_of (codes "END") ∷ [])
+IsWhole (grouped keyword between) = OccurNowhere (codes "END" ∷ group_word keyword ∷ []) between
+IsWhole (extension between) = OccurNowhere (codes "ENDEXT" ∷ []) between
 
 -- the statements one after the other, and then these tokens
-abbrev pub tokens_behind : List Passed → List Plain → List Plain
+abbrev pub tokens_behind : List Skipped → List PlainToken → List PlainToken
 tokens_behind [] tokens = tokens
-tokens_behind (p ∷ ps) tokens = passed_tokens p ++ tokens_behind ps tokens
+tokens_behind (p ∷ ps) tokens = skipped_tokens p ++ tokens_behind ps tokens
 
 -- What reading returns.
 
 -- statements that are skipped have no effect, whatever follows
-abbrev pub PassesOver : Contents → Type 0
-PassesOver c = (passed : List Passed) (tokens : List Lexeme) (behind : Lexed) → All IsWhole passed → Spells tokens (tokens_behind passed [])
+abbrev pub SkipsStatements : Contents → Type 0
+SkipsStatements c = (passed : List Skipped) (tokens : List Lexeme) (behind : Lexed) → All IsWhole passed → Spells tokens (tokens_behind passed [])
     → library c (with_tokens tokens behind) ≡ library c behind
 
 -- a printed site of a new name reads back, after skipped statements and with anything after it
 abbrev pub ReadsSite : Contents → Site → Type 0
-ReadsSite c s = (passed : List Passed) (class w h : List ℕ) (tokens : List Lexeme) (behind : Lexed)
+ReadsSite c s = (passed : List Skipped) (class w h : List ℕ) (tokens : List Lexeme) (behind : Lexed)
     → All IsWhole passed → IsPrintable s.name → class ≢ codes ";" → bytes_eq class (codes "CORE") ≡ s.core → Writes w s.size.x → Writes h s.size.y
     → position_of (site_names c.sites) s.name ≡ None → length c.sites < 1000000
     → Spells tokens (tokens_behind passed (map word_of (site_words s.name class s.symmetry w h)))
@@ -165,7 +165,7 @@ ReadsSite c s = (passed : List Passed) (class w h : List ℕ) (tokens : List Lex
 -- a printed macro of a new name reads back with the rail that its pin gives it, after skipped statements and with anything after
 -- it
 abbrev pub ReadsMacro : Contents → Macro → Type 0
-ReadsMacro c m = (passed : List Passed) (x y w h pin use_word x1 y1 x2 y2 : List ℕ) (low high left right : ℤ) (tokens : List Lexeme) (behind : Lexed)
+ReadsMacro c m = (passed : List Skipped) (x y w h pin use_word x1 y1 x2 y2 : List ℕ) (low high left right : ℤ) (tokens : List Lexeme) (behind : Lexed)
     → All IsWhole passed → IsPrintable m.name → IsPrintable pin → use_word ≢ codes ";" → Writes x m.origin.x → Writes y m.origin.y → Writes w m.size.x
     → Writes h m.size.y
     → Writes x1 left → Writes y1 low → Writes x2 right → Writes y2 high

@@ -1,12 +1,12 @@
 -- Printed LEF macros: statements in any order, in MACRO, in PIN, in PORT and in OBS, with any skipped ones among them.
 use Rattle.std.specs.Prelude.{◌≡◌, ◌≢◌, ℕ, ◌<◌, Bool, List, [], ◌∷◌, ◌++◌, length, map, All, IfSome, ℤ, Option, Some, None, codes, if◌then◌else◌, true}
-use Rattle.lf_units.specs.declared.area.Point.{Point}
+use Rattle.lf_units.specs.declared.geometry.Point.{Point}
 use Rattle.lf_orient.specs.declared.Symmetry.{Symmetry}
 use Rattle.lf_names.specs.Names.{position_of}
-use Rattle.lf_lex.specs.Tokens.{Lexed, Lexeme, Plain, with_tokens}
-use Rattle.lf_lex.specs.Reading.{first_stands}
+use Rattle.lf_lex.specs.Tokens.{Lexed, Lexeme, PlainToken, with_tokens}
+use Rattle.lf_lex.specs.Reading.{first_counts}
 use Rattle.lf_lex.specs.Splices.{word_of}
-use Rattle.lf_lex.specs.Passing.{HaveNowhere}
+use Rattle.lf_lex.specs.Passing.{OccurNowhere}
 use Rattle.lf_floorplan.specs.declared.macros.Macro.{Macro}
 use Rattle.lf_lef.specs.declared.pins.Reach.{Reach}
 use Rattle.lf_lef.specs.declared.pins.Pin.{Pin}
@@ -15,7 +15,7 @@ use Rattle.lf_lef.specs.Contents.{Contents, macro_names}
 use Rattle.lf_lef.specs.Pins.{reach_of, use_named, no_pin}
 use Rattle.lf_lef.specs.Macros.{no_macro_parts, macro_of}
 use Rattle.lf_lef.specs.Library.{library}
-use Rattle.lf_lef.specs.Printed.{Spells, Writes, IsPrintable, end_words, use_words, with_semicolon, IsPassedOver, Passed, IsWhole}
+use Rattle.lf_lef.specs.Printed.{Spells, Writes, IsPrintable, end_words, use_words, with_semicolon, IsSkipped, Skipped, IsWhole}
 use Rattle.lf_lef.specs.Printed.{tokens_behind}
 use Rattle.lf_lef.specs.Sites.{no_symmetry}
 
@@ -54,13 +54,13 @@ pub record PrintedRect : Type 0 where
   pub iterate : Bool
   pub corner : PrintedPoint
   pub opposite : PrintedPoint
-  pub more : List Plain
+  pub more : List PlainToken
 
 pub record IsPrintedRect (r : PrintedRect) : Type 0 where
   pub mask : IfSome r.mask IsPrintedLength
   pub corner : IsPrintedPoint r.corner
   pub opposite : IsPrintedPoint r.opposite
-  pub more : HaveNowhere (codes ";" ∷ []) r.more
+  pub more : OccurNowhere (codes ";" ∷ []) r.more
 
 abbrev pub mask_words : Option PrintedLength → List (List ℕ)
 mask_words None = []
@@ -70,7 +70,7 @@ abbrev pub iterate_words : Bool → List (List ℕ)
 iterate_words iterate = if iterate then codes "ITERATE" ∷ [] else []
 
 -- RECT [MASK n] [ITERATE] pt pt .. ;
-abbrev pub rect_tokens : PrintedRect → List Plain
+abbrev pub rect_tokens : PrintedRect → List PlainToken
 rect_tokens r =
     word_of (codes "RECT") ∷ (map word_of (mask_words r.mask) ++
     (map word_of (iterate_words r.iterate) ++ (map word_of (point_words r.corner) ++ (map word_of (point_words r.opposite) ++ with_semicolon r.more))))
@@ -78,18 +78,18 @@ rect_tokens r =
 -- a statement of a PORT
 pub data PortStatement : Type 0 where
   port_rect : PrintedRect → PortStatement
-  port_passed : List Plain → PortStatement
+  port_passed : List PlainToken → PortStatement
 
-abbrev pub port_statement_tokens : PortStatement → List Plain
+abbrev pub port_statement_tokens : PortStatement → List PlainToken
 port_statement_tokens (port_rect r) = rect_tokens r
 port_statement_tokens (port_passed tokens) = with_semicolon tokens
 
 abbrev pub IsPortStatement : PortStatement → Type 0
 IsPortStatement (port_rect r) = IsPrintedRect r
-IsPortStatement (port_passed tokens) = IsPassedOver (codes "END" ∷ codes "RECT" ∷ []) tokens
+IsPortStatement (port_passed tokens) = IsSkipped (codes "END" ∷ codes "RECT" ∷ []) tokens
 
 -- the statements one after the other, and END
-abbrev pub port_tokens : List PortStatement → List Plain
+abbrev pub port_tokens : List PortStatement → List PlainToken
 port_tokens [] = word_of (codes "END") ∷ []
 port_tokens (s ∷ ss) = port_statement_tokens s ++ port_tokens ss
 
@@ -108,9 +108,9 @@ with_rects reaches (s ∷ ss) = with_rects (with_rect reaches s) ss
 pub data PinStatement : Type 0 where
   pin_use : List ℕ → PinStatement
   pin_port : List PortStatement → PinStatement
-  pin_passed : List Plain → PinStatement
+  pin_passed : List PlainToken → PinStatement
 
-abbrev pub pin_statement_tokens : PinStatement → List Plain
+abbrev pub pin_statement_tokens : PinStatement → List PlainToken
 pin_statement_tokens (pin_use use_word) = map word_of (use_words use_word)
 pin_statement_tokens (pin_port statements) = word_of (codes "PORT") ∷ port_tokens statements
 pin_statement_tokens (pin_passed tokens) = with_semicolon tokens
@@ -118,16 +118,16 @@ pin_statement_tokens (pin_passed tokens) = with_semicolon tokens
 abbrev pub IsPinStatement : PinStatement → Type 0
 IsPinStatement (pin_use use_word) = use_word ≢ codes ";"
 IsPinStatement (pin_port statements) = All IsPortStatement statements
-IsPinStatement (pin_passed tokens) = IsPassedOver (codes "END" ∷ codes "USE" ∷ codes "PORT" ∷ []) tokens
+IsPinStatement (pin_passed tokens) = IsSkipped (codes "END" ∷ codes "USE" ∷ codes "PORT" ∷ []) tokens
 
 -- the statements one after the other, and END name
-abbrev pub pin_body_tokens : List ℕ → List PinStatement → List Plain
+abbrev pub pin_body_tokens : List ℕ → List PinStatement → List PlainToken
 pin_body_tokens name [] = map word_of (end_words name)
 pin_body_tokens name (s ∷ ss) = pin_statement_tokens s ++ pin_body_tokens name ss
 
 -- the first USE counts, and every PORT
 abbrev pub with_pin_statement : Pin → PinStatement → Pin
-with_pin_statement pin (pin_use use_word) = record pin { supply = first_stands pin.supply (use_named use_word) }
+with_pin_statement pin (pin_use use_word) = record pin { supply = first_counts pin.supply (use_named use_word) }
 with_pin_statement pin (pin_port statements) = record pin { reaches = with_rects pin.reaches statements }
 with_pin_statement pin (pin_passed tokens) = pin
 
@@ -146,7 +146,7 @@ abbrev pub layers_word : Layers → List ℕ
 layers_word obstructions = codes "OBS"
 layers_word density = codes "DENSITY"
 
-abbrev pub layers_tokens : List (List Plain) → List Plain
+abbrev pub layers_tokens : List (List PlainToken) → List PlainToken
 layers_tokens [] = word_of (codes "END") ∷ []
 layers_tokens (s ∷ ss) = with_semicolon s ++ layers_tokens ss
 
@@ -162,7 +162,7 @@ spelled_symmetry about_y = codes "Y"
 spelled_symmetry turned = codes "R90"
 
 -- the words, and a semicolon
-abbrev pub symmetry_tokens : List SymmetryWord → List Plain
+abbrev pub symmetry_tokens : List SymmetryWord → List PlainToken
 symmetry_tokens [] = word_of (codes ";") ∷ []
 symmetry_tokens (w ∷ ws) = word_of (spelled_symmetry w) ∷ symmetry_tokens ws
 
@@ -187,13 +187,13 @@ pub data MacroStatement : Type 0 where
   -- PIN name, its statements, END name
   macro_pin : List ℕ → List PinStatement → MacroStatement
   -- OBS or DENSITY, statements of any words and quoted texts, END
-  macro_layers : Layers → List (List Plain) → MacroStatement
+  macro_layers : Layers → List (List PlainToken) → MacroStatement
   -- TIMING .. END TIMING
-  macro_timing : List Plain → MacroStatement
+  macro_timing : List PlainToken → MacroStatement
   -- any other, up to its semicolon
-  macro_passed : List Plain → MacroStatement
+  macro_passed : List PlainToken → MacroStatement
 
-abbrev pub macro_statement_tokens : MacroStatement → List Plain
+abbrev pub macro_statement_tokens : MacroStatement → List PlainToken
 macro_statement_tokens (macro_origin p) = word_of (codes "ORIGIN") ∷ (map word_of (point_words p) ++ word_of (codes ";") ∷ [])
 macro_statement_tokens (macro_size w h) = map word_of (codes "SIZE" ∷ w.word ∷ codes "BY" ∷ h.word ∷ codes ";" ∷ [])
 macro_statement_tokens (macro_symmetry words) = word_of (codes "SYMMETRY") ∷ symmetry_tokens words
@@ -207,25 +207,25 @@ IsMacroStatement (macro_origin p) = IsPrintedPoint p
 IsMacroStatement (macro_size w h) = IsPrintedLength w × IsPrintedLength h
 IsMacroStatement (macro_symmetry words) = Unit {0}
 IsMacroStatement (macro_pin name statements) = IsPrintable name × All IsPinStatement statements
-IsMacroStatement (macro_layers keyword statements) = All (IsPassedOver (codes "END" ∷ [])) statements
-IsMacroStatement (macro_timing between) = HaveNowhere (codes "END" ∷ codes "TIMING" ∷ []) between
+IsMacroStatement (macro_layers keyword statements) = All (IsSkipped (codes "END" ∷ [])) statements
+IsMacroStatement (macro_timing between) = OccurNowhere (codes "END" ∷ codes "TIMING" ∷ []) between
 IsMacroStatement (macro_passed tokens) =
-    IsPassedOver (codes "END" ∷ codes "ORIGIN" ∷ codes "SIZE" ∷ codes "SYMMETRY" ∷ codes "PIN" ∷ codes "OBS" ∷ codes "DENSITY" ∷ codes "TIMING" ∷ []) tokens
+    IsSkipped (codes "END" ∷ codes "ORIGIN" ∷ codes "SIZE" ∷ codes "SYMMETRY" ∷ codes "PIN" ∷ codes "OBS" ∷ codes "DENSITY" ∷ codes "TIMING" ∷ []) tokens
 
 -- the statements one after the other, and END name
-abbrev pub macro_body_tokens : List ℕ → List MacroStatement → List Plain
+abbrev pub macro_body_tokens : List ℕ → List MacroStatement → List PlainToken
 macro_body_tokens name [] = map word_of (end_words name)
 macro_body_tokens name (s ∷ ss) = macro_statement_tokens s ++ macro_body_tokens name ss
 
 -- MACRO name, its statements, END name
-abbrev pub macro_tokens : List ℕ → List MacroStatement → List Plain
+abbrev pub macro_tokens : List ℕ → List MacroStatement → List PlainToken
 macro_tokens name statements = word_of (codes "MACRO") ∷ word_of name ∷ macro_body_tokens name statements
 
 -- the first ORIGIN, SIZE and SYMMETRY count, and every PIN; what is skipped is ignored
 abbrev pub with_statement : MacroParts → MacroStatement → MacroParts
-with_statement parts (macro_origin p) = record parts { origin = first_stands parts.origin (point_of p) }
-with_statement parts (macro_size w h) = record parts { size = first_stands parts.size (record { x = w.length; y = h.length }) }
-with_statement parts (macro_symmetry words) = record parts { symmetry = first_stands parts.symmetry (with_symmetries no_symmetry words) }
+with_statement parts (macro_origin p) = record parts { origin = first_counts parts.origin (point_of p) }
+with_statement parts (macro_size w h) = record parts { size = first_counts parts.size (record { x = w.length; y = h.length }) }
+with_statement parts (macro_symmetry words) = record parts { symmetry = first_counts parts.symmetry (with_symmetries no_symmetry words) }
 with_statement parts (macro_pin name statements) = record parts { pins = parts.pins ++ with_pin_statements no_pin statements ∷ [] }
 with_statement parts (macro_layers keyword statements) = parts
 with_statement parts (macro_timing between) = parts
@@ -236,13 +236,13 @@ with_statements parts [] = parts
 with_statements parts (s ∷ ss) = with_statements (with_statement parts s) ss
 
 -- the macro that the statements describe
-abbrev pub said_macro : List ℕ → List MacroStatement → Macro
-said_macro name statements = macro_of name (with_statements no_macro_parts statements)
+abbrev pub described_macro : List ℕ → List MacroStatement → Macro
+described_macro name statements = macro_of name (with_statements no_macro_parts statements)
 
 -- A macro of a new name, printed by any such statements, reads back, after skipped statements and with anything after it.
 abbrev pub ReadsMacroOf : Contents → Macro → List MacroStatement → Type 0
-ReadsMacroOf c m statements = (passed : List Passed) (tokens : List Lexeme) (behind : Lexed)
-    → All IsWhole passed → IsPrintable m.name → All IsMacroStatement statements → said_macro m.name statements ≡ m
+ReadsMacroOf c m statements = (passed : List Skipped) (tokens : List Lexeme) (behind : Lexed)
+    → All IsWhole passed → IsPrintable m.name → All IsMacroStatement statements → described_macro m.name statements ≡ m
     → position_of (macro_names c.macros) m.name ≡ None → length c.macros < 1000000
     → Spells tokens (tokens_behind passed (macro_tokens m.name statements))
     → library c (with_tokens tokens behind) ≡ library (record c { macros = c.macros ++ m ∷ [] }) behind

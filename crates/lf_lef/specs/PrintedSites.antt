@@ -2,15 +2,15 @@
 use Rattle.std.specs.Prelude.{◌≡◌, ◌≢◌, ℕ, ◌<◌, List, [], ◌∷◌, ◌++◌, length, map, All, None, codes}
 use Rattle.std.specs.Str.{bytes_eq}
 use Rattle.lf_names.specs.Names.{position_of}
-use Rattle.lf_lex.specs.Tokens.{Lexed, Lexeme, Plain, with_tokens}
-use Rattle.lf_lex.specs.Reading.{first_stands}
+use Rattle.lf_lex.specs.Tokens.{Lexed, Lexeme, PlainToken, with_tokens}
+use Rattle.lf_lex.specs.Reading.{first_counts}
 use Rattle.lf_lex.specs.Splices.{word_of}
 use Rattle.lf_floorplan.specs.declared.sites.Site.{Site}
 use Rattle.lf_lef.specs.declared.sites.SiteParts.{SiteParts}
 use Rattle.lf_lef.specs.Contents.{Contents, site_names}
 use Rattle.lf_lef.specs.Sites.{no_symmetry, no_site_parts, site_of}
 use Rattle.lf_lef.specs.Library.{library}
-use Rattle.lf_lef.specs.Printed.{Spells, IsPrintable, class_words, end_words, with_semicolon, IsPassedOver, Passed, IsWhole, tokens_behind}
+use Rattle.lf_lef.specs.Printed.{Spells, IsPrintable, class_words, end_words, with_semicolon, IsSkipped, Skipped, IsWhole, tokens_behind}
 use Rattle.lf_lef.specs.PrintedMacros.{PrintedLength, IsPrintedLength, SymmetryWord, symmetry_tokens, with_symmetries}
 
 -- a statement of a SITE
@@ -22,9 +22,9 @@ pub data SiteStatement : Type 0 where
   -- SIZE w BY h ;
   site_size : PrintedLength → PrintedLength → SiteStatement
   -- any other, up to its semicolon
-  site_passed : List Plain → SiteStatement
+  site_passed : List PlainToken → SiteStatement
 
-abbrev pub site_statement_tokens : SiteStatement → List Plain
+abbrev pub site_statement_tokens : SiteStatement → List PlainToken
 site_statement_tokens (site_class class) = map word_of (class_words class)
 site_statement_tokens (site_symmetry words) = word_of (codes "SYMMETRY") ∷ symmetry_tokens words
 site_statement_tokens (site_size w h) = map word_of (codes "SIZE" ∷ w.word ∷ codes "BY" ∷ h.word ∷ codes ";" ∷ [])
@@ -34,22 +34,22 @@ abbrev pub IsSiteStatement : SiteStatement → Type 0
 IsSiteStatement (site_class class) = class ≢ codes ";"
 IsSiteStatement (site_symmetry words) = Unit {0}
 IsSiteStatement (site_size w h) = IsPrintedLength w × IsPrintedLength h
-IsSiteStatement (site_passed tokens) = IsPassedOver (codes "END" ∷ codes "CLASS" ∷ codes "SYMMETRY" ∷ codes "SIZE" ∷ []) tokens
+IsSiteStatement (site_passed tokens) = IsSkipped (codes "END" ∷ codes "CLASS" ∷ codes "SYMMETRY" ∷ codes "SIZE" ∷ []) tokens
 
 -- the statements one after the other, and END name
-abbrev pub site_body_tokens : List ℕ → List SiteStatement → List Plain
+abbrev pub site_body_tokens : List ℕ → List SiteStatement → List PlainToken
 site_body_tokens name [] = map word_of (end_words name)
 site_body_tokens name (s ∷ ss) = site_statement_tokens s ++ site_body_tokens name ss
 
 -- SITE name, its statements, END name
-abbrev pub site_tokens : List ℕ → List SiteStatement → List Plain
+abbrev pub site_tokens : List ℕ → List SiteStatement → List PlainToken
 site_tokens name statements = word_of (codes "SITE") ∷ word_of name ∷ site_body_tokens name statements
 
 -- the first CLASS, SYMMETRY and SIZE count, and what is skipped is ignored
 abbrev pub with_site_statement : SiteParts → SiteStatement → SiteParts
-with_site_statement parts (site_class class) = record parts { core = first_stands parts.core (bytes_eq class (codes "CORE")) }
-with_site_statement parts (site_symmetry words) = record parts { symmetry = first_stands parts.symmetry (with_symmetries no_symmetry words) }
-with_site_statement parts (site_size w h) = record parts { size = first_stands parts.size (record { x = w.length; y = h.length }) }
+with_site_statement parts (site_class class) = record parts { core = first_counts parts.core (bytes_eq class (codes "CORE")) }
+with_site_statement parts (site_symmetry words) = record parts { symmetry = first_counts parts.symmetry (with_symmetries no_symmetry words) }
+with_site_statement parts (site_size w h) = record parts { size = first_counts parts.size (record { x = w.length; y = h.length }) }
 with_site_statement parts (site_passed tokens) = parts
 
 abbrev pub with_site_statements : SiteParts → List SiteStatement → SiteParts
@@ -57,13 +57,13 @@ with_site_statements parts [] = parts
 with_site_statements parts (s ∷ ss) = with_site_statements (with_site_statement parts s) ss
 
 -- the site that the statements describe
-abbrev pub said_site : List ℕ → List SiteStatement → Site
-said_site name statements = site_of name (with_site_statements no_site_parts statements)
+abbrev pub described_site : List ℕ → List SiteStatement → Site
+described_site name statements = site_of name (with_site_statements no_site_parts statements)
 
 -- A site of a new name, printed by any such statements, reads back, after skipped statements and with anything after it.
 abbrev pub ReadsSiteOf : Contents → Site → List SiteStatement → Type 0
-ReadsSiteOf c s statements = (passed : List Passed) (tokens : List Lexeme) (behind : Lexed)
-    → All IsWhole passed → IsPrintable s.name → All IsSiteStatement statements → said_site s.name statements ≡ s
+ReadsSiteOf c s statements = (passed : List Skipped) (tokens : List Lexeme) (behind : Lexed)
+    → All IsWhole passed → IsPrintable s.name → All IsSiteStatement statements → described_site s.name statements ≡ s
     → position_of (site_names c.sites) s.name ≡ None → length c.sites < 1000000
     → Spells tokens (tokens_behind passed (site_tokens s.name statements))
     → library c (with_tokens tokens behind) ≡ library (record c { sites = c.sites ++ s ∷ [] }) behind

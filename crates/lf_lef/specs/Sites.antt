@@ -1,11 +1,11 @@
 -- LEF SITE: SITE name, its statements, END name.
 use Rattle.std.specs.Prelude.{ℕ, pos, true, false, List, None, codes, unwrap_or, if◌then◌else◌}
 use Rattle.std.specs.Str.{bytes_eq}
-use Rattle.lf_units.specs.declared.area.Point.{Point}
+use Rattle.lf_units.specs.declared.geometry.Point.{Point}
 use Rattle.lf_orient.specs.declared.Symmetry.{Symmetry}
 use Rattle.lf_lex.specs.declared.fault.FaultNumber.TheVariants.{Unexpected}
 use Rattle.lf_lex.specs.Tokens.{Lexeme}
-use Rattle.lf_lex.specs.Reading.{◌>>=◌, Reader, Statement, Turn, taken, goes_on, ends, fault_at, token, is, word, keyword, end_name, to_semicolon, block, first_stands}
+use Rattle.lf_lex.specs.Reading.{◌>>=◌, Reader, Statement, Turn, taken, continues, finishes, fault_at, token, is, word, keyword, end_name, to_semicolon, block, first_counts}
 use Rattle.lf_floorplan.specs.declared.sites.Site.{Site}
 use Rattle.lf_lef.specs.declared.sites.SiteParts.{SiteParts}
 use Rattle.lf_lef.specs.Lengths.{size}
@@ -21,10 +21,10 @@ one_word l = do
 unfoldable pub symmetry_word : Statement Symmetry
 symmetry_word s l = do
   t ← token l
-  if is (codes ";") t.value then ends s t.rest
-      else if is (codes "X") t.value then goes_on (record s { x = true }) t.rest
-      else if is (codes "Y") t.value then goes_on (record s { y = true }) t.rest
-      else if is (codes "R90") t.value then goes_on s t.rest
+  if is (codes ";") t.value then finishes s t.rest
+      else if is (codes "X") t.value then continues (record s { x = true }) t.rest
+      else if is (codes "Y") t.value then continues (record s { y = true }) t.rest
+      else if is (codes "R90") t.value then continues s t.rest
       else fault_at Unexpected t.value.line
 
 abbrev pub no_symmetry : Symmetry
@@ -37,12 +37,12 @@ symmetry l = block symmetry_word no_symmetry l
 -- A statement of a site, after its first token: of CLASS, SYMMETRY and SIZE the first counts, and others are skipped.
 unfoldable pub site_statement_from : List ℕ → SiteParts → Lexeme → Reader (Turn SiteParts)
 site_statement_from name parts t l =
-    if is (codes "END") t then (end_name name l >>= λ stop. ends parts stop.rest)
-    else if is (codes "CLASS") t then (one_word l >>= λ class. goes_on (record parts { core = first_stands parts.core (bytes_eq class.value (codes "CORE")) }) class.rest)
-    else if is (codes "SYMMETRY") t then (symmetry l >>= λ s. goes_on (record parts { symmetry = first_stands parts.symmetry s.value }) s.rest)
-    else if is (codes "SIZE") t then (size l >>= λ s. goes_on (record parts { size = first_stands parts.size s.value }) s.rest)
-    else if is (codes ";") t then goes_on parts l
-    else (to_semicolon l >>= λ stop. goes_on parts stop.rest)
+    if is (codes "END") t then (end_name name l >>= λ stop. finishes parts stop.rest)
+    else if is (codes "CLASS") t then (one_word l >>= λ class. continues (record parts { core = first_counts parts.core (bytes_eq class.value (codes "CORE")) }) class.rest)
+    else if is (codes "SYMMETRY") t then (symmetry l >>= λ s. continues (record parts { symmetry = first_counts parts.symmetry s.value }) s.rest)
+    else if is (codes "SIZE") t then (size l >>= λ s. continues (record parts { size = first_counts parts.size s.value }) s.rest)
+    else if is (codes ";") t then continues parts l
+    else (to_semicolon l >>= λ stop. continues parts stop.rest)
 
 unfoldable pub site_statement : List ℕ → Statement SiteParts
 site_statement name parts l = do

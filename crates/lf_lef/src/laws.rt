@@ -10,11 +10,11 @@ ghost use Rattle.lf_lex.specs.Laws.{TakesTokens, ReadsAlike};
 ghost use Rattle.lf_lef.specs.Sites.{symmetry_word, site_statement, site_parts};
 ghost use Rattle.lf_lef.specs.Pins.{port_statement, pin_statement};
 ghost use Rattle.lf_lef.specs.Contents.{Contents, BeginsWith};
-ghost use Rattle.lf_lef.specs.Laws.{EndsBefore, SiteStands, PinStands, MacroStands};
+ghost use Rattle.lf_lef.specs.Laws.{EndsBefore, FirstSiteStatementsCount, FirstPinUseCounts, FirstMacroStatementsCount};
 ghost use Rattle.lf_lef.specs.Library.{statement, library};
 ghost use Rattle.lf_floorplan.specs.declared.sites.Site.{Site};
 ghost use Rattle.lf_floorplan.specs.declared.macros.Macro.{Macro};
-ghost use Rattle.lf_lef.specs.Printed.{PassesOver, ReadsSite, ReadsMacro};
+ghost use Rattle.lf_lef.specs.Printed.{SkipsStatements, ReadsSite, ReadsMacro};
 ghost use Rattle.lf_lef.specs.PrintedMacros.{MacroStatement, ReadsMacroOf};
 ghost use Rattle.lf_lef.specs.PrintedSites.{SiteStatement, ReadsSiteOf};
 ghost use Rattle.lf_lef.specs.Macros.{passed_statement, macro_statement, macro_parts};
@@ -46,18 +46,18 @@ pub fn nothing_behind_end_library_counts()
 /// name the first counts, in one text or several.
 pub fn first_of_each_kind_stands()
     ensures site { (name : List ℕ) (old new : SiteParts) (l m : Lexed)
-        → block (site_statement name) old l ≡ taken new m → SiteStands old new }
+        → block (site_statement name) old l ≡ taken new m → FirstSiteStatementsCount old new }
     ensures pin { (name : List ℕ) (old new : Pin) (l m : Lexed)
-        → block (pin_statement name) old l ≡ taken new m → PinStands old new }
+        → block (pin_statement name) old l ≡ taken new m → FirstPinUseCounts old new }
     ensures cell { (name : List ℕ) (old new : MacroParts) (l m : Lexed)
-        → block (macro_statement name) old l ≡ taken new m → MacroStands old new }
+        → block (macro_statement name) old l ≡ taken new m → FirstMacroStatementsCount old new }
     ensures text { (old new : Contents) (l m : Lexed)
         → library old l ≡ taken new m → BeginsWith old new }
 {}
 
 /// Statements that are skipped have no effect, however many there are.
 pub fn passed_over_statements_play_no_part()
-    ensures { (c : Contents) → PassesOver c }
+    ensures { (c : Contents) → SkipsStatements c }
 {}
 
 /// A printed SITE reads back, alone and after any skipped statements: with a CLASS, a SYMMETRY and a SIZE, and with any

@@ -2,11 +2,11 @@
 
 ghost use Rattle.std.specs.Prelude.{◌≡◌, Ok, IfOk, IfSome, IfErr, MatchResult};
 ghost use Rattle.lf_lex.specs.Tokens.{lexeme};
-ghost use Rattle.lf_lex.specs.Reading.{Reads, Fails, first_stands};
+ghost use Rattle.lf_lex.specs.Reading.{Reads, Fails, first_counts};
 ghost use Rattle.lf_lef.specs.Lengths as grammar;
 ghost use Rattle.lf_lef.specs.Lengths.{IsInRange, HasRange};
 
-use lf_lex::{FaultNumber, Lexer, ReadError, Token, fault_at, is, keyword, token};
+use lf_lex::{FaultNumber, Lexer, ReadError, Token, fault_at, is_token, keyword, token};
 use lf_units::{Point, read_fixed};
 
 /// The length that a token writes, in millionths of a micron; else BadNumber.
@@ -38,7 +38,7 @@ pub(crate) fn point_from(lexer: &mut Lexer, token: &Token) -> Result<Point, Read
         (grammar.point_from (lexeme token.now)) lexer.old lexer.new }
     ensures range { IfOk result (λ p. HasRange p) }
 {
-    if is(b"(", token) {
+    if is_token(b"(", token) {
         let x = micros(lexer)?;
         let y = micros(lexer)?;
         keyword(lexer, b")")?;
@@ -88,7 +88,7 @@ pub(crate) fn origin(lexer: &mut Lexer) -> Result<Point, ReadError>
 pub(crate) fn keep_first(first: &mut Option<Point>, point: Point)
     requires range { IfSome first.old (λ p. HasRange p) }
     requires point { HasRange point }
-    ensures first { first.new ≡ first_stands first.old point }
+    ensures first { first.new ≡ first_counts first.old point }
     ensures range { IfSome first.new (λ p. HasRange p) }
 {
     if first.is_none() {

@@ -6,20 +6,21 @@
 //!
 //! ```
 //! let mut library = Library::new(Global);
-//! read_lef(&mut library, W_LEF)?;
+//! read_lef(&mut library, DEMO_LEF)?;
 //! let inv = library.find_macro(b"INV"); // Some(0)
 //! ```
 #![tactic(auto)]
 
+mod built_in;
 mod laws;
 mod lengths;
 mod library;
 mod macros;
 mod pins;
-mod sample;
+mod read;
 mod sites;
-mod texts;
 
+pub use built_in::DEMO_LEF;
 pub use laws::{
     a_printed_macro_is_read_back, a_printed_site_is_read_back, first_of_each_kind_stands,
     nothing_behind_end_library_counts, passed_over_statements_play_no_part, statements_read_alike,
@@ -27,5 +28,4 @@ pub use laws::{
 };
 pub use lf_floorplan::{Macro, Site};
 pub use library::Library;
-pub use sample::W_LEF;
-pub use texts::read_lef;
+pub use read::read_lef;

@@ -12,7 +12,8 @@ use crate::pins::{Pin, rail_of, read_pin};
 use crate::sites::{no_point, symmetry};
 use lf_floorplan::Macro;
 use lf_lex::{
-    Block, Lexer, ReadError, Token, end_name, is, read_block, to_end, to_semicolon, token,
+    Block, Lexer, ReadError, Token, end_name, is_token, read_block, skip_to_end, skip_to_semicolon,
+    token,
 };
 use lf_orient::{Rail, Symmetry};
 use lf_units::{Name, Point, Sequence};
@@ -39,11 +40,11 @@ impl Block for PassedStatements {
     #[tactic(auto, unfolding(crate::specs::Macros::passed_statement))]
     fn turn(&self, lexer: &mut Lexer, _state: &mut ()) -> Result<bool, ReadError> {
         let token = token(lexer)?;
-        if is(b"END", &token) {
+        if is_token(b"END", &token) {
             return Ok(false);
         }
-        if !is(b";", &token) {
-            to_semicolon(lexer)?;
+        if !is_token(b";", &token) {
+            skip_to_semicolon(lexer)?;
         }
         Ok(true)
     }
@@ -51,15 +52,15 @@ impl Block for PassedStatements {
 
 /// A statement of a macro that is skipped, after its first token.
 #[tactic(auto, unfolding(crate::specs::Macros::passed_from))]
-fn passed_from(lexer: &mut Lexer, token: &Token) -> Result<(), ReadError>
+fn skip_from(lexer: &mut Lexer, token: &Token) -> Result<(), ReadError>
     ensures { ReadsOn (λ x. x) result (grammar.passed_from (lexeme token.now)) lexer.old lexer.new }
 {
-    if is(b"OBS", token) || is(b"DENSITY", token) {
+    if is_token(b"OBS", token) || is_token(b"DENSITY", token) {
         read_block(lexer, &PassedStatements, &mut ())
-    } else if is(b"TIMING", token) {
-        to_end(lexer, b"TIMING")
-    } else if !is(b";", token) {
-        to_semicolon(lexer)
+    } else if is_token(b"TIMING", token) {
+        skip_to_end(lexer, b"TIMING")
+    } else if !is_token(b";", token) {
+        skip_to_semicolon(lexer)
     } else {
         Ok(())
     }
@@ -79,24 +80,24 @@ fn macro_statement_from(
         (grammar.macro_statement_from name.now parts.old (lexeme token.now)) lexer.old lexer.new }
     ensures range { HasRanges parts.new.size parts.new.origin }
 {
-    if is(b"END", token) {
+    if is_token(b"END", token) {
         end_name(lexer, name)?;
         return Ok(false);
     }
-    if is(b"ORIGIN", token) {
+    if is_token(b"ORIGIN", token) {
         let origin = origin(lexer)?;
         keep_first(&mut parts.origin, origin);
-    } else if is(b"SIZE", token) {
+    } else if is_token(b"SIZE", token) {
         let size = size(lexer)?;
         keep_first(&mut parts.size, size);
-    } else if is(b"SYMMETRY", token) {
+    } else if is_token(b"SYMMETRY", token) {
         let symmetry = symmetry(lexer)?;
         parts.symmetry = parts.symmetry.or(Some(symmetry));
-    } else if is(b"PIN", token) {
+    } else if is_token(b"PIN", token) {
         let pin = read_pin(alloc, lexer)?;
         parts.pins.push(pin)?;
     } else {
-        passed_from(lexer, token)?;
+        skip_from(lexer, token)?;
     }
     Ok(true)
 }

@@ -8,7 +8,9 @@ ghost use Rattle.lf_lef.specs.Pins as grammar;
 
 use crate::lengths::{micros, point, point_from};
 use crate::sites::one_word;
-use lf_lex::{Block, Lexer, ReadError, Token, end_name, is, name, read_block, to_semicolon, token};
+use lf_lex::{
+    Block, Lexer, ReadError, Token, end_name, is_token, name, read_block, skip_to_semicolon, token,
+};
 use lf_orient::Rail;
 use lf_units::Sequence;
 use std::alloc::Global;
@@ -39,7 +41,7 @@ pub struct Pin {
 fn past_mask<'a>(lexer: &mut Lexer<'a>, first: Token<'a>) -> Result<Token<'a>, ReadError>
     ensures { ReadsOn lexeme result (grammar.past_mask (lexeme first.entry)) lexer.old lexer.new }
 {
-    if !is(b"MASK", &first) {
+    if !is_token(b"MASK", &first) {
         return Ok(first);
     }
     micros(lexer)?;
@@ -51,7 +53,7 @@ fn past_iterate<'a>(lexer: &mut Lexer<'a>, first: Token<'a>) -> Result<Token<'a>
     ensures { ReadsOn lexeme result
         (grammar.past_iterate (lexeme first.entry)) lexer.old lexer.new }
 {
-    if !is(b"ITERATE", &first) {
+    if !is_token(b"ITERATE", &first) {
         return Ok(first);
     }
     token(lexer)
@@ -77,7 +79,7 @@ fn rect(lexer: &mut Lexer) -> Result<Reach, ReadError>
     let first = past_iterate(lexer, first)?;
     let corner = point_from(lexer, &first)?;
     let opposite = point(lexer)?;
-    to_semicolon(lexer)?;
+    skip_to_semicolon(lexer)?;
     Ok(reach_of(corner.y, opposite.y))
 }
 
@@ -91,14 +93,14 @@ fn port_statement_from(
     ensures { ReadsOn (turn reaches.new) result
         (grammar.port_statement_from reaches.old (lexeme token.now)) lexer.old lexer.new }
 {
-    if is(b"END", token) {
+    if is_token(b"END", token) {
         return Ok(false);
     }
-    if is(b"RECT", token) {
+    if is_token(b"RECT", token) {
         let reach = rect(lexer)?;
         reaches.push(reach)?;
-    } else if !is(b";", token) {
-        to_semicolon(lexer)?;
+    } else if !is_token(b";", token) {
+        skip_to_semicolon(lexer)?;
     }
     Ok(true)
 }
@@ -143,17 +145,17 @@ fn pin_statement_from(
     ensures { ReadsOn (turn pin.new) result
         (grammar.pin_statement_from name.now pin.old (lexeme token.now)) lexer.old lexer.new }
 {
-    if is(b"END", token) {
+    if is_token(b"END", token) {
         end_name(lexer, name)?;
         return Ok(false);
     }
-    if is(b"USE", token) {
+    if is_token(b"USE", token) {
         let word = one_word(lexer)?;
         pin.supply = pin.supply.or(Some(use_named(word)));
-    } else if is(b"PORT", token) {
+    } else if is_token(b"PORT", token) {
         read_block(lexer, &PortStatements, &mut pin.reaches)?;
-    } else if !is(b";", token) {
-        to_semicolon(lexer)?;
+    } else if !is_token(b";", token) {
+        skip_to_semicolon(lexer)?;
     }
     Ok(true)
 }

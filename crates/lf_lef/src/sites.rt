@@ -9,8 +9,8 @@ ghost use Rattle.lf_lef.specs.Sites as grammar;
 use crate::lengths::{keep_first, size};
 use lf_floorplan::Site;
 use lf_lex::{
-    Block, FaultNumber, Lexer, ReadError, Token, end_name, fault_at, is, keyword, read_block,
-    to_semicolon, token, word,
+    Block, FaultNumber, Lexer, ReadError, Token, end_name, fault_at, is_token, keyword, read_block,
+    skip_to_semicolon, token, word,
 };
 use lf_orient::Symmetry;
 use lf_units::{Name, Point};
@@ -45,14 +45,14 @@ impl Block for SymmetryWords {
     #[tactic(auto, unfolding(crate::specs::Sites::symmetry_word))]
     fn turn(&self, lexer: &mut Lexer, symmetry: &mut Symmetry) -> Result<bool, ReadError> {
         let token = token(lexer)?;
-        if is(b";", &token) {
+        if is_token(b";", &token) {
             return Ok(false);
         }
-        if is(b"X", &token) {
+        if is_token(b"X", &token) {
             symmetry.x = true;
-        } else if is(b"Y", &token) {
+        } else if is_token(b"Y", &token) {
             symmetry.y = true;
-        } else if !is(b"R90", &token) {
+        } else if !is_token(b"R90", &token) {
             return Err(fault_at(FaultNumber::Unexpected, token.line));
         }
         Ok(true)
@@ -81,21 +81,21 @@ fn site_statement_from(
         (grammar.site_statement_from name.now parts.old (lexeme token.now)) lexer.old lexer.new }
     ensures range { IfSome parts.new.size (λ p. HasRange p) }
 {
-    if is(b"END", token) {
+    if is_token(b"END", token) {
         end_name(lexer, name)?;
         return Ok(false);
     }
-    if is(b"CLASS", token) {
+    if is_token(b"CLASS", token) {
         let class = one_word(lexer)?;
         parts.core = parts.core.or(Some(class == b"CORE".as_slice()));
-    } else if is(b"SYMMETRY", token) {
+    } else if is_token(b"SYMMETRY", token) {
         let symmetry = symmetry(lexer)?;
         parts.symmetry = parts.symmetry.or(Some(symmetry));
-    } else if is(b"SIZE", token) {
+    } else if is_token(b"SIZE", token) {
         let size = size(lexer)?;
         keep_first(&mut parts.size, size);
-    } else if !is(b";", token) {
-        to_semicolon(lexer)?;
+    } else if !is_token(b";", token) {
+        skip_to_semicolon(lexer)?;
     }
     Ok(true)
 }

@@ -6,7 +6,7 @@ use Rattle.std.proofs.lemmas.List.{drop_more}
 use Rattle.std.proofs.lemmas.Option.{slice_get-get_or}
 use Rattle.lf_floorplan.specs.declared.frame.Frame.{Frame}
 use Rattle.lf_rtree.specs.declared.placed.Placed.{Placed}
-use Rattle.lf_rules.specs.Choice.{Spot, spot_of}
+use Rattle.lf_rules.specs.Choice.{SpotPlace, spot_of}
 use Rattle.lf_rules.specs.Team.{box_in, with_box, boxes_from}
 use Rattle.lf_cells.specs.declared.cell.Cell.{Cell}
 use Rattle.lf_legalize.specs.Members.{member_of}
@@ -16,7 +16,7 @@ use Rattle.lf_legalize.specs.Others.{beside_one}
 abbrev pub beside_from : Frame → ℕ → ℕ → List Cell → List Placed
 beside_from f own n cells = filter (λ p. not (eqb p.own own)) (boxes_from f n (map member_of cells))
 
-with_rest : (f : Frame) (own n mac : ℕ) (p : Option Spot) (rest : List Placed)
+with_rest : (f : Frame) (own n mac : ℕ) (p : Option SpotPlace) (rest : List Placed)
     → filter (λ (b : Placed). not (eqb b.own own)) (with_box f n mac p rest)
     ≡ filter (λ (b : Placed). not (eqb b.own own)) (with_box f n mac p []) ++ filter (λ (b : Placed). not (eqb b.own own)) rest
 with_rest f own n mac None rest = refl

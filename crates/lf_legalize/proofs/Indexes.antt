@@ -3,8 +3,8 @@
 use Rattle.std.proofs.Common.{◌≡◌, inl, inr, ℕ, ℤ, pos, negsuc, ◌+◌, ◌≤◌, ◌+ℤ◌, ◌-ℤ◌, ◌≤ℤ◌, ◌<ℤ◌, arith, sym, ap, ◌∙◌, subst, Option, Some, None, get_or}
 use Rattle.std.specs.Prelude.{unsigned_abs}
 use Rattle.std.proofs.lemmas.Int.{ints}
-use Rattle.lf_units.specs.declared.area.Point.{Point}
-use Rattle.lf_units.specs.declared.area.Rect.{Rect}
+use Rattle.lf_units.specs.declared.geometry.Point.{Point}
+use Rattle.lf_units.specs.declared.geometry.Rect.{Rect}
 use Rattle.lf_floorplan.specs.declared.frame.Frame.{Frame}
 use Rattle.lf_floorplan.specs.declared.parts.Row.{Row}
 use Rattle.lf_floorplan.specs.Bounds.{IsNearDefRect}
@@ -15,7 +15,7 @@ use Rattle.lf_floorplan.specs.Standing.{IsBottomRow, IsSitesHigh}
 use Rattle.lf_floorplan.proofs.SizeBounds.{IsSmall, small_pitch, turned_small, sized_pitch}
 use Rattle.lf_rules.specs.declared.rule.Rule.TheVariants.{Height, Row as RowRule}
 use Rattle.lf_rules.specs.Legality.{Holds}
-use Rattle.lf_rules.specs.Choice.{Spot, Lifted, IsLegalAt, MayGo, IsChoice, Precedes, distance, trial_at}
+use Rattle.lf_rules.specs.Choice.{SpotPlace, PlacementQuery, IsLegalAt, IsAllowedPlace, IsChoice, Precedes, distance, candidate_at}
 use Rattle.lf_rules.proofs.SiteLemmas.{legal_upright}
 use Rattle.lf_segments.specs.Grounds.{IsInside, IsExtentOf}
 use Rattle.lf_legalize.specs.Extents.{IsNearestPoint, IsNearDefPoint, IsWithin}
@@ -23,13 +23,13 @@ use Rattle.lf_legalize.specs.Indexes.{IsHeightOf}
 use Rattle.lf_legalize.proofs.Rounds.{upright_size}
 
 -- the point lies in the rectangle, or at its right or upper edge
-pub record LiesIn (extent : Rect) (p : Spot) : Type 0 where
+pub record LiesIn (extent : Rect) (p : SpotPlace) : Type 0 where
   pub left : extent.x1 ≤ℤ p.x
   pub right : p.x ≤ℤ extent.x2
   pub lower : extent.y1 ≤ℤ p.y
   pub upper : p.y ≤ℤ extent.y2
 
-row_inside : (f : Frame) (size : Point) (extent : Rect) (p : Spot) (r : Row) → IsSmall size → pos 0 <ℤ f.pitch.y → IsBottomRow f (box_at size p.x p.y) r →
+row_inside : (f : Frame) (size : Point) (extent : Rect) (p : SpotPlace) (r : Row) → IsSmall size → pos 0 <ℤ f.pitch.y → IsBottomRow f (box_at size p.x p.y) r →
     IsInside (row_area f.pitch r) extent → LiesIn extent p
 row_inside f size extent p r small high bottom inside =
     let level = bottom.at_bottom.at_level in
@@ -41,9 +41,9 @@ row_inside f size extent p r small high bottom inside =
     }
 
 -- a legal place lies in the extent of the rows
-pub lies_in : (cell : Lifted) (extent : Rect) (p : Spot) → IsSized cell.frame cell.mac → IsExtentOf cell.frame extent → IsLegalAt cell p → LiesIn extent p
+pub lies_in : (cell : PlacementQuery) (extent : Rect) (p : SpotPlace) → IsSized cell.frame cell.mac → IsExtentOf cell.frame extent → IsLegalAt cell p → LiesIn extent p
 lies_in cell extent p sized of legal =
-    let held : Holds (trial_at cell p) RowRule = legal RowRule in
+    let held : Holds (candidate_at cell p) RowRule = legal RowRule in
     let bottom = held.1 in
     let small : IsSmall (turned (size_of cell.frame cell.mac) p.orient) = turned_small _ _ (small_pitch _ _ _ (sized_pitch _ _ sized)) in
     let inside : IsInside (row_area cell.frame.pitch (get_or cell.frame.rows bottom.heeded.0 held.0)) extent = of.rows bottom.heeded.0 held.0 bottom.heeded.1 in
@@ -58,7 +58,7 @@ abs_under (pos m) (negsuc n) a b = omega (arith, ints)
 abs_under (negsuc m) (negsuc n) a b = omega (arith, ints)
 
 -- no legal place is farther from a point of the extent than its corners are apart
-pub within_extent : (extent : Rect) (target near : Point) (p : Spot) (farthest : ℕ) → IsNearestPoint extent target near →
+pub within_extent : (extent : Rect) (target near : Point) (p : SpotPlace) (farthest : ℕ) → IsNearestPoint extent target near →
     farthest ≡ unsigned_abs (extent.x2 -ℤ extent.x1) + unsigned_abs (extent.y2 -ℤ extent.y1) → LiesIn extent p → IsWithin near farthest p
 within_extent extent target near p farthest of is lies =
     let x : unsigned_abs (p.x -ℤ near.x) ≤ unsigned_abs (extent.x2 -ℤ extent.x1) =
@@ -89,7 +89,7 @@ nearest_near extent target near range of = record {
 abbrev farther : Point → Point → ℕ
 farther target near = unsigned_abs (near.x -ℤ target.x) + unsigned_abs (near.y -ℤ target.y)
 
-distance_splits : (extent : Rect) (target near : Point) (p : Spot) → IsNearestPoint extent target near → LiesIn extent p →
+distance_splits : (extent : Rect) (target near : Point) (p : SpotPlace) → IsNearestPoint extent target near → LiesIn extent p →
     distance target p ≡ distance near p + farther target near
 distance_splits extent target near p of lies =
     let x : unsigned_abs (p.x -ℤ target.x) ≡ unsigned_abs (p.x -ℤ near.x) + unsigned_abs (near.x -ℤ target.x) = of.across.apart p.x lies.left lies.right in
@@ -97,14 +97,14 @@ distance_splits extent target near p of lies =
     omega (arith, x, y)
 
 -- what precedes for the nearest point of the extent precedes for the target
-same_order : (target near : Point) (p q : Spot) (more : ℕ) → distance target p ≡ distance near p + more → distance target q ≡ distance near q + more →
+same_order : (target near : Point) (p q : SpotPlace) (more : ℕ) → distance target p ≡ distance near p + more → distance target q ≡ distance near q + more →
     Precedes near p q → Precedes target p q
 same_order target near p q more d e (inl less) = inl (omega (arith, d, e, less))
 same_order target near p q more d e (inr same) = inr (d ∙ ap (λ (n : ℕ). n + more) same.0 ∙ sym e, same.1)
 
 -- the choice for the nearest point of the extent is that for the target
-pub choice_for : (cell : Lifted) (extent : Rect) (target near : Point) (found : Option Spot) → IsNearestPoint extent target near →
-    ((p : Spot) → MayGo cell p → LiesIn extent p) → IsChoice cell near found → IsChoice cell target found
+pub choice_for : (cell : PlacementQuery) (extent : Rect) (target near : Point) (found : Option SpotPlace) → IsNearestPoint extent target near →
+    ((p : SpotPlace) → IsAllowedPlace cell p → LiesIn extent p) → IsChoice cell near found → IsChoice cell target found
 choice_for cell extent target near None of all choice = choice
 choice_for cell extent target near (Some b) of all choice = record {
   may_go = choice.may_go;
@@ -116,9 +116,9 @@ choice_for cell extent target near (Some b) of all choice = record {
 }
 
 -- where the macro is not from 1 to 8 core sites high no place is legal
-pub none_legal : (cell : Lifted) (p : Spot) → ((k : ℕ) → IsHeightOf cell.frame cell.mac k → ⊥) → IsLegalAt cell p → ⊥
+pub none_legal : (cell : PlacementQuery) (p : SpotPlace) → ((k : ℕ) → IsHeightOf cell.frame cell.mac k → ⊥) → IsLegalAt cell p → ⊥
 none_legal cell p none legal =
-    let held : Holds (trial_at cell p) Height = legal Height in
+    let held : Holds (candidate_at cell p) Height = legal Height in
     let upright : turned (size_of cell.frame cell.mac) p.orient ≡ size_of cell.frame cell.mac = upright_size _ p.orient (legal_upright cell p legal) in
     let sites : IsSitesHigh cell.frame (box_at (size_of cell.frame cell.mac) p.x p.y) held.0 =
     subst (λ (z : Point). IsSitesHigh cell.frame (box_at z p.x p.y) held.0) upright held.1 in

@@ -10,7 +10,7 @@ use Rattle.std.proofs.lemmas.List.Kept.{AllPairs-cons}
 use Rattle.lf_units.proofs.Any.{any_mapped}
 use Rattle.lf_orient.specs.Orientation.{rail_below}
 use Rattle.lf_spans.specs.declared.span.Span.{Span}
-use Rattle.lf_spans.specs.Spans.{Holds, IsFilled, IsRising, LiesIn, LiesInOne}
+use Rattle.lf_spans.specs.Spans.{Holds, IsFilled, IsRising, LiesIn, LiesInOneOf}
 use Rattle.lf_spans.proofs.Anys.{any_nil, any_head, any_tail, any_left, any_split, any_weaker}
 use Rattle.lf_spans.proofs.Edges.{rising_nil, rising_tail, rising_after}
 use Rattle.lf_floorplan.specs.declared.frame.Frame.{Frame}
@@ -22,11 +22,11 @@ use Rattle.lf_segments.specs.Segments.{IsCut, IsOf, IsOpen, IsSegment, LiesInSeg
 use Rattle.lf_cells.specs.declared.cell.CellId.{CellId}
 use Rattle.lf_segments.specs.declared.strip.Strip.{Strip}
 use Rattle.lf_occupancy.specs.Occupied.{Occupied, IsFreeOver, IsStripOf}
-use Rattle.lf_segments.specs.Grounds.{IsGroundOf}
+use Rattle.lf_segments.specs.Grounds.{IsIndexOf}
 use Rattle.lf_segments.specs.Strips.{strip_of}
 use Rattle.lf_legalize.specs.declared.row_search.RowSearch.{RowSearch}
 use Rattle.lf_legalize.specs.RowSearches.{padding_in}
-use Rattle.lf_legalize.specs.Levels.{AddsRow, AreFreeOn, AreLevels, HasBareLevel, IsFreeOnOne, IsFreeOnRow, IsLevel, IsLevelRow, IsOpenInRow, IsRailed}
+use Rattle.lf_legalize.specs.Levels.{AddsRow, AreFreeOn, AreLevels, HasBareLevel, IsFreeOnOne, IsFreeOnRow, IsLevel, IsLevelRow, AreOpenInRow, IsRailed}
 
 -- ---- lists of spans
 
@@ -49,7 +49,7 @@ any_right P [] ys a = a
 any_right P (x ∷ xs) ys a = any_tail P x (xs ++ ys) (any_right P xs ys a)
 
 -- a span of a list lies in one of the list
-pub own_one : (xs : List Span) (k : ℕ) (d : Span) → k < length xs → LiesInOne xs (get_or xs k d)
+pub own_one : (xs : List Span) (k : ℕ) (d : Span) → k < length xs → LiesInOneOf xs (get_or xs k d)
 own_one [] k d within = absurd (omega (arith, within))
 own_one (x ∷ xs) zero d within = any_head (λ t. LiesIn x t) x xs (λ y h. h)
 own_one (x ∷ xs) (suc k) d within = any_tail (λ t. LiesIn (get_or xs k d) t) x xs (own_one xs k d (omega (arith, within)))
@@ -74,7 +74,7 @@ segment_of_strip f o id padding n s segments a =
     (λ g both. (record { in_row = both.0.in_row; of_team = both.0.of_team }, both.1.within))
     segments (any_mapped (strip_of f) (λ g. IsStripOf n id.team g × IsFreeOver o id padding g s) segments a)
 
-pub lies_in_segment : (f : Frame) (o : Occupied) (id : CellId) (window : Span) (padding : ℤ) (n : ℕ) (s : Span) → IsGroundOf f o.index →
+pub lies_in_segment : (f : Frame) (o : Occupied) (id : CellId) (window : Span) (padding : ℤ) (n : ℕ) (s : Span) → IsIndexOf f o.index →
     IsFreeOnRow o id window padding n s → LiesInSegment o.index.segments n id.team s
 lies_in_segment f o id window padding n s h free =
     segment_of_strip f o id padding n s o.index.segments
@@ -87,7 +87,7 @@ number_known f segments n team s cut (k, g, below, is, both) =
     let within : g.row < length f.rows = known.row_known in
     omega (arith, same, within)
 
-pub open_over : (f : Frame) (o : Occupied) (id : CellId) (window : Span) (padding : ℤ) (n : ℕ) (s : Span) → IsGroundOf f o.index → IsFilled s →
+pub open_over : (f : Frame) (o : Occupied) (id : CellId) (window : Span) (padding : ℤ) (n : ℕ) (s : Span) → IsIndexOf f o.index → IsFilled s →
     IsFreeOnRow o id window padding n s → IsOpenOver f id.team n s
 open_over f o id window padding n s h filled free =
     let lies = lies_in_segment f o id window padding n s h free in
@@ -101,7 +101,7 @@ pub record IsOverRow (f : Frame) (n : ℕ) (s : Span) : Type 0 where
   pub left : row.x ≤ℤ s.lo
   pub right : s.hi ≤ℤ (row_area f.pitch row).x2
 
-pub over_row : (f : Frame) (o : Occupied) (id : CellId) (window : Span) (padding : ℤ) (n : ℕ) (s : Span) → IsGroundOf f o.index → IsFilled s →
+pub over_row : (f : Frame) (o : Occupied) (id : CellId) (window : Span) (padding : ℤ) (n : ℕ) (s : Span) → IsIndexOf f o.index → IsFilled s →
     IsFreeOnRow o id window padding n s → IsOverRow f n s
 over_row f o id window padding n s h filled free =
     let there = open_over f o id window padding n s h filled free in
@@ -131,7 +131,7 @@ free_as First Second o id window padding xs same free = record {
   );
 }
 
-spans_left : (First Second : ℕ → Type 0) (f : Frame) (o : Occupied) (id : CellId) (window : Span) (padding : ℤ) (xs ys : List Span) → IsGroundOf f o.index →
+spans_left : (First Second : ℕ → Type 0) (f : Frame) (o : Occupied) (id : CellId) (window : Span) (padding : ℤ) (xs ys : List Span) → IsIndexOf f o.index →
     LieLeft f First Second → AreFreeOn First o id window padding xs → AreFreeOn Second o id window padding ys → All (λ x. All (λ y. x.hi ≤ℤ y.lo) ys) xs
 spans_left First Second f o id window padding xs ys h left first second i d below j e under =
     let x = get_or xs i d in
@@ -145,7 +145,7 @@ spans_left First Second f o id window padding xs ys h left first second i d belo
     let to = b.left in
     omega (arith, ints, between, from, to)
 
-pub free_append : (First Second : ℕ → Type 0) (f : Frame) (o : Occupied) (id : CellId) (window : Span) (padding : ℤ) (xs ys : List Span) → IsGroundOf f o.index →
+pub free_append : (First Second : ℕ → Type 0) (f : Frame) (o : Occupied) (id : CellId) (window : Span) (padding : ℤ) (xs ys : List Span) → IsIndexOf f o.index →
     LieLeft f First Second → AreFreeOn First o id window padding xs → AreFreeOn Second o id window padding ys →
     AreFreeOn (λ n. First n ⊎ Second n) o id window padding (xs ++ ys)
 free_append First Second f o id window padding xs ys h left first second = record {
@@ -171,7 +171,7 @@ free_none Rows o id window padding none = record {
 -- ---- one row
 
 pub free_row : (Rows : ℕ → Type 0) (o : Occupied) (id : CellId) (window : Span) (padding : ℤ) (n : ℕ) (xs : List Span) → Rows n → ((m : ℕ) → Rows m → m ≡ n) →
-    IsOpenInRow o n id window padding xs → AreFreeOn Rows o id window padding xs
+    AreOpenInRow o n id window padding xs → AreFreeOn Rows o id window padding xs
 free_row Rows o id window padding n xs this only free = record {
   rising = free.rising;
   exact = λ s filled. (
@@ -200,7 +200,7 @@ adds_none s bottom j n window old r stands not = record {
 }
 
 pub adds_row : (s : RowSearch) (bottom : Row) (j n : ℕ) (window : Span) (old new xs : List Span) (r : Row) → slice_get s.frame.now.rows n ≡ Some r →
-    rail_below r.orient ≡ option_map (changed j) (rail_below bottom.orient) → IsOpenInRow s.occupancy.now n s.id window (padding_in s) xs → new ≡ old ++ xs →
+    rail_below r.orient ≡ option_map (changed j) (rail_below bottom.orient) → AreOpenInRow s.occupancy.now n s.id window (padding_in s) xs → new ≡ old ++ xs →
     AddsRow s bottom j n window old new
 adds_row s bottom j n window old new xs r stands rail free is = record {
   added = xs;
@@ -212,7 +212,7 @@ adds_row s bottom j n window old new xs r stands rail free is = record {
 -- ---- all levels
 
 pub level_bottom : (s : RowSearch) (own : ℕ) (bottom : Row) (window : Span) (j : ℕ) (xs : List Span) → j ≡ 0 →
-    IsOpenInRow s.occupancy.now own s.id window (padding_in s) xs → IsLevel s own bottom window j xs
+    AreOpenInRow s.occupancy.now own s.id window (padding_in s) xs → IsLevel s own bottom window j xs
 level_bottom s own bottom window zero xs none free =
     free_row (λ n. n ≡ own) s.occupancy.now s.id window (padding_in s) own xs refl (λ m p. p) free
 level_bottom s own bottom window (suc j) xs none free = absurd (omega (arith, none))
@@ -262,7 +262,7 @@ levels_next s own bottom window count old new v is free so_far =
 -- ---- a cell of one row
 
 pub one_level : (s : RowSearch) (own : ℕ) (bottom : Row) (window : Span) (xs : List Span) → s.height ≡ 1 →
-    IsOpenInRow s.occupancy.now own s.id window (padding_in s) xs → AreLevels s own bottom window s.height (xs ∷ [])
+    AreOpenInRow s.occupancy.now own s.id window (padding_in s) xs → AreLevels s own bottom window s.height (xs ∷ [])
 one_level s own bottom window xs one free = record { number = sym one; each = λ j less. each j (omega (arith, less, one)) }
   where
     each : (j : ℕ) → j ≡ 0 → IsLevel s own bottom window j (get_or (xs ∷ []) j [])
@@ -270,7 +270,7 @@ one_level s own bottom window xs one free = record { number = sym one; each = λ
     each (suc j) is = absurd (omega (arith, is))
 
 pub bare_bottom : (s : RowSearch) (own : ℕ) (bottom : Row) (window : Span) (xs : List Span) → s.height ≡ 1 → length xs ≡ 0 →
-    IsOpenInRow s.occupancy.now own s.id window (padding_in s) xs → HasBareLevel s own bottom window
+    AreOpenInRow s.occupancy.now own s.id window (padding_in s) xs → HasBareLevel s own bottom window
 bare_bottom s own bottom window (x ∷ xs) one none free = absurd (omega (arith, none))
 bare_bottom s own bottom window [] one none free =
     record { level = 0; within = omega (arith, one); bare = level_bottom s own bottom window 0 [] refl free }

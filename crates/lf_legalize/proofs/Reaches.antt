@@ -3,7 +3,7 @@ use Rattle.std.proofs.Common.{◌≡◌, ◌⊎◌, inl, inr, ℕ, ℤ, pos, neg
 use Rattle.std.proofs.Common.{◌-ℤ◌, ◌≤ℤ◌, arith, refl, sym, ap, ◌∙◌, subst, Option, Some, None, slice_get, List}
 use Rattle.std.specs.Prelude.{unsigned_abs, IfSome}
 use Rattle.std.proofs.lemmas.Int.{ints}
-use Rattle.lf_units.specs.declared.area.Point.{Point}
+use Rattle.lf_units.specs.declared.geometry.Point.{Point}
 use Rattle.lf_spans.specs.declared.span.Span.{Span}
 use Rattle.lf_floorplan.specs.declared.frame.Frame.{Frame}
 use Rattle.lf_floorplan.specs.declared.parts.Row.{Row}
@@ -12,13 +12,13 @@ use Rattle.lf_floorplan.specs.Rows.{row_area}
 use Rattle.lf_floorplan.specs.Sizes.{box_at}
 use Rattle.lf_floorplan.specs.Standing.{IsBottomRow}
 use Rattle.lf_floorplan.proofs.SizeBounds.{IsSmall, small_pitch, sized_pitch}
-use Rattle.lf_rules.specs.Choice.{Spot, Lifted, MayGo, Precedes, distance}
-use Rattle.lf_rules.specs.Looking.{LooksAt, IsAsGood}
+use Rattle.lf_rules.specs.Choice.{SpotPlace, PlacementQuery, IsAllowedPlace, Precedes, distance}
+use Rattle.lf_rules.specs.Looking.{ScansPlaces, IsAsGood}
 use Rattle.lf_rules.proofs.Looking.{taken_first, taken, left}
 use Rattle.lf_rules.proofs.Order.{through}
 use Rattle.lf_segments.specs.declared.rows_by_y.RowEntry.{RowEntry}
 use Rattle.lf_segments.specs.RowsByY.{IsEntryOf}
-use Rattle.lf_legalize.specs.Extents.{IsWithin, IsOnRow, IsBetter, LooksNear, limit}
+use Rattle.lf_legalize.specs.Extents.{IsWithin, IsOnRow, IsBetter, ScansPlacesWithin, limit}
 use Rattle.lf_legalize.specs.RowSearches.{IsOnRowIn, IsBestAmong, IsChoiceAmong}
 use Rattle.lf_legalize.specs.declared.row_search.RowSearch.{RowSearch}
 
@@ -28,16 +28,16 @@ small_search s =
     subst (λ (size : Point). IsSmall size) (sym s.size_is) (small_pitch _ _ _ (sized_pitch s.frame.now (macro_of s.frame.now s.mac) s.sized))
 
 -- a place that is farther off does not come first
-far_is_worse : (target : Point) (p b : Spot) → distance target b < distance target p → Precedes target p b → ⊥
+far_is_worse : (target : Point) (p b : SpotPlace) → distance target b < distance target p → Precedes target p b → ⊥
 far_is_worse target p b far (inl a) = omega arith
 far_is_worse target p b far (inr a) = omega arith
 
-pub limit_below : (target : Point) (reach : ℕ) (best : Option Spot) → limit target reach best ≤ reach
+pub limit_below : (target : Point) (reach : ℕ) (best : Option SpotPlace) → limit target reach best ≤ reach
 limit_below target reach None = omega arith
 limit_below target reach (Some b) = omega arith
 
 -- a place beyond the limit is not better than the best so far
-beyond : (target : Point) (reach : ℕ) (best : Option Spot) (p : Spot) → IsWithin target reach p →
+beyond : (target : Point) (reach : ℕ) (best : Option SpotPlace) (p : SpotPlace) → IsWithin target reach p →
     limit target reach best < distance target p → IsAsGood target best p
 beyond target reach None p within far = absurd (omega arith)
 beyond target reach (Some b) p within far = far_is_worse target p b (omega arith)
@@ -50,12 +50,12 @@ same_row rows n r s a b = some_same (sym a ∙ b)
     some_same e = cc
 
 -- how far a place is from the target whose box stands on a row
-pub row_level : (f : Frame) (size : Point) (r : Row) (p : Spot) → IsBottomRow f (box_at size p.x p.y) r → p.y ≡ r.y
+pub row_level : (f : Frame) (size : Point) (r : Row) (p : SpotPlace) → IsBottomRow f (box_at size p.x p.y) r → p.y ≡ r.y
 row_level f size r p bottom = let level = bottom.at_bottom.at_level in omega (arith, ints, level)
 
 -- a row too far off along y is passed over
-pub row_passed : (f : Frame) (size : Point) (cell : Lifted) (target : Point) (reach : ℕ) (best : Option Spot) (e : RowEntry) → IsEntryOf f e →
-    limit target reach best < unsigned_abs (e.y -ℤ target.y) → LooksNear (IsOnRow f size e.row) cell target reach best best
+pub row_passed : (f : Frame) (size : Point) (cell : PlacementQuery) (target : Point) (reach : ℕ) (best : Option SpotPlace) (e : RowEntry) → IsEntryOf f e →
+    limit target reach best < unsigned_abs (e.y -ℤ target.y) → ScansPlacesWithin (IsOnRow f size e.row) cell target reach best best
 row_passed f size cell target reach best e known far = record {
   looked = record {
     may_go = λ h. h;
@@ -65,7 +65,7 @@ row_passed f size cell target reach best e known far = record {
   near = λ h. h;
 }
   where
-    high : (p : Spot) → IsOnRow f size e.row p → limit target reach best < distance target p
+    high : (p : SpotPlace) → IsOnRow f size e.row p → limit target reach best < distance target p
     high p on =
         let same : on.row ≡ known.row = same_row f.rows e.row on.row known.row on.there known.stands in
         let level : p.y ≡ on.row.y = row_level f size on.row p on.bottom in
@@ -82,7 +82,7 @@ abs_below (pos m) n h = omega (arith, ints)
 abs_below (negsuc m) n h = omega (arith, ints)
 
 -- a place of the row within the limit lies in the window
-in_window : (f : Frame) (size target : Point) (lim rise : ℕ) (y : ℤ) (w : Span) (r : Row) (p : Spot) →
+in_window : (f : Frame) (size target : Point) (lim rise : ℕ) (y : ℤ) (w : Span) (r : Row) (p : SpotPlace) →
     p.y ≡ y → rise ≡ unsigned_abs (y -ℤ target.y) → rise ≤ lim →
     w.lo ≡ target.x -ℤ pos (lim - rise) → w.hi ≡ (target.x +ℤ pos (lim - rise)) +ℤ size.x →
     distance target p ≤ lim → IsBottomRow f (box_at size p.x p.y) r → IsOnRowIn f size r w p
@@ -102,7 +102,7 @@ in_window f size target lim rise y w r p at is less lo hi within bottom = record
     right_of = let h = abs_above (p.x -ℤ target.x) (lim - rise) near in omega (arith, ints)
 
 -- a place of the window on a row is within the limit
-in_reach : (f : Frame) (size target : Point) (lim rise : ℕ) (y : ℤ) (w : Span) (r : Row) (p : Spot) →
+in_reach : (f : Frame) (size target : Point) (lim rise : ℕ) (y : ℤ) (w : Span) (r : Row) (p : SpotPlace) →
     p.y ≡ y → rise ≡ unsigned_abs (y -ℤ target.y) → rise ≤ lim →
     w.lo ≡ target.x -ℤ pos (lim - rise) → w.hi ≡ (target.x +ℤ pos (lim - rise)) +ℤ size.x →
     IsOnRowIn f size r w p → distance target p ≤ lim
@@ -118,18 +118,18 @@ in_reach f size target lim rise y w r p at is less lo hi on =
     abs_within (negsuc m) n a b = omega (arith, ints)
 
 -- the better of two is what is known after a look at the second
-pub better_looks : (cell : Lifted) (target : Point) (best new : Option Spot) (s : Spot) → MayGo cell s → IsBetter target best s new →
-    LooksAt (λ p. p ≡ s) cell target best new
+pub better_looks : (cell : PlacementQuery) (target : Point) (best new : Option SpotPlace) (s : SpotPlace) → IsAllowedPlace cell s → IsBetter target best s new →
+    ScansPlaces (λ p. p ≡ s) cell target best new
 better_looks cell target None new s may (inl take) = rw take.0 (taken_first cell target s may)
 better_looks cell target (Some b) new s may (inl take) = rw take.0 (taken cell target b s may take.1)
 better_looks cell target None new s may (inr keep) = absurd keep.1
 better_looks cell target (Some b) new s may (inr keep) = rw keep.0 (left cell target b s keep.1)
 
 -- what lies on a row and is within the reach lies in the window, or is beyond the limit
-split_row : (f : Frame) (size target : Point) (reach rise : ℕ) (best : Option Spot) (e : RowEntry) (known : IsEntryOf f e) (w : Span) →
+split_row : (f : Frame) (size target : Point) (reach rise : ℕ) (best : Option SpotPlace) (e : RowEntry) (known : IsEntryOf f e) (w : Span) →
     rise ≡ unsigned_abs (e.y -ℤ target.y) → rise ≤ limit target reach best →
     w.lo ≡ target.x -ℤ pos (limit target reach best - rise) → w.hi ≡ (target.x +ℤ pos (limit target reach best - rise)) +ℤ size.x →
-    (p : Spot) → IsWithin target reach p → IsOnRow f size e.row p → IsOnRowIn f size known.row w p ⊎ IsAsGood target best p
+    (p : SpotPlace) → IsWithin target reach p → IsOnRow f size e.row p → IsOnRowIn f size known.row w p ⊎ IsAsGood target best p
 split_row f size target reach rise best e known w is less lo hi p within on =
     let same : on.row ≡ known.row = same_row f.rows e.row on.row known.row on.there known.stands in
     let bottom : IsBottomRow f (box_at size p.x p.y) known.row = subst (λ (r : Row). IsBottomRow f (box_at size p.x p.y) r) same on.bottom in
@@ -141,11 +141,11 @@ split_row f size target reach rise best e known w is less lo hi p within on =
     ]
 
 -- a row was looked at, and nothing was found
-pub row_empty : (f : Frame) (size : Point) (cell : Lifted) (target : Point) (reach rise : ℕ) (best : Option Spot)
+pub row_empty : (f : Frame) (size : Point) (cell : PlacementQuery) (target : Point) (reach rise : ℕ) (best : Option SpotPlace)
     (e : RowEntry) (known : IsEntryOf f e) (w : Span) →
     rise ≡ unsigned_abs (e.y -ℤ target.y) → rise ≤ limit target reach best →
     w.lo ≡ target.x -ℤ pos (limit target reach best - rise) → w.hi ≡ (target.x +ℤ pos (limit target reach best - rise)) +ℤ size.x →
-    IsChoiceAmong (IsOnRowIn f size known.row w) cell target None → LooksNear (IsOnRow f size e.row) cell target reach best best
+    IsChoiceAmong (IsOnRowIn f size known.row w) cell target None → ScansPlacesWithin (IsOnRow f size e.row) cell target reach best best
 row_empty f size cell target reach rise best e known w is less lo hi none = record {
   looked = record {
     may_go = λ h. h;
@@ -156,22 +156,22 @@ row_empty f size cell target reach rise best e known w is less lo hi none = reco
 }
 
 -- what a place precedes is no better than what that place is not better than
-no_better : (target : Point) (new : Option Spot) (s p : Spot) → IsAsGood target new s → ((p ≡ s) ⊎ Precedes target s p) → IsAsGood target new p
+no_better : (target : Point) (new : Option SpotPlace) (s p : SpotPlace) → IsAsGood target new s → ((p ≡ s) ⊎ Precedes target s p) → IsAsGood target new p
 no_better target None s p good order = absurd good
-no_better target (Some b) s p good (inl same) = subst (λ (q : Spot). Precedes target q b → ⊥) (sym same) good
+no_better target (Some b) s p good (inl same) = subst (λ (q : SpotPlace). Precedes target q b → ⊥) (sym same) good
 no_better target (Some b) s p good (inr after) = λ before. good (through target s p b after before)
 
-better_near : (target : Point) (reach : ℕ) (best new : Option Spot) (s : Spot) → IsWithin target reach s → IsBetter target best s new →
+better_near : (target : Point) (reach : ℕ) (best new : Option SpotPlace) (s : SpotPlace) → IsWithin target reach s → IsBetter target best s new →
     IfSome best (IsWithin target reach) → IfSome new (IsWithin target reach)
 better_near target reach best new s within (inl take) near = rw take.0 within
 better_near target reach best new s within (inr keep) near = rw keep.0 near
 
 -- a row was looked at, and its best place was held against the best so far
-pub row_found : (f : Frame) (size : Point) (cell : Lifted) (target : Point) (reach rise : ℕ) (best new : Option Spot)
-    (e : RowEntry) (known : IsEntryOf f e) (w : Span) (s : Spot) →
+pub row_found : (f : Frame) (size : Point) (cell : PlacementQuery) (target : Point) (reach rise : ℕ) (best new : Option SpotPlace)
+    (e : RowEntry) (known : IsEntryOf f e) (w : Span) (s : SpotPlace) →
     rise ≡ unsigned_abs (e.y -ℤ target.y) → rise ≤ limit target reach best →
     w.lo ≡ target.x -ℤ pos (limit target reach best - rise) → w.hi ≡ (target.x +ℤ pos (limit target reach best - rise)) +ℤ size.x →
-    IsBestAmong (IsOnRowIn f size known.row w) cell target s → IsBetter target best s new → LooksNear (IsOnRow f size e.row) cell target reach best new
+    IsBestAmong (IsOnRowIn f size known.row w) cell target s → IsBetter target best s new → ScansPlacesWithin (IsOnRow f size e.row) cell target reach best new
 row_found f size cell target reach rise best new e known w s is less lo hi found better = record {
   looked = record {
     may_go = looks.may_go;
@@ -184,7 +184,7 @@ row_found f size cell target reach rise best new e known w s is less lo hi found
   near = better_near target reach best new s close better;
 }
   where
-    looks : LooksAt (λ p. p ≡ s) cell target best new
+    looks : ScansPlaces (λ p. p ≡ s) cell target best new
     looks = better_looks cell target best new s found.may_go better
 
     level : s.y ≡ e.y
@@ -198,7 +198,7 @@ row_found f size cell target reach rise best new e known w s is less lo hi found
         omega (arith, lim, within)
 
 -- a row left or right of the window has no place over it
-pub none_beside : (f : Frame) (size : Point) (r s : Row) (w : Span) (p : Spot) → IsSmall size → r ≡ s →
+pub none_beside : (f : Frame) (size : Point) (r s : Row) (w : Span) (p : SpotPlace) → IsSmall size → r ≡ s →
     ((row_area f.pitch s).x2 ≤ℤ w.lo) ⊎ (w.hi ≤ℤ s.x) → IsOnRowIn f size r w p → ⊥
 none_beside f size r s w p small same beside on =
     split (subst (λ (t : Row). ((row_area f.pitch t).x2 ≤ℤ w.lo) ⊎ (w.hi ≤ℤ t.x)) (sym same) beside)

@@ -7,7 +7,7 @@ use Rattle.std.proofs.lemmas.Int.{ints}
 use Rattle.std.proofs.lemmas.Option.{slice_get_read}
 use Rattle.std.proofs.lemmas.List.{get_or-append-add}
 use Rattle.std.proofs.Math.ListN.{get_or-append}
-use Rattle.lf_units.specs.declared.area.Point.{Point}
+use Rattle.lf_units.specs.declared.geometry.Point.{Point}
 use Rattle.lf_orient.specs.declared.Orient.{Orient}
 use Rattle.lf_floorplan.specs.declared.frame.Frame.{Frame}
 use Rattle.lf_floorplan.specs.declared.place.Place.{Place}
@@ -16,19 +16,19 @@ use Rattle.lf_floorplan.specs.Sizes.{box_at, turned}
 use Rattle.lf_floorplan.specs.Standing.{IsBottomRow}
 use Rattle.lf_rules.specs.declared.rule.Rule.TheVariants.{Row as RowRule}
 use Rattle.lf_rules.specs.Legality.{Holds}
-use Rattle.lf_rules.specs.Choice.{Spot, Lifted, IsLegalAt, MayGo, IsChoice, IsBest, distance, spot_of, trial_at}
+use Rattle.lf_rules.specs.Choice.{SpotPlace, PlacementQuery, IsLegalAt, IsAllowedPlace, IsChoice, IsBest, distance, spot_of, candidate_at}
 use Rattle.lf_rules.proofs.Looking.{onward}
 use Rattle.lf_rules.proofs.Order.{compared}
 use Rattle.lf_rules.proofs.SiteLemmas.{OneOfFour, legal_upright, rank_tells}
 use Rattle.lf_segments.specs.declared.rows_by_y.RowEntry.{RowEntry}
 use Rattle.lf_segments.specs.RowsByY.{IsRowsByY, IsRunBetween, RunBetweenHasRows}
-use Rattle.lf_legalize.specs.Extents.{IsWithin, IsOnRow, LooksNear}
-use Rattle.lf_legalize.specs.RowSearches.{IsBestAmong, IsChoiceAmong, lifted_in}
+use Rattle.lf_legalize.specs.Extents.{IsWithin, IsOnRow, ScansPlacesWithin}
+use Rattle.lf_legalize.specs.RowSearches.{IsBestAmong, IsChoiceAmong, query_of_search}
 use Rattle.lf_legalize.specs.declared.row_search.RowSearch.{RowSearch}
 use Rattle.lf_legalize.proofs.Reaches.{abs_above, abs_below, row_level}
 
 -- at this place a box of that size has the row of one of the first entries as its bottom row
-pub record IsOnEntries (f : Frame) (size : Point) (run : List RowEntry) (count : ℕ) (p : Spot) : Type 0 where
+pub record IsOnEntries (f : Frame) (size : Point) (run : List RowEntry) (count : ℕ) (p : SpotPlace) : Type 0 where
   pub place : ℕ
   pub entry : RowEntry
   pub within : place < count
@@ -36,17 +36,17 @@ pub record IsOnEntries (f : Frame) (size : Point) (run : List RowEntry) (count :
   pub on : IsOnRow f size entry.row p
 
 -- nothing was looked at so far
-pub no_entry : (f : Frame) (size : Point) (run : List RowEntry) (cell : Lifted) (target : Point) (reach : ℕ) →
-    LooksNear (IsOnEntries f size run 0) cell target reach None None
+pub no_entry : (f : Frame) (size : Point) (run : List RowEntry) (cell : PlacementQuery) (target : Point) (reach : ℕ) →
+    ScansPlacesWithin (IsOnEntries f size run 0) cell target reach None None
 no_entry f size run cell target reach = record {
   looked = record { may_go = λ h. h; kept = λ p h. h; seen = λ p s l. let within = s.1.within in absurd (omega arith) };
   near = λ h. h;
 }
 
 -- one more entry
-pub next_entry : (f : Frame) (size : Point) (run : List RowEntry) (n : ℕ) (e : RowEntry) (cell : Lifted) (target : Point) (reach : ℕ) (a b c : Option Spot) →
-    slice_get run n ≡ Some e → LooksNear (IsOnEntries f size run n) cell target reach a b → LooksNear (IsOnRow f size e.row) cell target reach b c →
-    LooksNear (IsOnEntries f size run (n + 1)) cell target reach a c
+pub next_entry : (f : Frame) (size : Point) (run : List RowEntry) (n : ℕ) (e : RowEntry) (cell : PlacementQuery) (target : Point) (reach : ℕ) (a b c : Option SpotPlace) →
+    slice_get run n ≡ Some e → ScansPlacesWithin (IsOnEntries f size run n) cell target reach a b → ScansPlacesWithin (IsOnRow f size e.row) cell target reach b c →
+    ScansPlacesWithin (IsOnEntries f size run (n + 1)) cell target reach a c
 next_entry f size run n e cell target reach a b c there first second = record {
   looked = onward (λ p. IsWithin target reach p × IsOnEntries f size run n p) (λ p. IsWithin target reach p × IsOnRow f size e.row p)
       (λ p. IsWithin target reach p × IsOnEntries f size run (n + 1) p) cell target a b c split first.looked second.looked;
@@ -56,7 +56,7 @@ next_entry f size run n e cell target reach a b c there first second = record {
     same_entry : {x y : RowEntry} → Some x ≡ Some y → x ≡ y
     same_entry is = cc
 
-    split : (p : Spot) → (IsWithin target reach p × IsOnEntries f size run (n + 1) p) → MayGo cell p →
+    split : (p : SpotPlace) → (IsWithin target reach p × IsOnEntries f size run (n + 1) p) → IsAllowedPlace cell p →
         (IsWithin target reach p × IsOnEntries f size run n p) ⊎ (IsWithin target reach p × IsOnRow f size e.row p)
     split p s may =
         let within = s.1.within in
@@ -84,11 +84,11 @@ upright_size size o (inr (inr (inl fn))) = rw fn refl
 upright_size size o (inr (inr (inr fs))) = rw fs refl
 
 -- a legal place has a row of the frame as its bottom row
-pub stands_on_row : (s : RowSearch) (p : Spot) → IsLegalAt (lifted_in s) p → (n : ℕ) × IsOnRow s.frame.now s.size n p
+pub stands_on_row : (s : RowSearch) (p : SpotPlace) → IsLegalAt (query_of_search s) p → (n : ℕ) × IsOnRow s.frame.now s.size n p
 stands_on_row s p legal =
-    let held : Holds (trial_at (lifted_in s) p) RowRule = legal RowRule in
+    let held : Holds (candidate_at (query_of_search s) p) RowRule = legal RowRule in
     let size : turned (size_of s.frame.now (macro_of s.frame.now s.mac)) p.orient ≡ s.size =
-    upright_size _ p.orient (legal_upright (lifted_in s) p legal) ∙ sym s.size_is in
+    upright_size _ p.orient (legal_upright (query_of_search s) p legal) ∙ sym s.size_is in
     let bottom : IsBottomRow s.frame.now (box_at s.size p.x p.y) held.0 =
     subst (λ (z : Point). IsBottomRow s.frame.now (box_at z p.x p.y) held.0) size held.1 in (
       bottom.heeded.0,
@@ -100,7 +100,7 @@ stands_on_row s p legal =
     )
 
 -- a place on the row of some entry
-on_any : (f : Frame) (size : Point) (run : List RowEntry) (n : ℕ) (p : Spot) → Any (λ e. e.row ≡ n) run → IsOnRow f size n p →
+on_any : (f : Frame) (size : Point) (run : List RowEntry) (n : ℕ) (p : SpotPlace) → Any (λ e. e.row ≡ n) run → IsOnRow f size n p →
     IsOnEntries f size run (length run) p
 on_any f size run n p any on = record {
   place = any.0;
@@ -113,7 +113,7 @@ on_any f size run n p any on = record {
 -- a legal place within the reach stands on a row of the run
 pub all_seen : (s : RowSearch) (run : List RowEntry) (reach : ℕ) (from to : ℤ) → RunBetweenHasRows → IsRowsByY s.frame.now s.occupancy.now.index.rows →
     IsRunBetween s.occupancy.now.index.rows from to run → from ≤ℤ (s.target.now.y -ℤ pos reach) → (s.target.now.y +ℤ pos reach) <ℤ to →
-    (p : Spot) → IsLegalAt (lifted_in s) p → IsWithin s.target.now reach p → IsOnEntries s.frame.now s.size run (length run) p
+    (p : SpotPlace) → IsLegalAt (query_of_search s) p → IsWithin s.target.now reach p → IsOnEntries s.frame.now s.size run (length run) p
 all_seen s run reach from to law rows between low high p legal within =
     let stands = stands_on_row s p legal in
     let on = stands.1 in
@@ -126,12 +126,12 @@ all_seen s run reach from to law rows between low high p legal within =
     on_any s.frame.now s.size run stands.0 p any on
 
 -- a look at all places within the reach where the cell may go finds the best of them
-pub chosen_near : (Seen : Spot → Type 0) (cell : Lifted) (target : Point) (reach : ℕ) (found : Option Spot) →
-    ((p : Spot) → MayGo cell p → IsWithin target reach p → Seen p) → LooksNear Seen cell target reach None found →
+pub chosen_near : (Seen : SpotPlace → Type 0) (cell : PlacementQuery) (target : Point) (reach : ℕ) (found : Option SpotPlace) →
+    ((p : SpotPlace) → IsAllowedPlace cell p → IsWithin target reach p → Seen p) → ScansPlacesWithin Seen cell target reach None found →
     IsChoiceAmong (IsWithin target reach) cell target found
 chosen_near Seen cell target reach None all looks = λ p within may. looks.looked.seen p (within, all p may within) may
 chosen_near Seen cell target reach (Some b) all looks =
-    let may : MayGo cell b = looks.looked.may_go tt in
+    let may : IsAllowedPlace cell b = looks.looked.may_go tt in
     record {
       seen = looks.near tt;
       may_go = may;
@@ -145,7 +145,7 @@ near_or_far : (m n : ℕ) → (m ≤ n) ⊎ (n < m)
 near_or_far m n = grind arith
 
 -- the best of the places within a reach is the best of all: the others are farther off
-pub best_of_all : (cell : Lifted) (target : Point) (reach : ℕ) (b : Spot) → IsBestAmong (IsWithin target reach) cell target b → IsBest cell target b
+pub best_of_all : (cell : PlacementQuery) (target : Point) (reach : ℕ) (b : SpotPlace) → IsBestAmong (IsWithin target reach) cell target b → IsBest cell target b
 best_of_all cell target reach b best = record {
   may_go = best.may_go;
   least = λ p may.
@@ -157,13 +157,13 @@ best_of_all cell target reach b best = record {
 }
 
 -- where all places where the cell may go are within the reach, the choice of those within it is the choice
-pub choice_of_all : (cell : Lifted) (target : Point) (reach : ℕ) (found : Option Spot) → ((p : Spot) → MayGo cell p → IsWithin target reach p) →
+pub choice_of_all : (cell : PlacementQuery) (target : Point) (reach : ℕ) (found : Option SpotPlace) → ((p : SpotPlace) → IsAllowedPlace cell p → IsWithin target reach p) →
     IsChoiceAmong (IsWithin target reach) cell target found → IsChoice cell target found
 choice_of_all cell target reach None all choice = λ p may. choice p (all p may) may
 choice_of_all cell target reach (Some b) all choice = best_of_all cell target reach b choice
 
 -- what was found within a reach is the choice
-pub choice_if_some : (cell : Lifted) (target : Point) (reach : ℕ) (found : Option Place) → is_some found ≡ true →
+pub choice_if_some : (cell : PlacementQuery) (target : Point) (reach : ℕ) (found : Option Place) → is_some found ≡ true →
     IsChoiceAmong (IsWithin target reach) cell target (option_map spot_of found) → IsChoice cell target (option_map spot_of found)
 choice_if_some cell target reach None some choice = absurd cc
 choice_if_some cell target reach (Some b) some choice = best_of_all cell target reach (spot_of b) choice

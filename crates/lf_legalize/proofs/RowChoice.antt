@@ -4,12 +4,12 @@ use Rattle.std.proofs.Common.{Vec, Global, length, get_or, map, slice_get, sym, 
 use Rattle.std.specs.Prelude.{All, Any, MatchOption, unsigned_abs}
 use Rattle.std.proofs.lemmas.Int.{ints}
 use Rattle.std.proofs.lemmas.List.{get_or-map, get_or_default, length-map}
-use Rattle.lf_units.specs.declared.area.Point.{Point}
+use Rattle.lf_units.specs.declared.geometry.Point.{Point}
 use Rattle.lf_orient.specs.declared.Orient.{Orient}
 use Rattle.lf_spans.specs.declared.span.Span.{Span}
-use Rattle.lf_spans.specs.Spans.{LiesIn, LiesInOne}
-use Rattle.lf_spans.specs.Grids.{FindsNearest, IsBounded, IsBoundedSpan, IsGrid, IsNearest, IsNoFarther, IsWithin, grid_of}
-use Rattle.lf_spans.specs.Steps.{In}
+use Rattle.lf_spans.specs.Spans.{LiesIn, LiesInOneOf}
+use Rattle.lf_spans.specs.Grids.{FindsNearest, IsBounded, IsBoundedSpan, IsGrid, IsNearest, IsNoFarther, LiesInSpanFrom, grid_of}
+use Rattle.lf_spans.specs.Steps.{ContainsSpan}
 use Rattle.lf_spans.proofs.Anys.{any_nil, any_weaker}
 use Rattle.lf_spans.proofs.Edges.{in_of_lies}
 use Rattle.lf_floorplan.specs.declared.parts.Row.{Row}
@@ -18,13 +18,13 @@ use Rattle.lf_floorplan.specs.Rows.{row_area}
 use Rattle.lf_floorplan.specs.Boxes.{macro_of, size_of}
 use Rattle.lf_floorplan.proofs.SizeBounds.{sized_pitch}
 use Rattle.lf_gaps.specs.Gaps.{FitsRows}
-use Rattle.lf_rules.specs.Choice.{Spot, MayGo, Precedes, distance, rank}
+use Rattle.lf_rules.specs.Choice.{SpotPlace, IsAllowedPlace, Precedes, distance, rank}
 use Rattle.lf_rules.proofs.Order.{same_spot}
 use Rattle.lf_rules.proofs.SiteLemmas.{one_of_four, rank_tells}
 use Rattle.lf_occupancy.specs.Floorplans.{IsOccupancyOf}
 use Rattle.lf_legalize.specs.declared.row_search.RowSearch.{RowSearch}
-use Rattle.lf_legalize.specs.RowSearches.{IsBestAmong, IsOnRowIn, lifted_in, padding_in}
-use Rattle.lf_legalize.specs.Levels.{AreLevels, HasBareLevel, IsFirstOrient, IsLevel, IsStandIn, MayStand}
+use Rattle.lf_legalize.specs.RowSearches.{IsBestAmong, IsOnRowIn, query_of_search, padding_in}
+use Rattle.lf_legalize.specs.Levels.{AreLevels, HasBareLevel, IsFirstOrient, IsLevel, IsEquivalentTarget, FitsRow}
 use Rattle.lf_legalize.proofs.LevelLemmas.{own_one, over_row}
 use Rattle.lf_legalize.proofs.RunLemmas.{heeded_at}
 use Rattle.lf_legalize.proofs.RowLegal.{filled, may_go_is_free, legal_may, legal_y, reach, wide}
@@ -98,7 +98,7 @@ fit_in_def s own bottom window lists x there occupied levels fits =
 -- ---- the nearest
 
 -- what is nearest to the number that stands in for the target is nearest to the target
-pub nearest_to_target : (Fit : ℤ → Type 0) (target near : ℤ) (found : Option ℤ) → IsStandIn target near → ((x : ℤ) → Fit x → IsDefNumber x) →
+pub nearest_to_target : (Fit : ℤ → Type 0) (target near : ℤ) (found : Option ℤ) → IsEquivalentTarget target near → ((x : ℤ) → Fit x → IsDefNumber x) →
     FindsNearest Fit near found → FindsNearest Fit target found
 nearest_to_target Fit target near None same def none = none
 nearest_to_target Fit target near (Some x) same def n = record {
@@ -106,10 +106,10 @@ nearest_to_target Fit target near (Some x) same def n = record {
   least = λ y g. same.same x y (def x n.fit) (def y g) (n.least y g);
 }
 
-within_of_lies : (s : RowSearch) (x : ℤ) (spans : List Span) → LiesInOne spans (reach s x) → Any (λ t. IsWithin t s.size.x x) spans
+within_of_lies : (s : RowSearch) (x : ℤ) (spans : List Span) → LiesInOneOf spans (reach s x) → Any (λ t. LiesInSpanFrom t s.size.x x) spans
 within_of_lies s x spans =
-    any_weaker (λ t. LiesIn (reach s x) t) (λ t. IsWithin t s.size.x x) (λ t lies.
-    let at : In (reach s x) t = in_of_lies (reach s x) t (filled s x) lies in
+    any_weaker (λ t. LiesIn (reach s x) t) (λ t. LiesInSpanFrom t s.size.x x) (λ t lies.
+    let at : ContainsSpan (reach s x) t = in_of_lies (reach s x) t (filled s x) lies in
     record { low = at.low; high = at.high }) spans
 
 on_grid_of : (s x o : ℤ) (site : ℕ) → pos 0 <ℤ s → x -ℤ o ≡ pos site *ℤ s → (x +ℤ (pos 0 *ℤ s)) ≡ (o +ℤ (pos site *ℤ s))
@@ -117,9 +117,9 @@ on_grid_of (pos n) x o site rising is = let none : 0 * n ≡ 0 = omega arith in 
 on_grid_of (negsuc n) x o site rising is = absurd (omega (arith, ints, rising))
 
 -- a place where the cell may go is among those that are looked at
-pub may_go_fits : (s : RowSearch) (own : ℕ) (bottom : Row) (window : Span) (lists : List (List Span)) (p : Spot) → slice_get s.frame.now.rows own ≡ Some bottom →
+pub may_go_fits : (s : RowSearch) (own : ℕ) (bottom : Row) (window : Span) (lists : List (List Span)) (p : SpotPlace) → slice_get s.frame.now.rows own ≡ Some bottom →
     IsOccupancyOf s.frame.now s.cells.now s.occupancy.now → AreLevels s own bottom window s.height lists → IsOnRowIn s.frame.now s.size bottom window p →
-    MayGo (lifted_in s) p → IsFit s bottom lists p.x
+    IsAllowedPlace (query_of_search s) p → IsFit s bottom lists p.x
 may_go_fits s own bottom window lists p there occupied levels on may = record {
   on_grid = record {
     left = 0;
@@ -129,7 +129,7 @@ may_go_fits s own bottom window lists p there occupied levels on may = record {
   within = λ k d inside.
       let known : length lists ≡ s.height = levels.number in
       let less : k < s.height = omega (arith, known, inside) in
-      subst (λ (spans : List Span). Any (λ t. IsWithin t s.size.x p.x) spans) (get_or_default lists k [] d inside)
+      subst (λ (spans : List Span). Any (λ t. LiesInSpanFrom t s.size.x p.x) spans) (get_or_default lists k [] d inside)
       (within_of_lies s p.x (get_or lists k [])
       (may_go_is_free s own bottom window p k (get_or lists k []) there occupied on may less (levels.each k less)));
 }
@@ -138,14 +138,14 @@ pub of_none : {X : Type 0} (P : Type 0) (Q : X → Type 0) (found : Option X) �
 of_none P Q None is h = h
 of_none P Q (Some x) is h = absurd cc
 
-pub none_bare : (s : RowSearch) (own : ℕ) (bottom : Row) (window : Span) (p : Spot) → slice_get s.frame.now.rows own ≡ Some bottom →
+pub none_bare : (s : RowSearch) (own : ℕ) (bottom : Row) (window : Span) (p : SpotPlace) → slice_get s.frame.now.rows own ≡ Some bottom →
     IsOccupancyOf s.frame.now s.cells.now s.occupancy.now → HasBareLevel s own bottom window → IsOnRowIn s.frame.now s.size bottom window p →
-    MayGo (lifted_in s) p → ⊥
+    IsAllowedPlace (query_of_search s) p → ⊥
 none_bare s own bottom window p there occupied bare on may =
     any_nil (λ t. LiesIn (reach s p.x) t) (may_go_is_free s own bottom window p bare.level [] there occupied on may bare.within bare.bare)
 
 -- of two places on one row the nearer one comes first, then the left one, then the one of lesser rank
-first_of : (target : Point) (a b : Spot) → a.y ≡ b.y → IsNoFarther target.x a.x b.x → (rank a.orient ≡ rank b.orient → a.orient ≡ b.orient) →
+first_of : (target : Point) (a b : SpotPlace) → a.y ≡ b.y → IsNoFarther target.x a.x b.x → (rank a.orient ≡ rank b.orient → a.orient ≡ b.orient) →
     rank a.orient ≤ rank b.orient → (b ≡ a) ⊎ Precedes target a b
 first_of target a b level (inl near) tells less =
     let same : unsigned_abs (a.y -ℤ target.y) ≡ unsigned_abs (b.y -ℤ target.y) = ap (λ (y : ℤ). unsigned_abs (y -ℤ target.y)) level in
@@ -173,14 +173,14 @@ first_of target a b level (inr (as_near, left)) tells less = elim order [
 pub best_there : (s : RowSearch) (own : ℕ) (bottom : Row) (window : Span) (lists : List (List Span)) (o : Orient) (x : ℤ) →
     slice_get s.frame.now.rows own ≡ Some bottom → IsOccupancyOf s.frame.now s.cells.now s.occupancy.now → AreLevels s own bottom window s.height lists →
     IsFirstOrient s bottom o → IsNearest (IsFit s bottom lists) s.target.now.x x →
-    IsBestAmong (IsOnRowIn s.frame.now s.size bottom window) (lifted_in s) s.target.now (spot_on bottom x o)
+    IsBestAmong (IsOnRowIn s.frame.now s.size bottom window) (query_of_search s) s.target.now (spot_on bottom x o)
 best_there s own bottom window lists o x there occupied levels first nearest =
     let free = free_place s own bottom window lists x there occupied levels nearest.fit in
     record {
       seen = free_is_on_row s own bottom window x o free;
       may_go = free_may_go s own bottom window x o first.may free;
       least = λ p on there_may.
-          let may : MayStand s bottom p.orient = legal_may s bottom window p on there_may.legal in
+          let may : FitsRow s bottom p.orient = legal_may s bottom window p on there_may.legal in
           let symmetry = (macro_of s.frame.now s.mac).symmetry in
           first_of s.target.now (spot_on bottom x o) p (sym (legal_y s bottom window p on))
           (nearest.least p.x (may_go_fits s own bottom window lists p there occupied levels on there_may))

@@ -7,27 +7,27 @@ use Rattle.std.proofs.Math.Nat.{mul-le-mul_right}
 use Rattle.std.proofs.lemmas.Int.{ints}
 use Rattle.std.proofs.lemmas.Option.{slice_get-get_or, slice_get_within, get_or_from_slice_get}
 use Rattle.lf_units.proofs.Any.{any_mapped}
-use Rattle.lf_units.specs.declared.area.Rect.{Rect}
+use Rattle.lf_units.specs.declared.geometry.Rect.{Rect}
 use Rattle.lf_units.specs.Area.{Covers, SharesPoint}
 use Rattle.lf_orient.specs.declared.Orient.{Orient}
 use Rattle.lf_orient.specs.Orientation.{rail_below, is_allowed, EqualUnder}
 use Rattle.lf_spans.specs.declared.span.Span.{Span}
-use Rattle.lf_spans.specs.Spans.{Holds, LiesIn, LiesInOne}
-use Rattle.lf_spans.specs.Grids.{IsOnGrid, IsWithin, grid_of}
+use Rattle.lf_spans.specs.Spans.{Holds, LiesIn, LiesInOneOf}
+use Rattle.lf_spans.specs.Grids.{IsOnGrid, LiesInSpanFrom, grid_of}
 use Rattle.lf_spans.proofs.Anys.{any_weaker}
 use Rattle.lf_floorplan.specs.declared.frame.Frame.{Frame}
 use Rattle.lf_floorplan.specs.declared.parts.Row.{Row}
 use Rattle.lf_floorplan.specs.Rows.{row_area}
 use Rattle.lf_floorplan.specs.Boxes.{macro_of}
 use Rattle.lf_floorplan.specs.Ground.{StaysInGround, IsClear, MeetsSoft}
-use Rattle.lf_floorplan.specs.Standing.{Carries, IsBottomRow, IsCarried, IsSitesHigh, StandsOn, changed}
+use Rattle.lf_floorplan.specs.Standing.{Supports, IsBottomRow, IsSupported, IsSitesHigh, RestsOnRows, changed}
 use Rattle.lf_floorplan.proofs.StandingLemmas.{height_one, bottom_one}
 use Rattle.lf_segments.specs.declared.segment.Segment.{Segment}
 use Rattle.lf_segments.specs.Segments.{IsOpen}
 use Rattle.lf_gaps.specs.Gaps.{FitsRows}
 use Rattle.lf_rules.specs.Padding.{wider}
 use Rattle.lf_rules.specs.Legality.{box_of as box_tried}
-use Rattle.lf_rules.specs.Choice.{Spot, IsLegalAt, MayGo, trial_at}
+use Rattle.lf_rules.specs.Choice.{SpotPlace, IsLegalAt, IsAllowedPlace, candidate_at}
 use Rattle.lf_rules.specs.Team.{box_in, boxes_beside}
 use Rattle.lf_rules.proofs.BesideLemmas.{beside_hold}
 use Rattle.lf_rules.proofs.LegalParts.{frame_kept, legal_by_parts}
@@ -39,8 +39,8 @@ use Rattle.lf_segments.specs.Strips.{IsNear, row_y, strip_of}
 use Rattle.lf_occupancy.specs.Floorplans.{IsOccupancyOf}
 use Rattle.lf_legalize.specs.declared.row_search.RowSearch.{RowSearch}
 use Rattle.lf_legalize.specs.Members.{member_of}
-use Rattle.lf_legalize.specs.RowSearches.{IsOnRowIn, lifted_in, padding_in}
-use Rattle.lf_legalize.specs.Levels.{AreLevels, IsFreeOnOne, IsFreeOnRow, IsLevelRow, IsRowOfLevel, MayStand}
+use Rattle.lf_legalize.specs.RowSearches.{IsOnRowIn, query_of_search, padding_in}
+use Rattle.lf_legalize.specs.Levels.{AreLevels, IsFreeOnOne, IsFreeOnRow, IsLevelRow, IsRowOfLevel, FitsRow}
 use Rattle.lf_legalize.proofs.LevelLemmas.{open_over, same_row}
 use Rattle.lf_legalize.proofs.SoftLemmas.{point_soft, soft_over}
 use Rattle.lf_legalize.proofs.RowLegal.{upright_box, reach, filled, sites_high, box_is, wide, is_other, row_y_is, same_rail, none_high, level_of, IsAtLevel}
@@ -83,9 +83,9 @@ held_one s own bottom window x (suc j) there one =
       free = one.free;
     }
 
-lies_within : (s : RowSearch) (x : ℤ) (spans : List Span) → Any (λ t. IsWithin t s.size.x x) spans → LiesInOne spans (reach s x)
+lies_within : (s : RowSearch) (x : ℤ) (spans : List Span) → Any (λ t. LiesInSpanFrom t s.size.x x) spans → LiesInOneOf spans (reach s x)
 lies_within s x spans =
-    any_weaker (λ t. IsWithin t s.size.x x) (λ t. LiesIn (reach s x) t) (λ t w v h. record {
+    any_weaker (λ t. LiesInSpanFrom t s.size.x x) (λ t. LiesIn (reach s x) t) (λ t w v h. record {
       low = let a = w.low in let b = h.low in omega (arith, ints, a, b);
       high = let a = w.high in let b = h.high in omega (arith, ints, a, b);
     }) spans
@@ -143,7 +143,7 @@ site_at (negsuc n) x o l r rising level left = absurd (omega (arith, ints, risin
 
 -- ---- the whole box
 
-abbrev pub spot_on : Row → ℤ → Orient → Spot
+abbrev pub spot_on : Row → ℤ → Orient → SpotPlace
 spot_on bottom x o = record { x = x; y = bottom.y; orient = o }
 
 -- what is known of a place whose box is free at each level
@@ -197,7 +197,7 @@ on_row_in s own bottom window x o free =
     }
 
 carries_at : (s : RowSearch) (own : ℕ) (bottom : Row) (window : Span) (x : ℤ) (o : Orient) → IsFreePlace s own bottom window x → (j : ℕ) → j < s.height →
-    (r : Row) × Carries s.frame.now (upright_box s (spot_on bottom x o)) bottom j r
+    (r : Row) × Supports s.frame.now (upright_box s (spot_on bottom x o)) bottom j r
 carries_at s own bottom window x o free j less =
     let h = free.held j less in (
       h.row,
@@ -213,13 +213,13 @@ carries_at s own bottom window x o free j less =
     )
 
 carried : (s : RowSearch) (own : ℕ) (bottom : Row) (window : Span) (x : ℤ) (o : Orient) → IsFreePlace s own bottom window x →
-    IsCarried s.frame.now (upright_box s (spot_on bottom x o))
+    IsSupported s.frame.now (upright_box s (spot_on bottom x o))
 carried s own bottom window x o free k r high at j less =
     let f = s.frame.now in
     let box = upright_box s (spot_on bottom x o) in
     let tall : k ≡ s.height = height_one f box k s.height high (sites_high s (spot_on bottom x o)) in
     let same : r ≡ bottom = bottom_one f box r bottom (filled s x) at (bottom_row s own bottom window x o free) in
-    subst (λ (b : Row). (t : Row) × Carries f box b j t) (sym same) (carries_at s own bottom window x o free j (omega (arith, less, tall)))
+    subst (λ (b : Row). (t : Row) × Supports f box b j t) (sym same) (carries_at s own bottom window x o free j (omega (arith, less, tall)))
 
 -- each point of the box, or beside it at one of its heights, lies at the height of the row of a level
 record IsPointOf (s : RowSearch) (own : ℕ) (bottom : Row) (window : Span) (x px py : ℤ) : Type 0 where
@@ -343,7 +343,7 @@ off_soft s own bottom window x o free (m, r, below, is, shares) =
 
 -- the rules, of a box
 record KeepsAll (s : RowSearch) (o : Orient) (box : Rect) : Type 0 where
-  stands : StandsOn s.frame.now box
+  stands : RestsOnRows s.frame.now box
   equal : (k : ℕ) (r : Row) → IsSitesHigh s.frame.now box k → IsBottomRow s.frame.now box r → k % 2 ≡ 1 → EqualUnder s.frame.now.site.symmetry o r.orient
   rail : (k : ℕ) (r : Row) → IsSitesHigh s.frame.now box k → IsBottomRow s.frame.now box r → k % 2 ≡ 0 →
       rail_below r.orient ≡ Some (macro_of s.frame.now s.mac).rail
@@ -351,7 +351,7 @@ record KeepsAll (s : RowSearch) (o : Orient) (box : Rect) : Type 0 where
   clear : IsClear s.frame.now box
   apart : All (λ b. SharesPoint (wider (padding_in s) box) b.rect → ⊥) (boxes_beside s.frame.now (map member_of (cells_of s.cells.now s.id.team)) s.id.own)
 
-keeps_all : (s : RowSearch) (own : ℕ) (bottom : Row) (window : Span) (x : ℤ) (o : Orient) → MayStand s bottom o → IsFreePlace s own bottom window x →
+keeps_all : (s : RowSearch) (own : ℕ) (bottom : Row) (window : Span) (x : ℤ) (o : Orient) → FitsRow s bottom o → IsFreePlace s own bottom window x →
     KeepsAll s o (upright_box s (spot_on bottom x o))
 keeps_all s own bottom window x o may free = record {
   stands = record {
@@ -377,11 +377,11 @@ keeps_all s own bottom window x o may free = record {
     same : (r : Row) → IsBottomRow s.frame.now box r → r ≡ bottom
     same r at = bottom_one s.frame.now box r bottom (filled s x) at (bottom_row s own bottom window x o free)
 
-legal_of : (s : RowSearch) (p : Spot) → IsTrue (is_allowed (macro_of s.frame.now s.mac).symmetry p.orient) →
-    KeepsAll s p.orient (box_tried (trial_at (lifted_in s) p)) → IsLegalAt (lifted_in s) p
+legal_of : (s : RowSearch) (p : SpotPlace) → IsTrue (is_allowed (macro_of s.frame.now s.mac).symmetry p.orient) →
+    KeepsAll s p.orient (box_tried (candidate_at (query_of_search s) p)) → IsLegalAt (query_of_search s) p
 legal_of s p allowed keeps =
-    (legal_by_parts (trial_at (lifted_in s) p)).1 (
-      frame_kept (trial_at (lifted_in s) p) record {
+    (legal_by_parts (candidate_at (query_of_search s) p)).1 (
+      frame_kept (candidate_at (query_of_search s) p) record {
         stands = keeps.stands;
         oriented = (allowed, keeps.equal);
         on_rail = keeps.rail;
@@ -405,15 +405,15 @@ pub free_is_on_row : (s : RowSearch) (own : ℕ) (bottom : Row) (window : Span) 
     IsOnRowIn s.frame.now s.size bottom window (spot_on bottom x o)
 free_is_on_row s own bottom window x o free = on_row_in s own bottom window x o free
 
-free_is_legal : (s : RowSearch) (own : ℕ) (bottom : Row) (window : Span) (x : ℤ) (o : Orient) → MayStand s bottom o → IsFreePlace s own bottom window x →
-    IsLegalAt (lifted_in s) (spot_on bottom x o)
+free_is_legal : (s : RowSearch) (own : ℕ) (bottom : Row) (window : Span) (x : ℤ) (o : Orient) → FitsRow s bottom o → IsFreePlace s own bottom window x →
+    IsLegalAt (query_of_search s) (spot_on bottom x o)
 free_is_legal s own bottom window x o may free =
     let p = spot_on bottom x o in
     legal_of s p may.allowed
     (subst (KeepsAll s o) (sym (box_is s p (one_of_four (macro_of s.frame.now s.mac).symmetry o may.allowed))) (keeps_all s own bottom window x o may free))
 
-pub free_may_go : (s : RowSearch) (own : ℕ) (bottom : Row) (window : Span) (x : ℤ) (o : Orient) → MayStand s bottom o → IsFreePlace s own bottom window x →
-    MayGo (lifted_in s) (spot_on bottom x o)
+pub free_may_go : (s : RowSearch) (own : ℕ) (bottom : Row) (window : Span) (x : ℤ) (o : Orient) → FitsRow s bottom o → IsFreePlace s own bottom window x →
+    IsAllowedPlace (query_of_search s) (spot_on bottom x o)
 free_may_go s own bottom window x o may free = record {
   legal = free_is_legal s own bottom window x o may free;
   off_soft = subst (λ (box : Rect). MeetsSoft s.frame.now box → ⊥) (sym (box_is s (spot_on bottom x o) (one_of_four (macro_of s.frame.now s.mac).symmetry o may.allowed)))

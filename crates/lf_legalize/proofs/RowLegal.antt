@@ -7,14 +7,14 @@ use Rattle.std.proofs.Math.Nat.{suc-mul}
 use Rattle.std.proofs.lemmas.Int.{ints}
 use Rattle.std.proofs.lemmas.Option.{slice_get-get_or, slice_get-map}
 use Rattle.lf_units.proofs.Any.{any_map}
-use Rattle.lf_units.specs.declared.area.Point.{Point}
-use Rattle.lf_units.specs.declared.area.Rect.{Rect}
+use Rattle.lf_units.specs.declared.geometry.Point.{Point}
+use Rattle.lf_units.specs.declared.geometry.Rect.{Rect}
 use Rattle.lf_units.specs.Area.{Covers, SharesPoint}
 use Rattle.lf_orient.specs.declared.Orient.{Orient}
 use Rattle.lf_orient.specs.declared.Rail.{Rail}
 use Rattle.lf_orient.specs.Orientation.{rail_below}
 use Rattle.lf_spans.specs.declared.span.Span.{Span}
-use Rattle.lf_spans.specs.Spans.{Holds, IsApart, IsFilled, LiesIn, LiesInOne}
+use Rattle.lf_spans.specs.Spans.{Holds, IsApart, IsFilled, LiesIn, LiesInOneOf}
 use Rattle.lf_spans.proofs.Anys.{any_weaker}
 use Rattle.lf_floorplan.specs.declared.frame.Frame.{Frame}
 use Rattle.lf_floorplan.specs.declared.parts.Row.{Row}
@@ -22,14 +22,14 @@ use Rattle.lf_floorplan.specs.declared.place.Place.{Place}
 use Rattle.lf_floorplan.specs.Boxes.{macro_of, size_of}
 use Rattle.lf_floorplan.specs.Sizes.{box_at as box_sized, turned}
 use Rattle.lf_floorplan.specs.Ground.{StaysInGround, IsClear, MeetsSoft}
-use Rattle.lf_floorplan.specs.Standing.{Carries, IsBottomRow, IsSitesHigh, StandsOn, changed}
+use Rattle.lf_floorplan.specs.Standing.{Supports, IsBottomRow, IsSitesHigh, RestsOnRows, changed}
 use Rattle.lf_segments.specs.declared.segment.Segment.{Segment}
 use Rattle.lf_segments.specs.Segments.{IsOf, LiesInSegment}
 use Rattle.lf_segments.proofs.LawLemmas.{segments_hold}
 use Rattle.lf_rules.specs.Padding.{wider}
 use Rattle.lf_rules.specs.Legality.{IsOnRail, IsOriented}
 use Rattle.lf_rules.specs.Legality.{box_of as box_tried}
-use Rattle.lf_rules.specs.Choice.{Spot, IsLegalAt, MayGo, spot_of, trial_at}
+use Rattle.lf_rules.specs.Choice.{SpotPlace, IsLegalAt, IsAllowedPlace, spot_of, candidate_at}
 use Rattle.lf_rules.specs.Team.{Member, box_in, boxes_beside}
 use Rattle.lf_rules.proofs.BesideLemmas.{beside_each}
 use Rattle.lf_rules.proofs.LegalParts.{frame_meant, legal_by_parts}
@@ -38,13 +38,13 @@ use Rattle.lf_cells.specs.declared.cell.Cell.{Cell}
 use Rattle.lf_cells.specs.declared.cell.CellId.{CellId}
 use Rattle.lf_cells.specs.Cells.{Cells, cells_of}
 use Rattle.lf_segments.specs.declared.strip.Strip.{Strip}
-use Rattle.lf_occupancy.specs.Occupied.{Occupied, IsFreeOver, IsOther, IsStripOf, boxes_of, over}
+use Rattle.lf_occupancy.specs.Occupied.{Occupied, IsFreeOver, IsOther, IsStripOf, boxes_of, part_over}
 use Rattle.lf_segments.specs.Strips.{IsNear, row_y, strip_of}
 use Rattle.lf_occupancy.specs.Floorplans.{HoldsCells, IsOccupancyOf, box_of}
 use Rattle.lf_legalize.specs.declared.row_search.RowSearch.{RowSearch}
 use Rattle.lf_legalize.specs.Members.{member_of}
-use Rattle.lf_legalize.specs.RowSearches.{IsOnRowIn, lifted_in, padding_in}
-use Rattle.lf_legalize.specs.Levels.{IsFreeOnRow, IsLevel, MayStand}
+use Rattle.lf_legalize.specs.RowSearches.{IsOnRowIn, query_of_search, padding_in}
+use Rattle.lf_legalize.specs.Levels.{IsFreeOnRow, IsLevel, FitsRow}
 use Rattle.lf_legalize.proofs.LevelLemmas.{own_one}
 use Rattle.lf_legalize.proofs.SoftLemmas.{soft_over}
 
@@ -88,7 +88,7 @@ pub level_of : (p low y : ℤ) → pos 0 <ℤ p → (k : ℕ) → low ≤ℤ y �
 level_of p low y high zero from below = let none = none_high p high in absurd (omega (arith, ints, from, below, none))
 level_of p low y high (suc k) from below = elim order [
   | inl less ↦ let l = level_of p low y high k from less in record { j = l.j; less = let h = l.less in omega (arith, h); from = l.from; below = l.below }
-  | inr over ↦ record { j = k; less = omega arith; from = over; below = let more = one_more k p high in omega (arith, ints, below, more) }
+  | inr part_over ↦ record { j = k; less = omega arith; from = part_over; below = let more = one_more k p high in omega (arith, ints, below, more) }
 ]
   where
     order : (y <ℤ (low +ℤ (pos k *ℤ p))) ⊎ ((low +ℤ (pos k *ℤ p)) ≤ℤ y)
@@ -97,7 +97,7 @@ level_of p low y high (suc k) from below = elim order [
 -- ---- the box of a place
 
 -- the box of the cell at a place, where it stands upright
-abbrev pub upright_box : RowSearch → Spot → Rect
+abbrev pub upright_box : RowSearch → SpotPlace → Rect
 upright_box s p = box_sized s.size p.x p.y
 
 -- from where to where it reaches
@@ -110,7 +110,7 @@ not_turned size o (inr (inl t)) = rw t refl
 not_turned size o (inr (inr (inl fn))) = rw fn refl
 not_turned size o (inr (inr (inr fs))) = rw fs refl
 
-pub box_is : (s : RowSearch) (p : Spot) → OneOfFour p.orient → box_tried (trial_at (lifted_in s) p) ≡ upright_box s p
+pub box_is : (s : RowSearch) (p : SpotPlace) → OneOfFour p.orient → box_tried (candidate_at (query_of_search s) p) ≡ upright_box s p
 box_is s p four =
     let size : turned (size_of s.frame.now (macro_of s.frame.now s.mac)) p.orient ≡ s.size =
     not_turned (size_of s.frame.now (macro_of s.frame.now s.mac)) p.orient four ∙ sym s.size_is in
@@ -122,7 +122,7 @@ wide s = rw s.size_is s.sized.wide
 pub filled : (s : RowSearch) (x : ℤ) → IsFilled (reach s x)
 filled s x = let w = wide s in omega (arith, ints, w)
 
-pub sites_high : (s : RowSearch) (p : Spot) → IsSitesHigh s.frame.now (upright_box s p) s.height
+pub sites_high : (s : RowSearch) (p : SpotPlace) → IsSitesHigh s.frame.now (upright_box s p) s.height
 sites_high s p = record { least = s.least; most = s.most; high = ap (λ (h : ℤ). p.y +ℤ h) s.high }
 
 -- ---- the other cells of the team
@@ -155,7 +155,7 @@ other_placed f table o id own box held other =
     (sym (ap (λ (b : Option (Option Rect)). option_and_then (λ c. c) b) boxes) ∙ other.stands)
 
 -- the same from the rules' side: what is there is another cell of the occupancy
-member_there : (f : Frame) (cells : List Cell) (k : ℕ) (m : Member) (p : Spot) (found : Option Cell) → slice_get cells k ≡ found →
+member_there : (f : Frame) (cells : List Cell) (k : ℕ) (m : Member) (p : SpotPlace) (found : Option Cell) → slice_get cells k ≡ found →
     option_map member_of found ≡ Some m → m.place ≡ Some p → option_and_then (λ b. b) (option_map (box_of f) found) ≡ Some (box_in f m.mac p)
 member_there f cells k m p None there is placed = absurd cc
 member_there f cells k m p (Some c) there is placed = by c.working refl
@@ -169,10 +169,10 @@ member_there f cells k m p (Some c) there is placed = by c.working refl
         let at : Some (spot_of q) ≡ Some p = sym (ap (option_map spot_of) e) ∙ ap (λ (x : Member). x.place) same ∙ placed in
         let spot : spot_of q ≡ p = cc in
         let mac : c.mac ≡ m.mac = ap (λ (x : Member). x.mac) same in
-        ap (option_map (λ (z : Place). box_in f c.mac (spot_of z))) e ∙ ap (λ (z : Spot). Some (box_in f c.mac z)) spot
+        ap (option_map (λ (z : Place). box_in f c.mac (spot_of z))) e ∙ ap (λ (z : SpotPlace). Some (box_in f c.mac z)) spot
         ∙ ap (λ (z : ℕ). Some (box_in f z p)) mac
 
-pub is_other : (f : Frame) (table : Cells) (o : Occupied) (id : CellId) (k : ℕ) (m : Member) (p : Spot) → HoldsCells f table o → (k ≡ id.own → ⊥) →
+pub is_other : (f : Frame) (table : Cells) (o : Occupied) (id : CellId) (k : ℕ) (m : Member) (p : SpotPlace) → HoldsCells f table o → (k ≡ id.own → ⊥) →
     slice_get (map member_of (cells_of table id.team)) k ≡ Some m → m.place ≡ Some p → IsOther o id k (box_in f m.mac p)
 is_other f table o id k m p held differ there placed =
     let cells = cells_of table id.team in
@@ -188,26 +188,26 @@ is_other f table o id k m p held differ there placed =
 
 -- what is known of the box of a place where the cell may go
 record IsGoodBox (s : RowSearch) (box : Rect) : Type 0 where
-  stands : StandsOn s.frame.now box
+  stands : RestsOnRows s.frame.now box
   ground : StaysInGround s.frame.now s.id.team box
   clear : IsClear s.frame.now box
   apart : All (λ b. SharesPoint (wider (padding_in s) box) b.rect → ⊥) (boxes_beside s.frame.now (map member_of (cells_of s.cells.now s.id.team)) s.id.own)
   off_soft : MeetsSoft s.frame.now box → ⊥
 
-good_box : (s : RowSearch) (p : Spot) → MayGo (lifted_in s) p → IsGoodBox s (upright_box s p)
+good_box : (s : RowSearch) (p : SpotPlace) → IsAllowedPlace (query_of_search s) p → IsGoodBox s (upright_box s p)
 good_box s p may =
-    let parts = (legal_by_parts (trial_at (lifted_in s) p)).0 may.legal in
-    let frame = frame_meant (trial_at (lifted_in s) p) parts.0 in
-    subst (IsGoodBox s) (box_is s p (legal_upright (lifted_in s) p may.legal))
+    let parts = (legal_by_parts (candidate_at (query_of_search s) p)).0 may.legal in
+    let frame = frame_meant (candidate_at (query_of_search s) p) parts.0 in
+    subst (IsGoodBox s) (box_is s p (legal_upright (query_of_search s) p may.legal))
     record { stands = frame.stands; ground = frame.ground; clear = frame.clear; apart = parts.1; off_soft = may.off_soft }
 
 pub row_y_is : (f : Frame) (n : ℕ) (r : Row) → slice_get f.rows n ≡ Some r → row_y f n ≡ r.y
 row_y_is f n r there = rw there refl
 
 -- a row that carries the box is free over its reach
-free_on_carrier : (s : RowSearch) (bottom : Row) (window : Span) (p : Spot) (j n : ℕ) (r : Row) → IsOccupancyOf s.frame.now s.cells.now s.occupancy.now →
+free_on_carrier : (s : RowSearch) (bottom : Row) (window : Span) (p : SpotPlace) (j n : ℕ) (r : Row) → IsOccupancyOf s.frame.now s.cells.now s.occupancy.now →
     IsOnRowIn s.frame.now s.size bottom window p → IsGoodBox s (upright_box s p) → j < s.height → slice_get s.frame.now.rows n ≡ Some r →
-    Carries s.frame.now (upright_box s p) bottom j r → IsFreeOnRow s.occupancy.now s.id window (padding_in s) n (reach s p.x)
+    Supports s.frame.now (upright_box s p) bottom j r → IsFreeOnRow s.occupancy.now s.id window (padding_in s) n (reach s p.x)
 free_on_carrier s bottom window p j n r held on legal less there carries = record {
   within = λ x h. record {
     low = let a = on.left in let b = h.low in omega (arith, ints, a, b);
@@ -250,7 +250,7 @@ free_on_carrier s bottom window p j n r held on legal less there carries = recor
     level_is row of = ap (row_y f) of ∙ row_y_is f n r there
 
     -- what is made wider over a strip of the row lies in the box made wider
-    point : (g : Segment) (by x y : ℤ) → g.row ≡ n → Covers (wider by (over (strip_of f g) (reach s p.x))) x y → Covers (wider by (upright_box s p)) x y
+    point : (g : Segment) (by x y : ℤ) → g.row ≡ n → Covers (wider by (part_over (strip_of f g) (reach s p.x))) x y → Covers (wider by (upright_box s p)) x y
     point g by x y of covers =
         let at = level_is g.row of in
         let from : row_y f g.row ≤ℤ y = covers.bottom in
@@ -299,9 +299,9 @@ row_at : (f : Frame) (r : Row) → Contains f.rows r → (n : ℕ) × (slice_get
 row_at f r (n, within, is) = (n, slice_get-get_or f.rows n r within ∙ ap (λ (t : Row). Some t) is)
 
 -- at each level some row is free over the reach of a place where the cell may go
-free_at_level : (s : RowSearch) (own : ℕ) (bottom : Row) (window : Span) (p : Spot) (j : ℕ) (free : List Span) → slice_get s.frame.now.rows own ≡ Some bottom →
+free_at_level : (s : RowSearch) (own : ℕ) (bottom : Row) (window : Span) (p : SpotPlace) (j : ℕ) (free : List Span) → slice_get s.frame.now.rows own ≡ Some bottom →
     IsOccupancyOf s.frame.now s.cells.now s.occupancy.now → IsOnRowIn s.frame.now s.size bottom window p → IsGoodBox s (upright_box s p) → j < s.height →
-    IsLevel s own bottom window j free → LiesInOne free (reach s p.x)
+    IsLevel s own bottom window j free → LiesInOneOf free (reach s p.x)
 free_at_level s own bottom window p zero free there held on legal less level =
     (level.exact (reach s p.x) (filled s p.x)).1 record {
       number = own;
@@ -313,7 +313,7 @@ free_at_level s own bottom window p (suc j) free there held on legal less level 
     let f = s.frame.now in
     let carried = legal.stands.stand s.height bottom (sites_high s p) on.bottom (suc j) less in
     let r : Row = carried.0 in
-    let carries : Carries f (upright_box s p) bottom (suc j) r = carried.1 in
+    let carries : Supports f (upright_box s p) bottom (suc j) r = carried.1 in
     let at = row_at f r carries.heeded in
     let base : bottom.y ≡ p.y +ℤ (pos 0 *ℤ f.pitch.y) = on.bottom.at_bottom.at_level in
     let none = none_high f.pitch.y f.pitch_whole.high in
@@ -324,14 +324,14 @@ free_at_level s own bottom window p (suc j) free there held on legal less level 
       free = free_on_carrier s bottom window p (suc j) at.0 r held on legal less at.1 carries;
     }
 
-pub may_go_is_free : (s : RowSearch) (own : ℕ) (bottom : Row) (window : Span) (p : Spot) (j : ℕ) (free : List Span) →
+pub may_go_is_free : (s : RowSearch) (own : ℕ) (bottom : Row) (window : Span) (p : SpotPlace) (j : ℕ) (free : List Span) →
     slice_get s.frame.now.rows own ≡ Some bottom → IsOccupancyOf s.frame.now s.cells.now s.occupancy.now → IsOnRowIn s.frame.now s.size bottom window p →
-    MayGo (lifted_in s) p → j < s.height → IsLevel s own bottom window j free → LiesInOne free (reach s p.x)
+    IsAllowedPlace (query_of_search s) p → j < s.height → IsLevel s own bottom window j free → LiesInOneOf free (reach s p.x)
 may_go_is_free s own bottom window p j free there held on may less level =
     free_at_level s own bottom window p j free there held on (good_box s p may) less level
 
 -- a legal place with this bottom row has the row's y
-pub legal_y : (s : RowSearch) (bottom : Row) (window : Span) (p : Spot) → IsOnRowIn s.frame.now s.size bottom window p → p.y ≡ bottom.y
+pub legal_y : (s : RowSearch) (bottom : Row) (window : Span) (p : SpotPlace) → IsOnRowIn s.frame.now s.size bottom window p → p.y ≡ bottom.y
 legal_y s bottom window p on =
     let base : bottom.y ≡ p.y +ℤ (pos 0 *ℤ s.frame.now.pitch.y) = on.bottom.at_bottom.at_level in
     let none = none_high s.frame.now.pitch.y s.frame.now.pitch_whole.high in
@@ -339,15 +339,15 @@ legal_y s bottom window p on =
 
 -- its orientation is one in which the cell may stand on the row
 record IsFit (s : RowSearch) (bottom : Row) (o : Orient) (box : Rect) : Type 0 where
-  fit : IsSitesHigh s.frame.now box s.height → IsBottomRow s.frame.now box bottom → MayStand s bottom o
+  fit : IsSitesHigh s.frame.now box s.height → IsBottomRow s.frame.now box bottom → FitsRow s bottom o
 
-pub legal_may : (s : RowSearch) (bottom : Row) (window : Span) (p : Spot) → IsOnRowIn s.frame.now s.size bottom window p → IsLegalAt (lifted_in s) p →
-    MayStand s bottom p.orient
+pub legal_may : (s : RowSearch) (bottom : Row) (window : Span) (p : SpotPlace) → IsOnRowIn s.frame.now s.size bottom window p → IsLegalAt (query_of_search s) p →
+    FitsRow s bottom p.orient
 legal_may s bottom window p on legal =
-    let frame = frame_meant (trial_at (lifted_in s) p) ((legal_by_parts (trial_at (lifted_in s) p)).0 legal).0 in
-    let oriented : IsOriented (trial_at (lifted_in s) p) = frame.oriented in
-    let railed : IsOnRail (trial_at (lifted_in s) p) = frame.on_rail in
-    let fits : IsFit s bottom p.orient (upright_box s p) = subst (IsFit s bottom p.orient) (box_is s p (legal_upright (lifted_in s) p legal)) record {
+    let frame = frame_meant (candidate_at (query_of_search s) p) ((legal_by_parts (candidate_at (query_of_search s) p)).0 legal).0 in
+    let oriented : IsOriented (candidate_at (query_of_search s) p) = frame.oriented in
+    let railed : IsOnRail (candidate_at (query_of_search s) p) = frame.on_rail in
+    let fits : IsFit s bottom p.orient (upright_box s p) = subst (IsFit s bottom p.orient) (box_is s p (legal_upright (query_of_search s) p legal)) record {
       fit = λ high at. record {
         allowed = oriented.0;
         equal = λ odd. oriented.1 s.height bottom high at odd;

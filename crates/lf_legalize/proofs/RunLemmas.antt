@@ -11,11 +11,11 @@ use Rattle.lf_spans.specs.declared.span.Span.{Span}
 use Rattle.lf_spans.proofs.Anys.{any_cases, any_head, any_left, any_nil, any_split}
 use Rattle.lf_floorplan.specs.declared.frame.Frame.{Frame}
 use Rattle.lf_floorplan.specs.declared.parts.Row.{Row}
-use Rattle.lf_floorplan.specs.Rows.{IsHeeded, row_area}
+use Rattle.lf_floorplan.specs.Rows.{IsCoreRow, row_area}
 use Rattle.lf_segments.specs.declared.rows_by_y.RowEntry.{RowEntry}
 use Rattle.lf_segments.specs.RowsByY.{entry, IsEntryOf, IsRowsByY, IsRunAt, PrecedesByY}
 use Rattle.lf_segments.proofs.HeightLemmas.{run_in_range, range_in_run, lower_is_not, higher_is_not}
-use Rattle.lf_segments.specs.Grounds.{IsGroundOf}
+use Rattle.lf_segments.specs.Grounds.{IsIndexOf}
 use Rattle.lf_legalize.specs.declared.row_search.RowSearch.{RowSearch}
 use Rattle.lf_legalize.specs.RowSearches.{padding_in}
 use Rattle.lf_legalize.specs.Levels.{AddsRow, AreFreeOn, IsLevelRow, IsRailed}
@@ -44,8 +44,8 @@ rows_differ f m n a b differ p q meet = elim order [
         let second : get_or f.rows j r ≡ s = get_or_from_slice_get f.rows j s r u in
         f.rows_apart i j r less (slice_get_within f.rows j s u) (rw (first, second) shares)
 
-pub heeded_at : (f : Frame) (n : ℕ) (r : Row) → slice_get f.rows n ≡ Some r → IsHeeded f.pitch r
-heeded_at f n r p = subst (IsHeeded f.pitch) (get_or_from_slice_get f.rows n r r p) (f.rows_heeded n r (slice_get_within f.rows n r p))
+pub heeded_at : (f : Frame) (n : ℕ) (r : Row) → slice_get f.rows n ≡ Some r → IsCoreRow f.pitch r
+heeded_at f n r p = subst (IsCoreRow f.pitch) (get_or_from_slice_get f.rows n r r p) (f.rows_heeded n r (slice_get_within f.rows n r p))
 
 some_sites : (sites : ℕ) (p : ℤ) → 1 ≤ sites → pos 0 <ℤ p → pos 0 <ℤ (pos sites *ℤ p)
 some_sites sites (pos n) least wide =
@@ -168,7 +168,7 @@ more_rows f bottom j run k d within n = (
 )
 
 pub free_next : (s : RowSearch) (es run : List RowEntry) (y : ℤ) (bottom : Row) (j : ℕ) (window : Span) (k : ℕ) (d : RowEntry) (old new : List Span) →
-    IsGroundOf s.frame.now s.occupancy.now.index → IsRowsByY s.frame.now es → IsRunAt es y run → k < length run → FreeSoFar s bottom j window run k old →
+    IsIndexOf s.frame.now s.occupancy.now.index → IsRowsByY s.frame.now es → IsRunAt es y run → k < length run → FreeSoFar s bottom j window run k old →
     AddsRow s bottom j (get_or run k d).row window old new → FreeSoFar s bottom j window run (k + 1) new
 free_next s es run y bottom j window k d old new strips rows p within free adds =
     let f = s.frame.now in

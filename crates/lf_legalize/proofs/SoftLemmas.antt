@@ -6,24 +6,24 @@ use Rattle.std.proofs.lemmas.Int.{ints}
 use Rattle.std.proofs.lemmas.List.Elements.{All-nil}
 use Rattle.std.proofs.lemmas.Option.{slice_get-get_or, slice_get-map, slice_get_within, get_or_from_slice_get}
 use Rattle.lf_spans.specs.declared.span.Span.{Span}
-use Rattle.lf_spans.specs.Spans.{AreApart, Holds, IsApart, IsFilled, IsMinus, IsRising, LiesIn, LiesInOne}
+use Rattle.lf_spans.specs.Spans.{AreApart, Holds, IsApart, IsFilled, IsMinus, IsRising, LiesIn, LiesInOneOf}
 use Rattle.lf_spans.proofs.Edges.{rising_nil}
 use Rattle.lf_floorplan.specs.declared.frame.Frame.{Frame}
 use Rattle.lf_segments.specs.declared.segment.Segment.{Segment}
 use Rattle.lf_segments.specs.declared.strip.Strip.{Strip}
-use Rattle.lf_segments.specs.Grounds.{IsGroundOf, Lookups}
+use Rattle.lf_segments.specs.Grounds.{IsIndexOf, FrameIndexView}
 use Rattle.lf_segments.specs.Soft.{IsSoftAt}
 use Rattle.lf_segments.specs.Strips.{AreNear, IsNear, row_y, strip_of}
 use Rattle.lf_cells.specs.declared.cell.CellId.{CellId}
-use Rattle.lf_occupancy.specs.Occupied.{Occupied, IsFreeInRow, across}
-use Rattle.lf_legalize.specs.Levels.{AreWithoutSoft, IsOpenInRow}
+use Rattle.lf_occupancy.specs.Occupied.{Occupied, IsFreeInRow, x_extent}
+use Rattle.lf_legalize.specs.Levels.{AreWithoutSoft, AreOpenInRow}
 
 -- ---- the soft spans of a strip
 
 -- what is known of a strip and its soft spans
 pub record AreSoftOver (f : Frame) (g : Strip) (spans : List Span) : Type 0 where
   pub rising : IsRising spans
-  pub exact : (s : Span) → IsFilled s → (LiesInOne spans s ↔ (LiesIn s (across g) × ((x : ℤ) → Holds s x → IsSoftAt f g.area x)))
+  pub exact : (s : Span) → IsFilled s → (LiesInOneOf spans s ↔ (LiesIn s (x_extent g) × ((x : ℤ) → Holds s x → IsSoftAt f g.area x)))
   pub bottom : g.area.y1 ≡ row_y f g.row
   pub top : g.area.y2 ≡ row_y f g.row +ℤ f.pitch.y
 
@@ -32,7 +32,7 @@ strip_there : (f : Frame) (found : Option Segment) (g : Strip) → option_map (s
 strip_there f None g is = absurd cc
 strip_there f (Some seg) g is = (seg, refl, cc)
 
-pub soft_over : (f : Frame) (index : Lookups) (k : ℕ) (g : Strip) → IsGroundOf f index → slice_get index.strips k ≡ Some g →
+pub soft_over : (f : Frame) (index : FrameIndexView) (k : ℕ) (g : Strip) → IsIndexOf f index → slice_get index.strips k ≡ Some g →
     AreSoftOver f g (get_or index.soft k [])
 soft_over f index k g is there =
     let found = strip_there f (slice_get index.segments k) g
@@ -48,11 +48,11 @@ each_rising [] (x ∷ xs) k many h = absurd (omega (arith, many))
 each_rising (g ∷ gs) (x ∷ xs) zero many h = h 0 g refl
 each_rising (g ∷ gs) (x ∷ xs) (suc k) many h = each_rising gs xs k (omega (arith, many)) (λ n z there. h (suc n) z there)
 
-pub soft_rising : (f : Frame) (index : Lookups) → IsGroundOf f index → (k : ℕ) → IsRising (get_or index.soft k [])
+pub soft_rising : (f : Frame) (index : FrameIndexView) → IsIndexOf f index → (k : ℕ) → IsRising (get_or index.soft k [])
 soft_rising f index is k = each_rising index.segments index.soft k is.soft.many (λ n g there. (is.soft.each n g there).rising)
 
 -- a span that shares no number with the soft ones of its strip holds no number at which the strip is soft
-pub point_soft : (f : Frame) (g : Strip) (spans : List Span) (s : Span) (x : ℤ) → AreSoftOver f g spans → Holds (across g) x → IsApart spans s → Holds s x →
+pub point_soft : (f : Frame) (g : Strip) (spans : List Span) (s : Span) (x : ℤ) → AreSoftOver f g spans → Holds (x_extent g) x → IsApart spans s → Holds s x →
     IsSoftAt f g.area x → ⊥
 point_soft f g spans s x soft inside apart holds at = by ((soft.exact one filled).1 (in_strip, at_each))
   where
@@ -65,8 +65,8 @@ point_soft f g spans s x soft inside apart holds at = by ((soft.exact one filled
     same : (v : ℤ) → Holds one v → x ≡ v
     same v h = let low = h.low in let high = h.high in omega (arith, ints, low, high)
 
-    in_strip : LiesIn one (across g)
-    in_strip v h = subst (Holds (across g)) (same v h) inside
+    in_strip : LiesIn one (x_extent g)
+    in_strip v h = subst (Holds (x_extent g)) (same v h) inside
 
     at_each : (v : ℤ) → Holds one v → IsSoftAt f g.area v
     at_each v h = subst (IsSoftAt f g.area) (same v h) at
@@ -74,7 +74,7 @@ point_soft f g spans s x soft inside apart holds at = by ((soft.exact one filled
     own : Holds one x
     own = record { low = omega (arith, ints); high = omega (arith, ints) }
 
-    by : LiesInOne spans one → ⊥
+    by : LiesInOneOf spans one → ⊥
     by (i, t, below, is, lies) =
         let away : AreApart s t = subst (AreApart s) is (apart i t below) in
         away x holds (lies x own)
@@ -92,7 +92,7 @@ minus_none spans (t ∷ soft) none rising = absurd (omega (arith, none))
 pub record AreWithoutFirst (soft : List (List Span)) (start n end : ℕ) (free left : List Span) : Type 0 where
   pub rising : IsRising left
   pub exact : (s : Span) → IsFilled s →
-      (LiesInOne left s ↔ (LiesInOne free s × ((k : ℕ) → start ≤ k → k < n → k < end → IsApart (get_or soft k []) s)))
+      (LiesInOneOf left s ↔ (LiesInOneOf free s × ((k : ℕ) → start ≤ k → k < n → k < end → IsApart (get_or soft k []) s)))
 
 pub first_none : (soft : List (List Span)) (start end : ℕ) (free : List Span) → IsRising free → AreWithoutFirst soft start start end free free
 first_none soft start end free rising = record {
@@ -138,7 +138,7 @@ first_end soft start n end free left ended all = record {
 -- what is free on the row without what is soft of the strips near the window is free off soft blockages
 pub open_row : (o : Occupied) (row : ℕ) (id : CellId) (window : Span) (padding : ℤ) (start end : ℕ) (free left : List Span) →
     AreNear o.index.strips row id.team window.lo window.hi start end → IsFreeInRow o row id window padding free → AreWithoutSoft o.index.soft start end free left →
-    IsOpenInRow o row id window padding left
+    AreOpenInRow o row id window padding left
 open_row o row id window padding start end free left near is without = record {
   rising = without.rising;
   exact = λ s filled. (
@@ -174,7 +174,7 @@ open_row o row id window padding start end free left near is without = record {
 
 -- where no strip has soft spans, what is free on the row is free off them
 pub open_bare : (o : Occupied) (row : ℕ) (id : CellId) (window : Span) (padding : ℤ) (free : List Span) → ((k : ℕ) → get_or o.index.soft k [] ≡ []) →
-    IsFreeInRow o row id window padding free → IsOpenInRow o row id window padding free
+    IsFreeInRow o row id window padding free → AreOpenInRow o row id window padding free
 open_bare o row id window padding free none is = record {
   rising = is.rising;
   exact = λ s filled. (

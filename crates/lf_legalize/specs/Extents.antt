@@ -2,14 +2,14 @@
 use Rattle.std.specs.Prelude.{◌≡◌, ◌⊎◌, ℕ, ℤ, pos, negsuc, ◌≤◌, ◌≤ℤ◌, ◌+◌, ◌-ℤ◌, Option, Some, IfSome, slice_get, min}
 use Rattle.std.specs.Int.RustNames.{unsigned_abs}
 use Rattle.std.specs.Option.{option_map_or}
-use Rattle.lf_units.specs.declared.area.Point.{Point}
-use Rattle.lf_units.specs.declared.area.Rect.{Rect}
+use Rattle.lf_units.specs.declared.geometry.Point.{Point}
+use Rattle.lf_units.specs.declared.geometry.Rect.{Rect}
 use Rattle.lf_floorplan.specs.declared.frame.Frame.{Frame}
 use Rattle.lf_floorplan.specs.declared.parts.Row.{Row}
 use Rattle.lf_floorplan.specs.Sizes.{box_at}
 use Rattle.lf_floorplan.specs.Standing.{IsBottomRow}
-use Rattle.lf_rules.specs.Choice.{Spot, Lifted, Precedes, distance}
-use Rattle.lf_rules.specs.Looking.{LooksAt, IsAsGood}
+use Rattle.lf_rules.specs.Choice.{SpotPlace, PlacementQuery, Precedes, distance}
+use Rattle.lf_rules.specs.Looking.{ScansPlaces, IsAsGood}
 
 -- the value of a range that is nearest to another value: each value of the range is farther from the other by the same, their distance
 pub record IsNearestIn (lo hi value nearest : ℤ) : Type 0 where
@@ -33,24 +33,24 @@ pub record IsNearDefPoint (p : Point) : Type 0 where
   pub up : IsNearDef p.y
 
 -- the place is not farther from the target than that
-abbrev pub IsWithin : Point → ℕ → Spot → Type 0
+abbrev pub IsWithin : Point → ℕ → SpotPlace → Type 0
 IsWithin target reach p = distance target p ≤ reach
 
 -- how far from the target a place may be that is better than the best one so far, or as good
-abbrev pub limit : Point → ℕ → Option Spot → ℕ
+abbrev pub limit : Point → ℕ → Option SpotPlace → ℕ
 limit target reach best = option_map_or (λ b. min (distance target b) reach) best reach
 
 -- at this place a box of that size has the row of the number as its bottom row
-pub record IsOnRow (f : Frame) (size : Point) (number : ℕ) (p : Spot) : Type 0 where
+pub record IsOnRow (f : Frame) (size : Point) (number : ℕ) (p : SpotPlace) : Type 0 where
   pub row : Row
   pub there : slice_get f.rows number ≡ Some row
   pub bottom : IsBottomRow f (box_at size p.x p.y) row
 
 -- from the best place so far to the one after looking also at these, all of them no farther from the target than that
-pub record LooksNear (Seen : Spot → Type 0) (cell : Lifted) (target : Point) (reach : ℕ) (old new : Option Spot) : Type 0 where
-  pub looked : LooksAt (λ p. IsWithin target reach p × Seen p) cell target old new
+pub record ScansPlacesWithin (Seen : SpotPlace → Type 0) (cell : PlacementQuery) (target : Point) (reach : ℕ) (old new : Option SpotPlace) : Type 0 where
+  pub looked : ScansPlaces (λ p. IsWithin target reach p × Seen p) cell target old new
   pub near : IfSome old (IsWithin target reach) → IfSome new (IsWithin target reach)
 
 -- the better of the best place so far and this one: this one if it precedes, or there is none so far
-abbrev pub IsBetter : Point → Option Spot → Spot → Option Spot → Type 0
+abbrev pub IsBetter : Point → Option SpotPlace → SpotPlace → Option SpotPlace → Type 0
 IsBetter target best p new = ((new ≡ Some p) × IfSome best (λ b. Precedes target p b)) ⊎ ((new ≡ best) × IsAsGood target best p)

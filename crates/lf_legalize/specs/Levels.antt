@@ -3,7 +3,7 @@ use Rattle.std.specs.Prelude.{◌≡◌, ◌↔◌, ℕ, zero, suc, ℤ, pos, �
 use Rattle.std.specs.Prelude.{length, slice_get, slice_index_or}
 use Rattle.std.specs.Option.{option_map}
 use Rattle.lf_spans.specs.declared.span.Span.{Span}
-use Rattle.lf_spans.specs.Spans.{IsApart, IsFilled, IsRising, LiesIn, LiesInOne}
+use Rattle.lf_spans.specs.Spans.{IsApart, IsFilled, IsRising, LiesIn, LiesInOneOf}
 use Rattle.lf_spans.specs.Grids.{IsNoFarther, IsBounded}
 use Rattle.lf_orient.specs.declared.Orient.{Orient}
 use Rattle.lf_orient.specs.Orientation.{is_allowed, EqualUnder, rail_below}
@@ -46,15 +46,15 @@ pub record IsFreeOnRow (o : Occupied) (id : CellId) (window : Span) (padding : �
   pub off_soft : (k : ℕ) (g : Strip) → slice_get o.index.strips k ≡ Some g → IsNear n id.team window.lo window.hi g → IsApart (slice_index_or o.index.soft k []) s
 
 -- those spans of a row: a span that holds a number lies in one of them if and only if it is so free
-pub record IsOpenInRow (o : Occupied) (row : ℕ) (id : CellId) (window : Span) (padding : ℤ) (open_spans : List Span) : Type 0 where
+pub record AreOpenInRow (o : Occupied) (row : ℕ) (id : CellId) (window : Span) (padding : ℤ) (open_spans : List Span) : Type 0 where
   pub rising : IsRising open_spans
-  pub exact : (s : Span) → IsFilled s → (LiesInOne open_spans s ↔ IsFreeOnRow o id window padding row s)
+  pub exact : (s : Span) → IsFilled s → (LiesInOneOf open_spans s ↔ IsFreeOnRow o id window padding row s)
 
 -- the free spans without the soft ones of the strips from start on and below end
 pub record AreWithoutSoft (soft : List (List Span)) (start end : ℕ) (free left : List Span) : Type 0 where
   pub rising : IsRising left
   pub exact : (s : Span) → IsFilled s →
-      (LiesInOne left s ↔ (LiesInOne free s × ((k : ℕ) → start ≤ k → k < end → IsApart (slice_index_or soft k []) s)))
+      (LiesInOneOf left s ↔ (LiesInOneOf free s × ((k : ℕ) → start ≤ k → k < end → IsApart (slice_index_or soft k []) s)))
 
 -- the span is so free on one of these rows
 pub record IsFreeOnOne (Rows : ℕ → Type 0) (o : Occupied) (id : CellId) (window : Span) (padding : ℤ) (s : Span) : Type 0 where
@@ -66,7 +66,7 @@ pub record IsFreeOnOne (Rows : ℕ → Type 0) (o : Occupied) (id : CellId) (win
 -- such a row
 pub record AreFreeOn (Rows : ℕ → Type 0) (o : Occupied) (id : CellId) (window : Span) (padding : ℤ) (free : List Span) : Type 0 where
   pub rising : IsRising free
-  pub exact : (s : Span) → IsFilled s → (LiesInOne free s ↔ IsFreeOnOne Rows o id window padding s)
+  pub exact : (s : Span) → IsFilled s → (LiesInOneOf free s ↔ IsFreeOnOne Rows o id window padding s)
 
 -- what is free on the row of this number is appended to the other spans, if its rail is the bottom row's, changed j times
 pub record AddsRow (s : RowSearch) (bottom : Row) (j n : ℕ) (window : Span) (old new : List Span) : Type 0 where
@@ -90,21 +90,21 @@ pub record HasBareLevel (s : RowSearch) (own : ℕ) (bottom : Row) (window : Spa
   pub bare : IsLevel s own bottom window level []
 
 -- a cell of the search may have this orientation on this bottom row, as far as orientations and rails go
-pub record MayStand (s : RowSearch) (bottom : Row) (o : Orient) : Type 0 where
+pub record FitsRow (s : RowSearch) (bottom : Row) (o : Orient) : Type 0 where
   pub allowed : IsTrue (is_allowed (macro_of s.frame.now s.mac).symmetry o)
   pub equal : s.height % 2 ≡ 1 → EqualUnder s.frame.now.site.symmetry o bottom.orient
   pub rail : s.height % 2 ≡ 0 → rail_below bottom.orient ≡ Some (macro_of s.frame.now s.mac).rail
 
 -- the orientation of least rank in which the cell may stand on this bottom row
 pub record IsFirstOrient (s : RowSearch) (bottom : Row) (o : Orient) : Type 0 where
-  pub may : MayStand s bottom o
-  pub least : (p : Orient) → MayStand s bottom p → rank o ≤ rank p
+  pub may : FitsRow s bottom o
+  pub least : (p : Orient) → FitsRow s bottom p → rank o ≤ rank p
 
 -- that orientation, or nothing only if the cell may have none
 abbrev pub FindsOrient : RowSearch → Row → Option Orient → Type 0
-FindsOrient s bottom found = MatchOption found ((o : Orient) → MayStand s bottom o → ⊥) (λ o. IsFirstOrient s bottom o)
+FindsOrient s bottom found = MatchOption found ((o : Orient) → FitsRow s bottom o → ⊥) (λ o. IsFirstOrient s bottom o)
 
 -- a number near the coordinates of a DEF text: of two such coordinates, the one no farther from it is no farther from the target
-pub record IsStandIn (target near : ℤ) : Type 0 where
+pub record IsEquivalentTarget (target near : ℤ) : Type 0 where
   pub bounded : IsBounded near
   pub same : (x y : ℤ) → IsDefNumber x → IsDefNumber y → IsNoFarther near x y → IsNoFarther target x y

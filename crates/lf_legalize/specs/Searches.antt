@@ -2,15 +2,15 @@
 use Rattle.std.specs.Prelude.{Option}
 use Rattle.std.specs.Option.{option_map}
 use Rattle.lf_floorplan.specs.declared.place.Place.{Place}
-use Rattle.lf_rules.specs.Choice.{Spot, Lifted, spot_of}
-use Rattle.lf_rules.specs.Looking.{LooksAt as LooksAtSpots}
-use Rattle.lf_legalize.specs.Lifting.{lifted}
+use Rattle.lf_rules.specs.Choice.{SpotPlace, PlacementQuery, spot_of}
+use Rattle.lf_rules.specs.Looking.{ScansPlaces as LooksAtSpots}
+use Rattle.lf_legalize.specs.Lifting.{query_without}
 use Rattle.lf_legalize.specs.declared.search.Search.{Search}
 
 -- the cell whose best place is looked for
-abbrev pub cell_of : Search → Lifted
-cell_of s = lifted s.frame.now s.team s.padding.sites s.mac.now s.others.now
+abbrev pub cell_of : Search → PlacementQuery
+cell_of s = query_without s.frame.now s.team s.padding.sites s.mac.now s.others.now
 
 -- from the best place so far to the one after looking also at these places
-abbrev pub LooksAt : (Spot → Type 0) → Search → Option Place → Option Place → Type 0
-LooksAt Seen s old new = LooksAtSpots Seen (cell_of s) s.target.now (option_map spot_of old) (option_map spot_of new)
+abbrev pub ScansPlaces : (SpotPlace → Type 0) → Search → Option Place → Option Place → Type 0
+ScansPlaces Seen s old new = LooksAtSpots Seen (cell_of s) s.target.now (option_map spot_of old) (option_map spot_of new)

@@ -42,7 +42,7 @@ fn rank(orient: Orient) -> u32
 ///
 /// The key is the distance |x - X| + |y - Y| from the target (X, Y), then y, then x, and last the
 /// orientation, in the order N, S, FN, FS. The target may be any point.
-pub fn precedes(target: &Point, first: &Place, second: &Place) -> bool
+pub fn has_lesser_key(target: &Point, first: &Place, second: &Place) -> bool
     ensures { IsTrue result ↔ Precedes target.now (spot_of first.now) (spot_of second.now) }
 {
     let near = distance(target, first);

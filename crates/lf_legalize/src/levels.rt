@@ -3,15 +3,15 @@
 ghost use Rattle.std.specs.Prelude.{◌≡◌, ◌↔◌, ◌<◌, ◌≤◌, ◌+ℤ◌, ◌*ℤ◌, ◌≤ℤ◌, ◌<ℤ◌, IfOk, IsTrue, MatchOption, OnOk, Some, length, map, negsuc, pos, slice_get};
 ghost use Rattle.std.specs.Option.{option_map};
 ghost use Rattle.lf_orient.specs.Orientation.{rail_below};
-ghost use Rattle.lf_floorplan.specs.Rows.{IsHeeded};
+ghost use Rattle.lf_floorplan.specs.Rows.{IsCoreRow};
 ghost use Rattle.lf_floorplan.specs.Standing.{changed};
 ghost use Rattle.lf_segments.specs.RowsByY.{IsRunAt};
 ghost use Rattle.lf_occupancy.specs.Floorplans.{IsOccupancyOf};
 ghost use Rattle.lf_legalize.specs.Levels.{AddsRow, AreFreeOn, AreLevels, HasBareLevel, IsLevel, IsLevelRow};
 ghost use Rattle.lf_legalize.specs.RowSearches.{padding_in};
 
+use crate::open_spans::open_in_row;
 use crate::row_search::{RowSearch, rows_of};
-use crate::soft::open_in_row;
 use lf_floorplan::Row;
 use lf_orient::{Rail, opposite, row_rail};
 use lf_segments::RowEntry;

@@ -14,24 +14,24 @@
 //! ```
 #![tactic(auto)]
 
+mod anchors;
 mod extent;
-mod index;
+mod index_seeker;
 mod key;
 mod levels;
+mod limits;
 mod nearest;
+mod neighbours;
 mod on_row;
-mod others;
-mod plain;
-mod reach;
+mod open_spans;
+mod plain_search;
 mod row_search;
 mod search;
 mod seeker;
-mod soft;
-mod target;
 
-pub use index::IndexSeeker;
-pub use key::precedes;
-pub use others::boxes_beside;
-pub use plain::best_place;
+pub use anchors::anchor;
+pub use index_seeker::IndexSeeker;
+pub use key::has_lesser_key;
+pub use neighbours::other_boxes;
+pub use plain_search::best_place;
 pub use seeker::{PlainSeeker, Seeker};
-pub use target::anchor;

@@ -2,16 +2,16 @@
 
 ghost use Rattle.std.specs.Prelude.{◌≡◌, ◌↔◌, ◌⊎◌, ◌≤◌, ◌<◌, ◌≤ℤ◌, ◌<ℤ◌, IfOk, IsTrue, Some, length, negsuc, option_map, pos, slice_get};
 ghost use Rattle.lf_floorplan.specs.declared.parts.Row.{Row};
-ghost use Rattle.lf_floorplan.specs.Rows.{IsHeeded, row_area};
-ghost use Rattle.lf_rules.specs.Choice.{IsChoice, MayGo, Spot, spot_of};
+ghost use Rattle.lf_floorplan.specs.Rows.{IsCoreRow, row_area};
+ghost use Rattle.lf_rules.specs.Choice.{IsChoice, IsAllowedPlace, SpotPlace, spot_of};
 ghost use Rattle.lf_segments.specs.RowsByY.{IsEntryOf};
 ghost use Rattle.lf_occupancy.specs.Floorplans.{IsOccupancyOf};
-ghost use Rattle.lf_legalize.specs.Extents.{IsNearDefPoint, IsOnRow, IsWithin, LooksNear};
-ghost use Rattle.lf_legalize.specs.RowSearches.{IsChoiceAmong, IsOnRowIn, lifted_in};
+ghost use Rattle.lf_legalize.specs.Extents.{IsNearDefPoint, IsOnRow, IsWithin, ScansPlacesWithin};
+ghost use Rattle.lf_legalize.specs.RowSearches.{IsChoiceAmong, IsOnRowIn, query_of_search};
 
 use crate::key::gap;
+use crate::limits::{better, limit, window};
 use crate::on_row::best_on_row;
-use crate::reach::{better, limit, window};
 use crate::row_search::{RowSearch, rows_of};
 use lf_floorplan::{Place, Row};
 use lf_segments::{RowEntry, runs_have_rows};
@@ -20,7 +20,7 @@ use std::alloc::{AllocError, Global};
 
 /// Whether the row lies left or right of the window.
 fn is_beside(pitch: &Point, row: &Row, window: &Span) -> bool
-    requires heeded { IsHeeded pitch.now row.now }
+    requires heeded { IsCoreRow pitch.now row.now }
     requires wide { pos 0 <ℤ pitch.now.x }
     ensures { IsTrue result ↔ (((row_area pitch.now row.now).x2 ≤ℤ window.now.lo) ⊎ (window.now.hi ≤ℤ row.now.x)) }
 {
@@ -38,7 +38,7 @@ fn best_in_window(
     requires within { number < length search.now.frame.now.rows }
     requires low { negsuc 4611686018427387903 ≤ℤ window.now.lo }
     ensures { (r : Row) → slice_get search.now.frame.now.rows number ≡ Some r → IfOk result (λ found.
-        IsChoiceAmong (IsOnRowIn search.now.frame.now search.now.size r window.now) (lifted_in search.now) search.now.target.now (option_map spot_of found)) }
+        IsChoiceAmong (IsOnRowIn search.now.frame.now search.now.size r window.now) (query_of_search search.now) search.now.target.now (option_map spot_of found)) }
 {
     let row = &search.frame.rows.as_slice()[number];
     if is_beside(&search.frame.pitch, row, window) {
@@ -60,7 +60,7 @@ fn with_row(
     requires small { reach ≤ 68719476736 }
     requires known { IsEntryOf search.now.frame.now entry.now }
     ensures { IfOk result (λ found.
-        LooksNear (IsOnRow search.now.frame.now search.now.size entry.now.row) (lifted_in search.now)
+        ScansPlacesWithin (IsOnRow search.now.frame.now search.now.size entry.now.row) (query_of_search search.now)
         search.now.target.now reach (option_map spot_of best) (option_map spot_of found)) }
 {
     let limit = limit(search.target, reach, &best);
@@ -86,7 +86,7 @@ fn best_within(
     requires near { IsNearDefPoint search.now.target.now }
     requires small { reach ≤ 68719476736 }
     ensures { IfOk result (λ found.
-        IsChoiceAmong (IsWithin search.now.target.now reach) (lifted_in search.now) search.now.target.now (option_map spot_of found)) }
+        IsChoiceAmong (IsWithin search.now.target.now reach) (query_of_search search.now) search.now.target.now (option_map spot_of found)) }
 {
     runs_have_rows();
     let y = search.target.y;
@@ -111,8 +111,8 @@ pub(crate) fn nearest(
     requires held { IsOccupancyOf search.now.frame.now search.now.cells.now search.now.occupancy.now }
     requires near { IsNearDefPoint search.now.target.now }
     requires small { farthest ≤ 68719476736 }
-    requires all { (p : Spot) → MayGo (lifted_in search.now) p → IsWithin search.now.target.now farthest p }
-    ensures { IfOk result (λ found. IsChoice (lifted_in search.now) search.now.target.now (option_map spot_of found)) }
+    requires all { (p : SpotPlace) → IsAllowedPlace (query_of_search search.now) p → IsWithin search.now.target.now farthest p }
+    ensures { IfOk result (λ found. IsChoice (query_of_search search.now) search.now.target.now (option_map spot_of found)) }
 {
     let mut reach = (search.frame.pitch.y as u64).max(2) - 1;
     while reach < farthest {

@@ -8,17 +8,17 @@ ghost use Rattle.lf_gaps.specs.Gaps.{FitsRows};
 ghost use Rattle.lf_spans.specs.Grids.{FindsNearest, IsBounded, IsBoundedSpan, IsGrid, grid_of};
 ghost use Rattle.lf_spans.specs.Spans.{IsRising};
 ghost use Rattle.lf_occupancy.specs.Floorplans.{IsOccupancyOf};
-ghost use Rattle.lf_legalize.specs.Levels.{AreLevels, FindsOrient, IsFirstOrient, IsStandIn, MayStand};
-ghost use Rattle.lf_legalize.specs.RowSearches.{IsChoiceAmong, IsOnRowIn, lifted_in};
+ghost use Rattle.lf_legalize.specs.Levels.{AreLevels, FindsOrient, IsFirstOrient, IsEquivalentTarget, FitsRow};
+ghost use Rattle.lf_legalize.specs.RowSearches.{IsChoiceAmong, IsOnRowIn, query_of_search};
 
 use crate::levels::{BottomRow, free_by_level};
+use crate::open_spans::open_in_row;
 use crate::row_search::RowSearch;
-use crate::soft::open_in_row;
 use lf_floorplan::{Frame, Place, Row, mac_at};
 use lf_gaps::best_in_row;
 use lf_orient::Orient;
 use lf_rules::{is_on_rail, is_oriented};
-use lf_spans::Grid;
+use lf_spans::SiteGrid;
 use lf_units::{Point, Span};
 use std::alloc::{AllocError, Global};
 use std::slice;
@@ -33,8 +33,8 @@ fn row_at(frame: &Frame, number: usize) -> &Row
 
 /// Whether the cell may have this orientation on the bottom row, as far as rails and
 /// orientations go.
-fn may_stand(search: &RowSearch<'_>, bottom: &Row, orient: Orient) -> bool
-    ensures { IsTrue result ↔ MayStand search.now bottom.now orient }
+fn fits_row(search: &RowSearch<'_>, bottom: &Row, orient: Orient) -> bool
+    ensures { IsTrue result ↔ FitsRow search.now bottom.now orient }
 {
     let mac = mac_at(search.frame, search.mac);
     if !is_on_rail(mac, search.height, bottom) {
@@ -47,26 +47,26 @@ fn may_stand(search: &RowSearch<'_>, bottom: &Row, orient: Orient) -> bool
 fn first_orient(search: &RowSearch<'_>, bottom: &Row) -> Option<Orient>
     ensures { FindsOrient search.now bottom.now result }
 {
-    if may_stand(search, bottom, Orient::N) {
+    if fits_row(search, bottom, Orient::N) {
         return Some(Orient::N);
     }
-    if may_stand(search, bottom, Orient::S) {
+    if fits_row(search, bottom, Orient::S) {
         return Some(Orient::S);
     }
-    if may_stand(search, bottom, Orient::FN) {
+    if fits_row(search, bottom, Orient::FN) {
         return Some(Orient::FN);
     }
-    if may_stand(search, bottom, Orient::FS) {
+    if fits_row(search, bottom, Orient::FS) {
         return Some(Orient::FS);
     }
     None
 }
 
 /// The x of the row's sites.
-fn grid_on(bottom: &Row, pitch: &Point) -> Grid
+fn grid_on(bottom: &Row, pitch: &Point) -> SiteGrid
     ensures { result ≡ grid_of bottom.now.x pitch.now.x }
 {
-    Grid {
+    SiteGrid {
         origin: i64::from(bottom.x),
         step: pitch.x,
     }
@@ -75,7 +75,7 @@ fn grid_on(bottom: &Row, pitch: &Point) -> Grid
 /// A number for the target that is near the coordinates of a DEF text: what is nearest to the one is
 /// nearest to the other.
 fn stand_in(target: &i64) -> i64
-    ensures { IsStandIn target.now result }
+    ensures { IsEquivalentTarget target.now result }
 {
     if *target < -8_589_934_592 {
         return -8_589_934_592;
@@ -91,7 +91,7 @@ fn stand_in(target: &i64) -> i64
 fn nearest_fit(
     alloc: Global,
     lists: &[Vec<Span>],
-    grid: &Grid,
+    grid: &SiteGrid,
     width: &i64,
     target: &i64,
 ) -> Result<Option<i64>, AllocError>
@@ -149,7 +149,7 @@ fn best_at(
     requires first { IsFirstOrient search.now bottom.now.row.now orient }
     requires levels { AreLevels search.now bottom.now.number bottom.now.row.now bottom.now.window.now search.now.height (map (λ list. list.items) lists.now) }
     ensures { IfOk result (λ found.
-        IsChoiceAmong (IsOnRowIn search.now.frame.now search.now.size bottom.now.row.now bottom.now.window.now) (lifted_in search.now) search.now.target.now
+        IsChoiceAmong (IsOnRowIn search.now.frame.now search.now.size bottom.now.row.now bottom.now.window.now) (query_of_search search.now) search.now.target.now
         (option_map spot_of found)) }
 {
     let Some(x) = nearest_x(alloc, search, bottom, lists)? else {
@@ -171,7 +171,7 @@ fn best_of_one(
     requires low { negsuc 4611686018427387903 ≤ℤ bottom.now.window.now.lo }
     requires one { search.now.height ≡ 1 }
     ensures { IfOk result (λ found.
-        IsChoiceAmong (IsOnRowIn search.now.frame.now search.now.size bottom.now.row.now bottom.now.window.now) (lifted_in search.now) search.now.target.now
+        IsChoiceAmong (IsOnRowIn search.now.frame.now search.now.size bottom.now.row.now bottom.now.window.now) (query_of_search search.now) search.now.target.now
         (option_map spot_of found)) }
 {
     let free = open_in_row(alloc, search, bottom.number, bottom.window)?;
@@ -193,7 +193,7 @@ pub(crate) fn best_on_row(
     requires within { number < length search.now.frame.now.rows }
     requires low { negsuc 4611686018427387903 ≤ℤ window.now.lo }
     ensures { (r : Row) → slice_get search.now.frame.now.rows number ≡ Some r → IfOk result (λ found.
-        IsChoiceAmong (IsOnRowIn search.now.frame.now search.now.size r window.now) (lifted_in search.now) search.now.target.now (option_map spot_of found)) }
+        IsChoiceAmong (IsOnRowIn search.now.frame.now search.now.size r window.now) (query_of_search search.now) search.now.target.now (option_map spot_of found)) }
 {
     let row = row_at(search.frame, number);
     let Some(orient) = first_orient(search, row) else {

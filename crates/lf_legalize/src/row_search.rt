@@ -5,7 +5,7 @@ ghost use Rattle.lf_floorplan.specs.Boxes.{IsSized, macro_of, size_of};
 
 use lf_cells::{CellId, CellTable};
 use lf_floorplan::Frame;
-use lf_occupancy::Filled;
+use lf_occupancy::OccupancyView;
 use lf_rules::Padding;
 use lf_segments::RowsByY;
 use lf_units::Point;
@@ -15,7 +15,7 @@ use lf_units::Point;
 pub(crate) struct RowSearch<'a> {
     pub frame: &'a Frame,
     pub cells: &'a CellTable,
-    pub occupancy: &'a Filled<'a>,
+    pub occupancy: &'a OccupancyView<'a>,
     pub id: CellId,
     /// The position of the cell's macro in the frame.
     pub mac: usize,

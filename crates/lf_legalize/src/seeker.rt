@@ -8,11 +8,11 @@ ghost use Rattle.lf_cells.specs.Cells.{cells_of};
 ghost use Rattle.lf_legalize.specs.Members.{IsSizedCell, best_of};
 ghost use Rattle.lf_occupancy.specs.Floorplans.{IsOccupancyOf};
 
-use crate::others::boxes_beside;
-use crate::plain::best_place;
+use crate::neighbours::other_boxes;
+use crate::plain_search::best_place;
 use lf_cells::{CellId, CellTable};
 use lf_floorplan::{Frame, Place};
-use lf_occupancy::Filled;
+use lf_occupancy::OccupancyView;
 use lf_rules::Padding;
 use lf_units::Point;
 use std::alloc::{AllocError, Global};
@@ -36,7 +36,7 @@ pub trait Seeker {
         alloc: Global,
         frame: &Frame,
         cells: &CellTable,
-        occupancy: &Filled<'_>,
+        occupancy: &OccupancyView<'_>,
         cell: CellId,
         target: &Point,
         padding: Padding,
@@ -58,15 +58,15 @@ impl Seeker for PlainSeeker {
         alloc: Global,
         frame: &Frame,
         cells: &CellTable,
-        _occupancy: &Filled<'_>,
+        _occupancy: &OccupancyView<'_>,
         cell: CellId,
         target: &Point,
         padding: Padding,
     ) -> Result<Option<Place>, AllocError> {
-        let Some(standing) = cells.standing(cell) else {
+        let Some(standing) = cells.placement_of(cell) else {
             return Ok(None);
         };
-        let others = boxes_beside(alloc, frame, cells, cell)?;
+        let others = other_boxes(alloc, frame, cells, cell)?;
         let mac = &frame.macros.as_slice()[standing.mac];
         let team = cell.team as usize;
         Ok(best_place(frame, team, mac, &others, target, padding))

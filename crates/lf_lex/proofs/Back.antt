@@ -2,12 +2,12 @@
 use Rattle.std.proofs.Common.{◌≡◌, ℕ, suc, ◌<◌, Bool, true, false, cond, List, [], ◌∷◌, ◌++◌, map, length, Result, Ok, Err, refl, ap, sym, ◌∙◌, arith}
 use Rattle.std.proofs.lemmas.List.{map-append}
 use Rattle.lf_lex.specs.declared.fault.ReadFault.{ReadFault}
-use Rattle.lf_lex.specs.Tokens.{Lexed, Lexeme, Plain, plain, with_tokens}
+use Rattle.lf_lex.specs.Tokens.{Lexed, Lexeme, PlainToken, plain, with_tokens}
 use Rattle.lf_lex.specs.Splices.{word_of}
-use Rattle.lf_lex.specs.Reading.{◌>>=◌, Reader, Taken, Turn, Statement, taken, turn, token, block}
+use Rattle.lf_lex.specs.Reading.{◌>>=◌, Reader, ReadValue, Turn, Statement, taken, turn, token, block}
 use Rattle.lf_lex.proofs.Runs.{Again, TurnsAgain, turn_bare, left, nil_plain, plain_head, takes_both, length_both, last_takes, more_takes}
 
-abbrev pub BackAt : {A B : Type 0} → (A → B) → Reader A → List Plain → A → Type 0
+abbrev pub BackAt : {A B : Type 0} → (A → B) → Reader A → List PlainToken → A → Type 0
 BackAt bare reader ps x = (p : List Lexeme) → map plain p ≡ ps → Again bare reader p x
 
 -- the same from words
@@ -18,14 +18,14 @@ pub back_pure : {A B : Type 0} (bare : A → B) (x x' : A) → bare x' ≡ bare 
 back_pure bare x x' e p q = record { value = x'; alike = e; takes = λ l. ap (λ (z : List Lexeme). taken x' (with_tokens z l)) (nil_plain p q) }
 
 -- a token with these bytes, at no place in particular
-abbrev pub token_of : Plain → Lexeme
+abbrev pub token_of : PlainToken → Lexeme
 token_of u = record { text = u.text; kind = u.kind; start = 0; stop = 0; line = 0 }
 
 -- a token with the bytes of a word
 abbrev pub token_with : List ℕ → Lexeme
 token_with w = token_of (word_of w)
 
-pub at_token : (u : Plain) → BackAt plain token (u ∷ []) (token_of u)
+pub at_token : (u : PlainToken) → BackAt plain token (u ∷ []) (token_of u)
 at_token u [] e = absurd cc
 at_token u (t ∷ p) e =
     let h = plain_head (plain t) u (map plain p) [] e in
@@ -35,14 +35,14 @@ pub back_token : (w : List ℕ) → Back plain token (w ∷ []) (token_with w)
 back_token w = at_token (word_of w)
 
 -- tokens with the bytes of two runs of words are two runs
-pub record Halves (p : List Lexeme) (us vs : List Plain) : Type 0 where
+pub record Halves (p : List Lexeme) (us vs : List PlainToken) : Type 0 where
   pub front : List Lexeme
   pub back : List Lexeme
   pub whole : p ≡ front ++ back
   pub front_is : map plain front ≡ us
   pub back_is : map plain back ≡ vs
 
-pub halves : (p : List Lexeme) (us vs : List Plain) → map plain p ≡ us ++ vs → Halves p us vs
+pub halves : (p : List Lexeme) (us vs : List PlainToken) → map plain p ≡ us ++ vs → Halves p us vs
 halves p [] vs e = record { front = []; back = p; whole = refl; front_is = refl; back_is = e }
 halves [] (u ∷ us) vs e = absurd cc
 halves (t ∷ p) (u ∷ us) vs e =
@@ -52,12 +52,12 @@ halves (t ∷ p) (u ∷ us) vs e =
       front = t ∷ r.front;
       back = r.back;
       whole = ap (λ (z : List Lexeme). t ∷ z) r.whole;
-      front_is = ap (λ (z : Plain). z ∷ map plain r.front) h.0
-          ∙ ap (λ (z : List Plain). u ∷ z) r.front_is;
+      front_is = ap (λ (z : PlainToken). z ∷ map plain r.front) h.0
+          ∙ ap (λ (z : List PlainToken). u ∷ z) r.front_is;
       back_is = r.back_is;
     }
 
-pub at_bind : {A B C D : Type 0} (bareA : A → C) (bareB : B → D) (r : Reader A) (k : Taken A → Result (Taken B) ReadFault) (us vs : List Plain) (x : A) (y : B)
+pub at_bind : {A B C D : Type 0} (bareA : A → C) (bareB : B → D) (r : Reader A) (k : ReadValue A → Result (ReadValue B) ReadFault) (us vs : List PlainToken) (x : A) (y : B)
     → BackAt bareA r us x → ((x' : A) → bareA x' ≡ bareA x → BackAt bareB (λ l. k (left x' l)) vs y) → BackAt bareB (λ l. r l >>= k) (us ++ vs) y
 at_bind bareA bareB r k us vs x y f next p e =
     let s = halves p us vs e in
@@ -70,21 +70,21 @@ at_bind bareA bareB r k us vs x y f next p e =
           (b.takes l);
     }
 
-pub back_bind : {A B C D : Type 0} (bareA : A → C) (bareB : B → D) (r : Reader A) (k : Taken A → Result (Taken B) ReadFault) (ws vs : List (List ℕ)) (x : A)
+pub back_bind : {A B C D : Type 0} (bareA : A → C) (bareB : B → D) (r : Reader A) (k : ReadValue A → Result (ReadValue B) ReadFault) (ws vs : List (List ℕ)) (x : A)
     (y : B)
     → Back bareA r ws x → ((x' : A) → bareA x' ≡ bareA x → Back bareB (λ l. k (left x' l)) vs y) → Back bareB (λ l. r l >>= k) (ws ++ vs) y
 back_bind bareA bareB r k ws vs x y f next p e = at_bind bareA bareB r k (map word_of ws) (map word_of vs) x y f next p (e ∙ map-append word_of ws vs)
 
 -- what is made of a value
-pub at_map : {A B C D : Type 0} (bareA : A → C) (bareB : B → D) (r : Reader A) (f : A → B) (ps : List Plain) (x : A) (y : B)
+pub at_map : {A B C D : Type 0} (bareA : A → C) (bareB : B → D) (r : Reader A) (f : A → B) (ps : List PlainToken) (x : A) (y : B)
     → BackAt bareA r ps x → ((x' : A) → bareA x' ≡ bareA x → bareB (f x') ≡ bareB y) → BackAt bareB (λ l. r l >>= λ z. taken (f z.value) z.rest) ps y
 at_map bareA bareB r f ps x y g alike p e = let a = g p e in record { value = f a.value; alike = alike a.value a.alike; takes = λ l. rw (a.takes l) refl }
 
 -- a reader that is the same one
-pub at_same : {A B : Type 0} (bare : A → B) (r r' : Reader A) (ps : List Plain) (x : A) → ((l : Lexed) → r l ≡ r' l) → BackAt bare r' ps x → BackAt bare r ps x
+pub at_same : {A B : Type 0} (bare : A → B) (r r' : Reader A) (ps : List PlainToken) (x : A) → ((l : Lexed) → r l ≡ r' l) → BackAt bare r' ps x → BackAt bare r ps x
 at_same bare r r' ps x h f p e = let a = f p e in record { value = a.value; alike = a.alike; takes = λ l. h (with_tokens p l) ∙ a.takes l }
 
-pub at_first : {B D : Type 0} (bareB : B → D) (k : Taken Lexeme → Result (Taken B) ReadFault) (u : Plain) (vs : List Plain) (y : B)
+pub at_first : {B D : Type 0} (bareB : B → D) (k : ReadValue Lexeme → Result (ReadValue B) ReadFault) (u : PlainToken) (vs : List PlainToken) (y : B)
     → ((t : Lexeme) → plain t ≡ u → BackAt bareB (λ l. k (left t l)) vs y) → BackAt bareB (λ l. token l >>= k) (u ∷ vs) y
 at_first bareB k u vs y next [] e = absurd cc
 at_first bareB k u vs y next (t ∷ p) e =
@@ -93,16 +93,16 @@ at_first bareB k u vs y next (t ∷ p) e =
     record { value = b.value; alike = b.alike; takes = λ l. b.takes l }
 
 -- a first token, and what is read after it
-pub back_first : {B D : Type 0} (bareB : B → D) (k : Taken Lexeme → Result (Taken B) ReadFault) (w : List ℕ) (vs : List (List ℕ)) (y : B)
+pub back_first : {B D : Type 0} (bareB : B → D) (k : ReadValue Lexeme → Result (ReadValue B) ReadFault) (w : List ℕ) (vs : List (List ℕ)) (y : B)
     → ((t : Lexeme) → plain t ≡ word_of w → Back bareB (λ l. k (left t l)) vs y) → Back bareB (λ l. token l >>= k) (w ∷ vs) y
 back_first bareB k w vs y next = back_bind plain bareB token k (w ∷ []) vs (token_with w) y (back_token w) next
 
-pub at_yes : {A B : Type 0} (bare : A → B) (c : Bool) (r s : Reader A) (ps : List Plain) (x : A) → c ≡ true → BackAt bare r ps x
+pub at_yes : {A B : Type 0} (bare : A → B) (c : Bool) (r s : Reader A) (ps : List PlainToken) (x : A) → c ≡ true → BackAt bare r ps x
     → BackAt bare (λ l. cond c (r l) (s l)) ps x
 at_yes bare true r s ps x e f = f
 at_yes bare false r s ps x e f = absurd cc
 
-pub at_no : {A B : Type 0} (bare : A → B) (c : Bool) (r s : Reader A) (ps : List Plain) (x : A) → c ≡ false → BackAt bare s ps x
+pub at_no : {A B : Type 0} (bare : A → B) (c : Bool) (r s : Reader A) (ps : List PlainToken) (x : A) → c ≡ false → BackAt bare s ps x
     → BackAt bare (λ l. cond c (r l) (s l)) ps x
 at_no bare true r s ps x e f = absurd cc
 at_no bare false r s ps x e f = f
@@ -115,7 +115,7 @@ pub back_no : {A B : Type 0} (bare : A → B) (c : Bool) (r s : Reader A) (ws : 
     → Back bare (λ l. cond c (r l) (s l)) ws x
 back_no bare c r s ws x e f = at_no bare c r s (map word_of ws) x e f
 
-pub at_given : {A B D : Type 0} (bare : B → D) (o : Result A ReadFault) (k : A → Reader B) (v : A) (ps : List Plain) (x : B)
+pub at_given : {A B D : Type 0} (bare : B → D) (o : Result A ReadFault) (k : A → Reader B) (v : A) (ps : List PlainToken) (x : B)
     → o ≡ Ok v → BackAt bare (k v) ps x → BackAt bare (λ l. o >>= λ v. k v l) ps x
 at_given bare (Err q) k v ps x e f = absurd cc
 at_given {A = A} bare (Ok u) k v ps x e f = let h : v ≡ u = same_ok e in rw h at f
@@ -128,22 +128,22 @@ pub back_given : {A B D : Type 0} (bare : B → D) (o : Result A ReadFault) (k :
 back_given bare o k v ws x e f = at_given bare o k v (map word_of ws) x e f
 
 -- what begins with a token of these bytes is read as their reader reads on
-pub at_known : {B D : Type 0} (bareB : B → D) (f : Lexeme → Reader B) (r : Reader B) (u : Plain) (vs : List Plain) (y : B)
+pub at_known : {B D : Type 0} (bareB : B → D) (f : Lexeme → Reader B) (r : Reader B) (u : PlainToken) (vs : List PlainToken) (y : B)
     → ((t : Lexeme) (l : Lexed) → f (record t { text = u.text; kind = u.kind }) l ≡ r l) → BackAt bareB r vs y
     → BackAt bareB (λ l. token l >>= λ t. f t.value t.rest) (u ∷ vs) y
 at_known bareB f r u vs y is_read back =
     at_first bareB (λ t. f t.value t.rest) u vs y (λ t e.
-    at_same bareB (f t) r vs y (λ l. ap (λ (p : Plain). f (record t { text = p.text; kind = p.kind }) l) e ∙ is_read t l) back)
+    at_same bareB (f t) r vs y (λ l. ap (λ (p : PlainToken). f (record t { text = p.text; kind = p.kind }) l) e ∙ is_read t l) back)
 
 -- Statement after statement.
 
-abbrev pub TurnsAt : {S D : Type 0} → (S → D) → Statement S → S → List Plain → S → Type 0
+abbrev pub TurnsAt : {S D : Type 0} → (S → D) → Statement S → S → List PlainToken → S → Type 0
 TurnsAt bare statement s ps y = (p : List Lexeme) → map plain p ≡ ps → TurnsAgain bare statement s p y
 
 abbrev pub TurnsBack : {S D : Type 0} → (S → D) → Statement S → S → List (List ℕ) → S → Type 0
 TurnsBack bare statement s ws y = TurnsAt bare statement s (map word_of ws) y
 
-pub at_last : {S D : Type 0} (bare : S → D) (statement : Statement S) (s y : S) (ps : List Plain) → BackAt (turn_bare bare) (statement s) ps (turn y false)
+pub at_last : {S D : Type 0} (bare : S → D) (statement : Statement S) (s y : S) (ps : List PlainToken) → BackAt (turn_bare bare) (statement s) ps (turn y false)
     → TurnsAt bare statement s ps y
 at_last bare statement s y ps f p e =
     let a = f p e in
@@ -154,11 +154,11 @@ at_last bare statement s y ps f p e =
           λ n lt l. last_takes statement s p a.value n l lt (a.takes l) (ap (λ (z : Turn _). z.more) a.alike);
     }
 
-front_some : (front : List Lexeme) (us : List Plain) → map plain front ≡ us → 0 < length us → 0 < length front
+front_some : (front : List Lexeme) (us : List PlainToken) → map plain front ≡ us → 0 < length us → 0 < length front
 front_some [] us e h = rw (sym e) at h
 front_some (t ∷ front) us e h = omega arith
 
-pub at_more : {S D : Type 0} (bare : S → D) (statement : Statement S) (s s1 y : S) (us vs : List Plain) → 0 < length us
+pub at_more : {S D : Type 0} (bare : S → D) (statement : Statement S) (s s1 y : S) (us vs : List PlainToken) → 0 < length us
     → BackAt (turn_bare bare) (statement s) us (turn s1 true)
     → ((s1' : S) → bare s1' ≡ bare s1 → TurnsAt bare statement s1' vs y) → TurnsAt bare statement s (us ++ vs) y
 at_more bare statement s s1 y us vs some f next p e =
@@ -172,7 +172,7 @@ at_more bare statement s s1 y us vs some f next p e =
           (a.takes (with_tokens c.back l)) (ap (λ (z : Turn _). z.more) a.alike) (λ j h. b.takes j h l);
     }
 
-pub at_block : {S D : Type 0} (bare : S → D) (statement : Statement S) (s y : S) (ps : List Plain) → TurnsAt bare statement s ps y
+pub at_block : {S D : Type 0} (bare : S → D) (statement : Statement S) (s y : S) (ps : List PlainToken) → TurnsAt bare statement s ps y
     → BackAt bare (block statement s) ps y
 at_block bare statement s y ps f p e =
     let t = f p e in

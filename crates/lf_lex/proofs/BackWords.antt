@@ -5,9 +5,9 @@ use Rattle.std.specs.Prelude.{codes, not, nat_lt}
 use Rattle.std.specs.Str.{bytes_eq}
 use Rattle.std.proofs.lemmas.Bool.Decides.{nat_tests}
 use Rattle.std.proofs.lemmas.Slice.Eq.{bytes_eq-Decides}
-use Rattle.lf_lex.specs.Tokens.{Lexeme, Plain, plain}
+use Rattle.lf_lex.specs.Tokens.{Lexeme, PlainToken, plain}
 use Rattle.lf_lex.specs.Splices.{word_of}
-use Rattle.lf_lex.specs.Passing.{text_of, HaveNowhere}
+use Rattle.lf_lex.specs.Passing.{text_of, OccurNowhere}
 use Rattle.lf_lex.specs.Reading.{Reader, turn, is, is_word, kind_is_word, keyword, word, name, end_name, passed_token, to_semicolon, passed_to_end, to_end}
 use Rattle.lf_lex.specs.Reading.{passed_to_word, to_word}
 use Rattle.lf_lex.proofs.Runs.{same}
@@ -19,7 +19,7 @@ no_more bare q y ws f = rw (append-nil ws) at f
 
 -- a token with the bytes of a word is what the word is
 pub is_at : (due w : List ℕ) (t : Lexeme) → plain t ≡ word_of w → is due t ≡ bytes_eq w due
-is_at due w t e = ap (λ (p : Plain). bytes_eq p.text due) e
+is_at due w t e = ap (λ (p : PlainToken). bytes_eq p.text due) e
 
 pub not_eq : (a b : List ℕ) → a ≢ b → bytes_eq a b ≡ false
 not_eq a b h = by_test (bytes_eq a b) refl
@@ -39,7 +39,7 @@ pub word_back : (n : List ℕ) → n ≢ codes ";" → Back plain word (n ∷ []
 unfolding word
 word_back n other =
     back_first plain _ n [] (token_with n) (λ t e. back_yes plain (is_word t) _ _ [] (token_with n)
-    (ap (λ (p : Plain). kind_is_word p.kind && not (bytes_eq p.text (codes ";"))) e ∙ word_test (bytes_eq n (codes ";")) (not_eq n (codes ";") other))
+    (ap (λ (p : PlainToken). kind_is_word p.kind && not (bytes_eq p.text (codes ";"))) e ∙ word_test (bytes_eq n (codes ";")) (not_eq n (codes ";") other))
     (back_pure plain (token_with n) t e))
 
 pub short_test : (n : ℕ) → n ≤ 1024 → nat_lt 1024 n ≡ false
@@ -49,22 +49,22 @@ pub short_name_back : (n : List ℕ) → n ≢ codes ";" → length n ≤ 1024 �
 unfolding name
 short_name_back n other short =
     back_bind plain plain word _ (n ∷ []) [] (token_with n) (token_with n) (word_back n other) (λ t e.
-    back_no plain (nat_lt 1024 (length t.text)) _ _ [] (token_with n) (ap (λ (p : Plain). nat_lt 1024 (length p.text)) e ∙ short_test (length n) short)
+    back_no plain (nat_lt 1024 (length t.text)) _ _ [] (token_with n) (ap (λ (p : PlainToken). nat_lt 1024 (length p.text)) e ∙ short_test (length n) short)
     (back_pure plain (token_with n) t e))
 
 pub end_back : (due : List ℕ) → bytes_eq due due ≡ true → Back same (end_name due) (due ∷ []) tt
 unfolding end_name
 end_back due own =
-    back_first same _ due [] tt (λ t e. back_no same (not (kind_is_word t.kind)) _ _ [] tt (ap (λ (p : Plain). not (kind_is_word p.kind)) e)
+    back_first same _ due [] tt (λ t e. back_no same (not (kind_is_word t.kind)) _ _ [] tt (ap (λ (p : PlainToken). not (kind_is_word p.kind)) e)
     (back_yes same (is due t) _ _ [] tt (is_at due due t e ∙ own) (back_pure same tt tt refl)))
 
 -- the bytes of a token that stands for a word
 pub text_is : (w : List ℕ) (t : Lexeme) → plain t ≡ word_of w → t.text ≡ w
-text_is w t e = ap (λ (p : Plain). p.text) e
+text_is w t e = ap (λ (p : PlainToken). p.text) e
 
 -- a token with these bytes is what they are
-pub is_of : (due : List ℕ) (u : Plain) (t : Lexeme) → plain t ≡ u → is due t ≡ bytes_eq u.text due
-is_of due u t e = ap (λ (p : Plain). bytes_eq p.text due) e
+pub is_of : (due : List ℕ) (u : PlainToken) (t : Lexeme) → plain t ≡ u → is due t ≡ bytes_eq u.text due
+is_of due u t e = ap (λ (p : PlainToken). bytes_eq p.text due) e
 
 pub bytes_same : (a b : List ℕ) → bytes_eq a b ≡ true → a ≡ b
 bytes_same a b h = (bytes_eq-Decides a b).0 h
@@ -73,15 +73,15 @@ pub same_bytes : (a : List ℕ) → bytes_eq a a ≡ true
 same_bytes a = (bytes_eq-Decides a a).1 refl
 
 -- the rest of tokens among which words stand nowhere
-pub later : (words : List (List ℕ)) (u : Plain) (ps : List Plain) → HaveNowhere words (u ∷ ps) → HaveNowhere words ps
+pub later : (words : List (List ℕ)) (u : PlainToken) (ps : List PlainToken) → OccurNowhere words (u ∷ ps) → OccurNowhere words ps
 later words u ps h before after e = h (text_of u ∷ before) after (ap (λ (z : List (List ℕ)). text_of u ∷ z) e)
 
-pub not_first : (due : List ℕ) (u : Plain) (ps : List Plain) → HaveNowhere (due ∷ []) (u ∷ ps) → u.text ≢ due
+pub not_first : (due : List ℕ) (u : PlainToken) (ps : List PlainToken) → OccurNowhere (due ∷ []) (u ∷ ps) → u.text ≢ due
 not_first due u ps h e = h [] (map text_of ps) (ap (λ (z : List ℕ). z ∷ map text_of ps) e)
 
 -- Up to a word.
 
-word_turns : (due : List ℕ) → bytes_eq due due ≡ true → (ps : List Plain) → HaveNowhere (due ∷ []) ps
+word_turns : (due : List ℕ) → bytes_eq due due ≡ true → (ps : List PlainToken) → OccurNowhere (due ∷ []) ps
     → TurnsAt same (passed_to_word due) tt (ps ++ word_of due ∷ []) tt
 unfolding passed_to_word
 word_turns due own [] h =
@@ -93,12 +93,12 @@ word_turns due own (u ∷ ps) h =
     (back_pure same (turn tt true) (turn tt true) refl))) (λ s e.
     word_turns due own ps (later (due ∷ []) u ps h))
 
-pub to_word_at : (due : List ℕ) → bytes_eq due due ≡ true → (ps : List Plain) → HaveNowhere (due ∷ []) ps
+pub to_word_at : (due : List ℕ) → bytes_eq due due ≡ true → (ps : List PlainToken) → OccurNowhere (due ∷ []) ps
     → BackAt same (to_word due) (ps ++ word_of due ∷ []) tt
 to_word_at due own ps h = at_block same (passed_to_word due) tt tt (ps ++ word_of due ∷ []) (word_turns due own ps h)
 
 -- a semicolon is such a word
-pub to_semicolon_at : (ps : List Plain) → HaveNowhere (codes ";" ∷ []) ps → BackAt same to_semicolon (ps ++ word_of (codes ";") ∷ []) tt
+pub to_semicolon_at : (ps : List PlainToken) → OccurNowhere (codes ";" ∷ []) ps → BackAt same to_semicolon (ps ++ word_of (codes ";") ∷ []) tt
 unfolding passed_token passed_to_word
 to_semicolon_at ps h = to_word_at (codes ";") refl ps h
 
@@ -110,15 +110,15 @@ not_both true false h = refl
 not_both false b h = refl
 
 -- the word does not stand directly after END
-not_end : (due q : List ℕ) (u : Plain) (ps : List Plain) → HaveNowhere (codes "END" ∷ due ∷ []) (word_of q ∷ u ∷ ps)
+not_end : (due q : List ℕ) (u : PlainToken) (ps : List PlainToken) → OccurNowhere (codes "END" ∷ due ∷ []) (word_of q ∷ u ∷ ps)
     → (bytes_eq q (codes "END") && bytes_eq u.text due) ≡ false
 not_end due q u ps h =
     not_both (bytes_eq q (codes "END")) (bytes_eq u.text due) (λ a b. h [] (map text_of ps)
     (ap (λ (z : List ℕ). z ∷ u.text ∷ map text_of ps) (bytes_same q (codes "END") a)
     ∙ ap (λ (z : List ℕ). codes "END" ∷ z ∷ map text_of ps) (bytes_same u.text due b)))
 
-end_turns : (due : List ℕ) → bytes_eq due due ≡ true → (q : List ℕ) (ps : List Plain)
-    → HaveNowhere (codes "END" ∷ due ∷ []) (word_of q ∷ (ps ++ word_of (codes "END") ∷ []))
+end_turns : (due : List ℕ) → bytes_eq due due ≡ true → (q : List ℕ) (ps : List PlainToken)
+    → OccurNowhere (codes "END" ∷ due ∷ []) (word_of q ∷ (ps ++ word_of (codes "END") ∷ []))
     → (state : Bool) → state ≡ bytes_eq q (codes "END") → TurnsAt same (passed_to_end due) state (ps ++ word_of (codes "END") ∷ word_of due ∷ []) true
 unfolding passed_to_end
 end_turns due own q [] h state at =
@@ -139,12 +139,12 @@ end_turns due own q (u ∷ ps) h state at =
     end_turns due own u.text ps (λ before after e. later (codes "END" ∷ due ∷ []) (word_of q) (u ∷ (ps ++ word_of (codes "END") ∷ [])) h before after e) s es)
 
 -- no END stands before the first of them
-none_before : (due : List ℕ) (ps : List Plain) → HaveNowhere (codes "END" ∷ due ∷ []) ps → HaveNowhere (codes "END" ∷ due ∷ []) (word_of [] ∷ ps)
+none_before : (due : List ℕ) (ps : List PlainToken) → OccurNowhere (codes "END" ∷ due ∷ []) ps → OccurNowhere (codes "END" ∷ due ∷ []) (word_of [] ∷ ps)
 none_before due ps h [] after e = absurd cc
 none_before due ps h (w ∷ before) after e = h before after cc
 
 -- up to the first END with the word after it
-pub to_end_before : (due : List ℕ) → bytes_eq due due ≡ true → (ps : List Plain) → HaveNowhere (codes "END" ∷ due ∷ []) (ps ++ word_of (codes "END") ∷ [])
+pub to_end_before : (due : List ℕ) → bytes_eq due due ≡ true → (ps : List PlainToken) → OccurNowhere (codes "END" ∷ due ∷ []) (ps ++ word_of (codes "END") ∷ [])
     → BackAt same (to_end due) (ps ++ word_of (codes "END") ∷ word_of due ∷ []) tt
 unfolding to_end
 to_end_before due own ps h =
@@ -153,8 +153,8 @@ to_end_before due own ps h =
     (at_block same (passed_to_end due) false true all (end_turns due own [] ps (none_before due (ps ++ word_of (codes "END") ∷ []) h) false refl)) (λ x e. refl)
 
 -- one END more does not matter where the word is another
-end_apart : (due : List ℕ) → codes "END" ≢ due → (ps : List Plain) → HaveNowhere (codes "END" ∷ due ∷ []) ps
-    → HaveNowhere (codes "END" ∷ due ∷ []) (ps ++ word_of (codes "END") ∷ [])
+end_apart : (due : List ℕ) → codes "END" ≢ due → (ps : List PlainToken) → OccurNowhere (codes "END" ∷ due ∷ []) ps
+    → OccurNowhere (codes "END" ∷ due ∷ []) (ps ++ word_of (codes "END") ∷ [])
 end_apart due other [] h [] after e = absurd cc
 end_apart due other [] h (w ∷ []) after e = absurd cc
 end_apart due other [] h (w ∷ (v ∷ before)) after e = absurd cc
@@ -171,6 +171,6 @@ differ due other e = not_true (sym ((bytes_eq-Decides (codes "END") due).1 e) �
     not_true : true ≡ false → ⊥
     not_true e = cc
 
-pub to_end_at : (due : List ℕ) → bytes_eq due due ≡ true → bytes_eq (codes "END") due ≡ false → (ps : List Plain) → HaveNowhere (codes "END" ∷ due ∷ []) ps
+pub to_end_at : (due : List ℕ) → bytes_eq due due ≡ true → bytes_eq (codes "END") due ≡ false → (ps : List PlainToken) → OccurNowhere (codes "END" ∷ due ∷ []) ps
     → BackAt same (to_end due) (ps ++ word_of (codes "END") ∷ word_of due ∷ []) tt
 to_end_at due own other ps h = to_end_before due own ps (end_apart due (differ due other) ps h)

@@ -3,22 +3,22 @@ use Rattle.std.proofs.Common.{◌≡◌, ℕ, Bool, true, false, ◌&&◌, List,
 use Rattle.std.specs.Prelude.{not, nat_lt, codes}
 use Rattle.std.specs.Str.{bytes_eq}
 use Rattle.lf_lex.specs.declared.tokens.TokenKind.{TokenKind}
-use Rattle.lf_lex.specs.Tokens.{Lexeme, Plain, plain}
+use Rattle.lf_lex.specs.Tokens.{Lexeme, PlainToken, plain}
 use Rattle.lf_lex.specs.Reading.{turn, token, is, kind_is_word, is_word, keyword, word, name, end_name, passed_token, to_semicolon, passed_to_end, to_end}
 use Rattle.lf_lex.specs.Reading.{passed_to_word, to_word, block, or_bad_number}
 use Rattle.lf_lex.proofs.Runs.{Follows, Goes, same, turn_bare, bind, choose, pure, fault, token_follows, takes_one, block_follows}
 
 pub text_alike : (t t' : Lexeme) → plain t' ≡ plain t → t'.text ≡ t.text
-text_alike t t' e = ap (λ (p : Plain). p.text) e
+text_alike t t' e = ap (λ (p : PlainToken). p.text) e
 
 pub kind_alike : (t t' : Lexeme) → plain t' ≡ plain t → t'.kind ≡ t.kind
-kind_alike t t' e = ap (λ (p : Plain). p.kind) e
+kind_alike t t' e = ap (λ (p : PlainToken). p.kind) e
 
 pub is_alike : (w : List ℕ) (t t' : Lexeme) → plain t' ≡ plain t → is w t' ≡ is w t
 is_alike w t t' e = ap (λ (x : List ℕ). bytes_eq x w) (text_alike t t' e)
 
 word_alike : (t t' : Lexeme) → plain t' ≡ plain t → is_word t' ≡ is_word t
-word_alike t t' e = ap (λ (p : Plain). kind_is_word p.kind && not (bytes_eq p.text (codes ";"))) e
+word_alike t t' e = ap (λ (p : PlainToken). kind_is_word p.kind && not (bytes_eq p.text (codes ";"))) e
 
 pub keyword_follows : (due : List ℕ) → Follows same (keyword due) (keyword due)
 unfolding keyword

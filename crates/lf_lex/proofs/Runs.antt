@@ -2,10 +2,10 @@
 use Rattle.std.proofs.Common.{◌≡◌, ℕ, zero, suc, ◌+◌, ◌≤◌, ◌<◌, Bool, true, false, cond, List, [], ◌∷◌, ◌++◌, map, length, Result, Ok, Err, refl, sym, ap, ◌∙◌}
 use Rattle.std.proofs.Common.{arith}
 use Rattle.std.proofs.lemmas.List.{append_assoc, append_cancel_right, append-nil}
-use Rattle.lf_lex.specs.Tokens.{Lexed, Lexeme, Plain, plain, with_tokens}
+use Rattle.lf_lex.specs.Tokens.{Lexed, Lexeme, PlainToken, plain, with_tokens}
 use Rattle.lf_lex.specs.declared.fault.ReadFault.{ReadFault}
 use Rattle.lf_lex.specs.Laws.{TakesTokens, ReadsAlike}
-use Rattle.lf_lex.specs.Reading.{◌>>=◌, Reader, Taken, Turn, Statement, taken, turn, token, first_of, behind, statements, block}
+use Rattle.lf_lex.specs.Reading.{◌>>=◌, Reader, ReadValue, Turn, Statement, taken, turn, token, first_of, behind, statements, block}
 
 -- What is read from such tokens: a value that is the same but for places.
 pub record Again {A B : Type 0} (bare : A → B) (reader : Reader A) (p : List Lexeme) (x : A) : Type 0 where
@@ -30,11 +30,11 @@ nil_plain [] e = refl
 nil_plain (t ∷ p) e = absurd cc
 
 -- a value with what is left
-abbrev pub left : {A : Type 0} → A → Lexed → Taken A
+abbrev pub left : {A : Type 0} → A → Lexed → ReadValue A
 left x l = record { value = x; rest = l }
 
-pub ok_is : {A : Type 0} (x : A) (l : Lexed) (y : A) (m : Lexed) → ◌≡◌ {A = Result (Taken A) ReadFault} (taken x l) (taken y m) → (x ≡ y) × (l ≡ m)
-ok_is {A = A} x l y m e = let f : ◌≡◌ {A = Taken A} (left x l) (left y m) = cc in (ap (λ (z : Taken A). z.value) f, ap (λ (z : Taken A). z.rest) f)
+pub ok_is : {A : Type 0} (x : A) (l : Lexed) (y : A) (m : Lexed) → ◌≡◌ {A = Result (ReadValue A) ReadFault} (taken x l) (taken y m) → (x ≡ y) × (l ≡ m)
+ok_is {A = A} x l y m e = let f : ◌≡◌ {A = ReadValue A} (left x l) (left y m) = cc in (ap (λ (z : ReadValue A). z.value) f, ap (λ (z : ReadValue A). z.rest) f)
 
 pub pure : {A B : Type 0} (bare : A → B) (x x' : A) → bare x' ≡ bare x → Follows bare (λ l. taken x l) (λ l. taken x' l)
 pure bare x x' alike l m y e =
@@ -61,11 +61,11 @@ pub record Split (p xs ys : List Lexeme) : Type 0 where
   pub front_alike : map plain front ≡ map plain xs
   pub back_alike : map plain back ≡ map plain ys
 
-pub plain_head : (u t : Plain) (us ts : List Plain) → ◌≡◌ {A = List Plain} (u ∷ us) (t ∷ ts) → (u ≡ t) × (us ≡ ts)
+pub plain_head : (u t : PlainToken) (us ts : List PlainToken) → ◌≡◌ {A = List PlainToken} (u ∷ us) (t ∷ ts) → (u ≡ t) × (us ≡ ts)
 plain_head u t us ts e = (cc, cc)
 
-cons_alike : (u v : Plain) (us vs : List Plain) → u ≡ v → us ≡ vs → u ∷ us ≡ v ∷ vs
-cons_alike u v us vs e f = ap (λ (z : Plain). z ∷ us) e ∙ ap (λ (z : List Plain). v ∷ z) f
+cons_alike : (u v : PlainToken) (us vs : List PlainToken) → u ≡ v → us ≡ vs → u ∷ us ≡ v ∷ vs
+cons_alike u v us vs e f = ap (λ (z : PlainToken). z ∷ us) e ∙ ap (λ (z : List PlainToken). v ∷ z) f
 
 pub split_alike : (p xs ys : List Lexeme) → map plain p ≡ map plain (xs ++ ys) → Split p xs ys
 split_alike p [] ys e = record { front = []; back = p; whole = refl; front_alike = refl; back_alike = e }
@@ -88,13 +88,13 @@ with_both a b l = rw append_assoc refl
 pub same_run : (a b : List Lexeme) (l m : Lexed) → l ≡ with_tokens a m → l ≡ with_tokens b m → a ≡ b
 same_run a b l m e f = append_cancel_right a b m.tokens (ap (λ (x : Lexed). x.tokens) (sym e ∙ f))
 
-pub takes_both : {A B : Type 0} (r' : Reader A) (k' : Taken A → Result (Taken B) ReadFault) (p front back : List Lexeme) (l : Lexed) (x : A) (y : B)
+pub takes_both : {A B : Type 0} (r' : Reader A) (k' : ReadValue A → Result (ReadValue B) ReadFault) (p front back : List Lexeme) (l : Lexed) (x : A) (y : B)
     → p ≡ front ++ back
     → r' (with_tokens front (with_tokens back l)) ≡ taken x (with_tokens back l) → k' (left x (with_tokens back l)) ≡ taken y l
     → (r' (with_tokens p l) >>= k') ≡ taken y l
 takes_both r' k' p front back l x y e f g = rw (e, with_both front back l, f) g
 
-and_then : {A B C D : Type 0} (bareA : A → C) (bareB : B → D) (r' : Reader A) (k k' : Taken A → Result (Taken B) ReadFault) (l m : Lexed) (y : B) (x : A)
+and_then : {A B C D : Type 0} (bareA : A → C) (bareB : B → D) (r' : Reader A) (k k' : ReadValue A → Result (ReadValue B) ReadFault) (l m : Lexed) (y : B) (x : A)
     (l1 : Lexed)
     → Run bareA r' l l1 x → ((x' : A) → bareA x' ≡ bareA x → Follows bareB (λ l. k (left x l)) (λ l. k' (left x' l))) → k (left x l1) ≡ taken y m
     → Run bareB (λ l. r' l >>= k') l m y
@@ -116,13 +116,13 @@ and_then bareA bareB r' k k' l m y x l1 f next h =
           };
     }
 
-by_first : {A B C D : Type 0} (bareA : A → C) (bareB : B → D) (r r' : Reader A) (k k' : Taken A → Result (Taken B) ReadFault) (l m : Lexed) (y : B)
+by_first : {A B C D : Type 0} (bareA : A → C) (bareB : B → D) (r r' : Reader A) (k k' : ReadValue A → Result (ReadValue B) ReadFault) (l m : Lexed) (y : B)
     → Follows bareA r r' → ((x x' : A) → bareA x' ≡ bareA x → Follows bareB (λ l. k (left x l)) (λ l. k' (left x' l)))
-    → (o : Result (Taken A) ReadFault) → r l ≡ o → (o >>= k) ≡ taken y m → Run bareB (λ l. r' l >>= k') l m y
+    → (o : Result (ReadValue A) ReadFault) → r l ≡ o → (o >>= k) ≡ taken y m → Run bareB (λ l. r' l >>= k') l m y
 by_first bareA bareB r r' k k' l m y f next (Err q) h e = absurd cc
 by_first bareA bareB r r' k k' l m y f next (Ok x) h e = and_then bareA bareB r' k k' l m y x.value x.rest (f l x.rest x.value h) (next x.value) e
 
-pub bind : {A B C D : Type 0} (bareA : A → C) (bareB : B → D) (r r' : Reader A) (k k' : Taken A → Result (Taken B) ReadFault)
+pub bind : {A B C D : Type 0} (bareA : A → C) (bareB : B → D) (r r' : Reader A) (k k' : ReadValue A → Result (ReadValue B) ReadFault)
     → Follows bareA r r' → ((x x' : A) → bareA x' ≡ bareA x → Follows bareB (λ l. k (left x l)) (λ l. k' (left x' l)))
     → Follows bareB (λ l. r l >>= k) (λ l. r' l >>= k')
 bind bareA bareB r r' k k' f next l m y e = by_first bareA bareB r r' k k' l m y f next (r l) refl e
@@ -221,7 +221,7 @@ more_takes statement s y p front back v (suc n) l w pos lt e f next =
     rw (w, with_both front back l, e) (rw f (next n (omega (arith, both, lt, pos))))
 
 turn_last : {S D : Type 0} (bare : S → D) (statement : Statement S) (s s' s1 y : S) (l l1 m : Lexed) → Run (turn_bare bare) (statement s') l l1 (turn s1 false)
-    → ◌≡◌ {A = Result (Taken S) ReadFault} (taken s1 l1) (taken y m)
+    → ◌≡◌ {A = Result (ReadValue S) ReadFault} (taken s1 l1) (taken y m)
     → TurnsRun bare statement s' l m y
 turn_last bare statement s s' s1 y l l1 m f e =
     let r = ok_is s1 l1 y m e in
@@ -274,7 +274,7 @@ turn_by bare statement n s s' y l m a each goes next false s1 l1 h e =
 turn_first : {S D : Type 0} (bare : S → D) (statement : Statement S) (n : ℕ) (s s' y : S) (l m : Lexed) → bare s' ≡ bare s
     → ((s s' : S) → bare s' ≡ bare s → Follows (turn_bare bare) (statement s) (statement s')) → Goes statement
     → ((s1 s1' : S) (l1 : Lexed) → bare s1' ≡ bare s1 → statements statement n s1 l1 ≡ taken y m → TurnsRun bare statement s1' l1 m y)
-    → (o : Result (Taken (Turn S)) ReadFault) → statement s l ≡ o
+    → (o : Result (ReadValue (Turn S)) ReadFault) → statement s l ≡ o
     → (o >>= λ t. cond t.value.more (statements statement n t.value.state t.rest) (taken t.value.state t.rest)) ≡ taken y m → TurnsRun bare statement s' l m y
 turn_first bare statement n s s' y l m a each goes next (Err q) h e = absurd cc
 turn_first bare statement n s s' y l m a each goes next (Ok t) h e = turn_by bare statement n s s' y l m a each goes next t.value.more t.value.state t.rest h e
@@ -303,7 +303,7 @@ block_follows bare statement each goes s s' a l m x e =
 pub leaves : {A B : Type 0} (bare : A → B) (r' : Reader A) (l m : Lexed) (x : A) → Run bare r' l m x → length m.tokens ≤ length l.tokens
 leaves bare r' l m x f = omega (arith, ap (λ (z : Lexed). length z.tokens) f.whole ∙ length_both f.run m.tokens)
 
-first_taken : {A B : Type 0} (bare : A → B) (k : Taken Lexeme → Result (Taken A) ReadFault) (r' : Lexeme → Reader A) (l m : Lexed) (x : A)
+first_taken : {A B : Type 0} (bare : A → B) (k : ReadValue Lexeme → Result (ReadValue A) ReadFault) (r' : Lexeme → Reader A) (l m : Lexed) (x : A)
     → ((t : Lexeme) → Follows bare (λ l. k (left t l)) (r' t))
     → (ts : List Lexeme) → l.tokens ≡ ts → (first_of ts l >>= k) ≡ taken x m → length m.tokens < length l.tokens
 first_taken bare k r' l m x next [] h e = absurd cc
@@ -312,7 +312,7 @@ first_taken bare k r' l m x next (t ∷ ts) h e =
     omega (arith, leaves bare (r' t) (behind ts l) m x f, ap (λ (z : List Lexeme). length z) h)
 
 -- what begins with a token takes one
-pub takes_one : {A B : Type 0} (bare : A → B) (k : Taken Lexeme → Result (Taken A) ReadFault) (r' : Lexeme → Reader A) (l m : Lexed) (x : A)
+pub takes_one : {A B : Type 0} (bare : A → B) (k : ReadValue Lexeme → Result (ReadValue A) ReadFault) (r' : Lexeme → Reader A) (l m : Lexed) (x : A)
     → ((t : Lexeme) → Follows bare (λ l. k (left t l)) (r' t))
     → (token l >>= k) ≡ taken x m → length m.tokens < length l.tokens
 takes_one bare k r' l m x next e = first_taken bare k r' l m x next l.tokens refl e
@@ -324,7 +324,7 @@ reads_alike reader f l m x e =
     (r.run, r.whole, λ p q k. let a = r.again p q in a.takes k ∙ ap (λ (z : _). taken z k) a.alike)
 
 -- what begins with a token takes one, whatever is read after it
-pub takes_first : {A : Type 0} (k : Taken Lexeme → Result (Taken A) ReadFault) (l m : Lexed) (x : A) → (token l >>= k) ≡ taken x m
+pub takes_first : {A : Type 0} (k : ReadValue Lexeme → Result (ReadValue A) ReadFault) (l m : Lexed) (x : A) → (token l >>= k) ≡ taken x m
     → ((t : Lexeme) → Follows same (λ l. k (left t l)) (λ l. k (left t l))) → length m.tokens < length l.tokens
 takes_first k l m x e next = takes_one same k (λ t l. k (left t l)) l m x next e
 

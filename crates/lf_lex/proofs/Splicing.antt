@@ -10,14 +10,14 @@ use Rattle.std.proofs.lemmas.List.Sums.{prefix_len-le-length}
 use Rattle.lf_lex.specs.declared.tokens.TokenKind.{TokenKind}
 use Rattle.lf_lex.specs.declared.tokens.TokenKind.TheVariants.{Word, Quoted}
 use Rattle.lf_lex.specs.declared.tokens.LexFault.TheVariants.{BadToken, UnexpectedEnd}
-use Rattle.lf_lex.specs.Tokens.{Lexed, Lexeme, Plain, plain, is_white, is_line_feed, is_word_byte, line_feeds, comment_len, word_len, quoted_len, with_token}
+use Rattle.lf_lex.specs.Tokens.{Lexed, Lexeme, PlainToken, plain, is_white, is_line_feed, is_word_byte, line_feeds, comment_len, word_len, quoted_len, with_token}
 use Rattle.lf_lex.specs.Tokens.{token_at, stopped, tokens_from}
-use Rattle.lf_lex.specs.Splices.{Splice, spliced, joined, spaced, is_word_text, word_of, LastIs, Makes, Edited}
+use Rattle.lf_lex.specs.Splices.{Splice, spliced, joined, spaced, is_word_text, word_of, LastIs, ReplacesTokens, AreEdited}
 use Rattle.lf_lex.proofs.Scanning.{after_front, word_read, word_stops_at}
 use Rattle.std.proofs.lemmas.Bool.Decides.{nat_tests}
 use Rattle.lf_lex.proofs.Cutting.{cut, closing_in_front, starts_from, head_is, tail_is, no_token, blank_step, hash_step, quote_step}
 
-abbrev pub plains : Lexed → List Plain
+abbrev pub plains : Lexed → List PlainToken
 plains l = map plain l.tokens
 
 -- Places do not matter.
@@ -59,8 +59,8 @@ moved zero at at' line line' (b ∷ bytes) =
     (each 0 (line + 1) (line' + 1)) (each 0 line line') (each (comment_len bytes) line line')
     (option_alike quoted quoted' (quoted_len false bytes) (stopped (UnexpectedEnd (line + line_feeds bytes)) (line + line_feeds bytes))
     (stopped (UnexpectedEnd (line' + line_feeds bytes)) (line' + line_feeds bytes))
-    (λ n. ap (λ (x : List Plain). plain (token_at Quoted at line b bytes n) ∷ x) (each n line line')) refl)
-    (ap (λ (x : List Plain). plain (token_at Word at line b bytes (word_len bytes)) ∷ x) (each (word_len bytes) line line')) refl
+    (λ n. ap (λ (x : List PlainToken). plain (token_at Quoted at line b bytes n) ∷ x) (each n line line')) refl)
+    (ap (λ (x : List PlainToken). plain (token_at Word at line b bytes (word_len bytes)) ∷ x) (each (word_len bytes) line line')) refl
 
 -- white space stands at the front, or nothing is left
 abbrev pub BeginsWhite : List ℕ → Type 0
@@ -105,8 +105,8 @@ word_front at line (b ∷ bytes) rest h white =
     let rest-is : plains (tokens_from (word_len (bytes ++ rest)) (at + 1) line (bytes ++ rest)) ≡ plains (tokens_from 0 at line rest) =
     rw (f.0, behind, f.2) (moved 0 _ at _ line rest) in
     let first-is : plain (token_at Word at line b (bytes ++ rest) (word_len (bytes ++ rest))) ≡ word_of (b ∷ bytes) = rw (f.0, f.1) refl in
-    ap plains read ∙ ap (λ (x : List Plain). plain (token_at Word at line b (bytes ++ rest) (word_len (bytes ++ rest))) ∷ x) rest-is
-    ∙ ap (λ (x : Plain). x ∷ plains (tokens_from 0 at line rest)) first-is
+    ap plains read ∙ ap (λ (x : List PlainToken). plain (token_at Word at line b (bytes ++ rest) (word_len (bytes ++ rest))) ∷ x) rest-is
+    ∙ ap (λ (x : PlainToken). x ∷ plains (tokens_from 0 at line rest)) first-is
   where
     length-append : (xs ys : List ℕ) → length xs ≤ length (xs ++ ys)
     length-append [] ys = omega arith
@@ -128,7 +128,7 @@ spaced_front at line (w ∷ ws) rest h white =
     space_front at line ((w ++ spaced ws) ++ rest)
     ∙ ap (λ (y : List ℕ). plains (tokens_from 0 at line y)) (append_assoc w (spaced ws) rest)
     ∙ word_front at line w (spaced ws ++ rest) x.0 (spaced_white ws rest white)
-    ∙ ap (λ (y : List Plain). word_of w ∷ y) (spaced_front at line ws rest x.1 white)
+    ∙ ap (λ (y : List PlainToken). word_of w ∷ y) (spaced_front at line ws rest x.1 white)
 
 pub joined_front : (at line : ℕ) (ws : List (List ℕ)) (rest : List ℕ) → list_all is_word_text ws ≡ true → BeginsWhite rest
     → plains (tokens_from 0 at line (joined ws ++ rest)) ≡ map word_of ws ++ plains (tokens_from 0 at line rest)
@@ -137,7 +137,7 @@ joined_front at line (w ∷ ws) rest h white =
     let x = and_true (is_word_text w) (list_all is_word_text ws) h in
     ap (λ (y : List ℕ). plains (tokens_from 0 at line y)) (append_assoc w (spaced ws) rest)
     ∙ word_front at line w (spaced ws ++ rest) x.0 (spaced_white ws rest white)
-    ∙ ap (λ (y : List Plain). word_of w ∷ y) (spaced_front at line ws rest x.1 white)
+    ∙ ap (λ (y : List PlainToken). word_of w ∷ y) (spaced_front at line ws rest x.1 white)
 
 -- What stands after a token.
 
@@ -250,7 +250,7 @@ walk at line bytes (v ∷ us) after u stop e s last =
     (record { line = w.0.line; past = omega (arith, ge, n.0.past, w.0.past); rest = rw there at w.0.rest }, rw there at w.1)
 
 -- the first token at or after a splice
-first_made : (s : Splice) (ws : List (List ℕ)) (middle after : List Lexeme) → Makes s ws middle after
+first_made : (s : Splice) (ws : List (List ℕ)) (middle after : List Lexeme) → ReplacesTokens s ws middle after
     → (t : Lexeme) × (ts : List Lexeme) × (middle ++ after ≡ t ∷ ts) × (s.start ≡ t.start)
 first_made s ws [] [] m = absurd m
 first_made s ws [] (t ∷ after) m = (t, after, refl, m.0)
@@ -265,8 +265,8 @@ white_up_to stop line b start bytes new before ts t w e s =
     let n-is : start - stop ≡ suc (start - (stop + 1)) = omega (arith, ge, s) in
     rw n-is w
 
-spliced_white : (ss : List Splice) (stop line : ℕ) (bytes : List ℕ) (p : List Lexeme) (q : List Plain) → (tokens_from 0 stop line bytes).tokens ≡ p
-    → Edited ss p q → BeginsWhite bytes → BeginsWhite (spliced stop ss bytes)
+spliced_white : (ss : List Splice) (stop line : ℕ) (bytes : List ℕ) (p : List Lexeme) (q : List PlainToken) → (tokens_from 0 stop line bytes).tokens ≡ p
+    → AreEdited ss p q → BeginsWhite bytes → BeginsWhite (spliced stop ss bytes)
 unfolding spliced tokens_from
 spliced_white [] stop line bytes p q e edits w = w
 spliced_white (s ∷ ss) stop line [] p q e edits w =
@@ -279,12 +279,12 @@ spliced_white (s ∷ ss) stop line (b ∷ bytes) p q e edits w =
 -- The tokens of a text with its splices made.
 
 abbrev Lexes : List Splice → Type 0
-Lexes ss = (at line : ℕ) (bytes : List ℕ) (p : List Lexeme) (q : List Plain) → (tokens_from 0 at line bytes).tokens ≡ p → Edited ss p q → (at' line' : ℕ)
+Lexes ss = (at line : ℕ) (bytes : List ℕ) (p : List Lexeme) (q : List PlainToken) → (tokens_from 0 at line bytes).tokens ≡ p → AreEdited ss p q → (at' line' : ℕ)
     → plains (tokens_from 0 at' line' (spliced at ss bytes)) ≡ q
 
-made : (s : Splice) (ss : List Splice) (at line : ℕ) (bytes : List ℕ) (before middle after : List Lexeme) (words : List (List ℕ)) (later : List Plain)
-    → (tokens_from 0 at line bytes).tokens ≡ before ++ (middle ++ after) → Makes s words middle after → list_all is_word_text words ≡ true
-    → Edited ss after later → Lexes ss
+made : (s : Splice) (ss : List Splice) (at line : ℕ) (bytes : List ℕ) (before middle after : List Lexeme) (words : List (List ℕ)) (later : List PlainToken)
+    → (tokens_from 0 at line bytes).tokens ≡ before ++ (middle ++ after) → ReplacesTokens s words middle after → list_all is_word_text words ≡ true
+    → AreEdited ss after later → Lexes ss
     → plains (tokens_from 0 at line (take (s.start - at) bytes ++ (s.new ++ spliced s.stop ss (drop (s.stop - at) bytes)))) ≡ map plain before ++
     (map word_of words ++ later)
 made s ss at line bytes before [] [] words later e m spelled edits next = absurd m
@@ -294,9 +294,9 @@ made s ss at line bytes before [] (t ∷ after) words later e m spelled edits ne
     (32 ∷ spliced t.start ss (drop (t.start - at) bytes)) = append_assoc (joined words) (32 ∷ []) rest in
     let inner : plains (tokens_from 0 t.start t.line (joined words ++ 32 ∷ [] ++ spliced t.start ss (drop (t.start - at) bytes))) ≡ map word_of words ++ later =
     rw new-is (joined_front t.start t.line words (32 ∷ rest) spelled refl
-    ∙ ap (λ (x : List Plain). map word_of words ++ x) (space_front t.start t.line rest
+    ∙ ap (λ (x : List PlainToken). map word_of words ++ x) (space_front t.start t.line rest
     ∙ next t.start t.line (drop (t.start - at) bytes) (t ∷ after) later (skip_to at line bytes before after t e) edits t.start t.line)) in
-    rw (m.0, m.1, m.2) (skip_plains at line bytes _ before after t e ∙ ap (λ (x : List Plain). map plain before ++ x) inner)
+    rw (m.0, m.1, m.2) (skip_plains at line bytes _ before after t e ∙ ap (λ (x : List PlainToken). map plain before ++ x) inner)
 made s ss at line bytes before (t ∷ middle) after words later e m spelled edits next =
     let from = skip_to at line bytes before (middle ++ after) t e in
     let w = walk t.start t.line (drop (t.start - at) bytes) middle after t s.stop from refl m.1 in
@@ -308,8 +308,8 @@ made s ss at line bytes before (t ∷ middle) after words later e m spelled edit
     let white = spliced_white ss s.stop w.0.line (drop (s.stop - at) bytes) after later rest-is edits (rw there at w.1) in
     let inner : plains (tokens_from 0 t.start t.line (joined words ++ spliced s.stop ss (drop (s.stop - at) bytes))) ≡ map word_of words ++ later =
     joined_front t.start t.line words (spliced s.stop ss (drop (s.stop - at) bytes)) spelled white
-    ∙ ap (λ (x : List Plain). map word_of words ++ x) (next s.stop w.0.line (drop (s.stop - at) bytes) after later rest-is edits t.start t.line) in
-    rw (m.0, m.2) (skip_plains at line bytes _ before (middle ++ after) t e ∙ ap (λ (x : List Plain). map plain before ++ x) inner)
+    ∙ ap (λ (x : List PlainToken). map word_of words ++ x) (next s.stop w.0.line (drop (s.stop - at) bytes) after later rest-is edits t.start t.line) in
+    rw (m.0, m.2) (skip_plains at line bytes _ before (middle ++ after) t e ∙ ap (λ (x : List PlainToken). map plain before ++ x) inner)
 
 pub edited_tokens : (ss : List Splice) → Lexes ss
 unfolding spliced

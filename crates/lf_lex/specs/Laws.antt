@@ -1,11 +1,11 @@
 -- Laws on reading, whatever is read.
 use Rattle.std.specs.Prelude.{◌≡◌, ◌<◌, List, length, map}
 use Rattle.lf_lex.specs.Tokens.{Lexed, Lexeme, plain, with_tokens}
-use Rattle.lf_lex.specs.Reading.{Reader, Statement, taken, goes_on}
+use Rattle.lf_lex.specs.Reading.{Reader, Statement, taken, continues}
 
 -- a statement after which more follow takes a token, so a block ends or fails
 abbrev pub TakesTokens : {S : Type 0} → Statement S → Type 0
-TakesTokens statement = (before after : _) (l m : Lexed) → statement before l ≡ goes_on after m → length m.tokens < length l.tokens
+TakesTokens statement = (before after : _) (l m : Lexed) → statement before l ≡ continues after m → length m.tokens < length l.tokens
 
 -- A reader takes some of the tokens, and reads alike from tokens with the same texts, wherever they are and whatever follows.
 abbrev pub ReadsAlike : {A : Type 0} → Reader A → Type 0

@@ -15,13 +15,13 @@ use Rattle.lf_lex.specs.declared.fault.ReadError.TheVariants.{Memory, Fault}
 use Rattle.lf_lex.specs.Tokens.{Lexeme, Lexed, is_word_byte}
 
 -- what was read, and what is left after it
-pub record Taken (A : Type 0) : Type 0 where
+pub record ReadValue (A : Type 0) : Type 0 where
   pub value : A
   pub rest : Lexed
 
 -- a function that reads a value from the front of the tokens
 abbrev pub Reader : Type 0 → Type 0
-Reader A = Lexed → Result (Taken A) ReadFault
+Reader A = Lexed → Result (ReadValue A) ReadFault
 
 infixl 10 ◌>>=◌
 abbrev pub ◌>>=◌ : {A B : Type 0} → Result A ReadFault → (A → Result B ReadFault) → Result B ReadFault
@@ -29,7 +29,7 @@ abbrev pub ◌>>=◌ : {A B : Type 0} → Result A ReadFault → (A → Result B
 (Err e) >>= f = Err e
 
 -- the value, with what is left
-abbrev pub taken : {A : Type 0} → A → Lexed → Result (Taken A) ReadFault
+abbrev pub taken : {A : Type 0} → A → Lexed → Result (ReadValue A) ReadFault
 taken x rest = Ok (record { value = x; rest = rest })
 
 -- the fault of that number at a line
@@ -42,7 +42,7 @@ or_bad_number (Ok x) line = Ok x
 or_bad_number (Err e) line = fault_at BadNumber line
 
 -- the value alone
-abbrev pub value_of : {A : Type 0} → Result (Taken A) ReadFault → Result A ReadFault
+abbrev pub value_of : {A : Type 0} → Result (ReadValue A) ReadFault → Result A ReadFault
 value_of (Ok x) = Ok x.value
 value_of (Err e) = Err e
 
@@ -68,7 +68,7 @@ fault_behind l = fault_of l.fault l.end_line
 abbrev pub behind : List Lexeme → Lexed → Lexed
 behind tokens l = record { tokens = tokens; fault = l.fault; end_line = l.end_line }
 
-abbrev pub first_of : List Lexeme → Lexed → Result (Taken Lexeme) ReadFault
+abbrev pub first_of : List Lexeme → Lexed → Result (ReadValue Lexeme) ReadFault
 first_of [] l = Err (fault_behind l)
 first_of (t ∷ ts) l = taken t (behind ts l)
 
@@ -76,11 +76,11 @@ first_of (t ∷ ts) l = taken t (behind ts l)
 abbrev pub token : Reader Lexeme
 token l = first_of l.tokens l
 
-abbrev pub end_or_fault : Option LexFault → Lexed → Result (Taken (Option Lexeme)) ReadFault
+abbrev pub end_or_fault : Option LexFault → Lexed → Result (ReadValue (Option Lexeme)) ReadFault
 end_or_fault None l = taken None l
 end_or_fault (Some f) l = Err (fault_behind l)
 
-abbrev pub next_of : List Lexeme → Lexed → Result (Taken (Option Lexeme)) ReadFault
+abbrev pub next_of : List Lexeme → Lexed → Result (ReadValue (Option Lexeme)) ReadFault
 next_of [] l = end_or_fault l.fault l
 next_of (t ∷ ts) l = taken (Some t) (behind ts l)
 
@@ -140,12 +140,12 @@ abbrev pub Statement : Type 0 → Type 0
 Statement S = S → Reader (Turn S)
 
 -- more statements follow
-abbrev pub goes_on : {S : Type 0} → S → Lexed → Result (Taken (Turn S)) ReadFault
-goes_on s l = taken (record { more = true; state = s }) l
+abbrev pub continues : {S : Type 0} → S → Lexed → Result (ReadValue (Turn S)) ReadFault
+continues s l = taken (record { more = true; state = s }) l
 
 -- this was the last statement
-abbrev pub ends : {S : Type 0} → S → Lexed → Result (Taken (Turn S)) ReadFault
-ends s l = taken (record { more = false; state = s }) l
+abbrev pub finishes : {S : Type 0} → S → Lexed → Result (ReadValue (Turn S)) ReadFault
+finishes s l = taken (record { more = false; state = s }) l
 
 -- statement after statement up to the last, at most this many
 unfoldable pub statements : {S : Type 0} → Statement S → ℕ → S → Reader S
@@ -159,9 +159,9 @@ abbrev pub block : {S : Type 0} → Statement S → S → Reader S
 block statement s l = statements statement (suc (length l.tokens)) s l
 
 -- of several statements of one kind the first counts
-abbrev pub first_stands : {A : Type 0} → Option A → A → Option A
-first_stands None x = Some x
-first_stands (Some first) x = Some first
+abbrev pub first_counts : {A : Type 0} → Option A → A → Option A
+first_counts None x = Some x
+first_counts (Some first) x = Some first
 
 -- Skipping.
 
@@ -169,7 +169,7 @@ first_stands (Some first) x = Some first
 unfoldable pub passed_token : Statement (Unit {0})
 passed_token _ l = do
   t ← token l
-  if is (codes ";") t.value then ends tt t.rest else goes_on tt t.rest
+  if is (codes ";") t.value then finishes tt t.rest else continues tt t.rest
 
 -- up to the next semicolon, with it
 abbrev pub to_semicolon : Reader (Unit {0})
@@ -179,7 +179,7 @@ to_semicolon l = block passed_token tt l
 unfoldable pub passed_to_end : List ℕ → Statement Bool
 passed_to_end due behind_end l = do
   t ← token l
-  if behind_end && is due t.value then ends behind_end t.rest else goes_on (is (codes "END") t.value) t.rest
+  if behind_end && is due t.value then finishes behind_end t.rest else continues (is (codes "END") t.value) t.rest
 
 -- up to the next END that stands directly before the name, with both
 unfoldable pub to_end : List ℕ → Reader (Unit {0})
@@ -191,7 +191,7 @@ to_end due l = do
 unfoldable pub passed_to_word : List ℕ → Statement (Unit {0})
 passed_to_word due _ l = do
   t ← token l
-  if is due t.value then ends tt t.rest else goes_on tt t.rest
+  if is due t.value then finishes tt t.rest else continues tt t.rest
 
 -- up to the next such word, with it
 abbrev pub to_word : List ℕ → Reader (Unit {0})

@@ -2,7 +2,7 @@
 use Rattle.std.specs.Prelude.{◌≡◌, ℕ, ◌-◌, ◌≤◌, ◌==◌, take, drop, ◌++◌, map, Bool, true, false, not, ◌&&◌, List, [], ◌∷◌}
 use Rattle.std.specs.List.{list_all}
 use Rattle.lf_lex.specs.declared.tokens.TokenKind.TheVariants.{Word}
-use Rattle.lf_lex.specs.Tokens.{Lexeme, Plain, plain, tokens_of, is_word_byte}
+use Rattle.lf_lex.specs.Tokens.{Lexeme, PlainToken, plain, tokens_of, is_word_byte}
 
 -- bytes that replace those from one offset up to another
 pub record Splice : Type 0 where
@@ -35,7 +35,7 @@ abbrev pub is_word_text : List ℕ → Bool
 is_word_text [] = false
 is_word_text (b ∷ bytes) = not (b == 35) && not (b == 34) && list_all is_word_byte (b ∷ bytes)
 
-abbrev pub word_of : List ℕ → Plain
+abbrev pub word_of : List ℕ → PlainToken
 word_of w = record { text = w; kind = Word }
 
 -- the last token of a run is a word and ends at this offset
@@ -44,28 +44,28 @@ LastIs stop t [] = (t.stop ≡ stop) × (is_word_text t.text ≡ true)
 LastIs stop t (u ∷ us) = LastIs stop u us
 
 -- one splice replaces a run of tokens by words, or inserts words before a token
-abbrev pub Makes : Splice → List (List ℕ) → List Lexeme → List Lexeme → Type 0
-Makes s ws [] [] = ⊥
-Makes s ws [] (t ∷ after) = (s.start ≡ t.start) × (s.stop ≡ t.start) × (s.new ≡ joined ws ++ 32 ∷ [])
-Makes s ws (t ∷ middle) after = (s.start ≡ t.start) × LastIs s.stop t middle × (s.new ≡ joined ws)
+abbrev pub ReplacesTokens : Splice → List (List ℕ) → List Lexeme → List Lexeme → Type 0
+ReplacesTokens s ws [] [] = ⊥
+ReplacesTokens s ws [] (t ∷ after) = (s.start ≡ t.start) × (s.stop ≡ t.start) × (s.new ≡ joined ws ++ 32 ∷ [])
+ReplacesTokens s ws (t ∷ middle) after = (s.start ≡ t.start) × LastIs s.stop t middle × (s.new ≡ joined ws)
 
-pub record Step (s : Splice) (p : List Lexeme) (q : List Plain) (Then : List Lexeme → List Plain → Type 0) : Type 0 where
+pub record SpliceStep (s : Splice) (p : List Lexeme) (q : List PlainToken) (Then : List Lexeme → List PlainToken → Type 0) : Type 0 where
   pub before : List Lexeme
   pub middle : List Lexeme
   pub after : List Lexeme
   pub words : List (List ℕ)
-  pub later : List Plain
+  pub later : List PlainToken
   pub tokens : p ≡ before ++ (middle ++ after)
-  pub makes : Makes s words middle after
+  pub makes : ReplacesTokens s words middle after
   pub spelled : list_all is_word_text words ≡ true
   pub new : q ≡ map plain before ++ (map word_of words ++ later)
   pub next : Then after later
 
 -- the splices turn this run of tokens into that one
-abbrev pub Edited : List Splice → List Lexeme → List Plain → Type 0
-Edited [] p q = map plain p ≡ q
-Edited (s ∷ ss) p q = Step s p q (Edited ss)
+abbrev pub AreEdited : List Splice → List Lexeme → List PlainToken → Type 0
+AreEdited [] p q = map plain p ≡ q
+AreEdited (s ∷ ss) p q = SpliceStep s p q (AreEdited ss)
 
 -- Making splices in a text makes them among its tokens, but for offsets and lines.
 abbrev pub SplicesTokens : List ℕ → Type 0
-SplicesTokens text = (ss : List Splice) (q : List Plain) → Edited ss (tokens_of text).tokens q → map plain (tokens_of (spliced 0 ss text)).tokens ≡ q
+SplicesTokens text = (ss : List Splice) (q : List PlainToken) → AreEdited ss (tokens_of text).tokens q → map plain (tokens_of (spliced 0 ss text)).tokens ≡ q

@@ -82,10 +82,10 @@ abbrev pub lexeme : TokenOf (Bor (List ℕ)) → Lexeme
 lexeme t = record { text = t.text.now; kind = t.kind; start = t.start; stop = t.stop; line = t.line }
 
 -- What a call for the next token returns: the first of them, or the end, or the fault after them, which then stays.
-abbrev pub Answers : Result (Option (TokenOf (Bor (List ℕ)))) LexFault → Lexed → Lexed → Type 0
-Answers (Ok (Some token)) old new = old ≡ with_token (lexeme token) new
-Answers (Ok None) old new = (old.tokens ≡ []) × (old.fault ≡ None) × (new ≡ old)
-Answers (Err fault) old new = (old.tokens ≡ []) × (old.fault ≡ Some fault) × (new ≡ old)
+abbrev pub ReturnsNextToken : Result (Option (TokenOf (Bor (List ℕ)))) LexFault → Lexed → Lexed → Type 0
+ReturnsNextToken (Ok (Some token)) old new = old ≡ with_token (lexeme token) new
+ReturnsNextToken (Ok None) old new = (old.tokens ≡ []) × (old.fault ≡ None) × (new ≡ old)
+ReturnsNextToken (Err fault) old new = (old.tokens ≡ []) × (old.fault ≡ Some fault) × (new ≡ old)
 
 -- a token is at the front, or nothing is left
 abbrev pub BeginsToken : List ℕ → Type 0
@@ -114,11 +114,11 @@ abbrev pub with_tokens : List Lexeme → Lexed → Lexed
 with_tokens front rest = record { tokens = front ++ rest.tokens; fault = rest.fault; end_line = rest.end_line }
 
 -- A token without its offsets and line.
-pub record Plain : Type 0 where
+pub record PlainToken : Type 0 where
   pub text : List ℕ
   pub kind : TokenKind
 
-abbrev pub plain : Lexeme → Plain
+abbrev pub plain : Lexeme → PlainToken
 plain t = record { text = t.text; kind = t.kind }
 
 -- Replacing a token and all that follows leaves the tokens before it unchanged, with their offsets.

@@ -2,7 +2,7 @@
 
 ghost use Rattle.std.specs.Prelude.{◌≡◌, ◌+◌, ◌≤◌, List, ℕ, length, drop, All, IfOk, IfSome};
 ghost use Rattle.lf_lex.specs.Splices.{SplicesTokens};
-ghost use Rattle.lf_lex.specs.Tokens.{tokens_of, lexeme, Answers, AreSlices, AreWithin, CutsAtTokens, IsSpelled};
+ghost use Rattle.lf_lex.specs.Tokens.{tokens_of, lexeme, ReturnsNextToken, AreSlices, AreWithin, CutsAtTokens, IsSpelled};
 
 use crate::scan::{line_feeds, quoted_token, skip_blank, word_token};
 use crate::tokens::{LexFault, Token};
@@ -58,7 +58,7 @@ impl<'a> Lexer<'a> {
     /// The next token, or None at the end of the text. `Err` is the fault after the last token; every later call returns it too.
     #[inline(always)]
     pub fn next_token(&mut self) -> Result<Option<Token<'a>>, LexFault>
-        ensures tokens { Answers result self.old self.new }
+        ensures tokens { ReturnsNextToken result self.old self.new }
         ensures spelled { IfOk result (λ token. IfSome token (λ t. IsSpelled (lexeme t))) }
     {
         let (at, line) = skip_blank(self.text, self.at, self.line);

@@ -27,7 +27,7 @@ pub use fault::{FaultNumber, LoadFault, ReadError, ReadFault};
 pub use laws::{passing_takes_tokens, words_read_alike};
 pub use lexer::{Lexer, cuts_at_tokens, kinds_follow_texts, slices_in_order, splices_tokens};
 pub use read::{
-    end_name, fault_at, is, is_any_word, is_word, keyword, name, next, to_end, to_semicolon,
-    to_word, token, word,
+    end_name, fault_at, is_any_word, is_token, is_word, keyword, name, next, skip_to_end,
+    skip_to_semicolon, skip_to_word, token, word,
 };
 pub use tokens::{LexFault, Token, TokenKind, TokenOf};

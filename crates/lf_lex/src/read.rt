@@ -64,7 +64,7 @@ pub fn next<'a>(lexer: &mut Lexer<'a>) -> Result<Option<Token<'a>>, ReadError>
 }
 
 /// Whether the token's bytes are these. A quoted text has its quotation marks among them, so it never is a word without any.
-pub fn is(word: &[u8], token: &Token) -> bool
+pub fn is_token(word: &[u8], token: &Token) -> bool
     ensures { result ≡ reading.is word.now (lexeme token.now) }
 {
     if token.text.len() != word.len() {
@@ -87,7 +87,7 @@ pub fn is_any_word(token: &Token) -> bool
 pub fn is_word(token: &Token) -> bool
     ensures { result ≡ reading.is_word (lexeme token.now) }
 {
-    is_any_word(token) && !is(b";", token)
+    is_any_word(token) && !is_token(b";", token)
 }
 
 /// Takes the next token, which must have the bytes `due`; else Unexpected.
@@ -97,7 +97,7 @@ pub fn keyword(lexer: &mut Lexer, due: &[u8]) -> Result<(), ReadError>
     ensures fault { IfErr result IsFault }
 {
     let given = token(lexer)?;
-    if is(due, &given) {
+    if is_token(due, &given) {
         Ok(())
     } else {
         Err(unexpected(&given))
@@ -145,7 +145,7 @@ pub fn end_name(lexer: &mut Lexer, due: &[u8]) -> Result<(), ReadError>
     if !is_any_word(&name) {
         return Err(unexpected(&name));
     }
-    if is(due, &name) {
+    if is_token(due, &name) {
         Ok(())
     } else {
         Err(fault_at(FaultNumber::WrongEnd, name.line))
@@ -166,12 +166,12 @@ impl Block for ToSemicolon {
     #[tactic(auto, unfolding(crate::specs::Reading::passed_token))]
     fn turn(&self, lexer: &mut Lexer, _state: &mut ()) -> Result<bool, ReadError> {
         let token = token(lexer)?;
-        Ok(!is(b";", &token))
+        Ok(!is_token(b";", &token))
     }
 }
 
 /// Skips past the next `;`. UnexpectedEnd if the text ends before it.
-pub fn to_semicolon(lexer: &mut Lexer) -> Result<(), ReadError>
+pub fn skip_to_semicolon(lexer: &mut Lexer) -> Result<(), ReadError>
     ensures read { Reads (λ x. x) result reading.to_semicolon lexer.old lexer.new }
     ensures fault { IfErr result IsFault }
 {
@@ -194,17 +194,17 @@ impl<'d> Block for ToEnd<'d> {
     #[tactic(auto, unfolding(crate::specs::Reading::passed_to_end))]
     fn turn(&self, lexer: &mut Lexer, behind_end: &mut bool) -> Result<bool, ReadError> {
         let token = token(lexer)?;
-        if *behind_end && is(self.due, &token) {
+        if *behind_end && is_token(self.due, &token) {
             return Ok(false);
         }
-        *behind_end = is(b"END", &token);
+        *behind_end = is_token(b"END", &token);
         Ok(true)
     }
 }
 
 /// Skips past the next END that the name directly follows, and past that name. UnexpectedEnd if the text ends before it.
 #[tactic(auto, unfolding(crate::specs::Reading::to_end))]
-pub fn to_end(lexer: &mut Lexer, due: &[u8]) -> Result<(), ReadError>
+pub fn skip_to_end(lexer: &mut Lexer, due: &[u8]) -> Result<(), ReadError>
     ensures read { Reads (λ x. x) result (reading.to_end due.now) lexer.old lexer.new }
     ensures fault { IfErr result IsFault }
 {
@@ -228,12 +228,12 @@ impl<'d> Block for ToWord<'d> {
     #[tactic(auto, unfolding(crate::specs::Reading::passed_to_word))]
     fn turn(&self, lexer: &mut Lexer, _state: &mut ()) -> Result<bool, ReadError> {
         let token = token(lexer)?;
-        Ok(!is(self.due, &token))
+        Ok(!is_token(self.due, &token))
     }
 }
 
 /// Skips past the next token with these bytes. UnexpectedEnd if the text ends before it.
-pub fn to_word(lexer: &mut Lexer, due: &[u8]) -> Result<(), ReadError>
+pub fn skip_to_word(lexer: &mut Lexer, due: &[u8]) -> Result<(), ReadError>
     ensures read { Reads (λ x. x) result (reading.to_word due.now) lexer.old lexer.new }
     ensures fault { IfErr result IsFault }
 {

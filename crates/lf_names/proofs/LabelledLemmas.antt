@@ -10,10 +10,10 @@ use Rattle.std.specs.Option.{option_to_list}
 use Rattle.std.specs.Prelude.{None, Some}
 use Rattle.lf_names.specs.Names.{position_of}
 use Rattle.lf_names.specs.Labels.{Labelled, Differ, match_of, matches_of}
-use Rattle.lf_names.specs.NameParts.{Keeps, joined, entry_of}
+use Rattle.lf_names.specs.NameParts.{StoresNames, joined, entry_of}
 use Rattle.lf_names.specs.declared.entries.Entry.{Entry}
-use Rattle.lf_names.specs.declared.name_parts.Match.{Match}
-use Rattle.lf_names.specs.declared.name_parts.LabelledNames.{LabelledNames}
+use Rattle.lf_names.specs.declared.partitioned.Match.{Match}
+use Rattle.lf_names.specs.declared.partitioned.LabelledNames.{LabelledNames}
 use Rattle.lf_names.proofs.Positions.{stands_nowhere, stands_there}
 
 no_name : Labelled
@@ -34,7 +34,7 @@ dropped names i n within is = grind (arith, common_steps)
 taken : (names : List Labelled) (i : ℕ) (n : Labelled) → i < length names → n ≡ get_or names i n → map (λ m. m.name) (take (i + 1) names) ≡ map (λ m. m.name) (take i names) ++ n.name ∷ []
 taken names i n within is = grind (arith, common_steps)
 
-pub read : (store : LabelledNames) (names : List Labelled) (i : ℕ) (e : Entry) → Keeps store names → i < length store.entries → e ≡ get_or store.entries i e → IsRead names i e
+pub read : (store : LabelledNames) (names : List Labelled) (i : ℕ) (e : Entry) → StoresNames store names → i < length store.entries → e ≡ get_or store.entries i e → IsRead names i e
 read store names i e keeps within is =
     let many : length store.entries ≡ length names = ap length keeps.entries ∙ length-map names entry_of in
     let inside : i < length names = omega arith in

@@ -12,9 +12,9 @@ use Rattle.std.specs.Option.{option_map, option_and_then}
 use Rattle.std.specs.Prelude.{◌==◌}
 use Rattle.lf_names.specs.Names.{position_of}
 use Rattle.lf_names.specs.Labels.{Labelled, Differ, IsMatch, AreMatches, label_in, labels_of, match_of, matches_of}
-use Rattle.lf_names.specs.NameParts.{Keeps, ArePartsOf, names_of_part, part_of, part_count}
-use Rattle.lf_names.specs.declared.name_parts.Match.{Match}
-use Rattle.lf_names.specs.declared.name_parts.LabelledNames.{LabelledNames}
+use Rattle.lf_names.specs.NameParts.{StoresNames, ArePartsOf, names_of_part, part_of, part_count}
+use Rattle.lf_names.specs.declared.partitioned.Match.{Match}
+use Rattle.lf_names.specs.declared.partitioned.LabelledNames.{LabelledNames}
 use Rattle.lf_names.proofs.Gathered.{gathered, all_gathered, filter_map_same}
 use Rattle.lf_names.proofs.LabelledLemmas.{differ_names}
 use Rattle.lf_names.proofs.Positions.{stands_there, found_there}
@@ -190,25 +190,25 @@ part_more : (names : List Labelled) (n : Labelled) (part : ℕ) (t : Bool) → (
 part_more names n part t is = filter-append (λ m. part_of m.name == part) names (n ∷ []) ∙ ap (λ b. names_of_part part names ++ cond b (n ∷ []) []) is
 
 module _ (names : List Labelled) (n : Labelled) (old new : List LabelledNames) (d store : LabelledNames) (before : ArePartsOf names old)
-    (keeps : (own : List Labelled) → Keeps (get_or old (part_of n.name) d) own → Keeps store (own ++ n ∷ [])) (parts : new ≡ set old (part_of n.name) store)
+    (keeps : (own : List Labelled) → StoresNames (get_or old (part_of n.name) d) own → StoresNames store (own ++ n ∷ [])) (parts : new ≡ set old (part_of n.name) store)
   where
     within : part_of n.name < length old
     within = let below : part_of n.name < part_count = part_within n.name in let many : length old ≡ part_count = before.many in omega arith
 
     after : (part : ℕ) (e : LabelledNames) → part < part_count → (t : Bool) → (part_of n.name == part) ≡ t →
-        Keeps (get_or (set old (part_of n.name) store) part e) (names_of_part part (names ++ n ∷ []))
+        StoresNames (get_or (set old (part_of n.name) store) part e) (names_of_part part (names ++ n ∷ []))
     after part e below true is =
         let same : part ≡ part_of n.name = sym (eqb-true (part_of n.name) part is) in
         let here : get_or (set old (part_of n.name) store) part e ≡ store = ap (λ k. get_or (set old (part_of n.name) store) k e) same
         ∙ get_or-set_same old (part_of n.name) store e within in
-        let own : Keeps store (names_of_part part names ++ n ∷ []) = keeps (names_of_part part names)
-        (subst (λ k. Keeps (get_or old k d) (names_of_part part names)) same (before.each part d below)) in
-        rw here (subst (Keeps store) (sym (part_more names n part true is)) own)
+        let own : StoresNames store (names_of_part part names ++ n ∷ []) = keeps (names_of_part part names)
+        (subst (λ k. StoresNames (get_or old k d) (names_of_part part names)) same (before.each part d below)) in
+        rw here (subst (StoresNames store) (sym (part_more names n part true is)) own)
     after part e below false is =
         let other : part ≢ part_of n.name = λ same. let yes : (part_of n.name == part) ≡ true = eq-eqb (part_of n.name) part (sym same) in cc in
         let kept_names : names_of_part part (names ++ n ∷ []) ≡ names_of_part part names = part_more names n part false is
         ∙ append-nil (names_of_part part names) in
-        rw (get_or-set_other old (part_of n.name) part store e other) (subst (Keeps (get_or old part e)) (sym kept_names) (before.each part e below))
+        rw (get_or-set_other old (part_of n.name) part store e other) (subst (StoresNames (get_or old part e)) (sym kept_names) (before.each part e below))
 
     pub pushed : ArePartsOf (names ++ n ∷ []) new
     pushed = record {
@@ -218,7 +218,7 @@ module _ (names : List Labelled) (n : Labelled) (old new : List LabelledNames) (
 
 -- the part of a number has the same names, in a store of its own
 pub kept_in_part : (names : List Labelled) (number : ℕ) (old new : List LabelledNames) (d store : LabelledNames) → ArePartsOf names old →
-    number < part_count → ((own : List Labelled) → Keeps (get_or old number d) own → Keeps store own) →
+    number < part_count → ((own : List Labelled) → StoresNames (get_or old number d) own → StoresNames store own) →
     new ≡ set old number store → ArePartsOf names new
 kept_in_part names number old new d store before below keeps parts = record {
   many = ap length parts ∙ length-set old number store ∙ before.many;
@@ -226,13 +226,13 @@ kept_in_part names number old new d store before below keeps parts = record {
 }
   where
     after : (part : ℕ) (e : LabelledNames) → part < part_count → (t : Bool) → (number == part) ≡ t →
-        Keeps (get_or (set old number store) part e) (names_of_part part names)
+        StoresNames (get_or (set old number store) part e) (names_of_part part names)
     after part e within true is =
         let same : part ≡ number = sym (eqb-true number part is) in
         let many : length old ≡ part_count = before.many in
         let here : get_or (set old number store) part e ≡ store = ap (λ k. get_or (set old number store) k e) same
         ∙ get_or-set_same old number store e (omega arith) in
-        let own : Keeps store (names_of_part number names) = keeps (names_of_part number names) (before.each number d below) in
+        let own : StoresNames store (names_of_part number names) = keeps (names_of_part number names) (before.each number d below) in
         rw (here, same) own
     after part e within false is =
         let other : part ≢ number = λ same. let yes : (number == part) ≡ true = eq-eqb number part (sym same) in cc in

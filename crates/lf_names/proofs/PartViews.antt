@@ -10,8 +10,8 @@ use Rattle.std.specs.List.{filter, filter_map, flat_map}
 use Rattle.std.specs.List.Sorted.{IsPermutation}
 use Rattle.std.specs.Prelude.{◌==◌}
 use Rattle.lf_names.specs.Labels.{Labelled}
-use Rattle.lf_names.specs.NameParts.{Keeps, ArePartsOf, AreParted, part_of, part_count, joined, entry_of, cut_names, names_of_part, names_of_parts}
-use Rattle.lf_names.specs.declared.name_parts.LabelledNames.{LabelledNames}
+use Rattle.lf_names.specs.NameParts.{StoresNames, ArePartsOf, AreParted, part_of, part_count, joined, entry_of, cut_names, names_of_part, names_of_parts}
+use Rattle.lf_names.specs.declared.partitioned.LabelledNames.{LabelledNames}
 use Rattle.lf_names.proofs.Gathered.{gathered, all_gathered}
 use Rattle.lf_names.proofs.PartLemmas.{part_within}
 
@@ -24,7 +24,7 @@ cut_joined (n ∷ names) =
     ∙ ap (λ bytes. n ∷ cut_names (map entry_of names) bytes) (drop-append_seam n.name (joined names))
     ∙ ap (λ ns. n ∷ ns) (cut_joined names)
 
-cut_kept : (store : LabelledNames) (names : List Labelled) → Keeps store names → cut_names store.entries store.bytes.items ≡ names
+cut_kept : (store : LabelledNames) (names : List Labelled) → StoresNames store names → cut_names store.entries store.bytes.items ≡ names
 cut_kept store names keeps = ap (λ bytes. cut_names store.entries bytes) keeps.bytes ∙ ap (λ entries. cut_names entries (joined names)) keeps.entries ∙
     cut_joined names
 
@@ -144,7 +144,7 @@ view_kept names parts are = record {
   each = λ k d below.
       let same : names_of_part k (names_of_parts parts) ≡ names_of_part k names = ap (names_of_part k) (view_parted names parts are) ∙ there part_count k
       names below in
-      subst (Keeps (get_or parts k d)) (sym same) (are.each k d below);
+      subst (StoresNames (get_or parts k d)) (sym same) (are.each k d below);
 }
 
 -- parts that are lent have the names that are seen

@@ -7,7 +7,7 @@ use Rattle.std.proofs.lemmas.Slice.Eq.{bytes_eq-Decides}
 use Rattle.std.specs.List.Sorted.{IsPermutation}
 use Rattle.std.specs.Str.{bytes_eq}
 use Rattle.lf_names.specs.Labels.{Labelled, Differ, IsMatch, AreMatches}
-use Rattle.lf_names.specs.declared.name_parts.Match.{Match}
+use Rattle.lf_names.specs.declared.partitioned.Match.{Match}
 use Rattle.lf_names.proofs.LabelledLemmas.{differ_labelled, differ_names}
 
 flips : (a b : List ℕ) → bytes_eq a b ≡ bytes_eq b a

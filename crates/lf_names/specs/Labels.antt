@@ -2,7 +2,7 @@
 use Rattle.std.specs.Prelude.{◌≢◌, ◌↔◌, ℕ, List, map, filter_map, Option, slice_get, AllPairs, Contains}
 use Rattle.std.specs.Option.{option_and_then, option_map}
 use Rattle.lf_names.specs.Names.{position_of}
-use Rattle.lf_names.specs.declared.name_parts.Match.{Match}
+use Rattle.lf_names.specs.declared.partitioned.Match.{Match}
 
 -- a name, and the label that it was given
 pub record Labelled : Type 0 where

@@ -2,7 +2,7 @@
 use Rattle.std.specs.Prelude.{◌≡◌, ℕ, ◌+◌, ◌*◌, ◌/◌, ◌%◌, ◌^◌, ◌<◌, ◌==◌, List, [], ◌∷◌, length, map, filter, fold, flat_map, take, drop, slice_index_or}
 use Rattle.lf_names.specs.Labels.{Labelled}
 use Rattle.lf_names.specs.declared.entries.Entry.{Entry}
-use Rattle.lf_names.specs.declared.name_parts.LabelledNames.{LabelledNames}
+use Rattle.lf_names.specs.declared.partitioned.LabelledNames.{LabelledNames}
 
 -- the number of parts, and the factor of the hash that selects them
 abbrev pub part_count : ℕ
@@ -28,7 +28,7 @@ abbrev pub entry_of : Labelled → Entry
 entry_of n = record { label = n.label; len = length n.name }
 
 -- the store has these names with their labels, in this order
-pub record Keeps (store : LabelledNames) (names : List Labelled) : Type 0 where
+pub record StoresNames (store : LabelledNames) (names : List Labelled) : Type 0 where
   pub bytes : store.bytes.items ≡ joined names
   pub entries : store.entries ≡ map entry_of names
 
@@ -48,7 +48,7 @@ names_of_parts parts = flat_map (λ p. cut_names p.entries p.bytes.items) parts
 -- the parts together have these names, each part its own
 pub record ArePartsOf (names : List Labelled) (parts : List LabelledNames) : Type 0 where
   pub many : length parts ≡ part_count
-  pub each : (part : ℕ) (d : LabelledNames) → part < part_count → Keeps (slice_index_or parts part d) (names_of_part part names)
+  pub each : (part : ℕ) (d : LabelledNames) → part < part_count → StoresNames (slice_index_or parts part d) (names_of_part part names)
 
 -- each part has the names of its own, and keeps them whole
 abbrev pub AreParted : List LabelledNames → Type 0

@@ -1,7 +1,7 @@
 //! Names of library cells, sites, components and groups, and the patterns of DEF GROUPS.
 //!
 //! - `NameTable`: distinct names in first-seen order. A contract sees the list of the names.
-//! - `NameParts`: names with labels, looked up part by part. A contract sees the list of them, in some order.
+//! - `PartitionedNames`: names with labels, looked up part by part. A contract sees the list of them, in some order.
 //! - `Pattern`: a name in which `*` is any run of bytes. A contract sees its bytes.
 //!
 //! Names are bytes: upper and lower case differ.
@@ -13,13 +13,13 @@
 //! ```
 #![tactic(auto)]
 
+mod borrowed;
 mod entries;
-mod lent;
-mod name_parts;
+mod partitioned;
 mod pattern;
-mod stored;
+mod stored_name;
 mod table;
 
-pub use name_parts::{Match, NameParts};
+pub use partitioned::{Match, PartitionedNames};
 pub use pattern::Pattern;
 pub use table::{Added, NameTable};

@@ -3,9 +3,9 @@
 ghost use Rattle.std.specs.Prelude.{◌≡◌, ◌≢◌, ◌↔◌, ◌∷◌, ◌++◌, [], All, IfOk, IfSome, IfNone, OnErr, OnOk, AllPairs, Contains, IsTrue, length, take, slice_get, Some, None};
 ghost use Rattle.std.specs.Option.{option_map};
 ghost use Rattle.lf_names.specs.Names.{position_of};
-ghost use Rattle.lf_names.specs.Adds.{Adds};
+ghost use Rattle.lf_names.specs.Adds.{AddsName};
 
-use crate::stored::StoredName;
+use crate::stored_name::StoredName;
 use indexmap::IndexSet;
 use std::alloc::{AllocError, Allocator, Global};
 use std::hash::{BuildHasherDefault, FoldHasher};
@@ -69,7 +69,7 @@ impl<A: Allocator + Copy> NameTable<A> {
     /// Appends the name unless it is there, and returns where it is. `Err` if an allocation fails, which only a new name
     /// needs; the table is then unchanged.
     pub fn add(&mut self, name: &[u8]) -> Result<Added, AllocError>
-        ensures ok { IfOk result (λ added. Adds self.old name.now added self.new) }
+        ensures ok { IfOk result (λ added. AddsName self.old name.now added self.new) }
         ensures err { OnErr result (self.new ≡ self.old) }
         ensures only_new { OnErr result (position_of self.old name.now ≡ None) }
     {

@@ -7,13 +7,13 @@ use Rattle.std.proofs.lemmas.List.{get_or-map, length-map}
 use Rattle.std.proofs.lemmas.List.Elements.{All-map}
 use Rattle.lf_segments.specs.declared.rows_by_y.RowEntry.{RowEntry}
 use Rattle.lf_segments.specs.declared.strip.Strip.{Strip}
-use Rattle.lf_segments.specs.Grounds.{Lookups}
+use Rattle.lf_segments.specs.Grounds.{FrameIndexView}
 use Rattle.lf_segments.specs.Strips.{AreNear, AreStrips, IsNear, IsPlaced}
 use Rattle.lf_rules.specs.Padding.{IsShort}
 use Rattle.lf_rules.proofs.PaddingLemmas.{short_sites}
 use Rattle.lf_occupancy.specs.Lanes.{IsNearZero}
-use Rattle.lf_occupancy.specs.Occupied.{felt}
-use Rattle.lf_occupancy.specs.Strips.{IsSite, felt_strips}
+use Rattle.lf_occupancy.specs.Occupied.{widened}
+use Rattle.lf_occupancy.specs.Strips.{IsSite, widened_strips}
 
 -- the strip lies not far from 0, is as high as a row, and its row has an entry
 pub record IsFelt (rows : List RowEntry) (height : ℤ) (g : Strip) : Type 0 where
@@ -23,12 +23,12 @@ pub record IsFelt (rows : List RowEntry) (height : ℤ) (g : Strip) : Type 0 whe
   pub found : Any (λ e. (e.row ≡ g.row) × (e.y ≡ g.area.y1)) rows
 
 -- the look-ups, with the strips felt around
-abbrev pub around : ℤ → Lookups → Lookups
+abbrev pub around : ℤ → FrameIndexView → FrameIndexView
 around site s = record {
   rows = s.rows;
   segments = s.segments;
   land = s.land;
-  strips = felt_strips site s.strips;
+  strips = widened_strips site s.strips;
   soft = s.soft;
   extent = s.extent;
   height = s.height;
@@ -38,13 +38,13 @@ around site s = record {
 pub site_short : (site : ℤ) → IsSite site → IsShort (pos 16 *ℤ site)
 site_short site is = short_sites site 16 is.wide is.small (omega arith)
 
-pub felt_many : (site : ℤ) (xs : List Strip) → length (felt_strips site xs) ≡ length xs
-felt_many site xs = length-map xs (felt (pos 16 *ℤ site))
+pub felt_many : (site : ℤ) (xs : List Strip) → length (widened_strips site xs) ≡ length xs
+felt_many site xs = length-map xs (widened (pos 16 *ℤ site))
 
-pub felt_at : (site : ℤ) (xs : List Strip) (n : ℕ) (d e : Strip) → n < length xs → get_or (felt_strips site xs) n d ≡ felt (pos 16 *ℤ site) (get_or xs n e)
-felt_at site xs n d e within = get_or-map (felt (pos 16 *ℤ site)) xs n e d within
+pub felt_at : (site : ℤ) (xs : List Strip) (n : ℕ) (d e : Strip) → n < length xs → get_or (widened_strips site xs) n d ≡ widened (pos 16 *ℤ site) (get_or xs n e)
+felt_at site xs n d e within = get_or-map (widened (pos 16 *ℤ site)) xs n e d within
 
-near_zero : (by : ℤ) (rows : List RowEntry) (height : ℤ) (g : Strip) → IsShort by → IsPlaced rows height g → IsNearZero (felt by g).area
+near_zero : (by : ℤ) (rows : List RowEntry) (height : ℤ) (g : Strip) → IsShort by → IsPlaced rows height g → IsNearZero (widened by g).area
 near_zero by rows height g short placed =
     let a = short.most in
     let b = short.least in
@@ -54,10 +54,10 @@ near_zero by rows height g short placed =
     record { low = omega (arith, ints, a, b, l); high = omega (arith, ints, a, b, h); begins = omega (arith, ints, b, w, h) }
 
 -- strips that are placed are felt near 0
-pub strips_felt : (site : ℤ) (s : Lookups) → IsSite site → AreStrips s.rows s.height s.strips → All (IsFelt s.rows s.height) (felt_strips site s.strips)
-strips_felt site s is strips = All-map (IsFelt s.rows s.height) (felt (pos 16 *ℤ site)) s.strips each
+pub strips_felt : (site : ℤ) (s : FrameIndexView) → IsSite site → AreStrips s.rows s.height s.strips → All (IsFelt s.rows s.height) (widened_strips site s.strips)
+strips_felt site s is strips = All-map (IsFelt s.rows s.height) (widened (pos 16 *ℤ site)) s.strips each
   where
-    each : All (λ g. IsFelt s.rows s.height (felt (pos 16 *ℤ site) g)) s.strips
+    each : All (λ g. IsFelt s.rows s.height (widened (pos 16 *ℤ site) g)) s.strips
     each k d within =
         let p = strips.placed k d within in
         record {
@@ -69,14 +69,14 @@ strips_felt site s is strips = All-map (IsFelt s.rows s.height) (felt (pos 16 *�
 
 near_to : (by : ℤ) (rows : List RowEntry) (height : ℤ) (row team : ℕ) (lo hi low high : ℤ) (g : Strip) → IsShort by → IsPlaced rows height g →
     low ≡ int_max lo (negsuc 1099511627775) -ℤ by → high ≡ int_min hi (pos 1099511627776) +ℤ by → IsNear row team low high g →
-    IsNear row team lo hi (felt by g)
+    IsNear row team lo hi (widened by g)
 near_to by rows height row team lo hi low high g short placed from to near =
     let r = near.right in
     let l = near.left in
     record { in_row = near.in_row; of_team = near.of_team; right = omega (arith, ints, clamps, from, r); left = omega (arith, ints, clamps, to, l) }
 
 near_back : (by : ℤ) (rows : List RowEntry) (height : ℤ) (row team : ℕ) (lo hi low high : ℤ) (g : Strip) → IsShort by → IsPlaced rows height g →
-    low ≡ int_max lo (negsuc 1099511627775) -ℤ by → high ≡ int_min hi (pos 1099511627776) +ℤ by → IsNear row team lo hi (felt by g) →
+    low ≡ int_max lo (negsuc 1099511627775) -ℤ by → high ≡ int_min hi (pos 1099511627776) +ℤ by → IsNear row team lo hi (widened by g) →
     IsNear row team low high g
 near_back by rows height row team lo hi low high g short placed from to near =
     let r = near.right in
@@ -94,9 +94,9 @@ near_back by rows height row team lo hi low high g short placed from to near =
     }
 
 -- the strips near a range that is wider by the reach are those that, felt around, are near the range
-pub near_is_felt : (site : ℤ) (s : Lookups) (row team : ℕ) (lo hi low high : ℤ) (start end : ℕ) → IsSite site → AreStrips s.rows s.height s.strips →
+pub near_is_felt : (site : ℤ) (s : FrameIndexView) (row team : ℕ) (lo hi low high : ℤ) (start end : ℕ) → IsSite site → AreStrips s.rows s.height s.strips →
     low ≡ int_max lo (negsuc 1099511627775) -ℤ (pos 16 *ℤ site) → high ≡ int_min hi (pos 1099511627776) +ℤ (pos 16 *ℤ site) →
-    AreNear s.strips row team low high start end → AreNear (felt_strips site s.strips) row team lo hi start end
+    AreNear s.strips row team low high start end → AreNear (widened_strips site s.strips) row team lo hi start end
 near_is_felt site s row team lo hi low high start end is strips from to near = record {
   within = let h = near.within in let m = felt_many site s.strips in omega (arith, h, m);
   exact = λ n d within.

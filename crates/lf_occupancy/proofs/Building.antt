@@ -11,18 +11,18 @@ use Rattle.std.proofs.lemmas.List.{get_or-map, get_or-set_same, get_or-set_other
 use Rattle.std.proofs.lemmas.List.{same_lists, get_or_past, take_more}
 use Rattle.std.proofs.lemmas.List.Elements.{Contains-push_cases}
 use Rattle.std.proofs.lemmas.Option.{slice_get-get_or, slice_get_within}
-use Rattle.lf_units.specs.declared.area.Rect.{Rect}
+use Rattle.lf_units.specs.declared.geometry.Rect.{Rect}
 use Rattle.lf_floorplan.specs.declared.frame.Frame.{Frame}
 use Rattle.lf_cells.specs.declared.cell.Cell.{Cell}
 use Rattle.lf_cells.specs.declared.cell.CellId.{CellId}
 use Rattle.lf_cells.specs.Cells.{Cells, cell_at, cells_of, id_of}
-use Rattle.lf_occupancy.specs.declared.lane.Lane.{Lane}
+use Rattle.lf_occupancy.specs.declared.strip_marks.StripMarks.{StripMarks}
 use Rattle.lf_segments.specs.declared.strip.Strip.{Strip}
-use Rattle.lf_occupancy.specs.Building.{AreBare, AreFilled, AreFilledIn, IsBare, IsBefore, id_at}
+use Rattle.lf_occupancy.specs.Building.{HaveNoMarks, AreFilled, AreFilledIn, HasNoMark, IsBefore, id_at}
 use Rattle.lf_occupancy.specs.Floorplans.{box_of, boxes_in}
 use Rattle.lf_occupancy.specs.Occupied.{cell_box}
 use Rattle.lf_occupancy.specs.Lanes.{IsMarked, entries_in}
-use Rattle.lf_occupancy.specs.Strips.{AreLanes, HasCell, IsNowhere}
+use Rattle.lf_occupancy.specs.Strips.{ShowAllBoxes, HasCell, HasNoBox}
 use Rattle.lf_occupancy.proofs.Laning.{box_other, box_same}
 
 -- what is made of each team's cells
@@ -89,7 +89,7 @@ none_is_some : (r : Rect) → ◌≡◌ {A = Option Rect} None (Some r) → ⊥
 none_is_some r e = cc
 
 -- if no cell has a box, the lanes are bare
-bare_lane : (cells : List (Option Rect)) (area : Rect) (l : Lane) → ((own : ℕ) → cell_box cells own ≡ None) → IsBare l → IsMarked cells area l
+bare_lane : (cells : List (Option Rect)) (area : Rect) (l : StripMarks) → ((own : ℕ) → cell_box cells own ≡ None) → HasNoMark l → IsMarked cells area l
 bare_lane cells area l none b =
     let many : length (entries_in cells area l.marks.items) ≡ 0 = ap (λ ms. length (entries_in cells area ms)) b.marks in
     let long : length l.marks.items ≡ 0 = ap (λ ms. length ms) b.marks in
@@ -114,7 +114,7 @@ none_before : (id : CellId) → IsBefore 0 0 id → ⊥
 none_before id before = elim before [ inl less ↦ omega (arith, less) | inr same ↦ let less = same.1 in omega (arith, less) ]
 
 -- no cell is done where the lanes are bare
-pub lanes_bare : (f : Frame) (cells : Cells) (xs : List Strip) (lanes : List Lane) → AreBare (length xs) lanes →
+pub lanes_bare : (f : Frame) (cells : Cells) (xs : List Strip) (lanes : List StripMarks) → HaveNoMarks (length xs) lanes →
     AreFilledIn f cells xs (IsBefore 0 0) lanes
 lanes_bare f cells xs lanes bare = record {
   boxes = no_boxes cells;
@@ -310,15 +310,15 @@ row_same (r ∷ rows) zero own none = ap (λ (z : List (Option Rect)). z ∷ row
 row_same (r ∷ rows) (suc k) own none = ap (λ (rs : List (List (Option Rect))). r ∷ rs) (row_same rows k own none)
 
 -- a cell without a box stays so
-pub none_set : (xs : List Strip) (boxes : List (List (Option Rect))) (id : CellId) (lanes : List Lane) → IsNowhere boxes id → AreLanes xs boxes lanes →
-    AreLanes xs (set boxes id.team (set (get_or boxes id.team []) id.own None)) lanes
-none_set xs boxes id lanes nowhere are = subst (λ (bs : List (List (Option Rect))). AreLanes xs bs lanes) (sym (row_same boxes id.team id.own nowhere.at)) are
+pub none_set : (xs : List Strip) (boxes : List (List (Option Rect))) (id : CellId) (lanes : List StripMarks) → HasNoBox boxes id → ShowAllBoxes xs boxes lanes →
+    ShowAllBoxes xs (set boxes id.team (set (get_or boxes id.team []) id.own None)) lanes
+none_set xs boxes id lanes nowhere are = subst (λ (bs : List (List (Option Rect))). ShowAllBoxes xs bs lanes) (sym (row_same boxes id.team id.own nowhere.at)) are
 
 -- the next of the cells is marked
-pub one_filled : (f : Frame) (cells : Cells) (xs : List Strip) (Done More : CellId → Type 0) (id : CellId) (c : Cell) (old new : List Lane) →
+pub one_filled : (f : Frame) (cells : Cells) (xs : List Strip) (Done More : CellId → Type 0) (id : CellId) (c : Cell) (old new : List StripMarks) →
     cell_at cells id ≡ Some c → (Done id → ⊥) → IsOneMore Done id More → (was : AreFilledIn f cells xs Done old) →
-    (IsNowhere was.boxes id → AreLanes xs was.boxes old →
-    AreLanes xs (set was.boxes id.team (set (get_or was.boxes id.team []) id.own (cell_box (get_or (boxes_in f cells) id.team []) id.own))) new) →
+    (HasNoBox was.boxes id → ShowAllBoxes xs was.boxes old →
+    ShowAllBoxes xs (set was.boxes id.team (set (get_or was.boxes id.team []) id.own (cell_box (get_or (boxes_in f cells) id.team []) id.own))) new) →
     AreFilledIn f cells xs More new
 one_filled f cells xs Done More id c old new there fresh more was marks =
     let has = has_cell f cells Done id was.boxes c was.filled there in
@@ -330,7 +330,7 @@ one_filled f cells xs Done More id c old new there fresh more was marks =
     }
 
 -- what is said of the same cells of the table
-pub filled_same : (f : Frame) (cells : Cells) (xs : List Strip) (Done Other : CellId → Type 0) (lanes : List Lane) →
+pub filled_same : (f : Frame) (cells : Cells) (xs : List Strip) (Done Other : CellId → Type 0) (lanes : List StripMarks) →
     ((id : CellId) (c : Cell) → cell_at cells id ≡ Some c → Done id ↔ Other id) → AreFilledIn f cells xs Done lanes → AreFilledIn f cells xs Other lanes
 filled_same f cells xs Done Other lanes same are = record {
   boxes = are.boxes;
@@ -375,15 +375,15 @@ all_filled f cells Done boxes all filled team = same_lists (get_or boxes team []
         (some_cell own_cells k inner) d inner)
 
 -- lanes of the same boxes
-pub lanes_of_same : (xs : List Strip) (boxes other : List (List (Option Rect))) (lanes : List Lane) →
-    ((team : ℕ) → get_or boxes team [] ≡ get_or other team []) → AreLanes xs boxes lanes → AreLanes xs other lanes
+pub lanes_of_same : (xs : List Strip) (boxes other : List (List (Option Rect))) (lanes : List StripMarks) →
+    ((team : ℕ) → get_or boxes team [] ≡ get_or other team []) → ShowAllBoxes xs boxes lanes → ShowAllBoxes xs other lanes
 lanes_of_same xs boxes other lanes same are = record {
   many = are.many;
   each = λ n d e within.
       subst (λ (cs : List (Option Rect)). IsMarked cs (get_or xs n d).area (get_or lanes n e)) (same (get_or xs n d).team) (are.each n d e within);
 }
 
-pub lanes_filled : (f : Frame) (cells : Cells) (xs : List Strip) (Done : CellId → Type 0) (lanes : List Lane) → AreAllDone cells Done →
-    AreFilledIn f cells xs Done lanes → AreLanes xs (boxes_in f cells) lanes
+pub lanes_filled : (f : Frame) (cells : Cells) (xs : List Strip) (Done : CellId → Type 0) (lanes : List StripMarks) → AreAllDone cells Done →
+    AreFilledIn f cells xs Done lanes → ShowAllBoxes xs (boxes_in f cells) lanes
 lanes_filled f cells xs Done lanes all are =
     lanes_of_same xs are.boxes (boxes_in f cells) lanes (λ team. all_filled f cells Done are.boxes all are.filled team ∙ sym (boxes_there f cells team)) are.marked

@@ -3,9 +3,9 @@ use Rattle.std.proofs.Common.{◌≡◌, ◌≢◌, ◌⊎◌, inl, inr, ℕ, �
 use Rattle.std.specs.Prelude.{AllPairs}
 use Rattle.std.proofs.lemmas.Bool.Decides.{eqb_tells}
 use Rattle.std.proofs.lemmas.List.{get_or_default, get_or-set_same, get_or-set_other, length-set, length-take, get_or-take}
-use Rattle.lf_units.specs.declared.area.Rect.{Rect}
+use Rattle.lf_units.specs.declared.geometry.Rect.{Rect}
 use Rattle.lf_segments.specs.declared.rows_by_y.RowEntry.{RowEntry}
-use Rattle.lf_occupancy.specs.declared.lane.Lane.{Lane}
+use Rattle.lf_occupancy.specs.declared.strip_marks.StripMarks.{StripMarks}
 use Rattle.lf_segments.specs.declared.strip.Strip.{Strip}
 use Rattle.lf_occupancy.specs.Lanes.{HasRoomOf, IsKept}
 use Rattle.lf_segments.specs.Strips.{AreNear, IsNear}
@@ -14,7 +14,7 @@ use Rattle.lf_occupancy.proofs.Lists.{any_more, any_less}
 use Rattle.lf_occupancy.proofs.Finds.{no_strip}
 
 -- a lane of the list
-pub some_lane : (lanes : List Lane) (k : ℕ) → k < length lanes → Lane
+pub some_lane : (lanes : List StripMarks) (k : ℕ) → k < length lanes → StripMarks
 some_lane [] k within = absurd (omega (arith, within))
 some_lane (l ∷ lanes) k within = l
 
@@ -125,10 +125,10 @@ rows_further {X} Change xs rows i r team rect old mid new once within is first s
     inside n inner = let m = first.many in omega (arith, m, inner)
 
 -- a lane that holds what it held
-pub kept_same : (lanes : List Lane) → AreKept lanes lanes
+pub kept_same : (lanes : List StripMarks) → AreKept lanes lanes
 kept_same lanes = record { many = refl; each = λ n e within. record { marks = refl; widest = refl; many = refl; room = omega arith } }
 
-pub kept_along : (a b c : List Lane) → AreKept a b → AreKept b c → AreKept a c
+pub kept_along : (a b c : List StripMarks) → AreKept a b → AreKept b c → AreKept a c
 kept_along a b c first second = record {
   many = second.many ∙ first.many;
   each = λ n e within.
@@ -142,17 +142,17 @@ kept_along a b c first second = record {
       };
 }
 
-pub kept_set : (lanes : List Lane) (k : ℕ) (lane new : Lane) → k < length lanes → lane ≡ get_or lanes k lane → IsKept lane new → AreKept lanes (set lanes k new)
+pub kept_set : (lanes : List StripMarks) (k : ℕ) (lane new : StripMarks) → k < length lanes → lane ≡ get_or lanes k lane → IsKept lane new → AreKept lanes (set lanes k new)
 kept_set lanes k lane new within is kept = record {
   many = length-set lanes k new;
   each = λ n e inner. elim (order n) [
     | inl same ↦
         let here : IsKept (get_or lanes k e) (get_or (set lanes k new) k e) =
-        subst (λ (l : Lane). IsKept (get_or lanes k e) l) (sym (get_or-set_same lanes k new e within))
-        (subst (λ (l : Lane). IsKept l new) (is ∙ get_or_default lanes k lane e within) kept) in
+        subst (λ (l : StripMarks). IsKept (get_or lanes k e) l) (sym (get_or-set_same lanes k new e within))
+        (subst (λ (l : StripMarks). IsKept l new) (is ∙ get_or_default lanes k lane e within) kept) in
         subst (λ (m : ℕ). IsKept (get_or lanes m e) (get_or (set lanes k new) m e)) (sym same) here
     | inr apart ↦
-        subst (λ (l : Lane). IsKept (get_or lanes n e) l) (sym (get_or-set_other lanes k n new e apart))
+        subst (λ (l : StripMarks). IsKept (get_or lanes n e) l) (sym (get_or-set_other lanes k n new e apart))
         record { marks = refl; widest = refl; many = refl; room = omega arith }
   ];
 }
@@ -161,12 +161,12 @@ kept_set lanes k lane new within is kept = record {
     order n = elim (eqb_tells n k) [ inl h ↦ inl h.1 | inr h ↦ inr h.1 ]
 
 -- lanes that are kept keep their room
-pub room_kept : (more : ℕ) (old new : Lane) → IsKept old new → HasRoomOf more old → HasRoomOf more new
+pub room_kept : (more : ℕ) (old new : StripMarks) → IsKept old new → HasRoomOf more old → HasRoomOf more new
 room_kept more old new kept room = let m = kept.many in let r = kept.room in omega (arith, m, r, room)
 
-pub room_further : (more start k end : ℕ) (lanes : List Lane) (lane new : Lane) → k < length lanes → lane ≡ get_or lanes k lane → HasRoomOf more new →
-    ((n : ℕ) (e : Lane) → IsBetween start k end n → HasRoomOf more (get_or lanes n e)) →
-    (n : ℕ) (e : Lane) → IsBetween start (k + 1) end n → HasRoomOf more (get_or (set lanes k new) n e)
+pub room_further : (more start k end : ℕ) (lanes : List StripMarks) (lane new : StripMarks) → k < length lanes → lane ≡ get_or lanes k lane → HasRoomOf more new →
+    ((n : ℕ) (e : StripMarks) → IsBetween start k end n → HasRoomOf more (get_or lanes n e)) →
+    (n : ℕ) (e : StripMarks) → IsBetween start (k + 1) end n → HasRoomOf more (get_or (set lanes k new) n e)
 room_further more start k end lanes lane new within is room before n e b = elim (order b.below) [
   | inl less ↦
       let apart : n ≢ k = omega (arith, less) in
@@ -179,20 +179,20 @@ room_further more start k end lanes lane new within is room before n e b = elim 
     order : n < k + 1 → (n < k) ⊎ (n ≡ k)
     order less = grind arith
 
-pub room_of_row : (more : ℕ) (xs : List Strip) (row team start k end : ℕ) (rect : Rect) (lanes : List Lane) →
+pub room_of_row : (more : ℕ) (xs : List Strip) (row team start k end : ℕ) (rect : Rect) (lanes : List StripMarks) →
     AreNear xs row team rect.x1 rect.x2 start end → end ≤ k →
-    ((n : ℕ) (e : Lane) → IsBetween start k end n → HasRoomOf more (get_or lanes n e)) →
-    (n : ℕ) (e : Lane) → IsReachedIn xs row team rect n → HasRoomOf more (get_or lanes n e)
+    ((n : ℕ) (e : StripMarks) → IsBetween start k end n → HasRoomOf more (get_or lanes n e)) →
+    (n : ℕ) (e : StripMarks) → IsReachedIn xs row team rect n → HasRoomOf more (get_or lanes n e)
 room_of_row more xs row team start k end rect lanes near past room n e r =
     let both = (near.exact n no_strip r.0).1 (r.1 no_strip) in
     let until = both.1 in
     room n e record { from = both.0; below = omega (arith, until, past); until = until }
 
-pub rooms_further : (more : ℕ) (xs : List Strip) (rows : List RowEntry) (i : ℕ) (r : RowEntry) (team : ℕ) (rect : Rect) (old new : List Lane) →
+pub rooms_further : (more : ℕ) (xs : List Strip) (rows : List RowEntry) (i : ℕ) (r : RowEntry) (team : ℕ) (rect : Rect) (old new : List StripMarks) →
     i < length rows → r ≡ get_or rows i r → length old ≡ length xs → AreKept old new →
-    ((n : ℕ) (e : Lane) → IsReached xs (take i rows) team rect n → HasRoomOf more (get_or old n e)) →
-    ((n : ℕ) (e : Lane) → IsReachedIn xs r.row team rect n → HasRoomOf more (get_or new n e)) →
-    (n : ℕ) (e : Lane) → IsReached xs (take (i + 1) rows) team rect n → HasRoomOf more (get_or new n e)
+    ((n : ℕ) (e : StripMarks) → IsReached xs (take i rows) team rect n → HasRoomOf more (get_or old n e)) →
+    ((n : ℕ) (e : StripMarks) → IsReachedIn xs r.row team rect n → HasRoomOf more (get_or new n e)) →
+    (n : ℕ) (e : StripMarks) → IsReached xs (take (i + 1) rows) team rect n → HasRoomOf more (get_or new n e)
 rooms_further more xs rows i r team rect old new within is many kept before here n e reached =
     elim (any_less (λ (x : RowEntry). (d : Strip) → IsNear x.row team rect.x1 rect.x2 (get_or xs n d)) rows i r within is reached.1) [
       | inl first ↦ room_kept more (get_or old n e) (get_or new n e) (kept.each n e (let w = reached.0 in omega (arith, w, many)))

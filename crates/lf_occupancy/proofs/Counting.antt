@@ -6,10 +6,10 @@ use Rattle.std.specs.Int.{int_max, int_min}
 use Rattle.std.proofs.lemmas.Bool.Decides.{eqb_tells, nat_tests}
 use Rattle.std.proofs.lemmas.Int.{ints, clamps}
 use Rattle.std.proofs.lemmas.List.Sums.{sum_by-cons, count_by_more_yes, count_by_more_no}
-use Rattle.lf_units.specs.declared.area.Rect.{Rect}
+use Rattle.lf_units.specs.declared.geometry.Rect.{Rect}
 use Rattle.lf_units.specs.Area.{SharesPoint}
 use Rattle.lf_segments.specs.declared.strip.Strip.{Strip}
-use Rattle.lf_occupancy.specs.Occupied.{ArePartOf, FitIn, NoLess, Occupied, cell_box, count_in, felt, meets}
+use Rattle.lf_occupancy.specs.Occupied.{ArePartOf, FitIn, KeepsCapacities, Occupied, cell_box, count_in, widened, meets}
 
 -- 1 for true
 abbrev pub one_if : Bool → ℕ
@@ -131,9 +131,9 @@ part_leaves_room g (b ∷ bs) (c ∷ cs) (suc own) r p none is shares =
 
 -- what fits still does where no room is less
 pub fits_still : (old new : Occupied) (team : ℕ) (boxes : List (Option Rect)) → new.index.strips ≡ old.index.strips → new.site ≡ old.site →
-    NoLess old.rooms new.rooms → FitIn old team boxes → FitIn new team boxes
+    KeepsCapacities old.rooms new.rooms → FitIn old team boxes → FitIn new team boxes
 fits_still old new team boxes strips site rooms fits n g at of_team =
-    let same = ap (λ (w : ℤ). count_in (felt (pos 16 *ℤ w) g) boxes) site in
+    let same = ap (λ (w : ℤ). count_in (widened (pos 16 *ℤ w) g) boxes) site in
     let most = fits n g (ap (λ (xs : List Strip). slice_get xs n) (sym strips) ∙ at) of_team in
     let no_less = rooms.each n in
     omega (arith, same, most, no_less)

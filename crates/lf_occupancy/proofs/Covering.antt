@@ -3,7 +3,7 @@ use Rattle.std.proofs.Common.{◌≡◌, ◌∙◌, ℕ, ℤ, pos, ◌≤ℤ◌,
 use Rattle.std.specs.Prelude.{Any}
 use Rattle.std.specs.Option.{option_map_or}
 use Rattle.std.proofs.lemmas.Int.{ints}
-use Rattle.lf_units.specs.declared.area.Rect.{Rect}
+use Rattle.lf_units.specs.declared.geometry.Rect.{Rect}
 use Rattle.lf_units.specs.Area.{Covers}
 use Rattle.lf_spans.specs.Spans.{Holds, LiesIn}
 use Rattle.lf_spans.proofs.Anys.{any_weaker}
@@ -11,11 +11,11 @@ use Rattle.lf_floorplan.specs.declared.frame.Frame.{Frame}
 use Rattle.lf_floorplan.specs.declared.parts.Row.{Row}
 use Rattle.lf_floorplan.specs.Rows.{row_area}
 use Rattle.lf_floorplan.specs.Ground.{StaysInGround, IsClear}
-use Rattle.lf_floorplan.specs.Standing.{StandsOn}
+use Rattle.lf_floorplan.specs.Standing.{RestsOnRows}
 use Rattle.lf_segments.specs.declared.segment.Segment.{Segment}
 use Rattle.lf_segments.specs.Segments.{IsOf}
-use Rattle.lf_segments.specs.Boxes.{across}
-use Rattle.lf_segments.specs.Grounds.{IsGroundOf}
+use Rattle.lf_segments.specs.Boxes.{x_extent}
+use Rattle.lf_segments.specs.Grounds.{IsIndexOf}
 use Rattle.lf_segments.specs.Strips.{row_y, strip_of}
 use Rattle.lf_segments.proofs.LawLemmas.{InSegment, in_segment, segments_hold}
 use Rattle.lf_segments.specs.declared.strip.Strip.{Strip}
@@ -40,7 +40,7 @@ covers_in_strip f g r x y stands holds covers =
       top = let h = covers.top in omega (arith, ints, is, h);
     }
 
-module _ (f : Frame) (o : Occupied) (team : ℕ) (box : Rect) (plan : IsGroundOf f o.index) (stands : StandsOn f box)
+module _ (f : Frame) (o : Occupied) (team : ℕ) (box : Rect) (plan : IsIndexOf f o.index) (stands : RestsOnRows f box)
     (ground : StaysInGround f team box) (clear : IsClear f box) (x y : ℤ) (covers : Covers box x y) where
   wide : box.x1 <ℤ box.x2
   wide = let low = covers.left in let high = covers.right in omega (arith, ints, low, high)
@@ -51,7 +51,7 @@ module _ (f : Frame) (o : Occupied) (team : ℕ) (box : Rect) (plan : IsGroundOf
   abbrev Found : Strip → Type 0
   Found g = (g.team ≡ team) × Covers g.area x y
 
-  made : (g : Segment) → IsOf in_one.number team g × LiesIn (across box) g.span → Found (strip_of f g)
+  made : (g : Segment) → IsOf in_one.number team g × LiesIn (x_extent box) g.span → Found (strip_of f g)
   made g is = (
     is.0.of_team,
     covers_in_strip f g in_one.row x y (ap (λ (n : ℕ). slice_get f.rows n) is.0.in_row ∙ in_one.stands)
@@ -61,10 +61,10 @@ module _ (f : Frame) (o : Occupied) (team : ℕ) (box : Rect) (plan : IsGroundOf
   pub strips_hold : Any Found o.index.strips
   strips_hold = subst (λ (list : List Strip). Any Found list) (sym plan.strips)
       (any_made Found (strip_of f) o.index.segments
-      (any_weaker (λ g. IsOf in_one.number team g × LiesIn (across box) g.span) (λ g. Found (strip_of f g)) made o.index.segments in_one.lies))
+      (any_weaker (λ g. IsOf in_one.number team g × LiesIn (x_extent box) g.span) (λ g. Found (strip_of f g)) made o.index.segments in_one.lies))
 
 -- each point of such a box made wider lies in a strip that is felt around
-pub strips_feel_all : (f : Frame) (o : Occupied) (team : ℕ) (box : Rect) (by : ℤ) → IsGroundOf f o.index → StandsOn f box → StaysInGround f team box →
+pub strips_feel_all : (f : Frame) (o : Occupied) (team : ℕ) (box : Rect) (by : ℤ) → IsIndexOf f o.index → RestsOnRows f box → StaysInGround f team box →
     IsClear f box → box.x1 <ℤ box.x2 → pos 0 ≤ℤ by → by ≤ℤ reach o → (x y : ℤ) → Covers (wider by box) x y →
     Any (λ g. (g.team ≡ team) × Covers (wider (reach o) g.area) x y) o.index.strips
 strips_feel_all f o team box by plan stands ground clear filled some most x y covers =

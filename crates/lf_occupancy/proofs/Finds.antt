@@ -4,29 +4,29 @@ use Rattle.std.specs.Prelude.{All, Any, Contains}
 use Rattle.std.proofs.lemmas.Int.{ints}
 use Rattle.std.proofs.lemmas.List.{get_or_default}
 use Rattle.std.proofs.lemmas.List.Elements.{All-contains, Contains-append_cases}
-use Rattle.lf_units.specs.declared.area.Rect.{Rect}
+use Rattle.lf_units.specs.declared.geometry.Rect.{Rect}
 use Rattle.lf_segments.specs.declared.rows_by_y.RowEntry.{RowEntry}
 use Rattle.lf_segments.specs.declared.strip.Strip.{Strip}
-use Rattle.lf_segments.specs.Grounds.{Lookups}
-use Rattle.lf_occupancy.specs.Lanes.{IsInside, IsLeast, MeetsOne, Shown}
+use Rattle.lf_segments.specs.Grounds.{FrameIndexView}
+use Rattle.lf_occupancy.specs.Lanes.{IsInside, IsLeast, MeetsOne, StripView}
 use Rattle.lf_segments.specs.Strips.{AreNear, AreRowsNear}
 use Rattle.lf_occupancy.specs.Strips.{AreOrderly, MeetsAt, MeetsInOne, MeetsInRow}
 use Rattle.lf_occupancy.proofs.Around.{IsFelt}
 use Rattle.lf_occupancy.proofs.Leasts.{least_alike, least_of_both}
 
 -- a lane between two numbers has an entry that is met
-pub record MeetsBetween (lanes : List Shown) (start n end : ℕ) (rect : Rect) (but own : ℕ) : Type 0 where
+pub record MeetsBetween (lanes : List StripView) (start n end : ℕ) (rect : Rect) (but own : ℕ) : Type 0 where
   pub m : ℕ
   pub from : start ≤ m
   pub below : m < n
   pub until : m < end
-  pub meets : (d : Shown) → MeetsOne (get_or lanes m d).entries rect but own
+  pub meets : (d : StripView) → MeetsOne (get_or lanes m d).entries rect but own
 
-pub nothing_between : (lanes : List Shown) (start end : ℕ) (rect : Rect) (but own : ℕ) → MeetsBetween lanes start start end rect but own → ⊥
+pub nothing_between : (lanes : List StripView) (start end : ℕ) (rect : Rect) (but own : ℕ) → MeetsBetween lanes start start end rect but own → ⊥
 nothing_between lanes start end rect but own m = let a = m.from in let b = m.below in omega (arith, a, b)
 
 -- the least over the lanes passed, and over one more
-pub least_further : (lanes : List Shown) (start n end : ℕ) (rect : Rect) (but : ℕ) (lane : Shown) (a b c : Option ℕ) → start ≤ n → n < end → n < length lanes →
+pub least_further : (lanes : List StripView) (start n end : ℕ) (rect : Rect) (but : ℕ) (lane : StripView) (a b c : Option ℕ) → start ≤ n → n < end → n < length lanes →
     lane ≡ get_or lanes n lane → IsLeast (MeetsBetween lanes start n end rect but) a b → IsLeast (λ own. MeetsOne lane.entries rect but own) b c →
     IsLeast (MeetsBetween lanes start (n + 1) end rect but) a c
 least_further lanes start n end rect but lane a b c from until within is first second =
@@ -43,7 +43,7 @@ least_further lanes start n end rect but lane a b c from until within is first s
       from = from;
       below = omega arith;
       until = until;
-      meets = λ d. subst (λ (l : Shown). MeetsOne l.entries rect but own) (is ∙ get_or_default lanes n lane d within) met;
+      meets = λ d. subst (λ (l : StripView). MeetsOne l.entries rect but own) (is ∙ get_or_default lanes n lane d within) met;
     }
 
     less : (own : ℕ) → MeetsBetween lanes start (n + 1) end rect but own → MeetsBetween lanes start n end rect but own ⊎ MeetsOne lane.entries rect
@@ -51,14 +51,14 @@ least_further lanes start n end rect but lane a b c from until within is first s
     less own m = elim order [
       | inl h ↦ inl record { m = m.m; from = m.from; below = h; until = m.until; meets = m.meets }
       | inr h ↦ inr
-          (subst (λ (l : Shown). MeetsOne l.entries rect but own) (sym is)
+          (subst (λ (l : StripView). MeetsOne l.entries rect but own) (sym is)
           (subst (λ (k : ℕ). MeetsOne (get_or lanes k lane).entries rect but own) h (m.meets lane)))
     ]
       where
         order : (m.m < n) ⊎ (m.m ≡ n)
         order = let h = m.below in grind (arith, h)
 
-pub some_shown : (lanes : List Shown) (k : ℕ) → k < length lanes → Shown
+pub some_shown : (lanes : List StripView) (k : ℕ) → k < length lanes → StripView
 some_shown [] k within = absurd (omega (arith, within))
 some_shown (l ∷ lanes) k within = l
 
@@ -66,7 +66,7 @@ abbrev pub no_strip : Strip
 no_strip = record { row = 0; team = 0; area = record { x1 = pos 0; y1 = pos 0; x2 = pos 0; y2 = pos 0 } }
 
 -- what is met between the two bisections is what is met in the row
-pub between_in_row : (xs : List Strip) (lanes : List Shown) (row team start n end : ℕ) (rect : Rect) (but own : ℕ) →
+pub between_in_row : (xs : List Strip) (lanes : List StripView) (row team start n end : ℕ) (rect : Rect) (but own : ℕ) →
     AreNear xs row team rect.x1 rect.x2 start end →
     MeetsBetween lanes start n end rect but own → MeetsInRow xs lanes row team rect but own
 between_in_row xs lanes row team start n end rect but own near m =
@@ -83,7 +83,7 @@ between_in_row xs lanes row team start n end rect but own near m =
     )
 
 -- the x range of a strip overlaps that of the rectangle, where an entry of its lane is met
-pub met_overlaps : (xs : List Strip) (lanes : List Shown) (team : ℕ) (rect : Rect) (but own n : ℕ) (d : Strip) → AreOrderly xs lanes →
+pub met_overlaps : (xs : List Strip) (lanes : List StripView) (team : ℕ) (rect : Rect) (but own n : ℕ) (d : Strip) → AreOrderly xs lanes →
     (at : MeetsAt xs lanes team rect but own n) → (rect.x1 <ℤ (get_or xs n d).area.x2) × ((get_or xs n d).area.x1 <ℤ rect.x2)
 met_overlaps xs lanes team rect but own n d orderly at =
     let many = orderly.many in
@@ -101,7 +101,7 @@ met_overlaps xs lanes team rect but own n d orderly at =
     let r = inside.right in
     (omega (arith, ints, a, f, r), omega (arith, ints, b, e, l))
 
-pub row_in_between : (xs : List Strip) (lanes : List Shown) (row team start n end : ℕ) (rect : Rect) (but own : ℕ) →
+pub row_in_between : (xs : List Strip) (lanes : List StripView) (row team start n end : ℕ) (rect : Rect) (but own : ℕ) →
     AreNear xs row team rect.x1 rect.x2 start end →
     AreOrderly xs lanes → end ≤ n → MeetsInRow xs lanes row team rect but own → MeetsBetween lanes start n end rect but own
 row_in_between xs lanes row team start n end rect but own near orderly past (m, in_row, at) =
@@ -111,7 +111,7 @@ row_in_between xs lanes row team start n end rect but own near orderly past (m, 
     record { m = m; from = both.0; below = omega (arith, until, past); until = until; meets = at.meets }
 
 -- the row of a strip in which an entry is met stands among the near ones
-pub row_is_near : (s : Lookups) (lanes : List Shown) (team : ℕ) (rect : Rect) (but own n : ℕ) (run : List RowEntry) → All (IsFelt s.rows s.height) s.strips →
+pub row_is_near : (s : FrameIndexView) (lanes : List StripView) (team : ℕ) (rect : Rect) (but own n : ℕ) (run : List RowEntry) → All (IsFelt s.rows s.height) s.strips →
     AreOrderly s.strips lanes →
     AreRowsNear s.rows s.height rect run → MeetsAt s.strips lanes team rect but own n →
     Any (λ e. MeetsInRow s.strips lanes e.row team rect but own) run
@@ -142,7 +142,7 @@ row_is_near s lanes team rect but own n run strips orderly rows at =
     here : (d : Strip) → (get_or xs n d).row ≡ e.row
     here d = ap (λ (x : Strip). x.row) (get_or_default xs n d no_strip at.within) ∙ sym placed.found.4.0
 
-    lane : Shown
+    lane : StripView
     lane = some_shown lanes n (let many = orderly.many in let within = at.within in omega (arith, many, within))
 
     inside : IsInside g.area (at.meets lane).1
@@ -172,6 +172,6 @@ row_is_near s lanes team rect but own n run strips orderly rows at =
         let l = level in
         omega (arith, ints, a, b, t, l)
 
-pub near_row_is_one : (xs : List Strip) (lanes : List Shown) (team : ℕ) (rect : Rect) (but own : ℕ) (run : List RowEntry) →
+pub near_row_is_one : (xs : List Strip) (lanes : List StripView) (team : ℕ) (rect : Rect) (but own : ℕ) (run : List RowEntry) →
     Any (λ e. MeetsInRow xs lanes e.row team rect but own) run → MeetsInOne xs lanes team rect but own
 near_row_is_one xs lanes team rect but own run (k, e, within, is, (n, in_row, at)) = (n, at)

@@ -5,35 +5,35 @@ use Rattle.std.proofs.lemmas.Int.{ints}
 use Rattle.std.proofs.lemmas.List.{get_or_default}
 use Rattle.std.proofs.lemmas.List.Elements.{All-append, All-nil, Contains-get_or}
 use Rattle.lf_spans.specs.declared.span.Span.{Span}
-use Rattle.lf_spans.specs.Spans.{IsApart, IsFilled, IsFreeIn, IsRising, LiesIn, LiesInOne}
+use Rattle.lf_spans.specs.Spans.{IsApart, IsFilled, IsFreeIn, IsRising, LiesIn, LiesInOneOf}
 use Rattle.lf_spans.proofs.Anys.{any_left, any_split}
 use Rattle.lf_spans.proofs.Edges.{in_of_lies}
 use Rattle.lf_segments.specs.declared.strip.Strip.{Strip}
-use Rattle.lf_occupancy.specs.Lanes.{Shown, all_padded, others_in, spans_in, x_range}
-use Rattle.lf_occupancy.specs.Occupied.{across}
+use Rattle.lf_occupancy.specs.Lanes.{StripView, all_padded, others_in, spans_in, x_range}
+use Rattle.lf_occupancy.specs.Occupied.{x_extent}
 use Rattle.lf_segments.specs.Strips.{AreNear, LiesBefore, IsNear}
 use Rattle.lf_cells.specs.declared.cell.CellId.{CellId}
-use Rattle.lf_occupancy.specs.Strips.{AreFreeTo, AreLeft, LiesFree}
+use Rattle.lf_occupancy.specs.Strips.{AreFreeTo, AreFreeSpansOfStrip, LiesFree}
 use Rattle.lf_occupancy.proofs.Lists.{pairs_append, any_right}
 use Rattle.lf_occupancy.proofs.Finds.{no_strip}
 
 -- the span lies in the strip of that number between two, and shares no number with another cell's entry made wider by the padding
-pub record FreeBetween (xs : List Strip) (lanes : List Shown) (own : ℕ) (padding : ℤ) (start k end : ℕ) (s : Span) : Type 0 where
+pub record FreeBetween (xs : List Strip) (lanes : List StripView) (own : ℕ) (padding : ℤ) (start k end : ℕ) (s : Span) : Type 0 where
   pub m : ℕ
   pub from : start ≤ m
   pub below : m < k
   pub until : m < end
-  pub inside : (d : Strip) → LiesIn s (across (get_or xs m d))
-  pub apart : (d : Shown) → IsApart (spans_in (others_in (all_padded padding (get_or lanes m d).entries) own)) s
+  pub inside : (d : Strip) → LiesIn s (x_extent (get_or xs m d))
+  pub apart : (d : StripView) → IsApart (spans_in (others_in (all_padded padding (get_or lanes m d).entries) own)) s
 
 -- the free spans of the strips passed
-pub record AreFreeBetween (xs : List Strip) (lanes : List Shown) (own : ℕ) (padding : ℤ) (start k end : ℕ) (window : Span) (free : List Span) : Type 0 where
+pub record AreFreeBetween (xs : List Strip) (lanes : List StripView) (own : ℕ) (padding : ℤ) (start k end : ℕ) (window : Span) (free : List Span) : Type 0 where
   pub rising : IsRising free
   pub ends : (m : ℕ) (d : Strip) → k ≤ m → m < end → All (λ t. t.hi ≤ℤ (get_or xs m d).area.x1) free
-  pub exact : (s : Span) → IsFilled s → (LiesInOne free s → LiesIn s window × FreeBetween xs lanes own padding start k end s) ×
-      (LiesIn s window × FreeBetween xs lanes own padding start k end s → LiesInOne free s)
+  pub exact : (s : Span) → IsFilled s → (LiesInOneOf free s → LiesIn s window × FreeBetween xs lanes own padding start k end s) ×
+      (LiesIn s window × FreeBetween xs lanes own padding start k end s → LiesInOneOf free s)
 
-pub none_free : (xs : List Strip) (lanes : List Shown) (own : ℕ) (padding : ℤ) (start end : ℕ) (window : Span) → AreFreeBetween xs lanes own padding start start end window []
+pub none_free : (xs : List Strip) (lanes : List StripView) (own : ℕ) (padding : ℤ) (start end : ℕ) (window : Span) → AreFreeBetween xs lanes own padding start start end window []
 none_free xs lanes own padding start end window = record {
   rising = record { filled = All-nil IsFilled; apart = λ i j d less within. absurd (omega (arith, within)) };
   ends = λ m d from until. All-nil (λ t. t.hi ≤ℤ (get_or xs m d).area.x1);
@@ -48,7 +48,7 @@ part_inside : (strip window : Span) (taken part : List Span) → IsFreeIn strip 
 part_inside strip window taken part f k d within =
     let t : Span = get_or part k d in
     let filled = f.rising.filled k d within in
-    let lies : LiesInOne part t = let h = Contains-get_or part k d within in (h.0, t, h.1, h.2, λ x holds. holds) in
+    let lies : LiesInOneOf part t = let h = Contains-get_or part k d within in (h.0, t, h.1, h.2, λ x holds. holds) in
     let i = in_of_lies t strip filled ((f.exact t filled).0 lies).0 in
     (i.low, i.high)
 
@@ -58,7 +58,7 @@ near_rise row team lo hi a b p q (inl less) = let e = p.in_row in let f = q.in_r
 near_rise row team lo hi a b p q (inr (same, inl less)) = let e = p.of_team in let f = q.of_team in absurd (omega (arith, less, e, f))
 near_rise row team lo hi a b p q (inr (same, inr (alike, apart))) = apart
 
-pub free_further : (xs : List Strip) (lanes : List Shown) (row team own : ℕ) (padding : ℤ) (start k end : ℕ) (window : Span) (lane : Shown) (g : Strip) (free part : List Span) →
+pub free_further : (xs : List Strip) (lanes : List StripView) (row team own : ℕ) (padding : ℤ) (start k end : ℕ) (window : Span) (lane : StripView) (g : Strip) (free part : List Span) →
     AllPairs LiesBefore xs → AreNear xs row team window.lo window.hi start end → start ≤ k → k < end → k < length lanes →
     All (λ x. x.area.x1 <ℤ x.area.x2) xs →
     lane ≡ get_or lanes k lane → ((d : Strip) → g ≡ get_or xs k d) → AreFreeBetween xs lanes own padding start k end window free →
@@ -102,7 +102,7 @@ free_further xs lanes row team own padding start k end window lane g free part p
         let same : g.area.x2 ≡ (get_or xs k d).area.x2 = ap (λ (x : Strip). x.area.x2) (at d) in
         omega (arith, ints, up, same)
 
-    to : (s : Span) → IsFilled s → LiesInOne free s ⊎ LiesInOne part s → LiesIn s window × FreeBetween xs lanes own padding start (k + 1) end s
+    to : (s : Span) → IsFilled s → LiesInOneOf free s ⊎ LiesInOneOf part s → LiesIn s window × FreeBetween xs lanes own padding start (k + 1) end s
     to s filled (inl first) =
         let h = (old.exact s filled).0 first in
         let f = h.1 in
@@ -115,20 +115,20 @@ free_further xs lanes row team own padding start k end window lane g free part p
             from = from;
             below = omega arith;
             until = until;
-            inside = λ d. subst (λ (x : Strip). LiesIn s (across x)) (at d) h.0;
-            apart = λ d. subst (λ (l : Shown). IsApart (spans_in (others_in (all_padded padding l.entries) own)) s) (is ∙ get_or_default lanes k lane d has) h.2;
+            inside = λ d. subst (λ (x : Strip). LiesIn s (x_extent x)) (at d) h.0;
+            apart = λ d. subst (λ (l : StripView). IsApart (spans_in (others_in (all_padded padding l.entries) own)) s) (is ∙ get_or_default lanes k lane d has) h.2;
           },
         )
 
-    back : (s : Span) → IsFilled s → LiesIn s window → FreeBetween xs lanes own padding start (k + 1) end s → LiesInOne (free ++ part) s
+    back : (s : Span) → IsFilled s → LiesIn s window → FreeBetween xs lanes own padding start (k + 1) end s → LiesInOneOf (free ++ part) s
     back s filled shown f = elim order [
       | inl h ↦ any_left (LiesIn s) free part
           ((old.exact s filled).1 (shown, record { m = f.m; from = f.from; below = h; until = f.until; inside = f.inside; apart = f.apart }))
       | inr h ↦ any_right (LiesIn s) free part
           ((new.exact s filled).1 (
-            subst (λ (x : Strip). LiesIn s (across x)) (sym (at no_strip)) (subst (λ (m : ℕ). LiesIn s (across (get_or xs m no_strip))) h (f.inside no_strip)),
+            subst (λ (x : Strip). LiesIn s (x_extent x)) (sym (at no_strip)) (subst (λ (m : ℕ). LiesIn s (x_extent (get_or xs m no_strip))) h (f.inside no_strip)),
             shown,
-            subst (λ (l : Shown). IsApart (spans_in (others_in (all_padded padding l.entries) own)) s) (sym is)
+            subst (λ (l : StripView). IsApart (spans_in (others_in (all_padded padding l.entries) own)) s) (sym is)
                 (subst (λ (m : ℕ). IsApart (spans_in (others_in (all_padded padding (get_or lanes m lane).entries) own)) s) h (f.apart lane)),
           ))
     ]
@@ -137,7 +137,7 @@ free_further xs lanes row team own padding start k end window lane g free part p
         order = let b = f.below in grind (arith, b)
 
 -- what is free between the two bisections is what is free in the strips of the row and the team
-pub free_of_row : (xs : List Strip) (lanes : List Shown) (row team own : ℕ) (padding : ℤ) (start k end : ℕ) (window : Span) (free : List Span) →
+pub free_of_row : (xs : List Strip) (lanes : List StripView) (row team own : ℕ) (padding : ℤ) (start k end : ℕ) (window : Span) (free : List Span) →
     AreNear xs row team window.lo window.hi start end →
     end ≤ k → AreFreeBetween xs lanes own padding start k end window free → AreFreeTo xs lanes row team own window padding (length xs) free
 free_of_row xs lanes row team own padding start k end window free near past f = record {
@@ -170,7 +170,7 @@ free_of_row xs lanes row team own padding start k end window free near past f = 
     back : (s : Span) → IsFilled s → LiesIn s window → (n : ℕ) → LiesFree xs lanes row team own padding s n → LiesIn s window × FreeBetween xs lanes own padding start k end s
     back s filled shown n l =
         let w = in_of_lies s window filled shown in
-        let i = in_of_lies s (across (get_or xs n no_strip)) filled (l.inside no_strip) in
+        let i = in_of_lies s (x_extent (get_or xs n no_strip)) filled (l.inside no_strip) in
         let a = w.low in
         let b = w.high in
         let e = i.low in
@@ -185,10 +185,10 @@ free_of_row xs lanes row team own padding start k end window free near past f = 
         (shown, record { m = n; from = both.0; below = omega (arith, until, past); until = until; inside = l.inside; apart = l.apart })
 
 -- what is free in one strip of the cell's team is left by the others
-pub left_by_others : (xs : List Strip) (lanes : List Shown) (without : CellId) (padding : ℤ) (n : ℕ) (lane : Shown) (free : List Span) → n < length xs →
-    ((d : Strip) → (get_or xs n d).team ≡ without.team) → ((e : Shown) → lane ≡ get_or lanes n e) →
+pub left_by_others : (xs : List Strip) (lanes : List StripView) (without : CellId) (padding : ℤ) (n : ℕ) (lane : StripView) (free : List Span) → n < length xs →
+    ((d : Strip) → (get_or xs n d).team ≡ without.team) → ((e : StripView) → lane ≡ get_or lanes n e) →
     IsFreeIn (x_range (get_or xs n no_strip).area) (spans_in (others_in (all_padded padding lane.entries) without.own)) (x_range (get_or xs n no_strip).area) free →
-    AreLeft xs lanes without padding n free
+    AreFreeSpansOfStrip xs lanes without padding n free
 left_by_others xs lanes without padding n lane free within of_team is f = record {
   rising = f.rising;
   exact = λ s filled. (
@@ -196,26 +196,26 @@ left_by_others xs lanes without padding n lane free within of_team is f = record
         let h = (f.exact s filled).0 lies in
         record {
           within = within;
-          inside = λ d. subst (λ (g : Strip). LiesIn s (across g)) (sym (get_or_default xs n d no_strip within)) h.0;
+          inside = λ d. subst (λ (g : Strip). LiesIn s (x_extent g)) (sym (get_or_default xs n d no_strip within)) h.0;
           own = λ d e same.
-              subst (λ (l : Shown). IsApart (spans_in (others_in (all_padded padding l.entries) without.own)) s) (is e) h.2;
+              subst (λ (l : StripView). IsApart (spans_in (others_in (all_padded padding l.entries) without.own)) s) (is e) h.2;
           foreign = λ d e away. absurd (away (of_team d));
         },
     λ l.
         (f.exact s filled).1 (
           l.inside no_strip,
           l.inside no_strip,
-          subst (λ (x : Shown). IsApart (spans_in (others_in (all_padded padding x.entries) without.own)) s) (sym (is lane))
+          subst (λ (x : StripView). IsApart (spans_in (others_in (all_padded padding x.entries) without.own)) s) (sym (is lane))
               (l.own no_strip lane (of_team no_strip)),
         ),
   );
 }
 
 -- what is free in one strip of another team is left by all
-pub left_by_all : (xs : List Strip) (lanes : List Shown) (without : CellId) (padding : ℤ) (n : ℕ) (lane : Shown) (free : List Span) → n < length xs →
-    ((d : Strip) → (get_or xs n d).team ≡ without.team → ⊥) → ((e : Shown) → lane ≡ get_or lanes n e) →
+pub left_by_all : (xs : List Strip) (lanes : List StripView) (without : CellId) (padding : ℤ) (n : ℕ) (lane : StripView) (free : List Span) → n < length xs →
+    ((d : Strip) → (get_or xs n d).team ≡ without.team → ⊥) → ((e : StripView) → lane ≡ get_or lanes n e) →
     IsFreeIn (x_range (get_or xs n no_strip).area) (spans_in (all_padded padding lane.entries)) (x_range (get_or xs n no_strip).area) free →
-    AreLeft xs lanes without padding n free
+    AreFreeSpansOfStrip xs lanes without padding n free
 left_by_all xs lanes without padding n lane free within other is f = record {
   rising = f.rising;
   exact = λ s filled. (
@@ -223,15 +223,15 @@ left_by_all xs lanes without padding n lane free within other is f = record {
         let h = (f.exact s filled).0 lies in
         record {
           within = within;
-          inside = λ d. subst (λ (g : Strip). LiesIn s (across g)) (sym (get_or_default xs n d no_strip within)) h.0;
+          inside = λ d. subst (λ (g : Strip). LiesIn s (x_extent g)) (sym (get_or_default xs n d no_strip within)) h.0;
           own = λ d e same. absurd (other d same);
-          foreign = λ d e away. subst (λ (l : Shown). IsApart (spans_in (all_padded padding l.entries)) s) (is e) h.2;
+          foreign = λ d e away. subst (λ (l : StripView). IsApart (spans_in (all_padded padding l.entries)) s) (is e) h.2;
         },
     λ l.
         (f.exact s filled).1 (
           l.inside no_strip,
           l.inside no_strip,
-          subst (λ (x : Shown). IsApart (spans_in (all_padded padding x.entries)) s) (sym (is lane)) (l.foreign no_strip lane (other no_strip)),
+          subst (λ (x : StripView). IsApart (spans_in (all_padded padding x.entries)) s) (sym (is lane)) (l.foreign no_strip lane (other no_strip)),
         ),
   );
 }

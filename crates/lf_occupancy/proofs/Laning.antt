@@ -8,13 +8,13 @@ use Rattle.std.proofs.lemmas.Int.{ints, clamps}
 use Rattle.std.proofs.lemmas.List.{get_or_default, get_or-map, get_or-take, get_or-drop, length-map, length-take, length-drop, take-append-drop}
 use Rattle.std.proofs.lemmas.List.Elements.{All-append, All-cons, All-drop, All-filter, All-take, filter_passes}
 use Rattle.std.proofs.lemmas.List.Elements.{Contains-append_left, Contains-append_right, Contains-append_cases}
-use Rattle.lf_units.specs.declared.area.Rect.{Rect}
+use Rattle.lf_units.specs.declared.geometry.Rect.{Rect}
 use Rattle.lf_units.specs.Area.{Covers}
-use Rattle.lf_occupancy.specs.declared.lane.Entry.{Entry}
-use Rattle.lf_occupancy.specs.declared.lane.Lane.{Lane}
-use Rattle.lf_occupancy.specs.declared.lane.Mark.{Mark}
-use Rattle.lf_occupancy.specs.Lanes.{AreInOrder, AreRising, AreTold, HoldsPoint, IsAdded, IsInside, IsJoined, IsKept, IsLane, IsMarked, IsPart}
-use Rattle.lf_occupancy.specs.Lanes.{IsPruned, IsPutIn, IsWhole, IsNearZero, LiesInBox, Shown, Tells, entries_in, entry_in, entry_of_box, marks_but, others_in, part_in, shown}
+use Rattle.lf_occupancy.specs.declared.strip_marks.Entry.{Entry}
+use Rattle.lf_occupancy.specs.declared.strip_marks.StripMarks.{StripMarks}
+use Rattle.lf_occupancy.specs.declared.strip_marks.Mark.{Mark}
+use Rattle.lf_occupancy.specs.Lanes.{AreInOrder, AreRising, MarksAreOf, HoldsPoint, IsAdded, IsInside, IsJoined, IsKept, ShowsBoxes, IsMarked, IsPart}
+use Rattle.lf_occupancy.specs.Lanes.{IsUnmarked, IsPutIn, HasPoints, IsNearZero, LiesInBox, StripView, MarkIsOf, entries_in, entry_in, entry_of_box, marks_but, others_in, part_in, strip_view}
 use Rattle.lf_occupancy.specs.Occupied.{cell_box}
 use Rattle.lf_occupancy.proofs.Parts.{part_is}
 use Rattle.lf_occupancy.proofs.Lists.{contains_filter, pairs_filter, pairs_append, pairs_cons}
@@ -51,9 +51,9 @@ in_box_of : (cells other : List (Option Rect)) (area : Rect) (own : ℕ) (x y : 
 in_box_of cells other area own x y same l = record { box = l.box; is = same ∙ l.is; in_area = l.in_area; in_box = l.in_box }
 
 -- the same points lie in the boxes
-lane_alike : (cells other : List (Option Rect)) (area : Rect) (l : Shown) → ((own : ℕ) (x y : ℤ) → LiesInBox cells area own x y →
+lane_alike : (cells other : List (Option Rect)) (area : Rect) (l : StripView) → ((own : ℕ) (x y : ℤ) → LiesInBox cells area own x y →
     LiesInBox other area own x y) →
-    ((own : ℕ) (x y : ℤ) → LiesInBox other area own x y → LiesInBox cells area own x y) → IsLane cells area l → IsLane other area l
+    ((own : ℕ) (x y : ℤ) → LiesInBox other area own x y → LiesInBox cells area own x y) → ShowsBoxes cells area l → ShowsBoxes other area l
 lane_alike cells other area l f g lane = record {
   orderly = lane.orderly;
   whole = lane.whole;
@@ -73,7 +73,7 @@ test_other : (a b : ℕ) → not (eqb a b) ≡ true → a ≡ b → ⊥
 test_other a b t same = grind (arith, nat_tests)
 
 -- the entry is added to what a lane shows, at its place in the order
-record IsShownWith (e : Entry) (old new : Shown) : Type 0 where
+record IsShownWith (e : Entry) (old new : StripView) : Type 0 where
   at : ℕ
   entries : new.entries ≡ insert old.entries at e
   before : (k : ℕ) (d : Entry) → k < at → (get_or old.entries k d).area.x1 <ℤ e.area.x1
@@ -81,13 +81,13 @@ record IsShownWith (e : Entry) (old new : Shown) : Type 0 where
   widest : new.widest ≡ int_max old.widest (e.area.x2 -ℤ e.area.x1)
 
 -- what a lane shows without the cell's entries
-record IsShownWithout (own : ℕ) (old new : Shown) : Type 0 where
+record IsShownWithout (own : ℕ) (old new : StripView) : Type 0 where
   entries : new.entries ≡ others_in old.entries own
   widest : new.widest ≡ old.widest
 
 -- a lane without the cell's entries is that of the boxes with none for the cell
-lane_pruned : (cells : List (Option Rect)) (area : Rect) (own : ℕ) (old new : Shown) → own < length cells → IsLane cells area old → IsShownWithout own old new →
-    IsLane (set cells own None) area new
+lane_pruned : (cells : List (Option Rect)) (area : Rect) (own : ℕ) (old new : StripView) → own < length cells → ShowsBoxes cells area old → IsShownWithout own old new →
+    ShowsBoxes (set cells own None) area new
 lane_pruned cells area own old new has lane pruned = record {
   orderly = record {
     order = subst AreInOrder back (pairs_filter (λ a b. a.area.x1 ≤ℤ b.area.x1) p items lane.orderly.order);
@@ -96,7 +96,7 @@ lane_pruned cells area own old new has lane pruned = record {
     some = let w = pruned.widest in let h = lane.orderly.some in omega (arith, ints, w, h);
     most = let w = pruned.widest in let h = lane.orderly.most in omega (arith, ints, w, h);
   };
-  whole = subst (All (λ e. IsWhole e.area)) back (All-filter p (λ e. IsWhole e.area) items lane.whole);
+  whole = subst (All (λ e. HasPoints e.area)) back (All-filter p (λ e. HasPoints e.area) items lane.whole);
   inside = subst (All (IsInside area)) back (All-filter p (IsInside area) items lane.inside);
   held = λ k x y lies. subst (Any (HoldsPoint k x y)) back (held k x y lies);
   told = subst (All (λ e. (x y : ℤ) → Covers e.area x y → LiesInBox (set cells own None) area e.own x y)) back told;
@@ -133,9 +133,9 @@ lane_pruned cells area own old new has lane pruned = record {
         (All-filter p (λ z. (x y : ℤ) → Covers z.area x y → LiesInBox cells area z.own x y) items lane.told k d within x y covers)
 
 -- a lane where no point of the strip lies in the old box of the cell, nor in the new one
-lane_beside : (cells : List (Option Rect)) (area : Rect) (own : ℕ) (box : Option Rect) (l : Shown) → own < length cells →
-    ((x y : ℤ) → LiesInBox cells area own x y → ⊥) → ((r : Rect) (x y : ℤ) → box ≡ Some r → Covers area x y → Covers r x y → ⊥) → IsLane cells area l →
-    IsLane (set cells own box) area l
+lane_beside : (cells : List (Option Rect)) (area : Rect) (own : ℕ) (box : Option Rect) (l : StripView) → own < length cells →
+    ((x y : ℤ) → LiesInBox cells area own x y → ⊥) → ((r : Rect) (x y : ℤ) → box ≡ Some r → Covers area x y → Covers r x y → ⊥) → ShowsBoxes cells area l →
+    ShowsBoxes (set cells own box) area l
 lane_beside cells area own box l has old new lane = lane_alike cells (set cells own box) area l to back lane
   where
     to : (k : ℕ) (x y : ℤ) → LiesInBox cells area k x y → LiesInBox (set cells own box) area k x y
@@ -254,9 +254,9 @@ once_insert xs i e once fresh = pairs_append R (take i xs) (e ∷ drop i xs) cro
         ∙ own_of _ _ (get_or_default xs (i + n) z d (omega (arith, wide, inner))))
 
 -- the lane with the cell's part is that of the boxes where the cell stands there
-lane_joined : (cells : List (Option Rect)) (area : Rect) (own : ℕ) (rect part : Rect) (old new : Shown) → own < length cells → cell_box cells own ≡ None →
-    IsNearZero area → IsPart area rect part → IsWhole part →
-    IsLane cells area old → IsShownWith record { own = own; area = part } old new → IsLane (set cells own (Some rect)) area new
+lane_joined : (cells : List (Option Rect)) (area : Rect) (own : ℕ) (rect part : Rect) (old new : StripView) → own < length cells → cell_box cells own ≡ None →
+    IsNearZero area → IsPart area rect part → HasPoints part →
+    ShowsBoxes cells area old → IsShownWith record { own = own; area = part } old new → ShowsBoxes (set cells own (Some rect)) area new
 lane_joined cells area own rect part old new has nowhere def is whole lane j = record {
   orderly = record {
     order = subst AreInOrder back (order_insert items j.at e lane.orderly.order j.before j.behind);
@@ -272,7 +272,7 @@ lane_joined cells area own rect part old new has nowhere def is whole lane j = r
         let b = is.right in
         omega (arith, ints, clamps, w, h, l, r, a, b);
   };
-  whole = subst (All (λ z. IsWhole z.area)) back (all_insert (λ z. IsWhole z.area) items j.at e whole lane.whole);
+  whole = subst (All (λ z. HasPoints z.area)) back (all_insert (λ z. HasPoints z.area) items j.at e whole lane.whole);
   inside = subst (All (IsInside area)) back (all_insert (IsInside area) items j.at e is_in lane.inside);
   held = λ k x y lies. subst (Any (HoldsPoint k x y)) back (held k x y lies);
   told = subst (All (λ z. (x y : ℤ) → Covers z.area x y → LiesInBox (set cells own (Some rect)) area z.own x y)) back
@@ -387,7 +387,7 @@ pub entries_many : (cells : List (Option Rect)) (area : Rect) (ms : List Mark) �
 entries_many cells area ms = length-map ms (entry_in cells area)
 
 -- what is marked is of a cell whose box has a point in the area
-pub none_marked : (cells : List (Option Rect)) (area : Rect) (own : ℕ) (l : Lane) → IsMarked cells area l → ((x y : ℤ) → LiesInBox cells area own x y → ⊥) →
+pub none_marked : (cells : List (Option Rect)) (area : Rect) (own : ℕ) (l : StripMarks) → IsMarked cells area l → ((x y : ℤ) → LiesInBox cells area own x y → ⊥) →
     All (λ m. m.own ≢ own) l.marks.items
 none_marked cells area own l marked never k d within same =
     let es = entries_in cells area l.marks.items in
@@ -396,7 +396,7 @@ none_marked cells area own l marked never k d within same =
     let e : Entry = entry_in cells area m in
     let inner : k < length es = omega (arith, within, many) in
     let at : get_or es k e ≡ e = entry_there cells area l.marks.items k e d within in
-    let whole = subst (λ (z : Entry). IsWhole z.area) at (marked.lane.whole k e inner) in
+    let whole = subst (λ (z : Entry). HasPoints z.area) at (marked.lane.whole k e inner) in
     let told = subst (λ (z : Entry). (x y : ℤ) → Covers z.area x y → LiesInBox cells area z.own x y) at (marked.lane.told k e inner) in
     let w = whole.wide in
     let h = whole.high in
@@ -404,7 +404,7 @@ none_marked cells area own l marked never k d within same =
     never e.area.x1 e.area.y1 (subst (λ (n : ℕ). LiesInBox cells area n e.area.x1 e.area.y1) same lies)
 
 -- marks are in the order of the entries
-pub marks_rise : (cells : List (Option Rect)) (area : Rect) (l : Lane) → IsMarked cells area l → AreRising l.marks.items
+pub marks_rise : (cells : List (Option Rect)) (area : Rect) (l : StripMarks) → IsMarked cells area l → AreRising l.marks.items
 marks_rise cells area l marked i j d less within =
     let ms = l.marks.items in
     let many = entries_many cells area ms in
@@ -418,37 +418,37 @@ marks_rise cells area l marked i j d less within =
     ap (λ (z : Entry). z.area.x1) (entry_there cells area ms j e d within) in
     omega (arith, ints, up, a, b, first, second)
 
-abbrev made : List Entry → ℤ → Shown
+abbrev made : List Entry → ℤ → StripView
 made es w = record { entries = es; widest = w }
 
 -- a lane with the same marks
-pub marked_kept : (cells : List (Option Rect)) (area : Rect) (old new : Lane) → IsMarked cells area old → IsKept old new → IsMarked cells area new
+pub marked_kept : (cells : List (Option Rect)) (area : Rect) (old new : StripMarks) → IsMarked cells area old → IsKept old new → IsMarked cells area new
 marked_kept cells area old new marked kept = record {
-  lane = subst (IsLane cells area) same marked.lane;
-  told = subst (AreTold cells area) (sym kept.marks) marked.told;
+  lane = subst (ShowsBoxes cells area) same marked.lane;
+  told = subst (MarksAreOf cells area) (sym kept.marks) marked.told;
 }
   where
-    same : shown cells area old ≡ shown cells area new
+    same : strip_view cells area old ≡ strip_view cells area new
     same = ap (λ (ms : List Mark). made (entries_in cells area ms) old.widest) (sym kept.marks)
         ∙ ap (λ (w : ℤ). made (entries_in cells area new.marks.items) w) (sym kept.widest)
 
 -- marks that are not the cell's tell of the same entries
 told_other : (cells : List (Option Rect)) (area : Rect) (own : ℕ) (box : Option Rect) (ms : List Mark) → All (λ m. m.own ≢ own) ms →
-    AreTold cells area ms → AreTold (set cells own box) area ms
+    MarksAreOf cells area ms → MarksAreOf (set cells own box) area ms
 told_other cells area own box ms apart told k d within =
-    subst (λ (e : Entry). Tells e (get_or ms k d)) (sym (entry_other cells area own box (get_or ms k d) (apart k d within))) (told k d within)
+    subst (λ (e : Entry). MarkIsOf e (get_or ms k d)) (sym (entry_other cells area own box (get_or ms k d) (apart k d within))) (told k d within)
 
 -- a lane without the cell's marks is that of the boxes with none for the cell
-pub marked_pruned : (cells : List (Option Rect)) (area : Rect) (own : ℕ) (old new : Lane) → own < length cells → IsMarked cells area old →
-    IsPruned own old new → IsMarked (set cells own None) area new
+pub marked_pruned : (cells : List (Option Rect)) (area : Rect) (own : ℕ) (old new : StripMarks) → own < length cells → IsMarked cells area old →
+    IsUnmarked own old new → IsMarked (set cells own None) area new
 marked_pruned cells area own old new has marked pruned = record {
-  lane = lane_pruned cells area own (shown cells area old) (shown (set cells own None) area new) has marked.lane record {
+  lane = lane_pruned cells area own (strip_view cells area old) (strip_view (set cells own None) area new) has marked.lane record {
     entries = ap (λ (ms : List Mark). entries_in (set cells own None) area ms) pruned.marks
         ∙ entries_other cells area own None (marks_but items own) apart ∙ entries_but cells area own items;
     widest = pruned.widest;
   };
-  told = subst (AreTold (set cells own None) area) (sym pruned.marks)
-      (told_other cells area own None (marks_but items own) apart (All-filter p (λ m. Tells (entry_in cells area m) m) items marked.told));
+  told = subst (MarksAreOf (set cells own None) area) (sym pruned.marks)
+      (told_other cells area own None (marks_but items own) apart (All-filter p (λ m. MarkIsOf (entry_in cells area m) m) items marked.told));
 }
   where
     items : List Mark
@@ -461,12 +461,12 @@ marked_pruned cells area own old new has marked pruned = record {
     apart k d within = test_other (get_or (marks_but items own) k d).own own (filter_passes p items k d within)
 
 -- a lane where no point of the strip lies in the old box of the cell, nor in the new one
-pub marked_beside : (cells : List (Option Rect)) (area : Rect) (own : ℕ) (box : Option Rect) (l : Lane) → own < length cells →
+pub marked_beside : (cells : List (Option Rect)) (area : Rect) (own : ℕ) (box : Option Rect) (l : StripMarks) → own < length cells →
     ((x y : ℤ) → LiesInBox cells area own x y → ⊥) → ((r : Rect) (x y : ℤ) → box ≡ Some r → Covers area x y → Covers r x y → ⊥) → IsMarked cells area l →
     IsMarked (set cells own box) area l
 marked_beside cells area own box l has old new marked = record {
-  lane = subst (λ (es : List Entry). IsLane (set cells own box) area record { entries = es; widest = l.widest })
-      (sym (entries_other cells area own box l.marks.items apart)) (lane_beside cells area own box (shown cells area l) has old new marked.lane);
+  lane = subst (λ (es : List Entry). ShowsBoxes (set cells own box) area record { entries = es; widest = l.widest })
+      (sym (entries_other cells area own box l.marks.items apart)) (lane_beside cells area own box (strip_view cells area l) has old new marked.lane);
   told = told_other cells area own box l.marks.items apart marked.told;
 }
   where
@@ -477,7 +477,7 @@ mark_insert : (P : Mark → Type 0) (xs : List Mark) (i : ℕ) (m : Mark) → P 
 mark_insert P xs i m here all = All-append P (take i xs) (m ∷ drop i xs) (All-take P i xs all) (All-cons P m (drop i xs) here (All-drop P i xs all))
 
 -- the lane with the cell's part marked is that of the boxes where the cell stands there
-pub marked_put : (cells : List (Option Rect)) (area : Rect) (own : ℕ) (rect : Rect) (old new : Lane) → own < length cells → cell_box cells own ≡ None →
+pub marked_put : (cells : List (Option Rect)) (area : Rect) (own : ℕ) (rect : Rect) (old new : StripMarks) → own < length cells → cell_box cells own ≡ None →
     IsNearZero area → IsMarked cells area old → IsPutIn own rect area old new → IsMarked (set cells own (Some rect)) area new
 marked_put cells area own rect old new has nowhere near marked put = elim put [
   | inl both ↦ joined both.0 both.1
@@ -499,7 +499,7 @@ marked_put cells area own rect old new has nowhere near marked put = elim put [
     nothing : (x y : ℤ) → LiesInBox cells area own x y → ⊥
     nothing x y lies = none_is_not_some lies.box (sym nowhere ∙ lies.is)
 
-    whole_at : (x y : ℤ) → Covers part x y → IsWhole part
+    whole_at : (x y : ℤ) → Covers part x y → HasPoints part
     whole_at x y covers =
         let a = covers.left in
         let b = covers.right in
@@ -507,9 +507,9 @@ marked_put cells area own rect old new has nowhere near marked put = elim put [
         let d = covers.top in
         record { wide = omega (arith, ints, a, b); high = omega (arith, ints, c, d) }
 
-    joined : IsWhole part → IsAdded own part old new → IsMarked (set cells own (Some rect)) area new
+    joined : HasPoints part → IsAdded own part old new → IsMarked (set cells own (Some rect)) area new
     joined whole added = record {
-      lane = lane_joined cells area own rect part (shown cells area old) (shown (set cells own (Some rect)) area new) has nowhere near is whole marked.lane record {
+      lane = lane_joined cells area own rect part (strip_view cells area old) (strip_view (set cells own (Some rect)) area new) has nowhere near is whole marked.lane record {
         at = j.at;
         entries = ap (λ (ms : List Mark). entries_in (set cells own (Some rect)) area ms) j.marks
             ∙ entries_insert (entry_in (set cells own (Some rect)) area) items j.at m
@@ -533,8 +533,8 @@ marked_put cells area own rect old new has nowhere near marked put = elim put [
             omega (arith, ints, h, l, at);
         widest = j.widest;
       };
-      told = subst (AreTold (set cells own (Some rect)) area) (sym j.marks)
-          (mark_insert (λ z. Tells (entry_in (set cells own (Some rect)) area z) z) items j.at m (subst (λ (e : Entry). Tells e m) (sym mine) of_part)
+      told = subst (MarksAreOf (set cells own (Some rect)) area) (sym j.marks)
+          (mark_insert (λ z. MarkIsOf (entry_in (set cells own (Some rect)) area z) z) items j.at m (subst (λ (e : Entry). MarkIsOf e m) (sym mine) of_part)
           (told_other cells area own (Some rect) items apart marked.told));
     }
       where
@@ -547,7 +547,7 @@ marked_put cells area own rect old new has nowhere near marked put = elim put [
         j : IsJoined m (part.x2 -ℤ part.x1) old new
         j = added.joined
 
-        of_part : Tells record { own = own; area = part } m
+        of_part : MarkIsOf record { own = own; area = part } m
         of_part = record { left = added.of.left; width = added.of.width }
 
         apart : All (λ z. z.own ≢ own) items

@@ -6,16 +6,16 @@ use Rattle.std.specs.Int.{int_max}
 use Rattle.std.proofs.lemmas.Bool.Decides.{eqb_tells}
 use Rattle.std.proofs.lemmas.Int.{ints}
 use Rattle.std.proofs.lemmas.List.{get_or_default}
-use Rattle.lf_units.specs.declared.area.Rect.{Rect}
+use Rattle.lf_units.specs.declared.geometry.Rect.{Rect}
 use Rattle.lf_cells.specs.declared.cell.CellId.{CellId}
 use Rattle.lf_segments.specs.declared.rows_by_y.RowEntry.{RowEntry}
-use Rattle.lf_occupancy.specs.declared.lane.Entry.{Entry}
-use Rattle.lf_occupancy.specs.declared.lane.Lane.{Lane}
-use Rattle.lf_occupancy.specs.declared.lane.Mark.{Mark}
+use Rattle.lf_occupancy.specs.declared.strip_marks.Entry.{Entry}
+use Rattle.lf_occupancy.specs.declared.strip_marks.StripMarks.{StripMarks}
+use Rattle.lf_occupancy.specs.declared.strip_marks.Mark.{Mark}
 use Rattle.lf_segments.specs.declared.strip.Strip.{Strip}
 use Rattle.lf_occupancy.specs.Occupied.{cell_box}
-use Rattle.lf_occupancy.specs.Lanes.{AreRising, HasAtMostOne, IsMarked, StandsAt, StandsNotFrom, entries_in, entry_in, marks_but, some_box}
-use Rattle.lf_occupancy.specs.Strips.{AreLanes, HaveAtMostOne, IsAt, IsReached, StandOnce}
+use Rattle.lf_occupancy.specs.Lanes.{AreRising, HasAtMostOne, IsMarked, IsMarkOfCell, HasNoMarkFrom, entries_in, entry_in, marks_but, some_box}
+use Rattle.lf_occupancy.specs.Strips.{ShowAllBoxes, HaveAtMostOne, IsAt, IsReached, HasOneMark}
 use Rattle.lf_occupancy.proofs.Laning.{entries_many, entry_there, marks_rise, none_is_not_some, none_marked}
 
 kept_one : (e : Mark) (es : List Mark) (own : ℕ) → e.own ≢ own → marks_but (e ∷ es) own ≡ e ∷ marks_but es own
@@ -31,14 +31,14 @@ left_one e es own same = elim (eqb_tells e.own own) [
 ]
 
 -- where no mark is the cell's, all are kept
-pub all_kept : (es : List Mark) (own : ℕ) → StandsNotFrom es own 0 → marks_but es own ≡ es
+pub all_kept : (es : List Mark) (own : ℕ) → HasNoMarkFrom es own 0 → marks_but es own ≡ es
 all_kept [] own none = refl
 all_kept (e ∷ es) own none =
     kept_one e es own (none 0 e (omega arith) (omega arith))
     ∙ ap (λ (rest : List Mark). e ∷ rest) (all_kept es own (λ k d from within. none (suc k) d (omega arith) (omega (arith, within))))
 
 -- where one mark is, the others are what is left without it
-pub one_left : (es : List Mark) (own n : ℕ) → AllPairs (λ a b. a.own ≢ b.own) es → StandsAt es own n → remove es n ≡ marks_but es own
+pub one_left : (es : List Mark) (own n : ℕ) → AllPairs (λ a b. a.own ≢ b.own) es → IsMarkOfCell es own n → remove es n ≡ marks_but es own
 one_left [] own n once at = let within = at.within in absurd (omega (arith, within))
 one_left (e ∷ es) own zero once at =
     let here : e.own ≡ own = at.is e in
@@ -51,9 +51,9 @@ one_left (e ∷ es) own (suc n) once at =
     ∙ sym (kept_one e es own (λ same. once 0 (suc n) e (omega arith) within (same ∙ sym (at.is e))))
 
 -- what begins before the cell's left edge is not the cell's
-pub not_before : (l : Lane) (own : ℕ) (left : ℤ) (from : ℕ) → HasAtMostOne own left l → from ≤ length l.marks.items →
-    ((k : ℕ) (d : Mark) → k < from → (get_or l.marks.items k d).left <ℤ left) → StandsNotFrom l.marks.items own from →
-    StandsNotFrom l.marks.items own 0
+pub not_before : (l : StripMarks) (own : ℕ) (left : ℤ) (from : ℕ) → HasAtMostOne own left l → from ≤ length l.marks.items →
+    ((k : ℕ) (d : Mark) → k < from → (get_or l.marks.items k d).left <ℤ left) → HasNoMarkFrom l.marks.items own from →
+    HasNoMarkFrom l.marks.items own 0
 not_before l own left from one bound below none k d least within same = elim two [
   | inl before ↦ let low = below k d before in let at = one.begins k d within same in omega (arith, ints, low, at)
   | inr past ↦ none k d past within same
@@ -82,7 +82,7 @@ none_farther ms own n left m rising begins inner far k d from within same = elim
     two = grind arith
 
 -- a lane that marks its team's boxes has one mark of a cell at most, where the part of its box begins
-marked_has_one : (cells : List (Option Rect)) (own : ℕ) (rect : Rect) (area : Rect) (l : Lane) →
+marked_has_one : (cells : List (Option Rect)) (own : ℕ) (rect : Rect) (area : Rect) (l : StripMarks) →
     (cell_box cells own ≡ None) ⊎ (cell_box cells own ≡ Some rect) → IsMarked cells area l → HasAtMostOne own (int_max area.x1 rect.x1) l
 marked_has_one cells own rect area l at marked = record { order = marks_rise cells area l marked; once = once; begins = begins }
   where
@@ -106,14 +106,14 @@ marked_has_one cells own rect area l at marked = record { order = marks_rise cel
           ∙ ap (λ (b : Option Rect). int_max area.x1 (some_box b).x1) is
     ]
 
-pub lanes_have_one : (xs : List Strip) (boxes : List (List (Option Rect))) (lanes : List Lane) (id : CellId) (rect : Rect) → AreLanes xs boxes lanes →
-    IsAt boxes id rect → StandOnce xs id rect lanes
+pub lanes_have_one : (xs : List Strip) (boxes : List (List (Option Rect))) (lanes : List StripMarks) (id : CellId) (rect : Rect) → ShowAllBoxes xs boxes lanes →
+    IsAt boxes id rect → HasOneMark xs id rect lanes
 lanes_have_one xs boxes lanes id rect are is = λ n d e of.
     let At : ℕ → Type 0 = λ t. IsMarked (get_or boxes t []) (get_or xs n d).area (get_or lanes n e) in
     marked_has_one (get_or boxes id.team []) id.own rect (get_or xs n d).area (get_or lanes n e) is.at (subst At (of.of_team d) (are.each n d e of.within))
 
 -- a strip that the cell's box reaches is of the cell's team
-pub reached_has_one : (xs : List Strip) (id : CellId) (rect : Rect) (run : List RowEntry) (lanes : List Lane) →
-    StandOnce xs id rect lanes → HaveAtMostOne xs id.own rect (IsReached xs run id.team rect) lanes
+pub reached_has_one : (xs : List Strip) (id : CellId) (rect : Rect) (run : List RowEntry) (lanes : List StripMarks) →
+    HasOneMark xs id rect lanes → HaveAtMostOne xs id.own rect (IsReached xs run id.team rect) lanes
 reached_has_one xs id rect run lanes one n d e (within, (k, r, below, at, near)) =
     one n d e record { within = within; of_team = λ g. (near g).of_team }

@@ -6,11 +6,11 @@ use Rattle.std.proofs.lemmas.Bool.Decides.{nat_tests}
 use Rattle.std.proofs.lemmas.Int.{ints}
 use Rattle.std.proofs.lemmas.List.{append-nil, get_or-map, get_or_default, length-map, map-append, take_more}
 use Rattle.std.proofs.lemmas.List.Elements.{All-contains, All-map, Contains-get_or, filter-append}
-use Rattle.lf_units.specs.declared.area.Rect.{Rect}
+use Rattle.lf_units.specs.declared.geometry.Rect.{Rect}
 use Rattle.lf_spans.specs.declared.span.Span.{Span}
 use Rattle.lf_spans.specs.Spans.{AreApart, IsApart}
-use Rattle.lf_occupancy.specs.declared.lane.Entry.{Entry}
-use Rattle.lf_occupancy.specs.declared.lane.Mark.{Mark}
+use Rattle.lf_occupancy.specs.declared.strip_marks.Entry.{Entry}
+use Rattle.lf_occupancy.specs.declared.strip_marks.Mark.{Mark}
 use Rattle.lf_occupancy.specs.Lanes.{AreInOrder, IsNearRun, all_padded, entries_in, entry_in, others_in, padded, spans_in, wider_range, x_range}
 use Rattle.lf_occupancy.proofs.Laning.{entry_there}
 use Rattle.lf_occupancy.proofs.Runs.{apart_each, each_apart, all_apart_each, each_all_apart, near_in}

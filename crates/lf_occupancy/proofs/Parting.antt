@@ -9,7 +9,7 @@ use Rattle.std.proofs.lemmas.List.Sorted.{Contains-permutation, IsPermutation-sy
 use Rattle.std.proofs.lemmas.Option.{slice_get-get_or, slice_get_within}
 use Rattle.lf_cells.specs.declared.cell.Cell.{Cell}
 use Rattle.lf_cells.specs.declared.cell.CellId.{CellId}
-use Rattle.lf_cells.specs.Cells.{AreAll, Cells, cell_at, cells_of, id_of, ids_of}
+use Rattle.lf_cells.specs.Cells.{AreAllIds, Cells, cell_at, cells_of, id_of, ids_of}
 use Rattle.lf_cells.proofs.TeamIds.{ids_many}
 use Rattle.lf_occupancy.specs.Building.{IsBefore, id_at}
 use Rattle.lf_occupancy.proofs.Building.{AreAllDone, fresh_id, ids_apart, some_cell}
@@ -200,7 +200,7 @@ some_is : (o : Option Cell) (c : Cell) → o ≡ Some c → IsSome o
 some_is o c is = subst IsSome (sym is) refl
 
 -- the teams of all cells are passed
-pub all_passed : (cells : Cells) (ids : List CellId) (above teams : ℕ) → AreAll cells ids → All (λ id. id.team < above) ids → above ≤ teams →
+pub all_passed : (cells : Cells) (ids : List CellId) (above teams : ℕ) → AreAllIds cells ids → All (λ id. id.team < above) ids → above ≤ teams →
     AreAllDone cells (IsBefore teams 0)
 all_passed cells ids above teams are below past id c there =
     let found = (are.cells id).1 (some_is (cell_at cells id) c there) in

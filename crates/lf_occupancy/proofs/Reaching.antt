@@ -9,19 +9,19 @@ use Rattle.std.proofs.lemmas.List.{get_or-map, get_or_past, length-map}
 use Rattle.std.proofs.lemmas.Option.{slice_get-get_or, slice_get_past}
 use Rattle.std.proofs.lemmas.List.{get_or_default, get_or-set_same, get_or-set_other, length-append, get_or_append_left, get_or-append-add}
 use Rattle.std.proofs.lemmas.List.Elements.{All-contains, Contains-append_cases}
-use Rattle.lf_units.specs.declared.area.Rect.{Rect}
+use Rattle.lf_units.specs.declared.geometry.Rect.{Rect}
 use Rattle.lf_units.specs.Area.{Covers, SharesPoint}
 use Rattle.lf_spans.proofs.Anys.{any_nil, any_head, any_tail, any_cases}
 use Rattle.lf_segments.specs.declared.rows_by_y.RowEntry.{RowEntry}
-use Rattle.lf_occupancy.specs.declared.lane.Lane.{Lane}
+use Rattle.lf_occupancy.specs.declared.strip_marks.StripMarks.{StripMarks}
 use Rattle.lf_segments.specs.declared.strip.Strip.{Strip}
-use Rattle.lf_segments.specs.Grounds.{Lookups}
-use Rattle.lf_occupancy.specs.Lanes.{AreRising, IsMarked, IsPruned, Shown, part_in}
+use Rattle.lf_segments.specs.Grounds.{FrameIndexView}
+use Rattle.lf_occupancy.specs.Lanes.{AreRising, IsMarked, IsUnmarked, StripView, part_in}
 use Rattle.lf_segments.specs.Strips.{AreRowsNear}
-use Rattle.lf_occupancy.specs.Strips.{AreChanged, AreKept, AreLanes, AreOrderly, AreShown, MeetsStrip}
+use Rattle.lf_occupancy.specs.Strips.{AreChanged, AreKept, ShowAllBoxes, AreOrderly, AreShown, MeetsStrip}
 use Rattle.lf_segments.specs.Strips.{IsNear}
-use Rattle.lf_occupancy.specs.Strips.{IsReached, PutsIn, CanTake, HaveRoom, rooms_in}
-use Rattle.lf_occupancy.specs.Occupied.{NoLess, cell_box}
+use Rattle.lf_occupancy.specs.Strips.{IsReached, PutsIn, CanTake, HaveRoom, capacities_in}
+use Rattle.lf_occupancy.specs.Occupied.{KeepsCapacities, cell_box}
 use Rattle.lf_occupancy.proofs.Around.{IsFelt}
 use Rattle.lf_occupancy.proofs.Finds.{no_strip}
 use Rattle.lf_occupancy.proofs.Lists.{maps_alike}
@@ -30,7 +30,7 @@ use Rattle.lf_occupancy.proofs.Changes.{room_kept, some_lane}
 use Rattle.lf_occupancy.proofs.Laning.{marked_beside, marked_kept, marked_pruned, marked_put, marks_rise, none_is_not_some}
 
 -- a strip that shares a point with the rectangle is reached
-pub point_is_reached : (s : Lookups) (rect : Rect) (run : List RowEntry) (team n : ℕ) (d : Strip) (x y : ℤ) → All (IsFelt s.rows s.height) s.strips →
+pub point_is_reached : (s : FrameIndexView) (rect : Rect) (run : List RowEntry) (team n : ℕ) (d : Strip) (x y : ℤ) → All (IsFelt s.rows s.height) s.strips →
     AreRowsNear s.rows s.height rect run →
     n < length s.strips → (get_or s.strips n d).team ≡ team → Covers (get_or s.strips n d).area x y → Covers rect x y →
     IsReached s.strips run team rect n
@@ -133,13 +133,13 @@ pub not_of_team : (xs : List Strip) (run : List RowEntry) (team : ℕ) (rect : R
 not_of_team xs run team rect n d other (within, (k, r, below, is, near)) = other (near d).of_team
 
 -- where one team's boxes change, only the lanes of its strips do
-pub lanes_of_team : (xs : List Strip) (boxes : List (List (Option Rect))) (team : ℕ) (cells : List (Option Rect)) (lanes new : List Lane) →
+pub lanes_of_team : (xs : List Strip) (boxes : List (List (Option Rect))) (team : ℕ) (cells : List (Option Rect)) (lanes new : List StripMarks) →
     team < length boxes →
-    length new ≡ length lanes → AreLanes xs boxes lanes →
-    ((n : ℕ) (d : Strip) (e : Lane) → n < length xs → (get_or xs n d).team ≡ team → IsMarked (get_or boxes team []) (get_or xs n d).area (get_or lanes n e) →
+    length new ≡ length lanes → ShowAllBoxes xs boxes lanes →
+    ((n : ℕ) (d : Strip) (e : StripMarks) → n < length xs → (get_or xs n d).team ≡ team → IsMarked (get_or boxes team []) (get_or xs n d).area (get_or lanes n e) →
     IsMarked cells (get_or xs n d).area (get_or new n e)) →
-    ((n : ℕ) (d : Strip) (e : Lane) → n < length xs → ((get_or xs n d).team ≡ team → ⊥) → get_or new n e ≡ get_or lanes n e) →
-    AreLanes xs (set boxes team cells) new
+    ((n : ℕ) (d : Strip) (e : StripMarks) → n < length xs → ((get_or xs n d).team ≡ team → ⊥) → get_or new n e ≡ get_or lanes n e) →
+    ShowAllBoxes xs (set boxes team cells) new
 lanes_of_team xs boxes team cells lanes new has many old own others = record {
   many = many ∙ old.many;
   each = λ n d e within.
@@ -159,10 +159,10 @@ lanes_of_team xs boxes team cells lanes new has many old own others = record {
 }
 
 -- the lanes that are pruned where the old box reaches
-pub lanes_out : (s : Lookups) (boxes : List (List (Option Rect))) (team own : ℕ) (rect : Rect) (run : List RowEntry) (lanes new : List Lane) → All (IsFelt s.rows s.height) s.strips →
+pub lanes_out : (s : FrameIndexView) (boxes : List (List (Option Rect))) (team own : ℕ) (rect : Rect) (run : List RowEntry) (lanes new : List StripMarks) → All (IsFelt s.rows s.height) s.strips →
     AreRowsNear s.rows s.height rect run → team < length boxes → own < length (get_or boxes team []) → (cell_box (get_or boxes team []) own ≡ None) ⊎ (cell_box (get_or boxes team []) own ≡ Some rect) →
-    AreLanes s.strips boxes lanes → AreChanged (IsReached s.strips run team rect) (λ n. IsPruned own) lanes new →
-    AreLanes s.strips (set boxes team (set (get_or boxes team []) own None)) new
+    ShowAllBoxes s.strips boxes lanes → AreChanged (IsReached s.strips run team rect) (λ n. IsUnmarked own) lanes new →
+    ShowAllBoxes s.strips (set boxes team (set (get_or boxes team []) own None)) new
 lanes_out s boxes team own rect run lanes new strips rows has_team has at old changed =
     lanes_of_team s.strips boxes team (set cells own None) lanes new has_team changed.many old each
     (λ n d e within other. changed.others n e (inside n within) (not_of_team s.strips run team rect n d other))
@@ -176,7 +176,7 @@ lanes_out s boxes team own rect run lanes new strips rows has_team has at old ch
     same_rect : (r : Rect) → ◌≡◌ {A = Option Rect} (Some rect) (Some r) → r ≡ rect
     same_rect r e = cc
 
-    each : (n : ℕ) (d : Strip) (e : Lane) → n < length s.strips → (get_or s.strips n d).team ≡ team →
+    each : (n : ℕ) (d : Strip) (e : StripMarks) → n < length s.strips → (get_or s.strips n d).team ≡ team →
         IsMarked cells (get_or s.strips n d).area (get_or lanes n e) → IsMarked (set cells own None) (get_or s.strips n d).area (get_or new n e)
     each n d e within of_team lane = elim (decide_reached s.strips run team rect n within) [
       | inl reached ↦ marked_pruned cells (get_or s.strips n d).area own (get_or lanes n e) (get_or new n e) has lane (changed.chosen n e
@@ -196,10 +196,10 @@ lanes_out s boxes team own rect run lanes new strips rows has_team has at old ch
         nothing r same = cc
 
 -- the lanes that take the parts of the new box where it reaches
-pub lanes_in : (s : Lookups) (boxes : List (List (Option Rect))) (team own : ℕ) (rect : Rect) (run : List RowEntry) (lanes new : List Lane) → All (IsFelt s.rows s.height) s.strips →
+pub lanes_in : (s : FrameIndexView) (boxes : List (List (Option Rect))) (team own : ℕ) (rect : Rect) (run : List RowEntry) (lanes new : List StripMarks) → All (IsFelt s.rows s.height) s.strips →
     AreRowsNear s.rows s.height rect run → team < length boxes → own < length (get_or boxes team []) → cell_box (get_or boxes team []) own ≡ None →
-    AreLanes s.strips boxes lanes → AreChanged (IsReached s.strips run team rect) (PutsIn s.strips own rect) lanes new →
-    AreLanes s.strips (set boxes team (set (get_or boxes team []) own (Some rect))) new
+    ShowAllBoxes s.strips boxes lanes → AreChanged (IsReached s.strips run team rect) (PutsIn s.strips own rect) lanes new →
+    ShowAllBoxes s.strips (set boxes team (set (get_or boxes team []) own (Some rect))) new
 lanes_in s boxes team own rect run lanes new strips rows has_team has is old changed =
     lanes_of_team s.strips boxes team (set cells own (Some rect)) lanes new has_team changed.many old each
     (λ n d e within other. changed.others n e (inside n within) (not_of_team s.strips run team rect n d other))
@@ -216,7 +216,7 @@ lanes_in s boxes team own rect run lanes new strips rows has_team has is old cha
     same_rect : (r : Rect) → ◌≡◌ {A = Option Rect} (Some rect) (Some r) → r ≡ rect
     same_rect r e = cc
 
-    each : (n : ℕ) (d : Strip) (e : Lane) → n < length s.strips → (get_or s.strips n d).team ≡ team →
+    each : (n : ℕ) (d : Strip) (e : StripMarks) → n < length s.strips → (get_or s.strips n d).team ≡ team →
         IsMarked cells (get_or s.strips n d).area (get_or lanes n e) → IsMarked (set cells own (Some rect)) (get_or s.strips n d).area (get_or new n e)
     each n d e within of_team lane = elim (decide_reached s.strips run team rect n within) [
       | inl reached ↦
@@ -232,7 +232,7 @@ lanes_in s boxes team own rect run lanes new strips rows has_team has is old cha
     ]
 
 -- lanes that hold what they held
-pub lanes_kept : (xs : List Strip) (boxes : List (List (Option Rect))) (old new : List Lane) → AreKept old new → AreLanes xs boxes old → AreLanes xs boxes new
+pub lanes_kept : (xs : List Strip) (boxes : List (List (Option Rect))) (old new : List StripMarks) → AreKept old new → ShowAllBoxes xs boxes old → ShowAllBoxes xs boxes new
 lanes_kept xs boxes old new kept lanes = record {
   many = kept.many ∙ lanes.many;
   each = λ n d e within.
@@ -240,7 +240,7 @@ lanes_kept xs boxes old new kept lanes = record {
 }
 
 -- lanes that show their strips' boxes are in order
-pub lanes_orderly : (xs : List Strip) (boxes : List (List (Option Rect))) (lanes : List Shown) → AreShown xs boxes lanes → AreOrderly xs lanes
+pub lanes_orderly : (xs : List Strip) (boxes : List (List (Option Rect))) (lanes : List StripView) → AreShown xs boxes lanes → AreOrderly xs lanes
 lanes_orderly xs boxes lanes l = record {
   many = l.many;
   each = λ n e within. (l.each n no_strip e within).orderly;
@@ -248,18 +248,18 @@ lanes_orderly xs boxes lanes l = record {
 }
 
 -- marks are in order in each lane
-pub lanes_rise : (xs : List Strip) (boxes : List (List (Option Rect))) (lanes : List Lane) → AreLanes xs boxes lanes → All (λ l. AreRising l.marks.items) lanes
+pub lanes_rise : (xs : List Strip) (boxes : List (List (Option Rect))) (lanes : List StripMarks) → ShowAllBoxes xs boxes lanes → All (λ l. AreRising l.marks.items) lanes
 lanes_rise xs boxes lanes l n e within =
     let many = l.many in marks_rise _ _ (get_or lanes n e) (l.each n no_strip e (omega (arith, many, within)))
 
-pub rising_kept : (old new : List Lane) → AreKept old new → All (λ l. AreRising l.marks.items) old → All (λ l. AreRising l.marks.items) new
+pub rising_kept : (old new : List StripMarks) → AreKept old new → All (λ l. AreRising l.marks.items) old → All (λ l. AreRising l.marks.items) new
 rising_kept old new kept rising n e within =
     let many = kept.many in
     let inner : n < length old = omega (arith, many, within) in
     subst AreRising (sym (kept.each n e inner).marks) (rising n e inner)
 
 -- what differs in a list differs in its parts
-pub once_in_run : (s : Lookups) (rect : Rect) (run : List RowEntry) → AllPairs (λ a b. a.row ≢ b.row) s.rows → AreRowsNear s.rows s.height rect run →
+pub once_in_run : (s : FrameIndexView) (rect : Rect) (run : List RowEntry) → AllPairs (λ a b. a.row ≢ b.row) s.rows → AreRowsNear s.rows s.height rect run →
     AllPairs (λ a b. a.row ≢ b.row) run
 once_in_run s rect run once rows i j d less within =
     let front = rows.part.before in
@@ -273,35 +273,35 @@ once_in_run s rect run once rows i j d less within =
     (ap (λ (r : RowEntry). r.row) a ∙ same ∙ sym (ap (λ (r : RowEntry). r.row) b))
 
 -- lanes that are pruned or stay the same have the room that they had
-pub rooms_out : (xs : List Strip) (run : List RowEntry) (team own : ℕ) (rect : Rect) (lanes new : List Lane) → length lanes ≡ length xs →
-    AreChanged (IsReached xs run team rect) (λ n. IsPruned own) lanes new → rooms_in new ≡ rooms_in lanes
-rooms_out xs run team own rect lanes new many changed = maps_alike (λ (l : Lane). vec_capacity l.marks) new lanes changed.many each
+pub rooms_out : (xs : List Strip) (run : List RowEntry) (team own : ℕ) (rect : Rect) (lanes new : List StripMarks) → length lanes ≡ length xs →
+    AreChanged (IsReached xs run team rect) (λ n. IsUnmarked own) lanes new → capacities_in new ≡ capacities_in lanes
+rooms_out xs run team own rect lanes new many changed = maps_alike (λ (l : StripMarks). vec_capacity l.marks) new lanes changed.many each
   where
-    each : (n : ℕ) (e : Lane) → n < length lanes → vec_capacity (get_or new n e).marks ≡ vec_capacity (get_or lanes n e).marks
+    each : (n : ℕ) (e : StripMarks) → n < length lanes → vec_capacity (get_or new n e).marks ≡ vec_capacity (get_or lanes n e).marks
     each n e within = elim (decide_reached xs run team rect n (omega (arith, within, many))) [
       | inl reached ↦ (changed.chosen n e within reached).room
-      | inr never ↦ ap (λ (l : Lane). vec_capacity l.marks) (changed.others n e within never)
+      | inr never ↦ ap (λ (l : StripMarks). vec_capacity l.marks) (changed.others n e within never)
     ]
 
 pub order_of : (n m : ℕ) → (n < m) ⊎ (m ≤ n)
 order_of n m = grind arith
 
 -- lanes that take the parts of a box keep their room
-pub rooms_put : (xs : List Strip) (run : List RowEntry) (team own : ℕ) (rect : Rect) (lanes new : List Lane) → length lanes ≡ length xs →
-    AreChanged (IsReached xs run team rect) (PutsIn xs own rect) lanes new → rooms_in new ≡ rooms_in lanes
-rooms_put xs run team own rect lanes new many changed = maps_alike (λ (l : Lane). vec_capacity l.marks) new lanes changed.many each
+pub rooms_put : (xs : List Strip) (run : List RowEntry) (team own : ℕ) (rect : Rect) (lanes new : List StripMarks) → length lanes ≡ length xs →
+    AreChanged (IsReached xs run team rect) (PutsIn xs own rect) lanes new → capacities_in new ≡ capacities_in lanes
+rooms_put xs run team own rect lanes new many changed = maps_alike (λ (l : StripMarks). vec_capacity l.marks) new lanes changed.many each
   where
-    each : (n : ℕ) (e : Lane) → n < length lanes → vec_capacity (get_or new n e).marks ≡ vec_capacity (get_or lanes n e).marks
+    each : (n : ℕ) (e : StripMarks) → n < length lanes → vec_capacity (get_or new n e).marks ≡ vec_capacity (get_or lanes n e).marks
     each n e within = elim (decide_reached xs run team rect n (omega (arith, within, many))) [
       | inl reached ↦ elim (changed.chosen n e within reached no_strip) [
         | inl both ↦ both.1.joined.room
-        | inr same ↦ ap (λ (l : Lane). vec_capacity l.marks) same.1
+        | inr same ↦ ap (λ (l : StripMarks). vec_capacity l.marks) same.1
       ]
-      | inr never ↦ ap (λ (l : Lane). vec_capacity l.marks) (changed.others n e within never)
+      | inr never ↦ ap (λ (l : StripMarks). vec_capacity l.marks) (changed.others n e within never)
     ]
 
 -- a reached lane takes the part of the box where the strips that the box meets have room
-pub takes_parts : (xs : List Strip) (team : ℕ) (rect : Rect) (run : List RowEntry) (lanes : List Lane) → length lanes ≡ length xs →
+pub takes_parts : (xs : List Strip) (team : ℕ) (rect : Rect) (run : List RowEntry) (lanes : List StripMarks) → length lanes ≡ length xs →
     All (λ l. AreRising l.marks.items) lanes → HaveRoom (MeetsStrip xs team rect) 1 lanes → CanTake xs rect (IsReached xs run team rect) lanes
 takes_parts xs team rect run lanes many rising room n d e (within, (k, r, below, at, near)) = record {
   order = rising n e (omega (arith, many, within));
@@ -318,7 +318,7 @@ takes_parts xs team rect run lanes many rising room n d e (within, (k, r, below,
 }
 
 -- the strips that the box meets have room where those that are reached have it
-pub room_of_met : (s : Lookups) (team : ℕ) (rect : Rect) (run : List RowEntry) (more : ℕ) (lanes : List Lane) → All (IsFelt s.rows s.height) s.strips →
+pub room_of_met : (s : FrameIndexView) (team : ℕ) (rect : Rect) (run : List RowEntry) (more : ℕ) (lanes : List StripMarks) → All (IsFelt s.rows s.height) s.strips →
     AreRowsNear s.rows s.height rect run → HaveRoom (IsReached s.strips run team rect) more lanes →
     HaveRoom (MeetsStrip s.strips team rect) more lanes
 room_of_met s team rect run more lanes strips rows room n e meets = elim (order_of n (length s.strips)) [
@@ -331,7 +331,7 @@ room_of_met s team rect run more lanes strips rows room n e meets = elim (order_
 ]
 
 -- room that was made stays
-pub room_stays : (xs : List Strip) (team : ℕ) (rect : Rect) (more : ℕ) (old new : List Lane) → length old ≡ length xs → AreKept old new →
+pub room_stays : (xs : List Strip) (team : ℕ) (rect : Rect) (more : ℕ) (old new : List StripMarks) → length old ≡ length xs → AreKept old new →
     HaveRoom (MeetsStrip xs team rect) more old → HaveRoom (MeetsStrip xs team rect) more new
 room_stays xs team rect more old new many kept room n e meets = elim (order_of n (length xs)) [
   | inl within ↦ room_kept more (get_or old n e) (get_or new n e) (kept.each n e (omega (arith, within, many))) (room n e meets)
@@ -339,31 +339,31 @@ room_stays xs team rect more old new many kept room n e meets = elim (order_of n
       (slice_get_past xs n past) meets)
 ]
 
-pub move_stays : (xs : List Strip) (team : ℕ) (to : Option Rect) (more : ℕ) (old new : List Lane) → length old ≡ length xs → AreKept old new →
+pub move_stays : (xs : List Strip) (team : ℕ) (to : Option Rect) (more : ℕ) (old new : List StripMarks) → length old ≡ length xs → AreKept old new →
     IfSome to (λ rect. HaveRoom (MeetsStrip xs team rect) more old) → IfSome to (λ rect. HaveRoom (MeetsStrip xs team rect) more new)
 move_stays xs team None more old new many kept room = tt
 move_stays xs team (Some rect) more old new many kept room = room_stays xs team rect more old new many kept room
 
 -- lanes of the same rooms are as many
-pub many_still : (old new : List Lane) → rooms_in new ≡ rooms_in old → length new ≡ length old
+pub many_still : (old new : List StripMarks) → capacities_in new ≡ capacities_in old → length new ≡ length old
 many_still old new rooms =
-    sym (length-map new (λ (l : Lane). vec_capacity l.marks)) ∙ ap (λ (ns : List ℕ). length ns) rooms ∙ length-map old (λ (l : Lane). vec_capacity l.marks)
+    sym (length-map new (λ (l : StripMarks). vec_capacity l.marks)) ∙ ap (λ (ns : List ℕ). length ns) rooms ∙ length-map old (λ (l : StripMarks). vec_capacity l.marks)
 
 -- lanes that hold what they held have no less room
-pub rooms_kept : (old new : List Lane) → AreKept old new → NoLess (rooms_in old) (rooms_in new)
+pub rooms_kept : (old new : List StripMarks) → AreKept old new → KeepsCapacities (capacities_in old) (capacities_in new)
 rooms_kept old new kept = record {
-  many = length-map new (λ (l : Lane). vec_capacity l.marks) ∙ kept.many ∙ sym (length-map old (λ (l : Lane). vec_capacity l.marks));
+  many = length-map new (λ (l : StripMarks). vec_capacity l.marks) ∙ kept.many ∙ sym (length-map old (λ (l : StripMarks). vec_capacity l.marks));
   each = λ n. elim (order_of n (length old)) [
     | inl within ↦
         let many = kept.many in
         let e = some_lane old n within in
-        let a = get_or-map (λ (l : Lane). vec_capacity l.marks) old n e 0 within in
-        let b = get_or-map (λ (l : Lane). vec_capacity l.marks) new n e 0 (omega (arith, within, many)) in
+        let a = get_or-map (λ (l : StripMarks). vec_capacity l.marks) old n e 0 within in
+        let b = get_or-map (λ (l : StripMarks). vec_capacity l.marks) new n e 0 (omega (arith, within, many)) in
         let h = (kept.each n e within).room in
         omega (arith, a, b, h)
     | inr past ↦
-        let long = length-map old (λ (l : Lane). vec_capacity l.marks) in
-        let a = get_or_past (map (λ (l : Lane). vec_capacity l.marks) old) n 0 (omega (arith, past, long)) in
+        let long = length-map old (λ (l : StripMarks). vec_capacity l.marks) in
+        let a = get_or_past (map (λ (l : StripMarks). vec_capacity l.marks) old) n 0 (omega (arith, past, long)) in
         omega (arith, a)
   ];
 }

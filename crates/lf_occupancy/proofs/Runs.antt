@@ -9,11 +9,11 @@ use Rattle.std.proofs.lemmas.List.{get_or_default, get_or-take, get_or-drop, get
 use Rattle.std.proofs.lemmas.List.{length-append, get_or_append_left, get_or-append-add}
 use Rattle.std.proofs.lemmas.List.Elements.{All-contains, All-contains_itself, All-filter, All-map, filter_passes}
 use Rattle.std.proofs.lemmas.List.Elements.{Contains-append_left, Contains-append_right, Contains-append_cases, Contains-get_or}
-use Rattle.lf_units.specs.declared.area.Rect.{Rect}
+use Rattle.lf_units.specs.declared.geometry.Rect.{Rect}
 use Rattle.lf_spans.specs.declared.span.Span.{Span}
 use Rattle.lf_spans.specs.Spans.{AreApart, Holds, IsApart, IsFreeIn, LiesIn}
-use Rattle.lf_occupancy.specs.declared.lane.Entry.{Entry}
-use Rattle.lf_occupancy.specs.declared.lane.Mark.{Mark}
+use Rattle.lf_occupancy.specs.declared.strip_marks.Entry.{Entry}
+use Rattle.lf_occupancy.specs.declared.strip_marks.Mark.{Mark}
 use Rattle.lf_occupancy.specs.Lanes.{AreInOrder, AreRising, IsNearRun, MeetsOne, others_in, spans_in, x_range}
 use Rattle.lf_occupancy.proofs.Lists.{contains_filter, pairs_filter}
 

@@ -2,20 +2,20 @@
 use Rattle.std.proofs.Common.{◌≡◌, ◌≢◌, ℕ, ◌+◌, ◌<◌, ◌≤◌, List, length, get_or, take, sym, subst, arith}
 use Rattle.std.specs.Prelude.{All, AllPairs, Err, Ok, OnErr, Result}
 use Rattle.std.proofs.lemmas.List.{take_all}
-use Rattle.lf_units.specs.declared.area.Rect.{Rect}
+use Rattle.lf_units.specs.declared.geometry.Rect.{Rect}
 use Rattle.lf_segments.specs.declared.rows_by_y.RowEntry.{RowEntry}
 use Rattle.lf_segments.specs.declared.strip.Strip.{Strip}
-use Rattle.lf_segments.specs.declared.strips.NearStrips.{NearStrips}
+use Rattle.lf_segments.specs.declared.strips.StripRange.{StripRange}
 use Rattle.lf_segments.specs.Strips.{AreNear}
-use Rattle.lf_occupancy.specs.declared.lane.Lane.{Lane}
+use Rattle.lf_occupancy.specs.declared.strip_marks.StripMarks.{StripMarks}
 use Rattle.lf_occupancy.specs.Lanes.{AreRising, TakesPart}
-use Rattle.lf_occupancy.specs.Settling.{AreSettled, IsOneOf}
+use Rattle.lf_occupancy.specs.Settling.{AreReservedAndMarked, IsOneOf}
 use Rattle.lf_occupancy.specs.Strips.{AreChanged, AreKept, CanTake, HaveRoom, IsReached, IsReachedIn, PutsIn}
 use Rattle.lf_occupancy.proofs.Changes.{IsBetween, changed_alike, kept_along, other_row, rows_further}
 use Rattle.lf_occupancy.proofs.Finds.{no_strip}
 
 -- each lane of the run is changed
-pub changed_in_run : {X : Type 0} (near : NearStrips) (k : ℕ) (Change : ℕ → X → X → Type 0) (old new : List X) → near.end ≤ k →
+pub changed_in_run : {X : Type 0} (near : StripRange) (k : ℕ) (Change : ℕ → X → X → Type 0) (old new : List X) → near.end ≤ k →
     AreChanged (IsBetween near.start k near.end) Change old new → AreChanged (IsOneOf near) Change old new
 changed_in_run near k Change old new past a = changed_alike (IsBetween near.start k near.end) (IsOneOf near) Change old new
     (λ n within b. (b.from, b.until))
@@ -23,11 +23,11 @@ changed_in_run near k Change old new past a = changed_alike (IsBetween near.star
     a
 
 -- the strips of the row that the rectangle reaches are those of the run
-pub reached_in_run : (xs : List Strip) (row team : ℕ) (rect : Rect) (near : NearStrips) → AreNear xs row team rect.x1 rect.x2 near.start near.end →
+pub reached_in_run : (xs : List Strip) (row team : ℕ) (rect : Rect) (near : StripRange) → AreNear xs row team rect.x1 rect.x2 near.start near.end →
     (n : ℕ) → IsReachedIn xs row team rect n → IsOneOf near n
 reached_in_run xs row team rect near are n r = (are.exact n no_strip r.0).1 (r.1 no_strip)
 
-pub run_is_reached : (xs : List Strip) (row team : ℕ) (rect : Rect) (near : NearStrips) → AreNear xs row team rect.x1 rect.x2 near.start near.end →
+pub run_is_reached : (xs : List Strip) (row team : ℕ) (rect : Rect) (near : StripRange) → AreNear xs row team rect.x1 rect.x2 near.start near.end →
     (n : ℕ) → IsOneOf near n → IsReachedIn xs row team rect n
 run_is_reached xs row team rect near are n one =
     let bound = are.within in
@@ -35,23 +35,23 @@ run_is_reached xs row team rect near are n one =
     let inner : n < length xs = omega (arith, bound, until) in
     (inner, λ d. (are.exact n d inner).0 one)
 
-pub changed_in_row : {X : Type 0} (xs : List Strip) (row team : ℕ) (rect : Rect) (near : NearStrips) (Change : ℕ → X → X → Type 0) (old new : List X) →
+pub changed_in_row : {X : Type 0} (xs : List Strip) (row team : ℕ) (rect : Rect) (near : StripRange) (Change : ℕ → X → X → Type 0) (old new : List X) →
     AreNear xs row team rect.x1 rect.x2 near.start near.end → AreChanged (IsOneOf near) Change old new →
     AreChanged (IsReachedIn xs row team rect) Change old new
 changed_in_row xs row team rect near Change old new are = changed_alike (IsOneOf near) (IsReachedIn xs row team rect) Change old new
     (λ n within one. run_is_reached xs row team rect near are n one) (λ n within r. reached_in_run xs row team rect near are n r)
 
 -- lanes with room, whose marks are in order, take a part of the rectangle
-pub takes_room : (xs : List Strip) (rect : Rect) (Chosen : ℕ → Type 0) (lanes : List Lane) → ((n : ℕ) → Chosen n → n < length lanes) →
+pub takes_room : (xs : List Strip) (rect : Rect) (Chosen : ℕ → Type 0) (lanes : List StripMarks) → ((n : ℕ) → Chosen n → n < length lanes) →
     All (λ l. AreRising l.marks.items) lanes → HaveRoom Chosen 1 lanes → CanTake xs rect Chosen lanes
 takes_room xs rect Chosen lanes inside rising room n d e chosen =
     record { order = rising n e (inside n chosen); room = λ whole. let h = room n e chosen in omega (arith, h) }
 
 -- lanes of a row that had room still take a part of the rectangle after the cell is settled in the rows before
-pub settled_takes : (xs : List Strip) (rows : List RowEntry) (i : ℕ) (r : RowEntry) (team own : ℕ) (rect : Rect) (near : NearStrips) (mid new : List Lane) →
+pub settled_takes : (xs : List Strip) (rows : List RowEntry) (i : ℕ) (r : RowEntry) (team own : ℕ) (rect : Rect) (near : StripRange) (mid new : List StripMarks) →
     AllPairs (λ a b. a.row ≢ b.row) rows → i < length rows → r ≡ get_or rows i r → AreNear xs r.row team rect.x1 rect.x2 near.start near.end →
     length mid ≡ length xs → All (λ l. AreRising l.marks.items) mid → HaveRoom (IsOneOf near) 1 mid →
-    AreSettled xs own rect (IsReached xs (take i rows) team rect) mid new → CanTake xs rect (IsOneOf near) new
+    AreReservedAndMarked xs own rect (IsReached xs (take i rows) team rect) mid new → CanTake xs rect (IsOneOf near) new
 settled_takes xs rows i r team own rect near mid new once inside is are many rising room s n d e one =
     let reached = run_is_reached xs r.row team rect near are n one in
     let within = reached.0 in
@@ -65,11 +65,11 @@ settled_takes xs rows i r team own rect near mid new once inside is are many ris
     }
 
 -- and with its parts put into that row it is settled in one row more
-pub settled_further : (xs : List Strip) (rows : List RowEntry) (i : ℕ) (r : RowEntry) (team own : ℕ) (rect : Rect) (near : NearStrips)
-    (old mid settled new : List Lane) →
+pub settled_further : (xs : List Strip) (rows : List RowEntry) (i : ℕ) (r : RowEntry) (team own : ℕ) (rect : Rect) (near : StripRange)
+    (old mid settled new : List StripMarks) →
     AllPairs (λ a b. a.row ≢ b.row) rows → i + 1 ≡ length rows → r ≡ get_or rows i r → AreNear xs r.row team rect.x1 rect.x2 near.start near.end →
-    AreKept old mid → AreSettled xs own rect (IsReached xs (take i rows) team rect) mid settled → AreChanged (IsOneOf near) (PutsIn xs own rect) settled new →
-    AreSettled xs own rect (IsReached xs rows team rect) old new
+    AreKept old mid → AreReservedAndMarked xs own rect (IsReached xs (take i rows) team rect) mid settled → AreChanged (IsOneOf near) (PutsIn xs own rect) settled new →
+    AreReservedAndMarked xs own rect (IsReached xs rows team rect) old new
 settled_further xs rows i r team own rect near old mid settled new once long is are kept s put = record {
   roomy = s.roomy;
   kept = kept_along old mid s.roomy kept s.kept;

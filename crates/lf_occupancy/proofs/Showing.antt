@@ -4,69 +4,69 @@ use Rattle.std.proofs.Common.{refl, sym, ap, subst, ◌∙◌, arith}
 use Rattle.std.specs.Prelude.{All}
 use Rattle.std.proofs.lemmas.Int.{ints}
 use Rattle.std.proofs.lemmas.List.Elements.{All-drop}
-use Rattle.lf_units.specs.declared.area.Rect.{Rect}
+use Rattle.lf_units.specs.declared.geometry.Rect.{Rect}
 use Rattle.lf_rules.specs.Padding.{HasRoomAround}
 use Rattle.lf_segments.specs.declared.strip.Strip.{Strip}
-use Rattle.lf_occupancy.specs.declared.lane.Entry.{Entry}
-use Rattle.lf_occupancy.specs.declared.lane.Lane.{Lane}
-use Rattle.lf_occupancy.specs.declared.lane.Mark.{Mark}
-use Rattle.lf_occupancy.specs.Lanes.{AreTold, IsLane, IsMarked, IsNearRun, IsNearZero, Shown, Tells, entries_in, entry_in, shown}
-use Rattle.lf_occupancy.specs.Strips.{AreLanes, AreShown, felt_strips, shown_lanes}
+use Rattle.lf_occupancy.specs.declared.strip_marks.Entry.{Entry}
+use Rattle.lf_occupancy.specs.declared.strip_marks.StripMarks.{StripMarks}
+use Rattle.lf_occupancy.specs.declared.strip_marks.Mark.{Mark}
+use Rattle.lf_occupancy.specs.Lanes.{MarksAreOf, ShowsBoxes, IsMarked, IsNearRun, IsNearZero, StripView, MarkIsOf, entries_in, entry_in, strip_view}
+use Rattle.lf_occupancy.specs.Strips.{ShowAllBoxes, AreShown, widened_strips, strip_views}
 use Rattle.lf_occupancy.proofs.Around.{felt_at}
 use Rattle.lf_occupancy.proofs.Changes.{some_lane}
 use Rattle.lf_occupancy.proofs.Finds.{no_strip}
 use Rattle.lf_occupancy.proofs.Laning.{entries_many, entry_there}
 use Rattle.lf_occupancy.proofs.Runs.{near_run}
 
-pub shown_many : (xs : List Strip) (boxes : List (List (Option Rect))) (lanes : List Lane) → length lanes ≡ length xs →
-    length (shown_lanes xs boxes lanes) ≡ length xs
+pub shown_many : (xs : List Strip) (boxes : List (List (Option Rect))) (lanes : List StripMarks) → length lanes ≡ length xs →
+    length (strip_views xs boxes lanes) ≡ length xs
 shown_many [] boxes lanes many = refl
 shown_many (g ∷ xs) boxes [] many = absurd (omega (arith, many))
 shown_many (g ∷ xs) boxes (l ∷ lanes) many = let h = shown_many xs boxes lanes (omega (arith, many)) in omega (arith, h)
 
-pub shown_at : (xs : List Strip) (boxes : List (List (Option Rect))) (lanes : List Lane) (n : ℕ) (d : Strip) (e : Shown) (l : Lane) → length lanes ≡ length xs →
+pub shown_at : (xs : List Strip) (boxes : List (List (Option Rect))) (lanes : List StripMarks) (n : ℕ) (d : Strip) (e : StripView) (l : StripMarks) → length lanes ≡ length xs →
     n < length xs →
-    get_or (shown_lanes xs boxes lanes) n e ≡ shown (get_or boxes (get_or xs n d).team []) (get_or xs n d).area (get_or lanes n l)
+    get_or (strip_views xs boxes lanes) n e ≡ strip_view (get_or boxes (get_or xs n d).team []) (get_or xs n d).area (get_or lanes n l)
 shown_at [] boxes lanes n d e l many within = absurd (omega (arith, within))
 shown_at (g ∷ xs) boxes [] n d e l many within = absurd (omega (arith, many))
 shown_at (g ∷ xs) boxes (x ∷ lanes) zero d e l many within = refl
 shown_at (g ∷ xs) boxes (x ∷ lanes) (suc n) d e l many within = shown_at xs boxes lanes n d e l (omega (arith, many)) (omega (arith, within))
 
-pub lanes_shown : (xs : List Strip) (boxes : List (List (Option Rect))) (lanes : List Lane) → AreLanes xs boxes lanes → AreShown xs boxes (shown_lanes xs boxes lanes)
+pub lanes_shown : (xs : List Strip) (boxes : List (List (Option Rect))) (lanes : List StripMarks) → ShowAllBoxes xs boxes lanes → AreShown xs boxes (strip_views xs boxes lanes)
 lanes_shown xs boxes lanes are = record {
   many = shown_many xs boxes lanes are.many;
   each = λ n d e within.
       let many = are.many in
-      let l : Lane = some_lane lanes n (omega (arith, many, within)) in
-      subst (IsLane (get_or boxes (get_or xs n d).team []) (get_or xs n d).area) (sym (shown_at xs boxes lanes n d e l many within))
+      let l : StripMarks = some_lane lanes n (omega (arith, many, within)) in
+      subst (ShowsBoxes (get_or boxes (get_or xs n d).team []) (get_or xs n d).area) (sym (shown_at xs boxes lanes n d e l many within))
       (are.each n d l within).lane;
 }
 
 -- one of the lanes
-module _ (xs : List Strip) (boxes : List (List (Option Rect))) (lanes : List Lane) (n team : ℕ) (area : Rect) (lane : Lane) (are : AreLanes xs boxes lanes)
+module _ (xs : List Strip) (boxes : List (List (Option Rect))) (lanes : List StripMarks) (n team : ℕ) (area : Rect) (lane : StripMarks) (are : ShowAllBoxes xs boxes lanes)
     (within : n < length xs) (of_team : (d : Strip) → (get_or xs n d).team ≡ team) (at : area ≡ (get_or xs n no_strip).area)
     (is : lane ≡ get_or lanes n lane) where
   pub one_marked : IsMarked (get_or boxes team []) area lane
   one_marked =
-      subst (λ (l : Lane). IsMarked (get_or boxes team []) area l) (sym is)
+      subst (λ (l : StripMarks). IsMarked (get_or boxes team []) area l) (sym is)
       (subst (λ (a : Rect). IsMarked (get_or boxes team []) a (get_or lanes n lane)) (sym at)
       (subst (λ (t : ℕ). IsMarked (get_or boxes t []) (get_or xs n no_strip).area (get_or lanes n lane)) (of_team no_strip)
       (are.each n no_strip lane within)))
 
-  pub one_shown : (e : Shown) → shown (get_or boxes team []) area lane ≡ get_or (shown_lanes xs boxes lanes) n e
+  pub one_shown : (e : StripView) → strip_view (get_or boxes team []) area lane ≡ get_or (strip_views xs boxes lanes) n e
   one_shown e =
       sym (shown_at xs boxes lanes n no_strip e lane are.many within
-      ∙ ap (λ (t : ℕ). shown (get_or boxes t []) (get_or xs n no_strip).area (get_or lanes n lane)) (of_team no_strip)
-      ∙ ap (λ (a : Rect). shown (get_or boxes team []) a (get_or lanes n lane)) (sym at)
-      ∙ ap (λ (l : Lane). shown (get_or boxes team []) area l) (sym is))
+      ∙ ap (λ (t : ℕ). strip_view (get_or boxes t []) (get_or xs n no_strip).area (get_or lanes n lane)) (of_team no_strip)
+      ∙ ap (λ (a : Rect). strip_view (get_or boxes team []) a (get_or lanes n lane)) (sym at)
+      ∙ ap (λ (l : StripMarks). strip_view (get_or boxes team []) area l) (sym is))
 
 -- a strip that is felt around is of the same team
 pub felt_team : (site : ℤ) (xs : List Strip) (n team : ℕ) → n < length xs → ((d : Strip) → (get_or xs n d).team ≡ team) →
-    (d : Strip) → (get_or (felt_strips site xs) n d).team ≡ team
+    (d : Strip) → (get_or (widened_strips site xs) n d).team ≡ team
 felt_team site xs n team within is d = ap (λ (g : Strip). g.team) (felt_at site xs n d d within) ∙ is d
 
 -- a lane of a strip that is felt around has room around its entries
-pub roomy_lane : (cells : List (Option Rect)) (area : Rect) (l : Shown) → IsLane cells area l → IsNearZero area → All (λ e. HasRoomAround e.area) l.entries
+pub roomy_lane : (cells : List (Option Rect)) (area : Rect) (l : StripView) → ShowsBoxes cells area l → IsNearZero area → All (λ e. HasRoomAround e.area) l.entries
 roomy_lane cells area l lane near k d within =
     let a = near.low in
     let b = near.high in
@@ -90,13 +90,13 @@ pub entries_take : (cells : List (Option Rect)) (area : Rect) (n : ℕ) (ms : Li
 entries_take cells area n ms = map_take (entry_in cells area) n ms
 
 -- marks that are cut out tell of their entries
-pub rest_told : (cells : List (Option Rect)) (area : Rect) (l : Lane) (rest : List Mark) (f : ℕ) → IsMarked cells area l → rest ≡ drop f l.marks.items →
-    AreTold cells area rest
+pub rest_told : (cells : List (Option Rect)) (area : Rect) (l : StripMarks) (rest : List Mark) (f : ℕ) → IsMarked cells area l → rest ≡ drop f l.marks.items →
+    MarksAreOf cells area rest
 rest_told cells area l rest f marked same =
-    subst (AreTold cells area) (sym same) (All-drop (λ m. Tells (entry_in cells area m) m) f l.marks.items marked.told)
+    subst (MarksAreOf cells area) (sym same) (All-drop (λ m. MarkIsOf (entry_in cells area m) m) f l.marks.items marked.told)
 
 -- the entries of the marks that two bisections cut out
-pub near_marked : (cells : List (Option Rect)) (area : Rect) (l : Lane) (rest : List Mark) (lo hi : ℤ) (f n : ℕ) → IsMarked cells area l →
+pub near_marked : (cells : List (Option Rect)) (area : Rect) (l : StripMarks) (rest : List Mark) (lo hi : ℤ) (f n : ℕ) → IsMarked cells area l →
     f ≤ length l.marks.items → rest ≡ drop f l.marks.items →
     ((k : ℕ) (d : Mark) → k < f → (get_or l.marks.items k d).left <ℤ (lo -ℤ l.widest)) →
     ((k : ℕ) (d : Mark) → n ≤ k → k < length rest → hi ≤ℤ (get_or rest k d).left) →
@@ -127,7 +127,7 @@ near_marked cells area l rest lo hi f n marked bound same low high =
         let left = (marked.told k m0 within).left in
         omega (arith, ints, h, at, left)
 
-    told : AreTold cells area rest
+    told : MarksAreOf cells area rest
     told = rest_told cells area l rest f marked same
 
     behind : (k : ℕ) (d : Entry) → n ≤ k → k < length (entries_in cells area rest) → hi ≤ℤ (get_or (entries_in cells area rest) k d).area.x1

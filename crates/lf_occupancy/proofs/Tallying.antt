@@ -8,16 +8,16 @@ use Rattle.std.proofs.lemmas.List.{get_or-set_same, get_or-set_other, get_or_pas
 use Rattle.std.proofs.lemmas.Option.{get_or_from_slice_get, slice_get_within}
 use Rattle.std.proofs.lemmas.Int.{ints, clamps}
 use Rattle.lf_units.specs.Area.{Covers}
-use Rattle.lf_units.specs.declared.area.Rect.{Rect}
+use Rattle.lf_units.specs.declared.geometry.Rect.{Rect}
 use Rattle.lf_segments.specs.declared.rows_by_y.RowEntry.{RowEntry}
 use Rattle.lf_segments.specs.declared.strip.Strip.{Strip}
-use Rattle.lf_segments.specs.Grounds.{Lookups}
+use Rattle.lf_segments.specs.Grounds.{FrameIndexView}
 use Rattle.lf_segments.specs.Strips.{AreRowsNear}
-use Rattle.lf_occupancy.specs.declared.lane.Lane.{Lane}
-use Rattle.lf_occupancy.specs.Lanes.{IsWhole, part_in}
-use Rattle.lf_occupancy.specs.Occupied.{Bounds, NoLess, Occupied, cell_box, count_in, felt, meets, reach}
-use Rattle.lf_occupancy.specs.Strips.{AreChanged, IsReached, rooms_in}
-use Rattle.lf_occupancy.specs.declared.tally.Shift.{Shift}
+use Rattle.lf_occupancy.specs.declared.strip_marks.StripMarks.{StripMarks}
+use Rattle.lf_occupancy.specs.Lanes.{HasPoints, part_in}
+use Rattle.lf_occupancy.specs.Occupied.{Bounds, KeepsCapacities, Occupied, cell_box, count_in, widened, meets, reach}
+use Rattle.lf_occupancy.specs.Strips.{AreChanged, IsReached, capacities_in}
+use Rattle.lf_occupancy.specs.declared.strip_counts.BoxChange.{BoxChange}
 use Rattle.lf_occupancy.specs.Tallies.{AreShifted, IsHigher, IsLess, IsLessAt, IsLower, IsMore, IsShifted, IsShiftedAt, hull_in}
 use Rattle.lf_occupancy.proofs.Around.{IsFelt}
 use Rattle.lf_occupancy.proofs.Changes.{some_lane}
@@ -56,7 +56,7 @@ counted g box it_does = one_more g box [] ∙ ap (λ (b : Bool). one_if b + 0) i
 not_counted : (g : Strip) (box : Option Rect) → meets g box ≡ false → count_in g (box ∷ []) ≡ 0
 not_counted g box it_does_not = one_more g box [] ∙ ap (λ (b : Bool). one_if b + 0) it_does_not
 
-not_whole : (g : Strip) (rect : Rect) → meets g (Some rect) ≡ false → IsWhole (part_in g.area rect) → ⊥
+not_whole : (g : Strip) (rect : Rect) → meets g (Some rect) ≡ false → HasPoints (part_in g.area rect) → ⊥
 not_whole g rect it_does_not whole = clash (meets g (Some rect)) (both_are _ _ (of_less _ _ whole.wide) (of_less _ _ whole.high)) it_does_not
   where
     clash : (b : Bool) → b ≡ true → b ≡ false → ⊥
@@ -91,7 +91,7 @@ lower_of_reached xs rows team rect old new many changed = record {
   others = λ n d within other. changed.others n 0 (omega (arith, within, many)) (not_of_team xs rows team rect n d other);
 }
 
-pub higher_of_reached : (s : Lookups) (rows : List RowEntry) (team : ℕ) (rect : Rect) (old new : List ℕ) → All (IsFelt s.rows s.height) s.strips →
+pub higher_of_reached : (s : FrameIndexView) (rows : List RowEntry) (team : ℕ) (rect : Rect) (old new : List ℕ) → All (IsFelt s.rows s.height) s.strips →
     AreRowsNear s.rows s.height rect rows → length old ≡ length s.strips → AreChanged (IsReached s.strips rows team rect) IsMore old new →
     IsHigher s.strips team (Some rect) old new
 higher_of_reached s rows team rect old new strips near many changed = record { many = changed.many; least = least; more = more } where
@@ -123,7 +123,7 @@ higher_of_reached s rows team rect old new strips near many changed = record { m
   ]
 
 -- where one box is counted in place of the other
-shift_counts : (g : Strip) (shift : Shift) (old new : ℕ) → IsShifted g.area shift old new →
+shift_counts : (g : Strip) (shift : BoxChange) (old new : ℕ) → IsShifted g.area shift old new →
     (old + count_in g (Some shift.to ∷ [])) ≤ new + count_in g (Some shift.from ∷ [])
 shift_counts g shift old new s = elim (yes_or_no (meets g (Some shift.to))) [
   | inl goes ↦
@@ -140,7 +140,7 @@ shift_counts g shift old new s = elim (yes_or_no (meets g (Some shift.to))) [
       ]
 ]
   where
-    whole_of : (g : Strip) (rect : Rect) → meets g (Some rect) ≡ true → IsWhole (part_in g.area rect)
+    whole_of : (g : Strip) (rect : Rect) → meets g (Some rect) ≡ true → HasPoints (part_in g.area rect)
     whole_of g rect it_does =
         let shares = meets_shares g rect it_does in
         let a = shares.in_first in
@@ -156,7 +156,7 @@ shift_counts g shift old new s = elim (yes_or_no (meets g (Some shift.to))) [
         record { wide = omega (arith, ints, clamps, l, m, n, o); high = omega (arith, ints, clamps, p, q, t, u) }
 
 -- a rectangle of these edges holds both boxes, and no more than it must
-pub hull_same : (shift : Shift) (r : Rect) → r.x1 ≡ int_min shift.from.x1 shift.to.x1 → r.y1 ≡ int_min shift.from.y1 shift.to.y1 →
+pub hull_same : (shift : BoxChange) (r : Rect) → r.x1 ≡ int_min shift.from.x1 shift.to.x1 → r.y1 ≡ int_min shift.from.y1 shift.to.y1 →
     r.x2 ≡ int_max shift.from.x2 shift.to.x2 → r.y2 ≡ int_max shift.from.y2 shift.to.y2 → r ≡ hull_in shift
 hull_same shift r a b c d =
     ap (λ (v : ℤ). rect_at v r.y1 r.x2 r.y2) a
@@ -168,7 +168,7 @@ hull_same shift r a b c d =
     rect_at x1 y1 x2 y2 = record { x1 = x1; y1 = y1; x2 = x2; y2 = y2 }
 
 -- what the new box covers lies in the rectangle that holds both
-in_hull : (shift : Shift) (x y : ℤ) → Covers shift.to x y → Covers (hull_in shift) x y
+in_hull : (shift : BoxChange) (x y : ℤ) → Covers shift.to x y → Covers (hull_in shift) x y
 in_hull shift x y c =
     let l = c.left in
     let r = c.right in
@@ -181,7 +181,7 @@ in_hull shift x y c =
       top = omega (arith, ints, clamps, t);
     }
 
-pub shifted_of_reached : (s : Lookups) (rows : List RowEntry) (team : ℕ) (shift : Shift) (old new : List ℕ) → All (IsFelt s.rows s.height) s.strips →
+pub shifted_of_reached : (s : FrameIndexView) (rows : List RowEntry) (team : ℕ) (shift : BoxChange) (old new : List ℕ) → All (IsFelt s.rows s.height) s.strips →
     AreRowsNear s.rows s.height (hull_in shift) rows → length old ≡ length s.strips →
     AreChanged (IsReached s.strips rows team (hull_in shift)) (IsShiftedAt s.strips shift) old new → AreShifted s.strips team shift old new
 shifted_of_reached s rows team shift old new strips near many changed = record {
@@ -210,7 +210,7 @@ shifted_of_reached s rows team shift old new strips near many changed = record {
     ]
 
 -- the counts of two strips side by side
-no_less_set : (xs ys : List ℕ) (k x y : ℕ) → k < length xs → x ≤ y → NoLess xs ys → NoLess (set xs k x) (set ys k y)
+no_less_set : (xs ys : List ℕ) (k x y : ℕ) → k < length xs → x ≤ y → KeepsCapacities xs ys → KeepsCapacities (set xs k x) (set ys k y)
 no_less_set xs ys k x y within less all = record {
   many = length-set ys k y ∙ all.many ∙ sym (length-set xs k x);
   each = λ n. elim (eqb_tells n k) [
@@ -228,18 +228,18 @@ no_less_set xs ys k x y within less all = record {
 }
 
 -- a strip counts more, and its lane has room for that
-pub room_for_more : (counts : List ℕ) (lanes : List Lane) (k count : ℕ) (lane : Lane) → k < length counts → count ≤ vec_capacity lane.marks →
-    NoLess counts (rooms_in lanes) → NoLess (set counts k count) (rooms_in (set lanes k lane))
+pub room_for_more : (counts : List ℕ) (lanes : List StripMarks) (k count : ℕ) (lane : StripMarks) → k < length counts → count ≤ vec_capacity lane.marks →
+    KeepsCapacities counts (capacities_in lanes) → KeepsCapacities (set counts k count) (capacities_in (set lanes k lane))
 room_for_more counts lanes k count lane within most room =
-    subst (NoLess (set counts k count)) (sym (map-set (λ (l : Lane). vec_capacity l.marks) lanes k lane))
-    (no_less_set counts (rooms_in lanes) k count (vec_capacity lane.marks) within most room)
+    subst (KeepsCapacities (set counts k count)) (sym (map-set (λ (l : StripMarks). vec_capacity l.marks) lanes k lane))
+    (no_less_set counts (capacities_in lanes) k count (vec_capacity lane.marks) within most room)
 
 -- a tally that is lowered by one box and raised by another bounds the boxes with this one
 pub bounds_own : (o : Occupied) (team : ℕ) (boxes : List (Option Rect)) (own : ℕ) (from to : Option Rect) (old mid new : List ℕ) → cell_box boxes own ≡ from →
     IsLower (felts o) team from old mid → IsHigher (felts o) team to mid new → Bounds o team boxes old → Bounds o team (set boxes own to) new
 bounds_own o team boxes own from to old mid new is lower higher bounds = λ n g at of_team.
-    let around : Strip = felt (reach o) g in
-    let there : slice_get (felts o) n ≡ Some around = made_at (felt (reach o)) o.index.strips n g at in
+    let around : Strip = widened (reach o) g in
+    let there : slice_get (felts o) n ≡ Some around = made_at (widened (reach o)) o.index.strips n g at in
     let within : n < length (felts o) = slice_get_within (felts o) n around there in
     let here : get_or (felts o) n around ≡ around = get_or_from_slice_get (felts o) n around around there in
     let less = subst (λ (x : Strip). get_or old n 0 ≤ get_or mid n 0 + count_in x (from ∷ [])) here (lower.least n around within) in
@@ -254,8 +254,8 @@ bounds_own o team boxes own from to old mid new is lower higher bounds = λ n g 
 pub bounds_other : (o : Occupied) (team other : ℕ) (boxes : List (Option Rect)) (from to : Option Rect) (old mid new : List ℕ) → other ≢ team →
     IsLower (felts o) team from old mid → IsHigher (felts o) team to mid new → Bounds o other boxes old → Bounds o other boxes new
 bounds_other o team other boxes from to old mid new differ lower higher bounds = λ n g at of_team.
-    let around : Strip = felt (reach o) g in
-    let there : slice_get (felts o) n ≡ Some around = made_at (felt (reach o)) o.index.strips n g at in
+    let around : Strip = widened (reach o) g in
+    let there : slice_get (felts o) n ≡ Some around = made_at (widened (reach o)) o.index.strips n g at in
     let within : n < length (felts o) = slice_get_within (felts o) n around there in
     let here : get_or (felts o) n around ≡ around = get_or_from_slice_get (felts o) n around around there in
     let same = lower.others n around within (λ is. differ (sym of_team ∙ sym (ap (λ (x : Strip). x.team) here) ∙ is)) in
@@ -264,11 +264,11 @@ bounds_other o team other boxes from to old mid new differ lower higher bounds =
     omega (arith, same, more, before)
 
 -- a tally where one box is counted in place of another bounds the boxes with the new one
-pub bounds_shifted : (o : Occupied) (team : ℕ) (boxes : List (Option Rect)) (own : ℕ) (shift : Shift) (old new : List ℕ) → cell_box boxes own ≡ Some shift.from →
+pub bounds_shifted : (o : Occupied) (team : ℕ) (boxes : List (Option Rect)) (own : ℕ) (shift : BoxChange) (old new : List ℕ) → cell_box boxes own ≡ Some shift.from →
     AreShifted (felts o) team shift old new → Bounds o team boxes old → Bounds o team (set boxes own (Some shift.to)) new
 bounds_shifted o team boxes own shift old new is shifted bounds = λ n g at of_team.
-    let around : Strip = felt (reach o) g in
-    let there : slice_get (felts o) n ≡ Some around = made_at (felt (reach o)) o.index.strips n g at in
+    let around : Strip = widened (reach o) g in
+    let there : slice_get (felts o) n ≡ Some around = made_at (widened (reach o)) o.index.strips n g at in
     let within : n < length (felts o) = slice_get_within (felts o) n around there in
     let here : get_or (felts o) n around ≡ around = get_or_from_slice_get (felts o) n around around there in
     let more = subst (λ (x : Strip). (get_or old n 0 + count_in x (Some shift.to ∷ [])) ≤ get_or new n 0 + count_in x (Some shift.from ∷ [])) here
@@ -279,11 +279,11 @@ bounds_shifted o team boxes own shift old new is shifted bounds = λ n g at of_t
     omega (arith, more, moved, before)
 
 -- and what it bounds of another team it still does
-pub bounds_beside : (o : Occupied) (team other : ℕ) (boxes : List (Option Rect)) (shift : Shift) (old new : List ℕ) → other ≢ team →
+pub bounds_beside : (o : Occupied) (team other : ℕ) (boxes : List (Option Rect)) (shift : BoxChange) (old new : List ℕ) → other ≢ team →
     AreShifted (felts o) team shift old new → Bounds o other boxes old → Bounds o other boxes new
 bounds_beside o team other boxes shift old new differ shifted bounds = λ n g at of_team.
-    let around : Strip = felt (reach o) g in
-    let there : slice_get (felts o) n ≡ Some around = made_at (felt (reach o)) o.index.strips n g at in
+    let around : Strip = widened (reach o) g in
+    let there : slice_get (felts o) n ≡ Some around = made_at (widened (reach o)) o.index.strips n g at in
     let within : n < length (felts o) = slice_get_within (felts o) n around there in
     let here : get_or (felts o) n around ≡ around = get_or_from_slice_get (felts o) n around around there in
     let same = shifted.others n around within (λ is. differ (sym of_team ∙ sym (ap (λ (x : Strip). x.team) here) ∙ is)) in
@@ -291,19 +291,19 @@ bounds_beside o team other boxes shift old new differ shifted bounds = λ n g at
     omega (arith, same, before)
 
 -- lanes have room for the marks that they have
-pub marks_fit : (lanes : List Lane) → NoLess (map (λ l. vec_len l.marks) lanes) (rooms_in lanes)
+pub marks_fit : (lanes : List StripMarks) → KeepsCapacities (map (λ l. vec_len l.marks) lanes) (capacities_in lanes)
 marks_fit lanes = record {
-  many = length-map lanes (λ (l : Lane). vec_capacity l.marks) ∙ sym (length-map lanes (λ (l : Lane). vec_len l.marks));
+  many = length-map lanes (λ (l : StripMarks). vec_capacity l.marks) ∙ sym (length-map lanes (λ (l : StripMarks). vec_len l.marks));
   each = λ n. elim (order_of n (length lanes)) [
     | inl within ↦
         let e = some_lane lanes n within in
-        let a = get_or-map (λ (l : Lane). vec_len l.marks) lanes n e 0 within in
-        let b = get_or-map (λ (l : Lane). vec_capacity l.marks) lanes n e 0 within in
+        let a = get_or-map (λ (l : StripMarks). vec_len l.marks) lanes n e 0 within in
+        let b = get_or-map (λ (l : StripMarks). vec_capacity l.marks) lanes n e 0 within in
         let most = (get_or lanes n e).marks.ok.1 in
         omega (arith, a, b, most)
     | inr past ↦
-        let long = length-map lanes (λ (l : Lane). vec_len l.marks) in
-        let a = get_or_past (map (λ (l : Lane). vec_len l.marks) lanes) n 0 (omega (arith, past, long)) in
+        let long = length-map lanes (λ (l : StripMarks). vec_len l.marks) in
+        let a = get_or_past (map (λ (l : StripMarks). vec_len l.marks) lanes) n 0 (omega (arith, past, long)) in
         omega (arith, a)
   ];
 }

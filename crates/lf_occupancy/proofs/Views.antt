@@ -7,20 +7,20 @@ use Rattle.std.proofs.lemmas.Option.{slice_get-get_or, slice_get_past}
 use Rattle.std.proofs.lemmas.Int.{ints}
 use Rattle.std.proofs.lemmas.List.{get_or_default, get_or-map, length-map}
 use Rattle.std.proofs.lemmas.List.Elements.{All-contains}
-use Rattle.lf_units.specs.declared.area.Rect.{Rect}
+use Rattle.lf_units.specs.declared.geometry.Rect.{Rect}
 use Rattle.lf_units.specs.Area.{Covers, SharesPoint}
 use Rattle.lf_spans.specs.declared.span.Span.{Span}
 use Rattle.lf_spans.specs.Spans.{AreApart, Holds, IsFilled, LiesIn}
 use Rattle.lf_spans.proofs.Edges.{in_of_lies}
 use Rattle.lf_cells.specs.declared.cell.CellId.{CellId}
-use Rattle.lf_occupancy.specs.declared.lane.Entry.{Entry}
-use Rattle.lf_occupancy.specs.declared.lane.Lane.{Lane}
+use Rattle.lf_occupancy.specs.declared.strip_marks.Entry.{Entry}
+use Rattle.lf_occupancy.specs.declared.strip_marks.StripMarks.{StripMarks}
 use Rattle.lf_segments.specs.declared.strip.Strip.{Strip}
 use Rattle.lf_rules.specs.Padding.{wider}
-use Rattle.lf_occupancy.specs.Lanes.{IsLane, IsMarked, LiesInBox, IsLeast, Shown, padded, shown, x_range}
-use Rattle.lf_occupancy.specs.Strips.{AreFreeTo, AreLanes, AreLeft, AreShown, HaveRoom, LiesFree, LiesLeft, MeetsInOne, MeetsStrip, felt_strips, rooms_in}
-use Rattle.lf_occupancy.specs.Occupied.{AreFreeSpans, Bounds, FitIn, HasRoomFor, IsLeftOver, StandsBut, boxes_of, cell_box, count_in, meets}
-use Rattle.lf_occupancy.specs.Occupied.{Occupied, IsFirstMet, IsFreeInRow, IsFreeOver, IsOther, IsPaddingOf, IsStripOf, MeetsInStrips, across, felt, over, reach}
+use Rattle.lf_occupancy.specs.Lanes.{ShowsBoxes, IsMarked, LiesInBox, IsLeast, StripView, padded, strip_view, x_range}
+use Rattle.lf_occupancy.specs.Strips.{AreFreeTo, ShowAllBoxes, AreFreeSpansOfStrip, AreShown, HaveRoom, LiesFree, IsLeftFree, MeetsInOne, MeetsStrip, widened_strips, capacities_in}
+use Rattle.lf_occupancy.specs.Occupied.{AreFreeSpans, Bounds, FitIn, HasRoomFor, IsLeftOver, HasBoxExcept, boxes_of, cell_box, count_in, meets}
+use Rattle.lf_occupancy.specs.Occupied.{Occupied, IsFirstMet, IsFreeInRow, IsFreeOver, IsOther, IsPaddingOf, IsStripOf, MeetsInStrips, x_extent, widened, part_over, reach}
 use Rattle.lf_occupancy.proofs.Counting.{meets_shares, named_are_counted, shares_meets}
 use Rattle.lf_occupancy.proofs.Finds.{no_strip, some_shown}
 use Rattle.lf_occupancy.proofs.Changes.{some_lane}
@@ -32,19 +32,19 @@ use Rattle.lf_occupancy.proofs.Padded.{each_padded, nearest_in, one_padded, othe
 
 -- the strips as far as their lanes reach
 abbrev pub felts : Occupied → List Strip
-felts o = felt_strips o.site o.index.strips
+felts o = widened_strips o.site o.index.strips
 
 -- the lane of a strip of the team
-team_lane : (o : Occupied) (lanes : List Shown) (team n : ℕ) (d : Strip) (e : Shown) → AreShown (felts o) o.boxes lanes → n < length (felts o) →
-    (get_or (felts o) n d).team ≡ team → IsLane (get_or o.boxes team []) (get_or (felts o) n d).area (get_or lanes n e)
+team_lane : (o : Occupied) (lanes : List StripView) (team n : ℕ) (d : Strip) (e : StripView) → AreShown (felts o) o.boxes lanes → n < length (felts o) →
+    (get_or (felts o) n d).team ≡ team → ShowsBoxes (get_or o.boxes team []) (get_or (felts o) n d).area (get_or lanes n e)
 team_lane o lanes team n d e are within of_team =
-    let At : ℕ → Type 0 = λ t. IsLane (get_or o.boxes t []) (get_or (felts o) n d).area (get_or lanes n e) in
+    let At : ℕ → Type 0 = λ t. ShowsBoxes (get_or o.boxes t []) (get_or (felts o) n d).area (get_or lanes n e) in
     subst At of_team (are.each n d e within)
 
-met_in_lanes : (o : Occupied) (lanes : List Shown) (id : CellId) (rect : Rect) (own : ℕ) → AreShown (felts o) o.boxes lanes → MeetsInStrips o id rect own →
+met_in_lanes : (o : Occupied) (lanes : List StripView) (id : CellId) (rect : Rect) (own : ℕ) → AreShown (felts o) o.boxes lanes → MeetsInStrips o id rect own →
     MeetsInOne (felts o) lanes id.team rect id.own own
 met_in_lanes o lanes id rect own are m =
-    let strip = any_made (λ (g : Strip). (g.team ≡ id.team) × Covers g.area m.x m.y) (felt (reach o)) o.index.strips m.in_strip in
+    let strip = any_made (λ (g : Strip). (g.team ≡ id.team) × Covers g.area m.x m.y) (widened (reach o)) o.index.strips m.in_strip in
     let n = strip.0 in
     let g = strip.1 in
     let within = strip.2 in
@@ -71,7 +71,7 @@ met_in_lanes o lanes id rect own are m =
       },
     )
 
-met_in_strips : (o : Occupied) (lanes : List Shown) (id : CellId) (rect : Rect) (own : ℕ) → AreShown (felts o) o.boxes lanes →
+met_in_strips : (o : Occupied) (lanes : List StripView) (id : CellId) (rect : Rect) (own : ℕ) → AreShown (felts o) o.boxes lanes →
     MeetsInOne (felts o) lanes id.team rect id.own own → MeetsInStrips o id rect own
 met_in_strips o lanes id rect own are (n, at) =
     let within = at.within in
@@ -90,13 +90,13 @@ met_in_strips o lanes id rect own are (n, at) =
       is = record { other = m.other; stands = subst At m.is lies.is };
       x = m.meets.x;
       y = m.meets.y;
-      in_strip = any_unmade (λ (g : Strip). (g.team ≡ id.team) × Covers g.area m.meets.x m.meets.y) (felt (reach o)) o.index.strips
+      in_strip = any_unmade (λ (g : Strip). (g.team ≡ id.team) × Covers g.area m.meets.x m.meets.y) (widened (reach o)) o.index.strips
           (n, get_or (felts o) n no_strip, within, get_or_default (felts o) n _ no_strip within, (at.of_team no_strip, lies.in_area));
       in_rect = m.meets.in_first;
       in_box = lies.in_box;
     }
 
-pub first_of_least : (o : Occupied) (lanes : List Shown) (id : CellId) (rect : Rect) (met : Option ℕ) → AreShown (felts o) o.boxes lanes →
+pub first_of_least : (o : Occupied) (lanes : List StripView) (id : CellId) (rect : Rect) (met : Option ℕ) → AreShown (felts o) o.boxes lanes →
     IsLeast (MeetsInOne (felts o) lanes id.team rect id.own) None met → IsFirstMet o id rect met
 first_of_least o lanes id rect met are least =
     least_from_none (MeetsInStrips o id rect) met
@@ -104,16 +104,16 @@ first_of_least o lanes id rect met are least =
     (λ own m. met_in_lanes o lanes id rect own are m) least)
 
 -- the lane of a strip, which is felt around
-felt_lane : (o : Occupied) (lanes : List Shown) (n : ℕ) (d : Strip) (e : Shown) → AreShown (felts o) o.boxes lanes → n < length o.index.strips →
-    IsLane (get_or o.boxes (get_or o.index.strips n d).team []) (wider (reach o) (get_or o.index.strips n d).area) (get_or lanes n e)
+felt_lane : (o : Occupied) (lanes : List StripView) (n : ℕ) (d : Strip) (e : StripView) → AreShown (felts o) o.boxes lanes → n < length o.index.strips →
+    ShowsBoxes (get_or o.boxes (get_or o.index.strips n d).team []) (wider (reach o) (get_or o.index.strips n d).area) (get_or lanes n e)
 felt_lane o lanes n d e are within =
     let many = felt_many o.site o.index.strips in
-    let At : Strip → Type 0 = λ g. IsLane (get_or o.boxes g.team []) g.area (get_or lanes n e) in
+    let At : Strip → Type 0 = λ g. ShowsBoxes (get_or o.boxes g.team []) g.area (get_or lanes n e) in
     subst At (felt_at o.site o.index.strips n d d within) (are.each n d e (omega (arith, within, many)))
 
 -- a box that shares a point with what is made wider over a span of a strip has an entry in the strip's lane, and that made wider
 -- shares a number with the span
-record IsTooNear (padding : ℤ) (own : ℕ) (s : Span) (l : Shown) : Type 0 where
+record IsTooNear (padding : ℤ) (own : ℕ) (s : Span) (l : StripView) : Type 0 where
   e : Entry
   there : Contains l.entries e
   is : e.own ≡ own
@@ -121,11 +121,11 @@ record IsTooNear (padding : ℤ) (own : ℕ) (s : Span) (l : Shown) : Type 0 whe
   held : Holds s x
   taken : Holds (x_range (padded padding e).area) x
 
-too_near : (by padding : ℤ) (cells : List (Option Rect)) (g : Strip) (s : Span) (l : Shown) (own : ℕ) (box : Rect) → IsLane cells (wider by g.area) l →
-    pos 0 ≤ℤ padding → padding ≤ℤ by → IsFilled s → LiesIn s (across g) → cell_box cells own ≡ Some box → SharesPoint (wider padding (over g s)) box →
+too_near : (by padding : ℤ) (cells : List (Option Rect)) (g : Strip) (s : Span) (l : StripView) (own : ℕ) (box : Rect) → ShowsBoxes cells (wider by g.area) l →
+    pos 0 ≤ℤ padding → padding ≤ℤ by → IsFilled s → LiesIn s (x_extent g) → cell_box cells own ≡ Some box → SharesPoint (wider padding (part_over g s)) box →
     IsTooNear padding own s l
 too_near by padding cells g s l own box lane some most filled within is shares =
-    let inside = in_of_lies s (across g) filled within in
+    let inside = in_of_lies s (x_extent g) filled within in
     let low = inside.low in
     let high = inside.high in
     let left = shares.in_first.left in
@@ -158,9 +158,9 @@ too_near by padding cells g s l own box lane some most filled within is shares =
 record HasNearBox (cells : List (Option Rect)) (padding : ℤ) (g : Strip) (s : Span) (own : ℕ) : Type 0 where
   box : Rect
   is : cell_box cells own ≡ Some box
-  shares : SharesPoint (wider padding (over g s)) box
+  shares : SharesPoint (wider padding (part_over g s)) box
 
-near_box : (by padding : ℤ) (cells : List (Option Rect)) (g : Strip) (s : Span) (l : Shown) (e : Entry) (x : ℤ) → IsLane cells (wider by g.area) l →
+near_box : (by padding : ℤ) (cells : List (Option Rect)) (g : Strip) (s : Span) (l : StripView) (e : Entry) (x : ℤ) → ShowsBoxes cells (wider by g.area) l →
     pos 0 ≤ℤ padding → Contains l.entries e → Holds s x → Holds (x_range (padded padding e).area) x → HasNearBox cells padding g s e.own
 near_box by padding cells g s l e x lane some there first second =
     let whole = All-contains (λ z. (z.area.x1 <ℤ z.area.x2) × (z.area.y1 <ℤ z.area.y2)) l.entries e
@@ -185,7 +185,7 @@ near_box by padding cells g s l e x lane some there first second =
       };
     }
 
-pub free_of_strips : (o : Occupied) (lanes : List Shown) (row : ℕ) (id : CellId) (window : Span) (padding : ℤ) (free : List Span) → IsPaddingOf o padding →
+pub free_of_strips : (o : Occupied) (lanes : List StripView) (row : ℕ) (id : CellId) (window : Span) (padding : ℤ) (free : List Span) → IsPaddingOf o padding →
     AreShown (felts o) o.boxes lanes → AreFreeTo o.index.strips lanes row id.team id.own window padding (length o.index.strips) free →
     IsFreeInRow o row id window padding free
 free_of_strips o lanes row id window padding free short are f = record {
@@ -199,10 +199,10 @@ free_of_strips o lanes row id window padding free short are f = record {
     xs : List Strip
     xs = o.index.strips
 
-    lane_of : (n : ℕ) (d : Strip) (e : Shown) → n < length xs → (get_or xs n d).team ≡ id.team →
-        IsLane (get_or o.boxes id.team []) (wider (reach o) (get_or xs n d).area) (get_or lanes n e)
+    lane_of : (n : ℕ) (d : Strip) (e : StripView) → n < length xs → (get_or xs n d).team ≡ id.team →
+        ShowsBoxes (get_or o.boxes id.team []) (wider (reach o) (get_or xs n d).area) (get_or lanes n e)
     lane_of n d e within of_team =
-        let At : ℕ → Type 0 = λ t. IsLane (get_or o.boxes t []) (wider (reach o) (get_or xs n d).area) (get_or lanes n e) in
+        let At : ℕ → Type 0 = λ t. ShowsBoxes (get_or o.boxes t []) (wider (reach o) (get_or xs n d).area) (get_or lanes n e) in
         subst At of_team (felt_lane o lanes n d e are within)
 
     to : (s : Span) → IsFilled s → (n : ℕ) → LiesFree xs lanes row id.team id.own padding s n →
@@ -224,7 +224,7 @@ free_of_strips o lanes row id window padding free short are f = record {
         g : Strip
         g = get_or xs n no_strip
 
-        clear : (own : ℕ) (box : Rect) → IsOther o id own box → SharesPoint (wider padding (over g s)) box → ⊥
+        clear : (own : ℕ) (box : Rect) → IsOther o id own box → SharesPoint (wider padding (part_over g s)) box → ⊥
         clear own box other shares =
             let many = are.many in
             let felt_too = felt_many o.site xs in
@@ -245,7 +245,7 @@ free_of_strips o lanes row id window padding free short are f = record {
           within = within;
           in_row = λ d. ap (λ (x : Strip). x.row) (same d) ∙ strip.in_row;
           of_team = λ d. ap (λ (x : Strip). x.team) (same d) ∙ strip.of_team;
-          inside = λ d. subst (λ (x : Strip). LiesIn s (across x)) (sym (same d)) free_over.within;
+          inside = λ d. subst (λ (x : Strip). LiesIn s (x_extent x)) (sym (same d)) free_over.within;
           apart = λ d. others_padded padding (get_or lanes n d).entries id.own s (λ e there other x first second. never d e there other x first second);
         },
       ),
@@ -257,7 +257,7 @@ free_of_strips o lanes row id window padding free short are f = record {
         of_team : (get_or xs n g).team ≡ id.team
         of_team = ap (λ (x : Strip). x.team) is ∙ strip.of_team
 
-        never : (d : Shown) (e : Entry) → Contains (get_or lanes n d).entries e → (e.own ≡ id.own → ⊥) → AreApart s (x_range (padded padding e).area)
+        never : (d : StripView) (e : Entry) → Contains (get_or lanes n d).entries e → (e.own ≡ id.own → ⊥) → AreApart s (x_range (padded padding e).area)
         never d e there other x first second =
             let At : Strip → Type 0 = λ q. HasNearBox (get_or o.boxes id.team []) padding q s e.own in
             let near : At g = subst At is
@@ -266,14 +266,14 @@ free_of_strips o lanes row id window padding free short are f = record {
             free_over.clear e.own near.box record { other = other; stands = near.is } near.shares
 
 -- what lies over the strip of that number, and no entry of the lane made wider shares a number with it
-left_over : (o : Occupied) (lanes : List Shown) (id : CellId) (padding : ℤ) (n : ℕ) (s : Span) → IsPaddingOf o padding → IsFilled s →
-    AreShown (felts o) o.boxes lanes → LiesLeft o.index.strips lanes id padding n s → IsLeftOver o id padding (get_or o.index.strips n no_strip) s
+left_over : (o : Occupied) (lanes : List StripView) (id : CellId) (padding : ℤ) (n : ℕ) (s : Span) → IsPaddingOf o padding → IsFilled s →
+    AreShown (felts o) o.boxes lanes → IsLeftFree o.index.strips lanes id padding n s → IsLeftOver o id padding (get_or o.index.strips n no_strip) s
 left_over o lanes id padding n s short filled are l = record { within = l.inside no_strip; clear = clear }
   where
     g : Strip
     g = get_or o.index.strips n no_strip
 
-    clear : (own : ℕ) (box : Rect) → StandsBut o id g.team own box → SharesPoint (wider padding (over g s)) box → ⊥
+    clear : (own : ℕ) (box : Rect) → HasBoxExcept o id g.team own box → SharesPoint (wider padding (part_over g s)) box → ⊥
     clear own box stands shares =
         let many = are.many in
         let felt_too = felt_many o.site o.index.strips in
@@ -288,12 +288,12 @@ left_over o lanes id padding n s short filled are l = record { within = l.inside
               near.taken
         ]
 
-over_left : (o : Occupied) (lanes : List Shown) (id : CellId) (padding : ℤ) (n : ℕ) (g : Strip) (s : Span) → IsPaddingOf o padding →
+over_left : (o : Occupied) (lanes : List StripView) (id : CellId) (padding : ℤ) (n : ℕ) (g : Strip) (s : Span) → IsPaddingOf o padding →
     AreShown (felts o) o.boxes lanes → n < length o.index.strips → ((d : Strip) → get_or o.index.strips n d ≡ g) → IsLeftOver o id padding g s →
-    LiesLeft o.index.strips lanes id padding n s
+    IsLeftFree o.index.strips lanes id padding n s
 over_left o lanes id padding n g s short are within is left = record {
   within = within;
-  inside = λ d. subst (λ (x : Strip). LiesIn s (across x)) (sym (is d)) left.within;
+  inside = λ d. subst (λ (x : Strip). LiesIn s (x_extent x)) (sym (is d)) left.within;
   own = λ d e same.
       others_padded padding (get_or lanes n e).entries id.own s (λ x there other. never e x there (λ team. other));
   foreign = λ d e away.
@@ -301,22 +301,22 @@ over_left o lanes id padding n g s short are within is left = record {
       (λ x there. never e x there (λ team. absurd (away (ap (λ (q : Strip). q.team) (is d) ∙ team))));
 }
   where
-    never : (d : Shown) (e : Entry) → Contains (get_or lanes n d).entries e → (g.team ≡ id.team → e.own ≡ id.own → ⊥) →
+    never : (d : StripView) (e : Entry) → Contains (get_or lanes n d).entries e → (g.team ≡ id.team → e.own ≡ id.own → ⊥) →
         AreApart s (x_range (padded padding e).area)
     never d e there other x first second =
-        let At : Strip → Type 0 = λ q. IsLane (get_or o.boxes q.team []) (wider (reach o) q.area) (get_or lanes n d) in
+        let At : Strip → Type 0 = λ q. ShowsBoxes (get_or o.boxes q.team []) (wider (reach o) q.area) (get_or lanes n d) in
         let lane : At g = subst At (is no_strip) (felt_lane o lanes n no_strip d are within) in
         let near = near_box (reach o) padding (get_or o.boxes g.team []) g s (get_or lanes n d) e x lane short.least there first second in
         left.clear e.own near.box record { other = other; stands = near.is } near.shares
 
-pub spans_of_strip : (o : Occupied) (lanes : List Shown) (id : CellId) (padding : ℤ) (n : ℕ) (free : List Span) → IsPaddingOf o padding →
-    AreShown (felts o) o.boxes lanes → AreLeft o.index.strips lanes id padding n free → AreFreeSpans o n id padding free
+pub spans_of_strip : (o : Occupied) (lanes : List StripView) (id : CellId) (padding : ℤ) (n : ℕ) (free : List Span) → IsPaddingOf o padding →
+    AreShown (felts o) o.boxes lanes → AreFreeSpansOfStrip o.index.strips lanes id padding n free → AreFreeSpans o n id padding free
 spans_of_strip o lanes id padding n free short are left = record {
   rising = left.rising;
   exact = λ s filled. (λ lies. to s filled ((left.exact s filled).0 lies), λ some. (left.exact s filled).1 (back s some));
 }
   where
-    to : (s : Span) → IsFilled s → LiesLeft o.index.strips lanes id padding n s →
+    to : (s : Span) → IsFilled s → IsLeftFree o.index.strips lanes id padding n s →
         IsSomeAnd (slice_get o.index.strips n) (λ g. IsLeftOver o id padding g s)
     to s filled l =
         subst (λ (found : Option Strip). IsSomeAnd found (λ g. IsLeftOver o id padding g s)) (sym (slice_get-get_or o.index.strips n no_strip l.within))
@@ -325,7 +325,7 @@ spans_of_strip o lanes id padding n free short are left = record {
     order : (n < length o.index.strips) ⊎ (length o.index.strips ≤ n)
     order = grind arith
 
-    back : (s : Span) → IsSomeAnd (slice_get o.index.strips n) (λ g. IsLeftOver o id padding g s) → LiesLeft o.index.strips lanes id padding n s
+    back : (s : Span) → IsSomeAnd (slice_get o.index.strips n) (λ g. IsLeftOver o id padding g s) → IsLeftFree o.index.strips lanes id padding n s
     back s some = elim order [
       | inl within ↦
           over_left o lanes id padding n (get_or o.index.strips n no_strip) s short are within (λ d. get_or_default o.index.strips n d no_strip within)
@@ -334,7 +334,7 @@ spans_of_strip o lanes id padding n free short are left = record {
     ]
 
 -- a lane has an entry for each of its team's boxes that meet the strip, and no other
-lane_is_counted : (g : Strip) (boxes : List (Option Rect)) (l : Shown) → IsLane boxes g.area l → length l.entries ≡ count_in g boxes
+lane_is_counted : (g : Strip) (boxes : List (Option Rect)) (l : StripView) → ShowsBoxes boxes g.area l → length l.entries ≡ count_in g boxes
 lane_is_counted g boxes l lane = sym (length-map items (λ (e : Entry). e.own)) ∙ named_are_counted g boxes owns once (λ own. (to own, back own))
   where
     items : List Entry
@@ -388,7 +388,7 @@ lane_is_counted g boxes l lane = sym (length-map items (λ (e : Entry). e.own)) 
         (found.0, inner, get_or-map (λ (e : Entry). e.own) items found.0 found.1 own within ∙ ap (λ (e : Entry). e.own) found.3 ∙ found.4.is)
 
 -- what the lane of a strip has, in numbers
-record InNumbers (g : Strip) (boxes : List (Option Rect)) (places : ℕ) (l : Lane) : Type 0 where
+record InNumbers (g : Strip) (boxes : List (Option Rect)) (places : ℕ) (l : StripMarks) : Type 0 where
   count : vec_len l.marks ≡ count_in g boxes
   room : vec_capacity l.marks ≡ places
 
@@ -397,8 +397,8 @@ strip_is_within [] n g is = absurd cc
 strip_is_within (x ∷ xs) zero g is = (omega arith, λ d. cc)
 strip_is_within (x ∷ xs) (suc n) g is = let h = strip_is_within xs n g is in let less = h.0 in (omega (arith, less), h.1)
 
-in_numbers : (xs : List Strip) (boxes : List (List (Option Rect))) (lanes : List Lane) (n : ℕ) (g : Strip) (team : ℕ) (e : Lane) →
-    AreLanes xs boxes lanes → slice_get xs n ≡ Some g → g.team ≡ team → InNumbers g (get_or boxes team []) (get_or (rooms_in lanes) n 0) (get_or lanes n e)
+in_numbers : (xs : List Strip) (boxes : List (List (Option Rect))) (lanes : List StripMarks) (n : ℕ) (g : Strip) (team : ℕ) (e : StripMarks) →
+    ShowAllBoxes xs boxes lanes → slice_get xs n ≡ Some g → g.team ≡ team → InNumbers g (get_or boxes team []) (get_or (capacities_in lanes) n 0) (get_or lanes n e)
 in_numbers xs boxes lanes n g team e are is of_team =
     let at = strip_is_within xs n g is in
     let many = are.many in
@@ -409,19 +409,19 @@ in_numbers xs boxes lanes n g team e are is of_team =
     let marked : IsMarked (get_or boxes team []) g.area (get_or lanes n e) = subst Of of_team lane in
     record {
       count = (get_or lanes n e).marks.ok.0 ∙ sym (entries_many (get_or boxes team []) g.area (get_or lanes n e).marks.items)
-          ∙ lane_is_counted g (get_or boxes team []) (shown (get_or boxes team []) g.area (get_or lanes n e)) marked.lane;
-      room = sym (get_or-map (λ (l : Lane). vec_capacity l.marks) lanes n e 0 (omega (arith, many, within)));
+          ∙ lane_is_counted g (get_or boxes team []) (strip_view (get_or boxes team []) g.area (get_or lanes n e)) marked.lane;
+      room = sym (get_or-map (λ (l : StripMarks). vec_capacity l.marks) lanes n e 0 (omega (arith, many, within)));
     }
 
-lane_at : (xs : List Strip) (boxes : List (List (Option Rect))) (lanes : List Lane) (n : ℕ) (g : Strip) → AreLanes xs boxes lanes → slice_get xs n ≡ Some g → Lane
+lane_at : (xs : List Strip) (boxes : List (List (Option Rect))) (lanes : List StripMarks) (n : ℕ) (g : Strip) → ShowAllBoxes xs boxes lanes → slice_get xs n ≡ Some g → StripMarks
 lane_at xs boxes lanes n g are is = let within = (strip_is_within xs n g is).0 in let many = are.many in some_lane lanes n (omega (arith, many, within))
 
 -- each strip has room for the boxes that meet it
-pub boxes_that_stand_fit : (o : Occupied) (lanes : List Lane) → o.rooms ≡ rooms_in lanes → AreLanes (felts o) o.boxes lanes → (team : ℕ) →
+pub boxes_that_stand_fit : (o : Occupied) (lanes : List StripMarks) → o.rooms ≡ capacities_in lanes → ShowAllBoxes (felts o) o.boxes lanes → (team : ℕ) →
     FitIn o team (boxes_of o team)
 boxes_that_stand_fit o lanes rooms are team n g is of_team =
-    let around : Strip = felt (reach o) g in
-    let at : slice_get (felts o) n ≡ Some around = made_at (felt (reach o)) o.index.strips n g is in
+    let around : Strip = widened (reach o) g in
+    let at : slice_get (felts o) n ≡ Some around = made_at (widened (reach o)) o.index.strips n g is in
     let e = lane_at (felts o) o.boxes lanes n around are at in
     let numbers = in_numbers (felts o) o.boxes lanes n around team e are at of_team in
     let a = numbers.count in
@@ -431,24 +431,24 @@ boxes_that_stand_fit o lanes rooms are team n g is of_team =
     omega (arith, a, b, c, most)
 
 -- as many marks as each strip has are no fewer
-pub marks_bound : (o : Occupied) (lanes : List Lane) → AreLanes (felts o) o.boxes lanes → (team : ℕ) →
+pub marks_bound : (o : Occupied) (lanes : List StripMarks) → ShowAllBoxes (felts o) o.boxes lanes → (team : ℕ) →
     Bounds o team (boxes_of o team) (map (λ l. vec_len l.marks) lanes)
 marks_bound o lanes are team n g is of_team =
-    let around : Strip = felt (reach o) g in
-    let at : slice_get (felts o) n ≡ Some around = made_at (felt (reach o)) o.index.strips n g is in
+    let around : Strip = widened (reach o) g in
+    let at : slice_get (felts o) n ≡ Some around = made_at (widened (reach o)) o.index.strips n g is in
     let e = lane_at (felts o) o.boxes lanes n around are at in
     let within = (strip_is_within (felts o) n around at).0 in
     let many = are.many in
     let a = (in_numbers (felts o) o.boxes lanes n around team e are at of_team).count in
-    let b = get_or-map (λ (l : Lane). vec_len l.marks) lanes n e 0 (omega (arith, many, within)) in
+    let b = get_or-map (λ (l : StripMarks). vec_len l.marks) lanes n e 0 (omega (arith, many, within)) in
     omega (arith, a, b)
 
 -- room in lanes is room in what a contract sees
-pub room_is_seen : (o : Occupied) (lanes : List Lane) (team : ℕ) (rect : Rect) (more : ℕ) → o.rooms ≡ rooms_in lanes → AreLanes (felts o) o.boxes lanes →
+pub room_is_seen : (o : Occupied) (lanes : List StripMarks) (team : ℕ) (rect : Rect) (more : ℕ) → o.rooms ≡ capacities_in lanes → ShowAllBoxes (felts o) o.boxes lanes →
     HaveRoom (MeetsStrip (felts o) team rect) more lanes → HasRoomFor o team rect more
 room_is_seen o lanes team rect more rooms are room n g is of_team shares =
-    let around : Strip = felt (reach o) g in
-    let at : slice_get (felts o) n ≡ Some around = made_at (felt (reach o)) o.index.strips n g is in
+    let around : Strip = widened (reach o) g in
+    let at : slice_get (felts o) n ≡ Some around = made_at (widened (reach o)) o.index.strips n g is in
     let e = lane_at (felts o) o.boxes lanes n around are at in
     let numbers = in_numbers (felts o) o.boxes lanes n around team e are at of_team in
     let a = numbers.count in
@@ -457,15 +457,15 @@ room_is_seen o lanes team rect more rooms are room n g is of_team shares =
     let h = room n e (subst (λ (found : Option Strip). IsSomeAnd found (λ q. (q.team ≡ team) × SharesPoint q.area rect)) (sym at) (of_team, shares)) in
     omega (arith, a, b, c, h)
 
-pub seen_is_room : (o : Occupied) (lanes : List Lane) (team : ℕ) (rect : Rect) (more : ℕ) → o.rooms ≡ rooms_in lanes → AreLanes (felts o) o.boxes lanes →
+pub seen_is_room : (o : Occupied) (lanes : List StripMarks) (team : ℕ) (rect : Rect) (more : ℕ) → o.rooms ≡ capacities_in lanes → ShowAllBoxes (felts o) o.boxes lanes →
     HasRoomFor o team rect more → HaveRoom (MeetsStrip (felts o) team rect) more lanes
 seen_is_room o lanes team rect more rooms are room n e meets =
     let found = some_strip (slice_get (felts o) n) meets in
-    let plain = unmade_at (felt (reach o)) o.index.strips n found.0 found.1.0 in
+    let plain = unmade_at (widened (reach o)) o.index.strips n found.0 found.1.0 in
     let At : Strip → Type 0 = λ g. (g.team ≡ team) × SharesPoint g.area rect in
-    let there : At (felt (reach o) plain.0) = subst At plain.1.1 found.1.1 in
-    let at : slice_get (felts o) n ≡ Some (felt (reach o) plain.0) = made_at (felt (reach o)) o.index.strips n plain.0 plain.1.0 in
-    let numbers = in_numbers (felts o) o.boxes lanes n (felt (reach o) plain.0) team e are at there.0 in
+    let there : At (widened (reach o) plain.0) = subst At plain.1.1 found.1.1 in
+    let at : slice_get (felts o) n ≡ Some (widened (reach o) plain.0) = made_at (widened (reach o)) o.index.strips n plain.0 plain.1.0 in
+    let numbers = in_numbers (felts o) o.boxes lanes n (widened (reach o) plain.0) team e are at there.0 in
     let a = numbers.count in
     let b = numbers.room in
     let c = ap (λ (ns : List ℕ). get_or ns n 0) rooms in
@@ -477,7 +477,7 @@ seen_is_room o lanes team rect more rooms are room n e meets =
     some_strip None none = absurd none
     some_strip (Some g) m = (g, (refl, m))
 
-pub move_is_seen : (o : Occupied) (lanes : List Lane) (team : ℕ) (to : Option Rect) (more : ℕ) → o.rooms ≡ rooms_in lanes → AreLanes (felts o) o.boxes lanes →
+pub move_is_seen : (o : Occupied) (lanes : List StripMarks) (team : ℕ) (to : Option Rect) (more : ℕ) → o.rooms ≡ capacities_in lanes → ShowAllBoxes (felts o) o.boxes lanes →
     IfSome to (λ rect. HaveRoom (MeetsStrip (felts o) team rect) more lanes) → IfSome to (λ rect. HasRoomFor o team rect more)
 move_is_seen o lanes team None more rooms are room = tt
 move_is_seen o lanes team (Some rect) more rooms are room = room_is_seen o lanes team rect more rooms are room

@@ -9,10 +9,10 @@ use Rattle.std.proofs.lemmas.List.{get_or-map, length-append, length-map, map-ap
 use Rattle.std.proofs.lemmas.List.Elements.{filter-append}
 use Rattle.lf_spans.specs.declared.span.Span.{Span}
 use Rattle.lf_spans.specs.Spans.{IsFilled, IsFree, IsFreeIn, IsInOrder, LiesIn}
-use Rattle.lf_spans.specs.Steps.{Adds, IsBefore, IsBehind}
+use Rattle.lf_spans.specs.Steps.{AddsFilled, IsBefore, IsBehind}
 use Rattle.lf_spans.proofs.Edges.{rising_nil}
 use Rattle.lf_spans.proofs.Frees.{Frees, frees_end, frees_more}
-use Rattle.lf_occupancy.specs.declared.lane.Entry.{Entry}
+use Rattle.lf_occupancy.specs.declared.strip_marks.Entry.{Entry}
 use Rattle.lf_occupancy.specs.Lanes.{all_padded, others_in, padded, spans_in, wider_range, x_range}
 use Rattle.lf_occupancy.proofs.Padded.{other_further, other_no_further}
 
@@ -45,7 +45,7 @@ walk_skips by es i e own range free rest within is same f =
 -- one more entry of another cell
 pub walk_goes_on : (by : ℤ) (es : List Entry) (i : ℕ) (e : Entry) (own : ℕ) (range : Span) (free new : List Span) (rest next z s : Span) → i < length es →
     e ≡ get_or es i e → (e.own ≡ own → ⊥) → s ≡ wider_range by (x_range e.area) → IsFilled s → IsInOrder (taken by es own) → IsBefore rest s z →
-    IsBehind rest s next → Adds z free new → Frees range (taken by es own) free rest (passed by es own i) →
+    IsBehind rest s next → AddsFilled z free new → Frees range (taken by es own) free rest (passed by es own i) →
     Frees range (taken by es own) new next (passed by es own (i + 1))
 walk_goes_on by es i e own range free new rest next z s within is apart wide filled order before behind adds f =
     subst (λ (n : ℕ). Frees range (taken by es own) new next n) (sym more)
@@ -88,7 +88,7 @@ walk_goes_on by es i e own range free new rest next z s within is apart wide fil
 
 -- behind the last entry the rest of the range is free
 pub walk_ends : (by : ℤ) (es : List Entry) (i own : ℕ) (range : Span) (free new : List Span) (rest : Span) → length es ≤ i →
-    Frees range (taken by es own) free rest (passed by es own i) → Adds rest free new → IsFree range (taken by es own) new
+    Frees range (taken by es own) free rest (passed by es own i) → AddsFilled rest free new → IsFree range (taken by es own) new
 walk_ends by es i own range free new rest all f adds =
     let same = ap (λ (xs : List Entry). length (others_in (all_padded by xs) own)) (take_all i es all) in
     let long = length-map (others_in (all_padded by es) own) (λ (z : Entry). x_range z.area) in

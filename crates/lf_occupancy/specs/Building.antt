@@ -1,25 +1,25 @@
 -- The steps of making an occupancy.
 use Rattle.std.specs.Prelude.{◌≡◌, ◌⊎◌, ◌<◌, ◌%◌, ℕ, pos, List, [], All, length, Option, None, Some, slice_index_or}
-use Rattle.lf_units.specs.declared.area.Rect.{Rect}
+use Rattle.lf_units.specs.declared.geometry.Rect.{Rect}
 use Rattle.lf_floorplan.specs.declared.frame.Frame.{Frame}
 use Rattle.lf_cells.specs.declared.cell.Cell.{Cell}
 use Rattle.lf_cells.specs.declared.cell.CellId.{CellId}
 use Rattle.lf_cells.specs.Cells.{Cells, cells_of, cell_at}
-use Rattle.lf_occupancy.specs.declared.lane.Lane.{Lane}
+use Rattle.lf_occupancy.specs.declared.strip_marks.StripMarks.{StripMarks}
 use Rattle.lf_segments.specs.declared.strip.Strip.{Strip}
 use Rattle.lf_occupancy.specs.Floorplans.{box_of}
 use Rattle.lf_occupancy.specs.Occupied.{cell_box}
-use Rattle.lf_occupancy.specs.Strips.{AreLanes}
+use Rattle.lf_occupancy.specs.Strips.{ShowAllBoxes}
 
 -- the lane has no mark
-pub record IsBare (l : Lane) : Type 0 where
+pub record HasNoMark (l : StripMarks) : Type 0 where
   pub marks : l.marks.items ≡ []
   pub widest : l.widest ≡ pos 0
 
 -- this many empty lanes
-pub record AreBare (count : ℕ) (lanes : List Lane) : Type 0 where
+pub record HaveNoMarks (count : ℕ) (lanes : List StripMarks) : Type 0 where
   pub many : length lanes ≡ count
-  pub each : All IsBare lanes
+  pub each : All HasNoMark lanes
 
 -- the id of a cell by its position among these, which the last 16 bits of the number tell
 abbrev pub id_at : List CellId → ℕ → CellId
@@ -36,7 +36,7 @@ pub record AreFilled (f : Frame) (cells : Cells) (Done : CellId → Type 0) (box
   pub rest : (id : CellId) (c : Cell) → cell_at cells id ≡ Some c → (Done id → ⊥) → cell_box (slice_index_or boxes id.team []) id.own ≡ None
 
 -- the lanes mark the boxes of the cells that are done
-pub record AreFilledIn (f : Frame) (cells : Cells) (strips : List Strip) (Done : CellId → Type 0) (lanes : List Lane) : Type 0 where
+pub record AreFilledIn (f : Frame) (cells : Cells) (strips : List Strip) (Done : CellId → Type 0) (lanes : List StripMarks) : Type 0 where
   pub boxes : List (List (Option Rect))
   pub filled : AreFilled f cells Done boxes
-  pub marked : AreLanes strips boxes lanes
+  pub marked : ShowAllBoxes strips boxes lanes

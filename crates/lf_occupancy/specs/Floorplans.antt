@@ -1,20 +1,20 @@
 -- The boxes of a table's cells, and the strips that they stand in.
 use Rattle.std.specs.Prelude.{◌≡◌, ◌<◌, ◌≤ℤ◌, ◌<ℤ◌, pos, length, ℕ, ℤ, List, map, All, Any, Option}
 use Rattle.std.specs.Option.{option_map}
-use Rattle.lf_units.specs.declared.area.Rect.{Rect}
+use Rattle.lf_units.specs.declared.geometry.Rect.{Rect}
 use Rattle.lf_units.specs.Area.{Covers}
 use Rattle.lf_floorplan.specs.declared.frame.Frame.{Frame}
 use Rattle.lf_floorplan.specs.Boxes.{IsSized, macro_of}
 use Rattle.lf_floorplan.specs.Ground.{StaysInGround, IsClear}
-use Rattle.lf_floorplan.specs.Standing.{StandsOn}
-use Rattle.lf_segments.specs.Grounds.{IsGroundOf}
+use Rattle.lf_floorplan.specs.Standing.{RestsOnRows}
+use Rattle.lf_segments.specs.Grounds.{IsIndexOf}
 use Rattle.lf_rules.specs.Choice.{spot_of}
 use Rattle.lf_rules.specs.Padding.{wider}
 use Rattle.lf_rules.specs.Team.{box_in}
 use Rattle.lf_cells.specs.declared.cell.Cell.{Cell}
 use Rattle.lf_cells.specs.Cells.{Cells, cells_of}
 use Rattle.lf_occupancy.specs.Occupied.{Occupied, boxes_of, reach}
-use Rattle.lf_occupancy.specs.Strips.{Holds, Marked}
+use Rattle.lf_occupancy.specs.Strips.{MarksBoxes, Marked}
 
 -- the cell's macro is one of the frame's, of whole size
 pub record HasSize (f : Frame) (c : Cell) : Type 0 where
@@ -39,26 +39,26 @@ HoldsCells f cells o = (team : ℕ) → boxes_of o team ≡ map (box_of f) (cell
 
 -- the occupancy is of this frame, and holds the working places of this table's cells
 pub record IsOccupancyOf (f : Frame) (cells : Cells) (o : Occupied) : Type 0 where
-  pub index : IsGroundOf f o.index
+  pub index : IsIndexOf f o.index
   pub site : o.site ≡ f.pitch.x
   pub boxes : HoldsCells f cells o
 
 -- what is kept is of this frame, and marks the working places of this table's cells
 pub record IsMarkedBy (f : Frame) (cells : Cells) (m : Marked) : Type 0 where
-  pub index : IsGroundOf f m.index
+  pub index : IsIndexOf f m.index
   pub site : m.site ≡ f.pitch.x
-  pub holds : Holds m (boxes_in f cells)
+  pub holds : MarksBoxes m (boxes_in f cells)
 
 -- each point of a box that stands on rows, stays in a team's ground and is clear of obstacles lies in one of the team's strips
 abbrev pub StripsCover : Type 0
 StripsCover =
-    (f : Frame) (o : Occupied) (team : ℕ) (box : Rect) → IsGroundOf f o.index → StandsOn f box → StaysInGround f team box → IsClear f box →
+    (f : Frame) (o : Occupied) (team : ℕ) (box : Rect) → IsIndexOf f o.index → RestsOnRows f box → StaysInGround f team box → IsClear f box →
     (x y : ℤ) → Covers box x y → Any (λ g. (g.team ≡ team) × Covers g.area x y) o.index.strips
 
 -- each point of such a box that has points, made wider by no more than the reach, lies in one of the team's strips felt as far
 -- around as the reach
-abbrev pub StripsFeel : Type 0
-StripsFeel =
-    (f : Frame) (o : Occupied) (team : ℕ) (box : Rect) (by : ℤ) → IsGroundOf f o.index → o.site ≡ f.pitch.x → StandsOn f box →
+abbrev pub WidenedStripsCover : Type 0
+WidenedStripsCover =
+    (f : Frame) (o : Occupied) (team : ℕ) (box : Rect) (by : ℤ) → IsIndexOf f o.index → o.site ≡ f.pitch.x → RestsOnRows f box →
     StaysInGround f team box → IsClear f box → box.x1 <ℤ box.x2 → pos 0 ≤ℤ by → by ≤ℤ reach o →
     (x y : ℤ) → Covers (wider by box) x y → Any (λ g. (g.team ≡ team) × Covers (wider (reach o) g.area) x y) o.index.strips

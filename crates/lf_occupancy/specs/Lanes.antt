@@ -5,12 +5,12 @@ use Rattle.std.specs.Prelude.{◌+ℤ◌, ◌-ℤ◌, ◌≤ℤ◌, ◌<ℤ◌, 
 use Rattle.std.specs.Prelude.{Option, None, Some, IfSome, insert, IsSomeAnd, slice_index_or}
 use Rattle.std.specs.Int.{int_max, int_min}
 use Rattle.std.specs.Vec.{vec_len, vec_capacity}
-use Rattle.lf_units.specs.declared.area.Rect.{Rect}
+use Rattle.lf_units.specs.declared.geometry.Rect.{Rect}
 use Rattle.lf_units.specs.Area.{Covers, SharesPoint}
 use Rattle.lf_spans.specs.declared.span.Span.{Span}
-use Rattle.lf_occupancy.specs.declared.lane.Entry.{Entry}
-use Rattle.lf_occupancy.specs.declared.lane.Lane.{Lane}
-use Rattle.lf_occupancy.specs.declared.lane.Mark.{Mark}
+use Rattle.lf_occupancy.specs.declared.strip_marks.Entry.{Entry}
+use Rattle.lf_occupancy.specs.declared.strip_marks.StripMarks.{StripMarks}
+use Rattle.lf_occupancy.specs.declared.strip_marks.Mark.{Mark}
 use Rattle.lf_rules.specs.Padding.{wider}
 use Rattle.lf_occupancy.specs.Occupied.{cell_box}
 
@@ -19,7 +19,7 @@ abbrev pub x_range : Rect → Span
 x_range r = record { lo = r.x1; hi = r.x2 }
 
 -- a point lies in the rectangle
-pub record IsWhole (r : Rect) : Type 0 where
+pub record HasPoints (r : Rect) : Type 0 where
   pub wide : r.x1 <ℤ r.x2
   pub high : r.y1 <ℤ r.y2
 
@@ -51,13 +51,13 @@ abbrev pub entries_in : List (Option Rect) → Rect → List Mark → List Entry
 entries_in cells area marks = map (entry_in cells area) marks
 
 -- entries, and a width that none exceeds
-pub record Shown : Type 0 where
+pub record StripView : Type 0 where
   pub entries : List Entry
   pub widest : ℤ
 
 -- what a lane of a strip of that area shows of the cells' boxes
-abbrev pub shown : List (Option Rect) → Rect → Lane → Shown
-shown cells area l = record { entries = entries_in cells area l.marks.items; widest = l.widest }
+abbrev pub strip_view : List (Option Rect) → Rect → StripMarks → StripView
+strip_view cells area l = record { entries = entries_in cells area l.marks.items; widest = l.widest }
 
 -- the entry is the cell's, and holds the point
 pub record HoldsPoint (own : ℕ) (x y : ℤ) (e : Entry) : Type 0 where
@@ -80,7 +80,7 @@ abbrev pub AreRising : List Mark → Type 0
 AreRising marks = AllPairs (λ a b. a.left ≤ℤ b.left) marks
 
 -- the entries are in order, and none is wider than the widest
-pub record IsOrderly (l : Shown) : Type 0 where
+pub record IsOrderly (l : StripView) : Type 0 where
   pub order : AreInOrder l.entries
   pub wide : All (λ e. (e.area.x2 -ℤ e.area.x1) ≤ℤ l.widest) l.entries
   pub some : pos 0 ≤ℤ l.widest
@@ -94,9 +94,9 @@ pub record IsInside (area : Rect) (e : Entry) : Type 0 where
   pub top : e.area.y2 ≤ℤ area.y2
 
 -- each point of the area that lies in a cell's box is in an entry of the cell, entries hold no other point, and no cell has two
-pub record IsLane (cells : List (Option Rect)) (area : Rect) (l : Shown) : Type 0 where
+pub record ShowsBoxes (cells : List (Option Rect)) (area : Rect) (l : StripView) : Type 0 where
   pub orderly : IsOrderly l
-  pub whole : All (λ e. IsWhole e.area) l.entries
+  pub whole : All (λ e. HasPoints e.area) l.entries
   pub inside : All (IsInside area) l.entries
   pub held : (own : ℕ) (x y : ℤ) → LiesInBox cells area own x y → Any (HoldsPoint own x y) l.entries
   pub told : All (λ e. (x y : ℤ) → Covers e.area x y → LiesInBox cells area e.own x y) l.entries
@@ -107,18 +107,18 @@ abbrev pub IsKeptAs : ℤ → ℕ → Type 0
 IsKeptAs width kept = kept ≢ 4294967295 → width ≡ pos kept
 
 -- the mark tells the entry's left edge, and what it keeps of its width
-pub record Tells (e : Entry) (m : Mark) : Type 0 where
+pub record MarkIsOf (e : Entry) (m : Mark) : Type 0 where
   pub left : m.left ≡ e.area.x1
   pub width : IsKeptAs (e.area.x2 -ℤ e.area.x1) m.width
 
 -- each of the marks tells of its entry
-abbrev pub AreTold : List (Option Rect) → Rect → List Mark → Type 0
-AreTold cells area marks = All (λ m. Tells (entry_in cells area m) m) marks
+abbrev pub MarksAreOf : List (Option Rect) → Rect → List Mark → Type 0
+MarksAreOf cells area marks = All (λ m. MarkIsOf (entry_in cells area m) m) marks
 
 -- the lane shows just that, and each of its marks tells of its entry
-pub record IsMarked (cells : List (Option Rect)) (area : Rect) (l : Lane) : Type 0 where
-  pub lane : IsLane cells area (shown cells area l)
-  pub told : AreTold cells area l.marks.items
+pub record IsMarked (cells : List (Option Rect)) (area : Rect) (l : StripMarks) : Type 0 where
+  pub lane : ShowsBoxes cells area (strip_view cells area l)
+  pub told : MarksAreOf cells area l.marks.items
 
 -- the run of entries near a range: the entries before the run end before the range, and those after it begin after the range
 pub record IsNearRun (entries : List Entry) (lo hi : ℤ) (near : List Entry) : Type 0 where
@@ -177,49 +177,49 @@ pub record IsLeast (P : ℕ → Type 0) (so_far least : Option ℕ) : Type 0 whe
   pub each : (own : ℕ) → P own → IsUpTo least own
 
 -- in the lane, whose marks are in order, the cell has one mark at most, and it is at `left`
-pub record HasAtMostOne (own : ℕ) (left : ℤ) (l : Lane) : Type 0 where
+pub record HasAtMostOne (own : ℕ) (left : ℤ) (l : StripMarks) : Type 0 where
   pub order : AreRising l.marks.items
   pub once : AllPairs (λ a b. a.own ≢ b.own) l.marks.items
   pub begins : All (λ m. m.own ≡ own → m.left ≡ left) l.marks.items
 
 -- the mark of that position is the cell's
-pub record StandsAt (marks : List Mark) (own n : ℕ) : Type 0 where
+pub record IsMarkOfCell (marks : List Mark) (own n : ℕ) : Type 0 where
   pub within : n < length marks
   pub is : (d : Mark) → (slice_index_or marks n d).own ≡ own
 
 -- none of the marks from that position on is the cell's
-abbrev pub StandsNotFrom : List Mark → ℕ → ℕ → Type 0
-StandsNotFrom marks own from = (k : ℕ) (d : Mark) → from ≤ k → k < length marks → (slice_index_or marks k d).own ≢ own
+abbrev pub HasNoMarkFrom : List Mark → ℕ → ℕ → Type 0
+HasNoMarkFrom marks own from = (k : ℕ) (d : Mark) → from ≤ k → k < length marks → (slice_index_or marks k d).own ≢ own
 
 -- the lane without the cell's marks
-pub record IsPruned (own : ℕ) (old new : Lane) : Type 0 where
+pub record IsUnmarked (own : ℕ) (old new : StripMarks) : Type 0 where
   pub marks : new.marks.items ≡ marks_but old.marks.items own
   pub widest : new.widest ≡ old.widest
   pub fewer : vec_len new.marks ≤ vec_len old.marks
   pub room : vec_capacity new.marks ≡ vec_capacity old.marks
 
 -- the lane holds what it held, and has no less room
-pub record IsKept (old new : Lane) : Type 0 where
+pub record IsKept (old new : StripMarks) : Type 0 where
   pub marks : new.marks.items ≡ old.marks.items
   pub widest : new.widest ≡ old.widest
   pub many : vec_len new.marks ≡ vec_len old.marks
   pub room : vec_capacity old.marks ≤ vec_capacity new.marks
 
 -- the lane has room for one more mark
-abbrev pub HasRoom : Lane → Type 0
+abbrev pub HasRoom : StripMarks → Type 0
 HasRoom l = vec_len l.marks < vec_capacity l.marks
 
 -- the lane has room for this many more marks
-abbrev pub HasRoomOf : ℕ → Lane → Type 0
+abbrev pub HasRoomOf : ℕ → StripMarks → Type 0
 HasRoomOf more l = (vec_len l.marks + more) ≤ vec_capacity l.marks
 
 -- the lane's marks are in order, and it has room for one of the part of the rectangle that lies in the area, if there is one
-pub record TakesPart (area rect : Rect) (l : Lane) : Type 0 where
+pub record TakesPart (area rect : Rect) (l : StripMarks) : Type 0 where
   pub order : AreRising l.marks.items
-  pub room : IsWhole (part_in area rect) → HasRoom l
+  pub room : HasPoints (part_in area rect) → HasRoom l
 
 -- the mark of an entry of this width is added to the lane, at its place in the order
-pub record IsJoined (m : Mark) (width : ℤ) (old new : Lane) : Type 0 where
+pub record IsJoined (m : Mark) (width : ℤ) (old new : StripMarks) : Type 0 where
   pub at : ℕ
   pub bound : at ≤ length old.marks.items
   pub marks : new.marks.items ≡ insert old.marks.items at m
@@ -236,17 +236,17 @@ pub record IsMarkOf (own : ℕ) (part : Rect) (m : Mark) : Type 0 where
   pub width : IsKeptAs (part.x2 -ℤ part.x1) m.width
 
 -- a mark of the cell for that part is added to the lane
-pub record IsAdded (own : ℕ) (part : Rect) (old new : Lane) : Type 0 where
+pub record IsAdded (own : ℕ) (part : Rect) (old new : StripMarks) : Type 0 where
   pub mark : Mark
   pub of : IsMarkOf own part mark
   pub joined : IsJoined mark (part.x2 -ℤ part.x1) old new
 
 -- the part is marked in the lane if it has a point; else the lane is the same
-abbrev pub IsPutPart : ℕ → Rect → Lane → Lane → Type 0
-IsPutPart own part old new = (IsWhole part × IsAdded own part old new) ⊎ ((IsWhole part → ⊥) × (new ≡ old))
+abbrev pub IsPutPart : ℕ → Rect → StripMarks → StripMarks → Type 0
+IsPutPart own part old new = (HasPoints part × IsAdded own part old new) ⊎ ((HasPoints part → ⊥) × (new ≡ old))
 
 -- so is the part of the cell's box that lies in the area
-abbrev pub IsPutIn : ℕ → Rect → Rect → Lane → Lane → Type 0
+abbrev pub IsPutIn : ℕ → Rect → Rect → StripMarks → StripMarks → Type 0
 IsPutIn own rect area old new = IsPutPart own (part_in area rect) old new
 
 -- the rectangle lies no farther from 0 along x than a strip that is felt around, and begins at an x of a place or before

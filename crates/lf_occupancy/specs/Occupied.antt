@@ -2,19 +2,19 @@
 use Rattle.std.specs.Prelude.{◌≡◌, ◌≢◌, ◌⊎◌, ◌↔◌, ℕ, ◌+◌, ℤ, pos, ◌*ℤ◌, ◌≤ℤ◌, ◌≤◌, Bool, false, ◌&&◌, int_lt, length, List}
 use Rattle.std.specs.Prelude.{[], Option, None, Some, Any, IsSomeAnd, MatchOption, count_by, option_and_then, slice_get, slice_index_or, slice_set}
 use Rattle.std.specs.Int.{int_max, int_min}
-use Rattle.lf_units.specs.declared.area.Rect.{Rect}
+use Rattle.lf_units.specs.declared.geometry.Rect.{Rect}
 use Rattle.lf_units.specs.Area.{Covers, SharesPoint}
 use Rattle.lf_spans.specs.declared.span.Span.{Span}
-use Rattle.lf_spans.specs.Spans.{IsFilled, IsRising, LiesIn, LiesInOne}
+use Rattle.lf_spans.specs.Spans.{IsFilled, IsRising, LiesIn, LiesInOneOf}
 use Rattle.lf_segments.specs.declared.strip.Strip.{Strip}
-use Rattle.lf_segments.specs.Grounds.{Lookups}
+use Rattle.lf_segments.specs.Grounds.{FrameIndexView}
 use Rattle.lf_rules.specs.Padding.{wider}
 use Rattle.lf_cells.specs.declared.cell.CellId.{CellId}
 
 -- what of the frame is looked up, the width of a core site, for each team the boxes of its cells in loading order, and for each strip
 -- how many boxes it has room for
 pub record Occupied : Type 0 where
-  pub index : Lookups
+  pub index : FrameIndexView
   pub site : ℤ
   pub boxes : List (List (Option Rect))
   pub rooms : List ℕ
@@ -45,16 +45,16 @@ abbrev pub boxes_with : Occupied → CellId → Option Rect → List (List (Opti
 boxes_with o id box = slice_set o.boxes id.team (slice_set (boxes_of o id.team) id.own box)
 
 -- the x range of a strip
-abbrev pub across : Strip → Span
-across g = record { lo = g.area.x1; hi = g.area.x2 }
+abbrev pub x_extent : Strip → Span
+x_extent g = record { lo = g.area.x1; hi = g.area.x2 }
 
 -- the strip felt that far around: made wider by the length on its left and on its right
-abbrev pub felt : ℤ → Strip → Strip
-felt by g = record { row = g.row; team = g.team; area = wider by g.area }
+abbrev pub widened : ℤ → Strip → Strip
+widened by g = record { row = g.row; team = g.team; area = wider by g.area }
 
 -- the part of a strip that lies over a span
-abbrev pub over : Strip → Span → Rect
-over g s = record { x1 = s.lo; y1 = g.area.y1; x2 = s.hi; y2 = g.area.y2 }
+abbrev pub part_over : Strip → Span → Rect
+part_over g s = record { x1 = s.lo; y1 = g.area.y1; x2 = s.hi; y2 = g.area.y2 }
 
 -- another cell of the cell's team has this box
 pub record IsOther (o : Occupied) (id : CellId) (own : ℕ) (box : Rect) : Type 0 where
@@ -72,32 +72,32 @@ pub record IsStripOf (row team : ℕ) (g : Strip) : Type 0 where
 
 -- the span lies in the strip, and no other cell of the team is over it or closer to it than the padding
 pub record IsFreeOver (o : Occupied) (id : CellId) (padding : ℤ) (g : Strip) (s : Span) : Type 0 where
-  pub within : LiesIn s (across g)
-  pub clear : IsClearOfOthers o id (wider padding (over g s))
+  pub within : LiesIn s (x_extent g)
+  pub clear : IsClearOfOthers o id (wider padding (part_over g s))
 
 -- within a window, the spans of a row that are free for a cell, which is taken away first: a span that holds a number lies in one
 -- of them if and only if it lies in the window and is free in one strip of the row and the cell's team
 pub record IsFreeInRow (o : Occupied) (row : ℕ) (id : CellId) (window : Span) (padding : ℤ) (free : List Span) : Type 0 where
   pub rising : IsRising free
   pub exact : (s : Span) → IsFilled s →
-      (LiesInOne free s ↔ (LiesIn s window × Any (λ g. IsStripOf row id.team g × IsFreeOver o id padding g s) o.index.strips))
+      (LiesInOneOf free s ↔ (LiesIn s window × Any (λ g. IsStripOf row id.team g × IsFreeOver o id padding g s) o.index.strips))
 
 -- the team's cell of that position, which is not the one that is left out, has this box
-pub record StandsBut (o : Occupied) (without : CellId) (team own : ℕ) (box : Rect) : Type 0 where
+pub record HasBoxExcept (o : Occupied) (without : CellId) (team own : ℕ) (box : Rect) : Type 0 where
   pub other : team ≡ without.team → own ≢ without.own
   pub stands : box_at o team own ≡ Some box
 
 -- the span lies in the strip, and no cell of the strip's team is over it or closer to it than the padding, but the one that is left out
 pub record IsLeftOver (o : Occupied) (without : CellId) (padding : ℤ) (g : Strip) (s : Span) : Type 0 where
-  pub within : LiesIn s (across g)
-  pub clear : (own : ℕ) (box : Rect) → StandsBut o without g.team own box → SharesPoint (wider padding (over g s)) box → ⊥
+  pub within : LiesIn s (x_extent g)
+  pub clear : (own : ℕ) (box : Rect) → HasBoxExcept o without g.team own box → SharesPoint (wider padding (part_over g s)) box → ⊥
 
 -- the free spans of one strip, a cell left out: a span that holds a number lies in one of them if and only if it lies in the
 -- strip and no other cell of the strip's team is over it or closer to it than the padding; there are none if there is no such strip
 pub record AreFreeSpans (o : Occupied) (segment : ℕ) (without : CellId) (padding : ℤ) (free : List Span) : Type 0 where
   pub rising : IsRising free
   pub exact : (s : Span) → IsFilled s →
-      (LiesInOne free s ↔ IsSomeAnd (slice_get o.index.strips segment) (λ g. IsLeftOver o without padding g s))
+      (LiesInOneOf free s ↔ IsSomeAnd (slice_get o.index.strips segment) (λ g. IsLeftOver o without padding g s))
 
 -- another placed cell of the team shares with the rectangle a point of one of the team's strips, felt as far around as the reach
 pub record MeetsInStrips (o : Occupied) (id : CellId) (rect : Rect) (own : ℕ) : Type 0 where
@@ -129,26 +129,26 @@ count_in g boxes = count_by (meets g) boxes
 -- as the reach
 abbrev pub FitIn : Occupied → ℕ → List (Option Rect) → Type 0
 FitIn o team boxes =
-    (n : ℕ) (g : Strip) → slice_get o.index.strips n ≡ Some g → g.team ≡ team → count_in (felt (reach o) g) boxes ≤ slice_index_or o.rooms n 0
+    (n : ℕ) (g : Strip) → slice_get o.index.strips n ≡ Some g → g.team ≡ team → count_in (widened (reach o) g) boxes ≤ slice_index_or o.rooms n 0
 
 -- the tally, a number for each strip, bounds these boxes of the team's cells: for no strip of the team is it less than how many share
 -- a point with the strip, felt as far around as the reach
 abbrev pub Bounds : Occupied → ℕ → List (Option Rect) → List ℕ → Type 0
 Bounds o team boxes tally =
-    (n : ℕ) (g : Strip) → slice_get o.index.strips n ≡ Some g → g.team ≡ team → count_in (felt (reach o) g) boxes ≤ slice_index_or tally n 0
+    (n : ℕ) (g : Strip) → slice_get o.index.strips n ≡ Some g → g.team ≡ team → count_in (widened (reach o) g) boxes ≤ slice_index_or tally n 0
 
 -- each strip of the team that shares a point with the rectangle, felt as far around as the reach, has room for its boxes and so
 -- many more
 abbrev pub HasRoomFor : Occupied → ℕ → Rect → ℕ → Type 0
 HasRoomFor o team rect more =
-    (n : ℕ) (g : Strip) → slice_get o.index.strips n ≡ Some g → g.team ≡ team → SharesPoint (felt (reach o) g).area rect →
-    (count_in (felt (reach o) g) (boxes_of o team) + more) ≤ slice_index_or o.rooms n 0
+    (n : ℕ) (g : Strip) → slice_get o.index.strips n ≡ Some g → g.team ≡ team → SharesPoint (widened (reach o) g).area rect →
+    (count_in (widened (reach o) g) (boxes_of o team) + more) ≤ slice_index_or o.rooms n 0
 
 -- the first boxes are part of the others: each is none or the other list's
 abbrev pub ArePartOf : List (Option Rect) → List (Option Rect) → Type 0
 ArePartOf part whole = (own : ℕ) → (cell_box part own ≡ None) ⊎ (cell_box part own ≡ cell_box whole own)
 
 -- of two lists of the same length, no number of the new one is less
-pub record NoLess (old new : List ℕ) : Type 0 where
+pub record KeepsCapacities (old new : List ℕ) : Type 0 where
   pub many : length new ≡ length old
   pub each : (n : ℕ) → slice_index_or old n 0 ≤ slice_index_or new n 0

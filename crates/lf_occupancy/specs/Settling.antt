@@ -1,17 +1,17 @@
 -- How a cell is settled: its strips are given room for it, and then mark it.
 use Rattle.std.specs.Prelude.{ℕ, ◌<◌, ◌≤◌, List}
-use Rattle.lf_units.specs.declared.area.Rect.{Rect}
+use Rattle.lf_units.specs.declared.geometry.Rect.{Rect}
 use Rattle.lf_segments.specs.declared.strip.Strip.{Strip}
-use Rattle.lf_segments.specs.declared.strips.NearStrips.{NearStrips}
-use Rattle.lf_occupancy.specs.declared.lane.Lane.{Lane}
+use Rattle.lf_segments.specs.declared.strips.StripRange.{StripRange}
+use Rattle.lf_occupancy.specs.declared.strip_marks.StripMarks.{StripMarks}
 use Rattle.lf_occupancy.specs.Strips.{AreChanged, AreKept, PutsIn}
 
 -- the number is one of the run
-abbrev pub IsOneOf : NearStrips → ℕ → Type 0
+abbrev pub IsOneOf : StripRange → ℕ → Type 0
 IsOneOf near n = (near.start ≤ n) × (n < near.end)
 
 -- the lanes are given room, and then the cell's parts are put into the chosen ones
-pub record AreSettled (strips : List Strip) (own : ℕ) (rect : Rect) (Chosen : ℕ → Type 0) (old new : List Lane) : Type 0 where
-  pub roomy : List Lane
+pub record AreReservedAndMarked (strips : List Strip) (own : ℕ) (rect : Rect) (Chosen : ℕ → Type 0) (old new : List StripMarks) : Type 0 where
+  pub roomy : List StripMarks
   pub kept : AreKept old roomy
   pub put : AreChanged Chosen (PutsIn strips own rect) roomy new

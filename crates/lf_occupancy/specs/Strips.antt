@@ -4,18 +4,18 @@ use Rattle.std.specs.Prelude.{◌⊎◌, Option, None, Some, map, slice_index_or
 use Rattle.std.specs.Int.{int_max}
 use Rattle.std.specs.Vec.{vec_capacity}
 use Rattle.lf_cells.specs.declared.cell.CellId.{CellId}
-use Rattle.lf_units.specs.declared.area.Rect.{Rect}
+use Rattle.lf_units.specs.declared.geometry.Rect.{Rect}
 use Rattle.lf_units.specs.Area.{SharesPoint}
 use Rattle.lf_spans.specs.declared.span.Span.{Span}
-use Rattle.lf_spans.specs.Spans.{IsFilled, IsRising, LiesIn, LiesInOne, IsApart}
+use Rattle.lf_spans.specs.Spans.{IsFilled, IsRising, LiesIn, LiesInOneOf, IsApart}
 use Rattle.lf_segments.specs.declared.rows_by_y.RowEntry.{RowEntry}
 use Rattle.lf_segments.specs.declared.strip.Strip.{Strip}
 use Rattle.lf_segments.specs.Strips.{IsNear}
-use Rattle.lf_occupancy.specs.declared.lane.Lane.{Lane}
-use Rattle.lf_segments.specs.Grounds.{Lookups}
-use Rattle.lf_occupancy.specs.Lanes.{HasAtMostOne, HasRoomOf, IsInside, IsKept, IsLane, IsMarked, IsOrderly, IsPruned, IsPutIn, MeetsOne, Shown}
-use Rattle.lf_occupancy.specs.Lanes.{TakesPart, all_padded, others_in, shown, spans_in}
-use Rattle.lf_occupancy.specs.Occupied.{HasRoomFor, Occupied, across, cell_box, felt}
+use Rattle.lf_occupancy.specs.declared.strip_marks.StripMarks.{StripMarks}
+use Rattle.lf_segments.specs.Grounds.{FrameIndexView}
+use Rattle.lf_occupancy.specs.Lanes.{HasAtMostOne, HasRoomOf, IsInside, IsKept, ShowsBoxes, IsMarked, IsOrderly, IsUnmarked, IsPutIn, MeetsOne, StripView}
+use Rattle.lf_occupancy.specs.Lanes.{TakesPart, all_padded, others_in, strip_view, spans_in}
+use Rattle.lf_occupancy.specs.Occupied.{HasRoomFor, Occupied, x_extent, cell_box, widened}
 
 -- the width of a core site of a frame
 pub record IsSite (site : ℤ) : Type 0 where
@@ -23,64 +23,64 @@ pub record IsSite (site : ℤ) : Type 0 where
   pub small : site ≤ℤ pos 20000000000
 
 -- the strips felt 16 core sites of that width around
-abbrev pub felt_strips : ℤ → List Strip → List Strip
-felt_strips site strips = map (felt (pos 16 *ℤ site)) strips
+abbrev pub widened_strips : ℤ → List Strip → List Strip
+widened_strips site strips = map (widened (pos 16 *ℤ site)) strips
 
 -- the strip of that number is of the team, and an entry of the cell in it is met
-pub record MeetsAt (strips : List Strip) (lanes : List Shown) (team : ℕ) (rect : Rect) (but own n : ℕ) : Type 0 where
+pub record MeetsAt (strips : List Strip) (lanes : List StripView) (team : ℕ) (rect : Rect) (but own n : ℕ) : Type 0 where
   pub within : n < length strips
   pub of_team : (d : Strip) → (slice_index_or strips n d).team ≡ team
-  pub meets : (d : Shown) → MeetsOne (slice_index_or lanes n d).entries rect but own
+  pub meets : (d : StripView) → MeetsOne (slice_index_or lanes n d).entries rect but own
 
 -- the cell is met in a strip of the row
-abbrev pub MeetsInRow : List Strip → List Shown → ℕ → ℕ → Rect → ℕ → ℕ → Type 0
+abbrev pub MeetsInRow : List Strip → List StripView → ℕ → ℕ → Rect → ℕ → ℕ → Type 0
 MeetsInRow strips lanes row team rect but own =
     (n : ℕ) × ((d : Strip) → (slice_index_or strips n d).row ≡ row) × MeetsAt strips lanes team rect but own n
 
 -- the cell is met in a strip
-abbrev pub MeetsInOne : List Strip → List Shown → ℕ → Rect → ℕ → ℕ → Type 0
+abbrev pub MeetsInOne : List Strip → List StripView → ℕ → Rect → ℕ → ℕ → Type 0
 MeetsInOne strips lanes team rect but own = (n : ℕ) × MeetsAt strips lanes team rect but own n
 
 -- each strip has a lane, whose entries are in order and lie in the strip
-pub record AreOrderly (strips : List Strip) (lanes : List Shown) : Type 0 where
+pub record AreOrderly (strips : List Strip) (lanes : List StripView) : Type 0 where
   pub many : length lanes ≡ length strips
-  pub each : (n : ℕ) (e : Shown) → n < length strips → IsOrderly (slice_index_or lanes n e)
-  pub inside : (n : ℕ) (d : Strip) (e : Shown) → n < length strips →
+  pub each : (n : ℕ) (e : StripView) → n < length strips → IsOrderly (slice_index_or lanes n e)
+  pub inside : (n : ℕ) (d : Strip) (e : StripView) → n < length strips →
       All (IsInside (slice_index_or strips n d).area) (slice_index_or lanes n e).entries
 
 -- each strip shows the lane of its team's boxes
-pub record AreShown (strips : List Strip) (boxes : List (List (Option Rect))) (lanes : List Shown) : Type 0 where
+pub record AreShown (strips : List Strip) (boxes : List (List (Option Rect))) (lanes : List StripView) : Type 0 where
   pub many : length lanes ≡ length strips
-  pub each : (n : ℕ) (d : Strip) (e : Shown) → n < length strips →
-      IsLane (slice_index_or boxes (slice_index_or strips n d).team []) (slice_index_or strips n d).area (slice_index_or lanes n e)
+  pub each : (n : ℕ) (d : Strip) (e : StripView) → n < length strips →
+      ShowsBoxes (slice_index_or boxes (slice_index_or strips n d).team []) (slice_index_or strips n d).area (slice_index_or lanes n e)
 
 -- what the lanes of strips show of the boxes of teams' cells
-abbrev pub shown_lanes : List Strip → List (List (Option Rect)) → List Lane → List Shown
-shown_lanes [] boxes lanes = []
-shown_lanes (g ∷ strips) boxes [] = []
-shown_lanes (g ∷ strips) boxes (l ∷ lanes) = shown (slice_index_or boxes g.team []) g.area l ∷ shown_lanes strips boxes lanes
+abbrev pub strip_views : List Strip → List (List (Option Rect)) → List StripMarks → List StripView
+strip_views [] boxes lanes = []
+strip_views (g ∷ strips) boxes [] = []
+strip_views (g ∷ strips) boxes (l ∷ lanes) = strip_view (slice_index_or boxes g.team []) g.area l ∷ strip_views strips boxes lanes
 
 -- each strip has a lane, which marks its team's boxes
-pub record AreLanes (strips : List Strip) (boxes : List (List (Option Rect))) (lanes : List Lane) : Type 0 where
+pub record ShowAllBoxes (strips : List Strip) (boxes : List (List (Option Rect))) (lanes : List StripMarks) : Type 0 where
   pub many : length lanes ≡ length strips
-  pub each : (n : ℕ) (d : Strip) (e : Lane) → n < length strips →
+  pub each : (n : ℕ) (d : Strip) (e : StripMarks) → n < length strips →
       IsMarked (slice_index_or boxes (slice_index_or strips n d).team []) (slice_index_or strips n d).area (slice_index_or lanes n e)
 
 -- the span lies in the strip of that number, which is of the row and the team, and shares no number with another cell's entry made
 -- wider by the padding
-pub record LiesFree (strips : List Strip) (lanes : List Shown) (row team own : ℕ) (padding : ℤ) (s : Span) (n : ℕ) : Type 0 where
+pub record LiesFree (strips : List Strip) (lanes : List StripView) (row team own : ℕ) (padding : ℤ) (s : Span) (n : ℕ) : Type 0 where
   pub within : n < length strips
   pub in_row : (d : Strip) → (slice_index_or strips n d).row ≡ row
   pub of_team : (d : Strip) → (slice_index_or strips n d).team ≡ team
-  pub inside : (d : Strip) → LiesIn s (across (slice_index_or strips n d))
-  pub apart : (d : Shown) → IsApart (spans_in (others_in (all_padded padding (slice_index_or lanes n d).entries) own)) s
+  pub inside : (d : Strip) → LiesIn s (x_extent (slice_index_or strips n d))
+  pub apart : (d : StripView) → IsApart (spans_in (others_in (all_padded padding (slice_index_or lanes n d).entries) own)) s
 
 -- a span that holds a number lies in a free one if and only if it lies in the window and free in a strip numbered below the limit
-pub record AreFreeTo (strips : List Strip) (lanes : List Shown) (row team own : ℕ) (window : Span) (padding : ℤ) (limit : ℕ)
+pub record AreFreeTo (strips : List Strip) (lanes : List StripView) (row team own : ℕ) (window : Span) (padding : ℤ) (limit : ℕ)
     (free : List Span) : Type 0 where
   pub rising : IsRising free
   pub exact : (s : Span) → IsFilled s →
-      (LiesInOne free s ↔ (LiesIn s window × ((n : ℕ) × ((n < limit) × LiesFree strips lanes row team own padding s n))))
+      (LiesInOneOf free s ↔ (LiesIn s window × ((n : ℕ) × ((n < limit) × LiesFree strips lanes row team own padding s n))))
 
 -- the strip of that number is of one of the rows and the team, and its x range overlaps that of the rectangle
 abbrev pub IsReached : List Strip → List RowEntry → ℕ → Rect → ℕ → Type 0
@@ -97,12 +97,12 @@ pub record AreChanged {X : Type 0} (Chosen : ℕ → Type 0) (Change : ℕ → X
   pub others : (n : ℕ) (e : X) → n < length old → (Chosen n → ⊥) → slice_index_or new n e ≡ slice_index_or old n e
 
 -- each lane holds what it held, and has no less room
-pub record AreKept (old new : List Lane) : Type 0 where
+pub record AreKept (old new : List StripMarks) : Type 0 where
   pub many : length new ≡ length old
-  pub each : (n : ℕ) (e : Lane) → n < length old → IsKept (slice_index_or old n e) (slice_index_or new n e)
+  pub each : (n : ℕ) (e : StripMarks) → n < length old → IsKept (slice_index_or old n e) (slice_index_or new n e)
 
 -- the strip's part of the cell's box is marked in its lane
-abbrev pub PutsIn : List Strip → ℕ → Rect → ℕ → Lane → Lane → Type 0
+abbrev pub PutsIn : List Strip → ℕ → Rect → ℕ → StripMarks → StripMarks → Type 0
 PutsIn strips own rect n old new = (d : Strip) → IsPutIn own rect (slice_index_or strips n d).area old new
 
 -- there is a cell of that id
@@ -120,7 +120,7 @@ pub record IsAt (boxes : List (List (Option Rect))) (id : CellId) (rect : Rect) 
   pub at : (cell_box (slice_index_or boxes id.team []) id.own ≡ None) ⊎ (cell_box (slice_index_or boxes id.team []) id.own ≡ Some rect)
 
 -- there is a cell of that id, which stands nowhere
-pub record IsNowhere (boxes : List (List (Option Rect))) (id : CellId) : Type 0 where
+pub record HasNoBox (boxes : List (List (Option Rect))) (id : CellId) : Type 0 where
   pub known : HasCell boxes id
   pub at : cell_box (slice_index_or boxes id.team []) id.own ≡ None
 
@@ -129,18 +129,18 @@ abbrev pub MeetsStrip : List Strip → ℕ → Rect → ℕ → Type 0
 MeetsStrip strips team rect n = IsSomeAnd (slice_get strips n) (λ g. (g.team ≡ team) × SharesPoint g.area rect)
 
 -- the chosen lanes have room for so many more entries
-abbrev pub HaveRoom : (ℕ → Type 0) → ℕ → List Lane → Type 0
-HaveRoom Chosen more lanes = (n : ℕ) (e : Lane) → Chosen n → HasRoomOf more (slice_index_or lanes n e)
+abbrev pub HaveRoom : (ℕ → Type 0) → ℕ → List StripMarks → Type 0
+HaveRoom Chosen more lanes = (n : ℕ) (e : StripMarks) → Chosen n → HasRoomOf more (slice_index_or lanes n e)
 
 -- the chosen lanes have room for the parts of the rectangle that lie in their strips
-abbrev pub CanTake : List Strip → Rect → (ℕ → Type 0) → List Lane → Type 0
+abbrev pub CanTake : List Strip → Rect → (ℕ → Type 0) → List StripMarks → Type 0
 CanTake strips rect Chosen lanes =
-    (n : ℕ) (d : Strip) (e : Lane) → Chosen n → TakesPart (slice_index_or strips n d).area rect (slice_index_or lanes n e)
+    (n : ℕ) (d : Strip) (e : StripMarks) → Chosen n → TakesPart (slice_index_or strips n d).area rect (slice_index_or lanes n e)
 
 -- in each of the chosen lanes the cell has one entry at most, which begins where the part of the rectangle in the strip does
-abbrev pub HaveAtMostOne : List Strip → ℕ → Rect → (ℕ → Type 0) → List Lane → Type 0
+abbrev pub HaveAtMostOne : List Strip → ℕ → Rect → (ℕ → Type 0) → List StripMarks → Type 0
 HaveAtMostOne strips own rect Chosen lanes =
-    (n : ℕ) (d : Strip) (e : Lane) → Chosen n → HasAtMostOne own (int_max (slice_index_or strips n d).area.x1 rect.x1) (slice_index_or lanes n e)
+    (n : ℕ) (d : Strip) (e : StripMarks) → Chosen n → HasAtMostOne own (int_max (slice_index_or strips n d).area.x1 rect.x1) (slice_index_or lanes n e)
 
 -- the strip of that number is of the team
 pub record IsOfTeam (strips : List Strip) (team n : ℕ) : Type 0 where
@@ -148,93 +148,93 @@ pub record IsOfTeam (strips : List Strip) (team n : ℕ) : Type 0 where
   pub of_team : (d : Strip) → (slice_index_or strips n d).team ≡ team
 
 -- in each lane of its team's strips a cell of this box has one mark at most
-abbrev pub StandOnce : List Strip → CellId → Rect → List Lane → Type 0
-StandOnce strips id rect lanes = HaveAtMostOne strips id.own rect (IsOfTeam strips id.team) lanes
+abbrev pub HasOneMark : List Strip → CellId → Rect → List StripMarks → Type 0
+HasOneMark strips id rect lanes = HaveAtMostOne strips id.own rect (IsOfTeam strips id.team) lanes
 
 -- in each lane of a row that the cell's box reaches, the cell has one entry at most
-abbrev pub StandOnceInRow : List Strip → ℕ → CellId → Rect → List Lane → Type 0
-StandOnceInRow strips row id rect lanes = HaveAtMostOne strips id.own rect (IsReachedIn strips row id.team rect) lanes
+abbrev pub HasOneMarkInRow : List Strip → ℕ → CellId → Rect → List StripMarks → Type 0
+HasOneMarkInRow strips row id rect lanes = HaveAtMostOne strips id.own rect (IsReachedIn strips row id.team rect) lanes
 
 -- the same of all these rows
-abbrev pub StandOnceInRows : List Strip → List RowEntry → CellId → Rect → List Lane → Type 0
-StandOnceInRows strips rows id rect lanes = HaveAtMostOne strips id.own rect (IsReached strips rows id.team rect) lanes
+abbrev pub HasOneMarkInRows : List Strip → List RowEntry → CellId → Rect → List StripMarks → Type 0
+HasOneMarkInRows strips rows id rect lanes = HaveAtMostOne strips id.own rect (IsReached strips rows id.team rect) lanes
 
 -- the cell's entries are taken out of the lanes of a row that its box reaches
-abbrev pub PruneInRow : List Strip → ℕ → CellId → Rect → List Lane → List Lane → Type 0
-PruneInRow strips row id rect old new = AreChanged (IsReachedIn strips row id.team rect) (λ n. IsPruned id.own) old new
+abbrev pub PruneInRow : List Strip → ℕ → CellId → Rect → List StripMarks → List StripMarks → Type 0
+PruneInRow strips row id rect old new = AreChanged (IsReachedIn strips row id.team rect) (λ n. IsUnmarked id.own) old new
 
 -- the same of all these rows
-abbrev pub PruneInRows : List Strip → List RowEntry → CellId → Rect → List Lane → List Lane → Type 0
-PruneInRows strips rows id rect old new = AreChanged (IsReached strips rows id.team rect) (λ n. IsPruned id.own) old new
+abbrev pub PruneInRows : List Strip → List RowEntry → CellId → Rect → List StripMarks → List StripMarks → Type 0
+PruneInRows strips rows id rect old new = AreChanged (IsReached strips rows id.team rect) (λ n. IsUnmarked id.own) old new
 
 -- the lanes of a row that the cell's box reaches have room for its parts
-abbrev pub CanTakeInRow : List Strip → ℕ → CellId → Rect → List Lane → Type 0
+abbrev pub CanTakeInRow : List Strip → ℕ → CellId → Rect → List StripMarks → Type 0
 CanTakeInRow strips row id rect lanes = CanTake strips rect (IsReachedIn strips row id.team rect) lanes
 
 -- the same of all these rows
-abbrev pub CanTakeInRows : List Strip → List RowEntry → CellId → Rect → List Lane → Type 0
+abbrev pub CanTakeInRows : List Strip → List RowEntry → CellId → Rect → List StripMarks → Type 0
 CanTakeInRows strips rows id rect lanes = CanTake strips rect (IsReached strips rows id.team rect) lanes
 
 -- the cell's parts are put into the lanes of a row that its box reaches
-abbrev pub PutInRow : List Strip → ℕ → CellId → Rect → List Lane → List Lane → Type 0
+abbrev pub PutInRow : List Strip → ℕ → CellId → Rect → List StripMarks → List StripMarks → Type 0
 PutInRow strips row id rect old new = AreChanged (IsReachedIn strips row id.team rect) (PutsIn strips id.own rect) old new
 
 -- the same of all these rows
-abbrev pub PutInRows : List Strip → List RowEntry → CellId → Rect → List Lane → List Lane → Type 0
+abbrev pub PutInRows : List Strip → List RowEntry → CellId → Rect → List StripMarks → List StripMarks → Type 0
 PutInRows strips rows id rect old new = AreChanged (IsReached strips rows id.team rect) (PutsIn strips id.own rect) old new
 
 -- for how many entries each lane has room
-abbrev pub rooms_in : List Lane → List ℕ
-rooms_in lanes = map (λ l. vec_capacity l.marks) lanes
+abbrev pub capacities_in : List StripMarks → List ℕ
+capacities_in lanes = map (λ l. vec_capacity l.marks) lanes
 
 -- the span lies in the strip of that number, and shares no number with an entry there made wider by the padding, leaving out a cell
 -- of the strip's team
-pub record LiesLeft (strips : List Strip) (lanes : List Shown) (without : CellId) (padding : ℤ) (n : ℕ) (s : Span) : Type 0 where
+pub record IsLeftFree (strips : List Strip) (lanes : List StripView) (without : CellId) (padding : ℤ) (n : ℕ) (s : Span) : Type 0 where
   pub within : n < length strips
-  pub inside : (d : Strip) → LiesIn s (across (slice_index_or strips n d))
-  pub own : (d : Strip) (e : Shown) → (slice_index_or strips n d).team ≡ without.team →
+  pub inside : (d : Strip) → LiesIn s (x_extent (slice_index_or strips n d))
+  pub own : (d : Strip) (e : StripView) → (slice_index_or strips n d).team ≡ without.team →
       IsApart (spans_in (others_in (all_padded padding (slice_index_or lanes n e).entries) without.own)) s
-  pub foreign : (d : Strip) (e : Shown) → (slice_index_or strips n d).team ≢ without.team →
+  pub foreign : (d : Strip) (e : StripView) → (slice_index_or strips n d).team ≢ without.team →
       IsApart (spans_in (all_padded padding (slice_index_or lanes n e).entries)) s
 
 -- a span that holds a number lies in one of the free ones if and only if it lies so in the strip of that number
-pub record AreLeft (strips : List Strip) (lanes : List Shown) (without : CellId) (padding : ℤ) (n : ℕ) (free : List Span) : Type 0 where
+pub record AreFreeSpansOfStrip (strips : List Strip) (lanes : List StripView) (without : CellId) (padding : ℤ) (n : ℕ) (free : List Span) : Type 0 where
   pub rising : IsRising free
-  pub exact : (s : Span) → IsFilled s → (LiesInOne free s ↔ LiesLeft strips lanes without padding n s)
+  pub exact : (s : Span) → IsFilled s → (LiesInOneOf free s ↔ IsLeftFree strips lanes without padding n s)
 
 -- for the box of each of the moves, the strips of the cell's team that it meets have room for so many more entries
-abbrev pub HaveRoomForAll : List Strip → List (CellId × Option Rect) → ℕ → List Lane → Type 0
+abbrev pub HaveRoomForAll : List Strip → List (CellId × Option Rect) → ℕ → List StripMarks → Type 0
 HaveRoomForAll strips moves more lanes = All (λ m. IfSome m.1 (λ rect. HaveRoom (MeetsStrip strips m.0.team rect) more lanes)) moves
 
 -- what an occupancy keeps: what of the frame is looked up, the width of a core site, and the lane of each strip
 pub record Marked : Type 0 where
-  pub index : Lookups
+  pub index : FrameIndexView
   pub site : ℤ
-  pub lanes : List Lane
+  pub lanes : List StripMarks
 
 -- there is a lane for each strip
 pub record HasLanes (m : Marked) : Type 0 where
   pub site : IsSite m.site
-  pub many : length m.lanes ≡ length (felt_strips m.site m.index.strips)
+  pub many : length m.lanes ≡ length (widened_strips m.site m.index.strips)
 
 -- the lanes mark these boxes of all teams' cells in the strips, felt 16 core sites around
-abbrev pub Holds : Marked → List (List (Option Rect)) → Type 0
-Holds m boxes = AreLanes (felt_strips m.site m.index.strips) boxes m.lanes
+abbrev pub MarksBoxes : Marked → List (List (Option Rect)) → Type 0
+MarksBoxes m boxes = ShowAllBoxes (widened_strips m.site m.index.strips) boxes m.lanes
 
 -- what is kept, with the boxes that it marks
-abbrev pub filled_by : Marked → List (List (Option Rect)) → Occupied
-filled_by m boxes = record { index = m.index; site = m.site; boxes = boxes; rooms = rooms_in m.lanes }
+abbrev pub with_boxes : Marked → List (List (Option Rect)) → Occupied
+with_boxes m boxes = record { index = m.index; site = m.site; boxes = boxes; rooms = capacities_in m.lanes }
 
 -- there are boxes that the lanes mark, where the cell stands nowhere or has this box
 pub record CanLeave (m : Marked) (id : CellId) (rect : Rect) : Type 0 where
   pub boxes : List (List (Option Rect))
-  pub holds : Holds m boxes
+  pub holds : MarksBoxes m boxes
   pub is : IsAt boxes id rect
 
 -- there are boxes that the lanes mark, where the cell stands nowhere, and each strip of its team that, felt around, shares a point with
 -- the rectangle has room for one more
 pub record CanEnter (m : Marked) (id : CellId) (rect : Rect) : Type 0 where
   pub boxes : List (List (Option Rect))
-  pub holds : Holds m boxes
-  pub nowhere : IsNowhere boxes id
-  pub room : HasRoomFor (filled_by m boxes) id.team rect 1
+  pub holds : MarksBoxes m boxes
+  pub nowhere : HasNoBox boxes id
+  pub room : HasRoomFor (with_boxes m boxes) id.team rect 1

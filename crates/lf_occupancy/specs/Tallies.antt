@@ -1,17 +1,17 @@
 -- The steps of counting a cell's box elsewhere; no public clause cites it.
 use Rattle.std.specs.Prelude.{◌≡◌, ◌≢◌, ℕ, ◌+◌, ◌<◌, ◌≤◌, List, [], ◌∷◌, length, Option, Some, slice_index_or}
 use Rattle.std.specs.Int.{int_max, int_min}
-use Rattle.lf_units.specs.declared.area.Rect.{Rect}
+use Rattle.lf_units.specs.declared.geometry.Rect.{Rect}
 use Rattle.lf_segments.specs.declared.strip.Strip.{Strip}
-use Rattle.lf_occupancy.specs.Lanes.{IsWhole, part_in}
-use Rattle.lf_occupancy.specs.declared.tally.Shift.{Shift}
+use Rattle.lf_occupancy.specs.Lanes.{HasPoints, part_in}
+use Rattle.lf_occupancy.specs.declared.strip_counts.BoxChange.{BoxChange}
 use Rattle.lf_occupancy.specs.Occupied.{count_in}
 
 -- one less, unless it is none already, where the rectangle shares a point with the area; else the same
 pub record IsLess (area rect : Rect) (old new : ℕ) : Type 0 where
   pub most : new ≤ old
   pub least : old ≤ new + 1
-  pub same : (IsWhole (part_in area rect) → ⊥) → new ≡ old
+  pub same : (HasPoints (part_in area rect) → ⊥) → new ≡ old
 
 -- the same of the strip of that number
 abbrev pub IsLessAt : List Strip → Rect → ℕ → ℕ → ℕ → Type 0
@@ -37,12 +37,12 @@ pub record IsHigher (strips : List Strip) (team : ℕ) (to : Option Rect) (old n
       (slice_index_or old n 0 + count_in (slice_index_or strips n d) (to ∷ [])) ≤ slice_index_or new n 0
 
 -- these are the boxes that are counted in place of one another
-pub record IsShiftOf (from to : Option Rect) (shift : Shift) : Type 0 where
+pub record IsShiftOf (from to : Option Rect) (shift : BoxChange) : Type 0 where
   pub from_is : from ≡ Some shift.from
   pub to_is : to ≡ Some shift.to
 
 -- the rectangle that holds both boxes
-abbrev pub hull_in : Shift → Rect
+abbrev pub hull_in : BoxChange → Rect
 hull_in s = record {
   x1 = int_min s.from.x1 s.to.x1;
   y1 = int_min s.from.y1 s.to.y1;
@@ -51,19 +51,19 @@ hull_in s = record {
 }
 
 -- one less at most, and only where the first box shares a point with the area and the other does not; one more where only the other does
-pub record IsShifted (area : Rect) (shift : Shift) (old new : ℕ) : Type 0 where
+pub record IsShifted (area : Rect) (shift : BoxChange) (old new : ℕ) : Type 0 where
   pub least : old ≤ new + 1
-  pub goes : IsWhole (part_in area shift.to) → old ≤ new
-  pub stays : (IsWhole (part_in area shift.from) → ⊥) → old ≤ new
-  pub more : (IsWhole (part_in area shift.from) → ⊥) → IsWhole (part_in area shift.to) → old + 1 ≤ new
+  pub goes : HasPoints (part_in area shift.to) → old ≤ new
+  pub stays : (HasPoints (part_in area shift.from) → ⊥) → old ≤ new
+  pub more : (HasPoints (part_in area shift.from) → ⊥) → HasPoints (part_in area shift.to) → old + 1 ≤ new
 
 -- the same of the strip of that number
-abbrev pub IsShiftedAt : List Strip → Shift → ℕ → ℕ → ℕ → Type 0
+abbrev pub IsShiftedAt : List Strip → BoxChange → ℕ → ℕ → ℕ → Type 0
 IsShiftedAt strips shift n old new = (d : Strip) → IsShifted (slice_index_or strips n d).area shift old new
 
 -- strips of the team that share a point with the new box alone count one more, and at most those that do with the old one alone one less;
 -- those of other teams count the same
-pub record AreShifted (strips : List Strip) (team : ℕ) (shift : Shift) (old new : List ℕ) : Type 0 where
+pub record AreShifted (strips : List Strip) (team : ℕ) (shift : BoxChange) (old new : List ℕ) : Type 0 where
   pub many : length new ≡ length old
   pub own : (n : ℕ) (d : Strip) → n < length strips → (slice_index_or strips n d).team ≡ team →
       (slice_index_or old n 0 + count_in (slice_index_or strips n d) (Some shift.to ∷ [])) ≤

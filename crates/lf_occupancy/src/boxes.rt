@@ -8,7 +8,7 @@ ghost use Rattle.lf_occupancy.specs.Occupied.{cell_box};
 
 use lf_cells::{CellId, CellTable};
 use lf_floorplan::Frame;
-use lf_rules::solid_box;
+use lf_rules::box_with_points;
 use lf_units::Rect;
 use std::marker::Model;
 
@@ -22,7 +22,7 @@ pub(crate) struct Boxes<'a> {
 
 impl<'a> Model for Boxes<'a> {
     ghost use Rattle.std.specs.Prelude.{List, Option};
-    ghost use Rattle.lf_units.specs.declared.area.Rect.{Rect};
+    ghost use Rattle.lf_units.specs.declared.geometry.Rect.{Rect};
     ghost use Rattle.lf_occupancy.specs.Floorplans.{HaveSize, boxes_in};
 
     ghost Value = { List (List (Option Rect)) };
@@ -39,10 +39,10 @@ fn box_in_table(frame: &Frame, cells: &CellTable, id: CellId) -> Option<Rect>
     ensures is { result ≡ option_and_then (box_of frame.now) (cell_at cells.now id) }
     ensures edge { IfSome result (λ rect. IsPlaceX rect.x1) }
 {
-    let standing = cells.standing(id)?;
+    let standing = cells.placement_of(id)?;
     let place = standing.working?;
     let mac = &frame.macros.as_slice()[standing.mac];
-    Some(solid_box(frame, mac, &place))
+    Some(box_with_points(frame, mac, &place))
 }
 
 /// The same, as one of the boxes of all teams' cells.

@@ -1,19 +1,19 @@
 //! How an occupancy is built.
 
 ghost use Rattle.std.specs.Prelude.{◌≡◌, ◌+◌, ◌%◌, ◌<◌, ◌≤◌, [], All, IfOk, IsPermutation, List, OnOk, Option, drop, length, map, slice_index_or, take};
-ghost use Rattle.lf_occupancy.specs.Building.{AreBare, AreFilledIn, IsBefore, id_at};
+ghost use Rattle.lf_occupancy.specs.Building.{HaveNoMarks, AreFilledIn, IsBefore, id_at};
 ghost use Rattle.lf_occupancy.specs.Floorplans.{HaveSize, boxes_in};
-ghost use Rattle.lf_units.specs.declared.area.Rect.{Rect};
+ghost use Rattle.lf_units.specs.declared.geometry.Rect.{Rect};
 ghost use Rattle.lf_occupancy.specs.Lanes.{AreRising};
 ghost use Rattle.lf_occupancy.specs.Occupied.{cell_box};
-ghost use Rattle.lf_occupancy.specs.Strips.{AreLanes, IsNowhere, boxes_set, felt_strips};
+ghost use Rattle.lf_occupancy.specs.Strips.{ShowAllBoxes, HasNoBox, boxes_set, widened_strips};
 
 use crate::boxes::box_at_work;
-use crate::change::settle;
-use crate::lane::Lane;
+use crate::marking::reserve_and_mark;
+use crate::strip_marks::StripMarks;
 use lf_cells::{CellId, CellTable};
 use lf_floorplan::Frame;
-use lf_segments::Ground;
+use lf_segments::FrameIndex;
 use lf_units::Rect;
 use std::alloc::{AllocError, Global};
 
@@ -22,12 +22,12 @@ use std::alloc::{AllocError, Global};
 const PART: usize = 65_536;
 
 /// This many empty lanes.
-fn bare_lanes(alloc: Global, count: usize) -> Result<Vec<Lane>, AllocError>
-    ensures { IfOk result (λ lanes. AreBare count lanes.items) }
+fn empty_marks(alloc: Global, count: usize) -> Result<Vec<StripMarks>, AllocError>
+    ensures { IfOk result (λ lanes. HaveNoMarks count lanes.items) }
 {
     let mut lanes = Vec::with_capacity(alloc, count)?;
     for _ in 0..count {
-        lanes.push(Lane {
+        lanes.push(StripMarks {
             marks: Vec::new(alloc),
             widest: 0,
         })?;
@@ -111,23 +111,23 @@ fn id_waiting(ids: &[CellId], waiting: u64) -> CellId
 
 /// Marks a cell, which is not yet marked, at its working place, if it has one.
 fn mark_cell(
-    lanes: &mut Vec<Lane>,
-    index: &Ground,
+    lanes: &mut Vec<StripMarks>,
+    index: &FrameIndex,
     frame: &Frame,
     cells: &CellTable,
     id: &CellId,
 ) -> Result<(), AllocError>
     requires sized { HaveSize frame.now cells.now }
-    requires many { length lanes.old.items ≡ length (felt_strips frame.now.pitch.x index.now.strips) }
+    requires many { length lanes.old.items ≡ length (widened_strips frame.now.pitch.x index.now.strips) }
     requires rising { All (λ l. AreRising l.marks.items) lanes.old.items }
-    ensures { (boxes : List (List (Option Rect))) → IsNowhere boxes id.now → AreLanes (felt_strips frame.now.pitch.x index.now.strips) boxes lanes.old.items
-        → OnOk result (AreLanes (felt_strips frame.now.pitch.x index.now.strips)
+    ensures { (boxes : List (List (Option Rect))) → HasNoBox boxes id.now → ShowAllBoxes (widened_strips frame.now.pitch.x index.now.strips) boxes lanes.old.items
+        → OnOk result (ShowAllBoxes (widened_strips frame.now.pitch.x index.now.strips)
         (boxes_set boxes id.now (cell_box (slice_index_or (boxes_in frame.now cells.now) id.now.team []) id.now.own)) lanes.new.items) }
 {
     let Some(rect) = box_at_work(frame, cells, id) else {
         return Ok(());
     };
-    settle(lanes, index, &frame.pitch.x, id, &rect)
+    reserve_and_mark(lanes, index, &frame.pitch.x, id, &rect)
 }
 
 /// As many of these ids, from that position on, as are put in order at a time; fewer at their end.
@@ -143,16 +143,16 @@ fn part_of(ids: &[CellId], from: usize) -> &[CellId]
 /// marked. The order matters for speed alone.
 fn fill_in(
     alloc: Global,
-    lanes: &mut Vec<Lane>,
-    index: &Ground,
+    lanes: &mut Vec<StripMarks>,
+    index: &FrameIndex,
     frame: &Frame,
     cells: &CellTable,
     team: usize,
     from: usize,
 ) -> Result<(), AllocError>
     requires sized { HaveSize frame.now cells.now }
-    requires before { AreFilledIn frame.now cells.now (felt_strips frame.now.pitch.x index.now.strips) (IsBefore team from) lanes.old.items }
-    ensures { OnOk result (AreFilledIn frame.now cells.now (felt_strips frame.now.pitch.x index.now.strips) (IsBefore team (from + 65536)) lanes.new.items) }
+    requires before { AreFilledIn frame.now cells.now (widened_strips frame.now.pitch.x index.now.strips) (IsBefore team from) lanes.old.items }
+    ensures { OnOk result (AreFilledIn frame.now cells.now (widened_strips frame.now.pitch.x index.now.strips) (IsBefore team (from + 65536)) lanes.new.items) }
 {
     let ids = part_of(cells.cells_of(team), from);
     let order = by_place(alloc, cells, ids)?;
@@ -165,15 +165,15 @@ fn fill_in(
 /// Marks the cells of the team; those of the teams before are marked.
 fn fill_team(
     alloc: Global,
-    lanes: &mut Vec<Lane>,
-    index: &Ground,
+    lanes: &mut Vec<StripMarks>,
+    index: &FrameIndex,
     frame: &Frame,
     cells: &CellTable,
     team: usize,
 ) -> Result<(), AllocError>
     requires sized { HaveSize frame.now cells.now }
-    requires before { AreFilledIn frame.now cells.now (felt_strips frame.now.pitch.x index.now.strips) (IsBefore team 0) lanes.old.items }
-    ensures { OnOk result (AreFilledIn frame.now cells.now (felt_strips frame.now.pitch.x index.now.strips) (IsBefore (team + 1) 0) lanes.new.items) }
+    requires before { AreFilledIn frame.now cells.now (widened_strips frame.now.pitch.x index.now.strips) (IsBefore team 0) lanes.old.items }
+    ensures { OnOk result (AreFilledIn frame.now cells.now (widened_strips frame.now.pitch.x index.now.strips) (IsBefore (team + 1) 0) lanes.new.items) }
 {
     for part in 0..cells.cells_of(team).len() / PART + 1 {
         fill_in(alloc, lanes, index, frame, cells, team, part * PART)?;
@@ -183,7 +183,7 @@ fn fill_team(
 
 /// A number above that of each of these cells' teams. It is asked of the cells, since no contract says how
 /// many teams a table has.
-pub fn teams_of(ids: &[CellId]) -> usize
+pub fn team_count(ids: &[CellId]) -> usize
     ensures { All (λ id. id.team < result) ids.now }
 {
     let mut teams = 0;
@@ -194,17 +194,17 @@ pub fn teams_of(ids: &[CellId]) -> usize
 }
 
 /// The lanes of the strips, felt around, which mark the cells at their working places.
-pub(crate) fn lanes_of(
+pub(crate) fn marks_of_strips(
     alloc: Global,
-    index: &Ground,
+    index: &FrameIndex,
     frame: &Frame,
     cells: &CellTable,
-) -> Result<Vec<Lane>, AllocError>
+) -> Result<Vec<StripMarks>, AllocError>
     requires { HaveSize frame.now cells.now }
-    ensures { IfOk result (λ lanes. AreLanes (felt_strips frame.now.pitch.x index.now.strips) (boxes_in frame.now cells.now) lanes.items) }
+    ensures { IfOk result (λ lanes. ShowAllBoxes (widened_strips frame.now.pitch.x index.now.strips) (boxes_in frame.now cells.now) lanes.items) }
 {
-    let mut lanes = bare_lanes(alloc, index.strips().len())?;
-    for team in 0..teams_of(cells.all()) {
+    let mut lanes = empty_marks(alloc, index.strips().len())?;
+    for team in 0..team_count(cells.cell_ids()) {
         fill_team(alloc, &mut lanes, index, frame, cells, team)?;
     }
     Ok(lanes)

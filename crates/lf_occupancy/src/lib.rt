@@ -6,35 +6,35 @@
 //!
 //! Contracts see of an `Occupancy` what of the frame is looked up, the width of a core site in database units, and the marks of
 //! each strip; they say which boxes of all teams' cells the strips hold (`Holds`). The boxes follow from the places and macros of
-//! the cells; `filled` brings both together as a `Filled`, of which contracts see the look-ups, the width of a core site, the boxes
+//! the cells; `with_boxes` brings both together as a `OccupancyView`, of which contracts see the look-ups, the width of a core site, the boxes
 //! of each team, and for each strip how many boxes it has room for.
 //!
-//! A `Tally` counts boxes for each strip, as they would be if some cells were elsewhere. With `fit` there is room for these, where no
+//! A `StripCounts` counts boxes for each strip, as they would be if some cells were elsewhere. With `reserve_counted` there is room for these, where no
 //! cell is moved.
 //!
 //! Lists of free spans rise: each span holds a number, and ends no later than the next ones begin.
 //!
 //! ```
 //! let occupancy = Occupancy::build(alloc, &frame, index, &cells)?;
-//! let filled = occupancy.filled(&frame, &cells);
+//! let filled = occupancy.with_boxes(&frame, &cells);
 //! let free = filled.free_in_row(alloc, row, id, &window, padding)?;
 //! ```
 #![tactic(auto)]
 
 mod boxes;
 mod build;
-mod change;
-mod felt;
-mod filled;
-mod find;
-mod lane;
+mod free_spans;
 mod laws;
+mod marking;
 mod occupancy;
-mod tally;
-mod walk;
+mod occupancy_view;
+mod queries;
+mod strip_counts;
+mod strip_marks;
+mod widened;
 
-pub use build::teams_of;
-pub use filled::Filled;
-pub use laws::{strips_cover, strips_feel};
+pub use build::team_count;
+pub use laws::{strips_cover, widened_strips_cover};
 pub use occupancy::Occupancy;
-pub use tally::Tally;
+pub use occupancy_view::OccupancyView;
+pub use strip_counts::StripCounts;

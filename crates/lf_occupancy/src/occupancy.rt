@@ -2,22 +2,22 @@
 
 ghost use Rattle.std.specs.Prelude.{◌≡◌, ◌≢◌, ◌≤ℤ◌, ◌*ℤ◌, [], All, IfOk, IfSome, List, None, OnOk, Option, Some, length, map, pos, slice_index_or, slice_set, ℕ};
 ghost use Rattle.std.specs.Vec.{vec_len};
-ghost use Rattle.lf_units.specs.declared.area.Rect.{Rect};
-ghost use Rattle.lf_segments.specs.Grounds.{IsGroundOf};
+ghost use Rattle.lf_units.specs.declared.geometry.Rect.{Rect};
+ghost use Rattle.lf_segments.specs.Grounds.{IsIndexOf};
 ghost use Rattle.lf_occupancy.specs.Floorplans.{HaveSize, IsMarkedBy, boxes_in};
 ghost use Rattle.lf_occupancy.specs.Lanes.{IsPlaceX};
-ghost use Rattle.lf_occupancy.specs.Occupied.{AreFreeSpans, Bounds, FitIn, HasRoomFor, IsPaddingOf, NoLess, cell_box};
-ghost use Rattle.lf_occupancy.specs.Strips.{CanEnter, CanLeave, Holds, IsAt, IsNowhere, boxes_set, filled_by, rooms_in};
+ghost use Rattle.lf_occupancy.specs.Occupied.{AreFreeSpans, Bounds, FitIn, HasRoomFor, IsPaddingOf, KeepsCapacities, cell_box};
+ghost use Rattle.lf_occupancy.specs.Strips.{CanEnter, CanLeave, MarksBoxes, IsAt, HasNoBox, boxes_set, with_boxes, capacities_in};
 
 use crate::boxes::Boxes;
-use crate::build::lanes_of;
-use crate::change::{reserve_moves, take_in, take_out};
-use crate::filled::Filled;
-use crate::lane::Lane;
-use crate::tally::{Tally, lower, marks_of, near_shift, raise, shift_rows};
+use crate::build::marks_of_strips;
+use crate::marking::{reserve_moves, take_in, take_out};
+use crate::occupancy_view::OccupancyView;
+use crate::strip_counts::{StripCounts, lower, marks_of, near_shift, raise, shift_rows};
+use crate::strip_marks::StripMarks;
 use lf_cells::{CellId, CellTable};
 use lf_floorplan::Frame;
-use lf_segments::Ground;
+use lf_segments::FrameIndex;
 use lf_units::{Rect, Span};
 use std::alloc::{AllocError, Global};
 use std::marker::Model;
@@ -27,12 +27,12 @@ use std::marker::Model;
 /// team's boxes have a part in it, in the order of the parts' left edges. So what lies near enough to a
 /// strip for some padding is known there.
 ///
-/// The boxes follow from frame and cells, and are computed where they are asked for (`filled`). A contract
+/// The boxes follow from frame and cells, and are computed where they are asked for (`with_boxes`). A contract
 /// sees what is kept, and says which boxes the strips hold.
 pub struct Occupancy {
-    pub(crate) index: Ground,
+    pub(crate) index: FrameIndex,
     pub(crate) site: i64,
-    pub(crate) lanes: Vec<Lane>,
+    pub(crate) lanes: Vec<StripMarks>,
 }
 
 /// (Written out: the proof of a function that lets one go does not take it apart.)
@@ -63,14 +63,14 @@ impl Occupancy {
     pub fn build(
         alloc: Global,
         frame: &Frame,
-        index: Ground,
+        index: FrameIndex,
         cells: &CellTable,
     ) -> Result<Self, AllocError>
-        requires index { IsGroundOf frame.now index }
+        requires index { IsIndexOf frame.now index }
         requires sized { HaveSize frame.now cells.now }
         ensures { IfOk result (λ occupancy. IsMarkedBy frame.now cells.now occupancy) }
     {
-        let lanes = lanes_of(alloc, &index, frame, cells)?;
+        let lanes = marks_of_strips(alloc, &index, frame, cells)?;
         Ok(Occupancy {
             index,
             site: frame.pitch.x,
@@ -79,14 +79,14 @@ impl Occupancy {
     }
 
     /// What of the frame is looked up.
-    pub fn index(&self) -> &Ground
+    pub fn index(&self) -> &FrameIndex
         ensures { result.now ≡ self.now.index }
     {
         &self.index
     }
 
     /// The greatest padding as a length, in database units: 16 core sites.
-    pub fn reach(&self) -> i64
+    pub fn max_padding(&self) -> i64
         ensures is { result ≡ pos 16 *ℤ self.now.site }
         ensures least { pos 0 ≤ℤ result }
     {
@@ -95,12 +95,12 @@ impl Occupancy {
 
     /// The strips with the boxes of the table's cells at their working places, which are those that the
     /// strips hold. The macros of the cells are the frame's, of whole size.
-    pub fn filled<'a>(&'a self, frame: &'a Frame, cells: &'a CellTable) -> Filled<'a>
+    pub fn with_boxes<'a>(&'a self, frame: &'a Frame, cells: &'a CellTable) -> OccupancyView<'a>
         requires sized { HaveSize frame.now cells.now }
-        requires holds { Holds self.now (boxes_in frame.now cells.now) }
-        ensures { result ≡ filled_by self.now (boxes_in frame.now cells.now) }
+        requires holds { MarksBoxes self.now (boxes_in frame.now cells.now) }
+        ensures { result ≡ with_boxes self.now (boxes_in frame.now cells.now) }
     {
-        Filled::new(self, Boxes::new(frame, cells))
+        OccupancyView::new(self, Boxes::new(frame, cells))
     }
 
     /// The free spans of one strip, that of the segment of that number, in database units: what the
@@ -119,11 +119,11 @@ impl Occupancy {
         padding: i64,
     ) -> Result<Vec<Span>, AllocError>
         requires sized { HaveSize frame.now cells.now }
-        requires holds { Holds self.now (boxes_in frame.now cells.now) }
-        requires padding { IsPaddingOf (filled_by self.now (boxes_in frame.now cells.now)) padding }
-        ensures { IfOk result (λ free. AreFreeSpans (filled_by self.now (boxes_in frame.now cells.now)) segment without padding free.items) }
+        requires holds { MarksBoxes self.now (boxes_in frame.now cells.now) }
+        requires padding { IsPaddingOf (with_boxes self.now (boxes_in frame.now cells.now)) padding }
+        ensures { IfOk result (λ free. AreFreeSpans (with_boxes self.now (boxes_in frame.now cells.now)) segment without padding free.items) }
     {
-        self.filled(frame, cells)
+        self.with_boxes(frame, cells)
             .free_spans(alloc, segment, without, padding)
     }
 
@@ -132,10 +132,10 @@ impl Occupancy {
     /// keeps the room that it has.
     pub fn remove(&mut self, id: CellId, rect: &Rect)
         requires { CanLeave self.old id rect.now }
-        ensures holds { (boxes : List (List (Option Rect))) → IsAt boxes id rect.now → Holds self.old boxes → Holds self.new (boxes_set boxes id None) }
+        ensures holds { (boxes : List (List (Option Rect))) → IsAt boxes id rect.now → MarksBoxes self.old boxes → MarksBoxes self.new (boxes_set boxes id None) }
         ensures index { self.new.index ≡ self.old.index }
         ensures site { self.new.site ≡ self.old.site }
-        ensures rooms { rooms_in self.new.lanes ≡ rooms_in self.old.lanes }
+        ensures rooms { capacities_in self.new.lanes ≡ capacities_in self.old.lanes }
     {
         take_out(&mut self.lanes, &self.index, &self.site, &id, rect);
     }
@@ -147,11 +147,11 @@ impl Occupancy {
     pub fn insert(&mut self, id: CellId, rect: &Rect)
         requires edge { IsPlaceX rect.now.x1 }
         requires enter { CanEnter self.old id rect.now }
-        ensures holds { (boxes : List (List (Option Rect))) → IsNowhere boxes id → Holds self.old boxes
-            → Holds self.new (boxes_set boxes id (Some rect.now)) }
+        ensures holds { (boxes : List (List (Option Rect))) → HasNoBox boxes id → MarksBoxes self.old boxes
+            → MarksBoxes self.new (boxes_set boxes id (Some rect.now)) }
         ensures index { self.new.index ≡ self.old.index }
         ensures site { self.new.site ≡ self.old.site }
-        ensures rooms { rooms_in self.new.lanes ≡ rooms_in self.old.lanes }
+        ensures rooms { capacities_in self.new.lanes ≡ capacities_in self.old.lanes }
     {
         take_in(&mut self.lanes, &self.index, &self.site, &id, rect);
     }
@@ -162,27 +162,27 @@ impl Occupancy {
     /// with its box. The strips hold the same boxes, and none has less room. `Err` if an allocation fails:
     /// then strips may have gained room, and nothing else is changed.
     pub fn reserve_for(&mut self, moves: &[(CellId, Option<Rect>)]) -> Result<(), AllocError>
-        ensures ok { (boxes : List (List (Option Rect))) → Holds self.old boxes
-            → OnOk result (All (λ m. IfSome m.1 (λ rect. HasRoomFor (filled_by self.new boxes) m.0.team rect (length moves.now))) moves.now) }
-        ensures holds { (boxes : List (List (Option Rect))) → Holds self.old boxes → Holds self.new boxes }
+        ensures ok { (boxes : List (List (Option Rect))) → MarksBoxes self.old boxes
+            → OnOk result (All (λ m. IfSome m.1 (λ rect. HasRoomFor (with_boxes self.new boxes) m.0.team rect (length moves.now))) moves.now) }
+        ensures holds { (boxes : List (List (Option Rect))) → MarksBoxes self.old boxes → MarksBoxes self.new boxes }
         ensures index { self.new.index ≡ self.old.index }
         ensures site { self.new.site ≡ self.old.site }
-        ensures rooms { NoLess (rooms_in self.old.lanes) (rooms_in self.new.lanes) }
+        ensures rooms { KeepsCapacities (capacities_in self.old.lanes) (capacities_in self.new.lanes) }
     {
         reserve_moves(&mut self.lanes, &self.index, &self.site, moves)
     }
 
-    /// How many boxes each strip holds. With `fit` the tally of the boxes that stand becomes that of others.
+    /// How many boxes each strip holds. With `reserve_counted` the tally of the boxes that stand becomes that of others.
     ///
     /// `Err` if an allocation fails.
-    pub fn tally(&self, alloc: Global) -> Result<Tally, AllocError>
+    pub fn strip_counts(&self, alloc: Global) -> Result<StripCounts, AllocError>
         ensures is { IfOk result (λ tally. tally ≡ map (λ l. vec_len l.marks) self.now.lanes) }
-        ensures room { IfOk result (λ tally. NoLess tally (rooms_in self.now.lanes)) }
-        ensures bounds { (boxes : List (List (Option Rect))) → (team : ℕ) → Holds self.now boxes
-            → IfOk result (λ tally. Bounds (filled_by self.now boxes) team (slice_index_or boxes team []) tally) }
+        ensures room { IfOk result (λ tally. KeepsCapacities tally (capacities_in self.now.lanes)) }
+        ensures bounds { (boxes : List (List (Option Rect))) → (team : ℕ) → MarksBoxes self.now boxes
+            → IfOk result (λ tally. Bounds (with_boxes self.now boxes) team (slice_index_or boxes team []) tally) }
     {
         let counts = marks_of(alloc, self.lanes.as_slice())?;
-        Ok(Tally { counts })
+        Ok(StripCounts { counts })
     }
 
     /// Counts a box of the team in place of another: if the tally bounds boxes of the team of which one is
@@ -190,23 +190,23 @@ impl Occupancy {
     /// has then room for what is counted; none has less room, and the strips hold the same boxes.
     ///
     /// `Err` if an allocation fails: then the tally counts something else, and strips may have gained room.
-    pub fn fit(
+    pub fn reserve_counted(
         &mut self,
-        tally: &mut Tally,
+        tally: &mut StripCounts,
         team: usize,
         from: &Option<Rect>,
         to: &Option<Rect>,
     ) -> Result<(), AllocError>
-        requires { NoLess tally.old (rooms_in self.old.lanes) }
-        ensures room { OnOk result (NoLess tally.new (rooms_in self.new.lanes)) }
-        ensures own { (boxes : List (Option Rect)) → (own : ℕ) → cell_box boxes own ≡ from.now → Bounds (filled_by self.old []) team boxes tally.old
-            → OnOk result (Bounds (filled_by self.new []) team (slice_set boxes own to.now) tally.new) }
-        ensures others { (boxes : List (Option Rect)) → (other : ℕ) → other ≢ team → Bounds (filled_by self.old []) other boxes tally.old
-            → OnOk result (Bounds (filled_by self.new []) other boxes tally.new) }
-        ensures holds { (boxes : List (List (Option Rect))) → Holds self.old boxes → Holds self.new boxes }
+        requires { KeepsCapacities tally.old (capacities_in self.old.lanes) }
+        ensures room { OnOk result (KeepsCapacities tally.new (capacities_in self.new.lanes)) }
+        ensures own { (boxes : List (Option Rect)) → (own : ℕ) → cell_box boxes own ≡ from.now → Bounds (with_boxes self.old []) team boxes tally.old
+            → OnOk result (Bounds (with_boxes self.new []) team (slice_set boxes own to.now) tally.new) }
+        ensures others { (boxes : List (Option Rect)) → (other : ℕ) → other ≢ team → Bounds (with_boxes self.old []) other boxes tally.old
+            → OnOk result (Bounds (with_boxes self.new []) other boxes tally.new) }
+        ensures holds { (boxes : List (List (Option Rect))) → MarksBoxes self.old boxes → MarksBoxes self.new boxes }
         ensures index { self.new.index ≡ self.old.index }
         ensures site { self.new.site ≡ self.old.site }
-        ensures rooms { NoLess (rooms_in self.old.lanes) (rooms_in self.new.lanes) }
+        ensures rooms { KeepsCapacities (capacities_in self.old.lanes) (capacities_in self.new.lanes) }
     {
         if let Some(shift) = near_shift(from, to) {
             return shift_rows(
@@ -232,7 +232,7 @@ impl Occupancy {
     /// A law: the boxes that the strips hold fit, that is, each strip has room for as many of its team's
     /// boxes as share a point with it, made wider by 16 core sites on its left and right.
     pub fn boxes_fit(&self)
-        ensures { (boxes : List (List (Option Rect))) → Holds self.now boxes → (team : ℕ) → FitIn (filled_by self.now boxes) team (slice_index_or boxes team []) }
+        ensures { (boxes : List (List (Option Rect))) → MarksBoxes self.now boxes → (team : ℕ) → FitIn (with_boxes self.now boxes) team (slice_index_or boxes team []) }
     {
         let _ = &self.lanes;
     }

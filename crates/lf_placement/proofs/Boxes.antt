@@ -3,18 +3,18 @@ use Rattle.std.proofs.Common.{◌≡◌, ◌≢◌, ◌⊎◌, inl, inr, ⊎_eli
 use Rattle.std.specs.Prelude.{slice_get, option_map}
 use Rattle.std.proofs.lemmas.Bool.{cases_eq}
 use Rattle.std.proofs.lemmas.List.{get_or-set_other, length-set}
-use Rattle.lf_units.specs.declared.area.Rect.{Rect}
+use Rattle.lf_units.specs.declared.geometry.Rect.{Rect}
 use Rattle.lf_floorplan.specs.declared.frame.Frame.{Frame}
 use Rattle.lf_cells.specs.declared.cell.Cell.{Cell}
 use Rattle.lf_cells.specs.declared.cell.CellId.{CellId}
 use Rattle.lf_cells.specs.Cells.{Cells, id_in, id_of, working_at}
-use Rattle.lf_segments.specs.Grounds.{Lookups}
-use Rattle.lf_occupancy.specs.Occupied.{FitIn, HasRoomFor, Occupied, box_at, boxes_of, boxes_with, cell_box, felt, reach}
+use Rattle.lf_segments.specs.Grounds.{FrameIndexView}
+use Rattle.lf_occupancy.specs.Occupied.{FitIn, HasRoomFor, Occupied, box_at, boxes_of, boxes_with, cell_box, widened, reach}
 use Rattle.lf_occupancy.specs.Strips.{HasCell}
 use Rattle.lf_occupancy.specs.Floorplans.{box_of}
 use Rattle.lf_occupancy.proofs.Counting.{part_leaves_room}
 use Rattle.lf_undo.specs.declared.moves.Move.{Move}
-use Rattle.lf_placement.specs.Steps.{IsOut, KeepsStrips, MayStand, OthersStand, TakesOut, box_moved, owns, working_boxes}
+use Rattle.lf_placement.specs.Steps.{IsRemovedOrUnchanged, KeepsStrips, BoxesMayBeInserted, OthersAreInserted, RemovesFirst, box_moved, moved_positions, working_boxes}
 use Rattle.lf_placement.proofs.Moves.{id_there}
 
 abbrev Boxes : Type 0
@@ -129,15 +129,15 @@ none_put team own cells x o many none =
 -- ---- cells are taken out, one after the other
 
 pub out_next : (team : ℕ) (named : List ℕ) (n own : ℕ) (a b c : Occupied) → own ≡ get_or named n 0
-    → boxes_of c team ≡ set (boxes_of b team) own None → KeepsStrips team b c → TakesOut team named n a b → TakesOut team named (n + 1) a c
+    → boxes_of c team ≡ set (boxes_of b team) own None → KeepsStrips team b c → RemovesFirst team named n a b → RemovesFirst team named (n + 1) a c
 out_next team named n own a b c is put kept out = record { each = each; rest = keeps_through team a b c out.rest kept } where
-  same_at : (k : ℕ) → k ≡ own → IsOut named (n + 1) (boxes_of a team) (boxes_of c team) k
+  same_at : (k : ℕ) → k ≡ own → IsRemovedOrUnchanged named (n + 1) (boxes_of a team) (boxes_of c team) k
   same_at k same = inl (
     λ never. never n (omega arith) (sym is ∙ sym same),
     rw (put, same) (none_here (boxes_of b team) own),
   )
 
-  step : (k : ℕ) → k ≢ own → IsOut named n (boxes_of a team) (boxes_of b team) k → IsOut named (n + 1) (boxes_of a team) (boxes_of c team) k
+  step : (k : ℕ) → k ≢ own → IsRemovedOrUnchanged named n (boxes_of a team) (boxes_of b team) k → IsRemovedOrUnchanged named (n + 1) (boxes_of a team) (boxes_of c team) k
   step k differ (inl (was, none)) = inl (
     λ never. was (λ i less. never i (omega (arith, less))),
     rw put (there_still (boxes_of b team) own k None differ ∙ none),
@@ -147,7 +147,7 @@ out_next team named n own a b c is put kept out = record { each = each; rest = k
     rw put (there_still (boxes_of b team) own k None differ ∙ as_before),
   )
 
-  each : (k : ℕ) → IsOut named (n + 1) (boxes_of a team) (boxes_of c team) k
+  each : (k : ℕ) → IsRemovedOrUnchanged named (n + 1) (boxes_of a team) (boxes_of c team) k
   each k = ⊎_elim (λ (same : k ≡ own). same_at k same) (λ (differ : k ≢ own). step k differ (out.each k)) (cases_eq k own)
 
 -- ---- cells are put where they are to stand, one after the other
@@ -155,11 +155,11 @@ out_next team named n own a b c is put kept out = record { each = each; rest = k
 pub fits_still : (team : ℕ) (boxes : Boxes) (a b : Occupied) → a.index ≡ b.index → a.site ≡ b.site → a.rooms ≡ b.rooms → FitIn b team boxes
     → FitIn a team boxes
 fits_still team boxes a b index site rooms fits =
-    λ n g there of_team. rw (rooms, site) (fits n g (subst (λ (looked : Lookups). slice_get looked.strips n ≡ Some g) index there) of_team)
+    λ n g there of_team. rw (rooms, site) (fits n g (subst (λ (looked : FrameIndexView). slice_get looked.strips n ≡ Some g) index there) of_team)
 
 -- a cell is out
 pub may_without : (team own : ℕ) (boxes : Boxes) (a b : Occupied) → boxes_of b team ≡ set (boxes_of a team) own None → KeepsStrips team a b
-    → MayStand team boxes a → MayStand team boxes b
+    → BoxesMayBeInserted team boxes a → BoxesMayBeInserted team boxes b
 may_without team own boxes a b put kept may = record {
   many = kept.many ∙ may.many;
   part = λ k. ⊎_elim (λ (same : k ≡ own). inl (rw (put, same) (none_here (boxes_of a team) own)))
@@ -169,7 +169,7 @@ may_without team own boxes a b put kept may = record {
 
 -- a cell stands
 may_with : (team own : ℕ) (boxes : Boxes) (a b : Occupied) → boxes_of b team ≡ set (boxes_of a team) own (cell_box boxes own) → KeepsStrips team a b
-    → MayStand team boxes a → MayStand team boxes b
+    → BoxesMayBeInserted team boxes a → BoxesMayBeInserted team boxes b
 may_with team own boxes a b put kept may = record {
   many = kept.many ∙ may.many;
   part = λ k. ⊎_elim (λ (same : k ≡ own). inr (rw (put, same) (box_here (boxes_of a team) boxes own may.many)))
@@ -190,10 +190,10 @@ has_cell id boxes o r many is =
     row_there (r ∷ rows) (suc k) within = let h = row_there rows k within in omega (arith, h)
 
 -- and there is room for it
-pub has_room : (id : CellId) (boxes : Boxes) (o : Occupied) (r : Rect) → MayStand id.team boxes o → box_at o id.team id.own ≡ None
+pub has_room : (id : CellId) (boxes : Boxes) (o : Occupied) (r : Rect) → BoxesMayBeInserted id.team boxes o → box_at o id.team id.own ≡ None
     → cell_box boxes id.own ≡ Some r → HasRoomFor o id.team r 1
 has_room id boxes o r may nowhere is = λ n g there of_team shares.
-    let more = part_leaves_room (felt (reach o) g) (boxes_of o id.team) boxes id.own r may.part nowhere is shares in
+    let more = part_leaves_room (widened (reach o) g) (boxes_of o id.team) boxes id.own r may.part nowhere is shares in
     let most = may.fits n g there of_team in
     omega (arith, more, most)
 
@@ -202,9 +202,9 @@ nowhere_now id a b is = rw (box_put id None a b is) (none_here (boxes_of a id.te
 
 -- so far these stand, and what the rest does not name
 pub record AreStanding (f : Frame) (cells : Cells) (team : ℕ) (named : List ℕ) (n : ℕ) (o : Occupied) : Type 0 where
-  pub may : MayStand team (working_boxes f cells team) o
+  pub may : BoxesMayBeInserted team (working_boxes f cells team) o
   pub rest : (own : ℕ) → ((k : ℕ) → n ≤ k → k < length named → get_or named k 0 ≢ own) → cell_box (boxes_of o team) own ≡ cell_box (working_boxes f cells team) own
-  pub others : OthersStand f cells team o
+  pub others : OthersAreInserted f cells team o
 
 pub standing_next : (f : Frame) (cells : Cells) (team : ℕ) (named : List ℕ) (n own : ℕ) (b c : Occupied) → own ≡ get_or named n 0
     → boxes_of c team ≡ set (boxes_of b team) own (cell_box (working_boxes f cells team) own) → KeepsStrips team b c → AreStanding f cells team named n b
@@ -237,7 +237,7 @@ pub team_is : (team own : ℕ) (cells : List Cell) (id : CellId) → Some id ≡
 team_is team own cells id is = id_there cells team own id (sym is)
 
 -- the position that a move names
-pub own_there : (moves : List Move) (n : ℕ) (m : Move) → n < length moves → m ≡ get_or moves n m → m.own ≡ get_or (owns moves) n 0
+pub own_there : (moves : List Move) (n : ℕ) (m : Move) → n < length moves → m ≡ get_or moves n m → m.own ≡ get_or (moved_positions moves) n 0
 own_there [] n m within is = absurd (omega (arith, within))
 own_there (x ∷ ms) zero m within is = ap (λ (y : Move). y.own) is
 own_there (x ∷ ms) (suc n) m within is = own_there ms n m (omega (arith, within)) is

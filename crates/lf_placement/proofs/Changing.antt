@@ -4,7 +4,7 @@ use Rattle.std.specs.Prelude.{All, slice_get, option_and_then}
 use Rattle.std.specs.Option.{option_map}
 use Rattle.std.proofs.lemmas.List.{length-map}
 use Rattle.std.proofs.lemmas.List.Elements.{All-cons}
-use Rattle.lf_units.specs.declared.area.Rect.{Rect}
+use Rattle.lf_units.specs.declared.geometry.Rect.{Rect}
 use Rattle.lf_floorplan.specs.declared.frame.Frame.{Frame}
 use Rattle.lf_floorplan.specs.declared.place.Place.{Place}
 use Rattle.lf_rules.specs.Choice.{spot_of}
@@ -16,8 +16,8 @@ use Rattle.lf_occupancy.specs.Occupied.{FitIn, Occupied, boxes_of, cell_box}
 use Rattle.lf_occupancy.specs.Floorplans.{box_of}
 use Rattle.lf_undo.specs.declared.moves.Move.{Move}
 use Rattle.lf_undo.specs.Entries.{Places}
-use Rattle.lf_placement.specs.Placings.{SameButPlaces, boxes_at, made, places_of}
-use Rattle.lf_placement.specs.Steps.{AreOut, IsOut, MayStand, NameNot, StandButFor, TakesOut, made_back, owns}
+use Rattle.lf_placement.specs.Placings.{SameButPlaces, boxes_at, moves_applied, places_of}
+use Rattle.lf_placement.specs.Steps.{AreRemoved, IsRemovedOrUnchanged, BoxesMayBeInserted, DoNotMove, AreInsertedExcept, RemovesFirst, moves_reverted, moved_positions}
 use Rattle.lf_placement.proofs.Moves.{same_back, same_made}
 use Rattle.lf_placement.proofs.Boxes.{fits_still}
 
@@ -64,11 +64,11 @@ sized_in f (d ∷ ds) (c ∷ cs) same sized = All-cons (λ (x : Cell). IsSizedCe
     later : All (λ x. IsSizedCell f x) ds
     later = λ i x within. sized (suc i) x (omega (arith, within))
 
-pub sized_made : (f : Frame) (moves : List Move) (old new : List Cell) → new ≡ made moves old → All (λ c. IsSizedCell f c) old → All (λ c. IsSizedCell f c) new
-sized_made f moves old new is sized = sized_in f old new (rw is (macs_same old (made moves old) (same_made moves old))) sized
+pub sized_made : (f : Frame) (moves : List Move) (old new : List Cell) → new ≡ moves_applied moves old → All (λ c. IsSizedCell f c) old → All (λ c. IsSizedCell f c) new
+sized_made f moves old new is sized = sized_in f old new (rw is (macs_same old (moves_applied moves old) (same_made moves old))) sized
 
-pub sized_back : (f : Frame) (moves : List Move) (old new : List Cell) → new ≡ made_back moves old → All (λ c. IsSizedCell f c) old → All (λ c. IsSizedCell f c) new
-sized_back f moves old new is sized = sized_in f old new (rw is (macs_same old (made_back moves old) (same_back moves old))) sized
+pub sized_back : (f : Frame) (moves : List Move) (old new : List Cell) → new ≡ moves_reverted moves old → All (λ c. IsSizedCell f c) old → All (λ c. IsSizedCell f c) new
+sized_back f moves old new is sized = sized_in f old new (rw is (macs_same old (moves_reverted moves old) (same_back moves old))) sized
 
 -- the boxes at places depend on macros alone
 pub boxes_alike_at : (f : Frame) (old new : List Cell) (places : Places) → macs new ≡ macs old → boxes_at f new places ≡ boxes_at f old places
@@ -100,15 +100,15 @@ moved_other (c ∷ cs) zero (suc k) place differ = refl
 moved_other (c ∷ cs) (suc own) zero place differ = refl
 moved_other (c ∷ cs) (suc own) (suc k) place differ = moved_other cs own k place (λ same. differ (ap suc same))
 
-made_other : (moves : List Move) (cells : List Cell) (k : ℕ) → NameNot (owns moves) (length (owns moves)) k → slice_get (made moves cells) k ≡ slice_get cells k
+made_other : (moves : List Move) (cells : List Cell) (k : ℕ) → DoNotMove (moved_positions moves) (length (moved_positions moves)) k → slice_get (moves_applied moves cells) k ≡ slice_get cells k
 made_other [] cells k never = refl
 made_other (m ∷ ms) cells k never =
     made_other ms (moved cells m.own m.old) k (λ i less. never (suc i) (omega (arith, less))) ∙ moved_other cells m.own k m.old (never 0 (omega arith))
 
-back_other : (moves : List Move) (cells : List Cell) (k : ℕ) → NameNot (owns moves) (length (owns moves)) k → slice_get (made_back moves cells) k ≡ slice_get cells k
+back_other : (moves : List Move) (cells : List Cell) (k : ℕ) → DoNotMove (moved_positions moves) (length (moved_positions moves)) k → slice_get (moves_reverted moves cells) k ≡ slice_get cells k
 back_other [] cells k never = refl
 back_other (m ∷ ms) cells k never =
-    moved_other (made_back ms cells) m.own k m.old (never 0 (omega arith)) ∙ back_other ms cells k (λ i less. never (suc i) (omega (arith, less)))
+    moved_other (moves_reverted ms cells) m.own k m.old (never 0 (omega arith)) ∙ back_other ms cells k (λ i less. never (suc i) (omega (arith, less)))
 
 box_at_number : (f : Frame) (cells : List Cell) (k : ℕ) → cell_box (map (box_of f) cells) k ≡ option_and_then (box_of f) (slice_get cells k)
 box_at_number f [] k = refl
@@ -117,36 +117,36 @@ box_at_number f (c ∷ cs) (suc k) = box_at_number f cs k
 
 -- the cells that are not named stay
 abbrev pub OthersStay : List ℕ → List Cell → List Cell → Type 0
-OthersStay named old new = (k : ℕ) → NameNot named (length named) k → slice_get new k ≡ slice_get old k
+OthersStay named old new = (k : ℕ) → DoNotMove named (length named) k → slice_get new k ≡ slice_get old k
 
-pub others_made : (moves : List Move) (old new : List Cell) → new ≡ made moves old → OthersStay (owns moves) old new
+pub others_made : (moves : List Move) (old new : List Cell) → new ≡ moves_applied moves old → OthersStay (moved_positions moves) old new
 others_made moves old new is = λ k never. rw is (made_other moves old k never)
 
-pub others_back : (moves : List Move) (old new : List Cell) → new ≡ made_back moves old → OthersStay (owns moves) old new
+pub others_back : (moves : List Move) (old new : List Cell) → new ≡ moves_reverted moves old → OthersStay (moved_positions moves) old new
 others_back moves old new is = λ k never. rw is (back_other moves old k never)
 
 -- ---- all are out
 
 module _ (f : Frame) (team : ℕ) (named : List ℕ) (count : ℕ) (old new : List Cell) (a b : Occupied) (whole : count ≡ length named)
-    (held : boxes_of a team ≡ map (box_of f) old) (stay : OthersStay named old new) (out : TakesOut team named count a b) where
-  as_new : (k : ℕ) → NameNot named count k → cell_box (boxes_of a team) k ≡ cell_box (map (box_of f) new) k
+    (held : boxes_of a team ≡ map (box_of f) old) (stay : OthersStay named old new) (out : RemovesFirst team named count a b) where
+  as_new : (k : ℕ) → DoNotMove named count k → cell_box (boxes_of a team) k ≡ cell_box (map (box_of f) new) k
   as_new k never =
       ap (λ (bs : List (Option Rect)). cell_box bs k) held
       ∙ box_at_number f old k
-      ∙ ap (option_and_then (box_of f)) (sym (stay k (subst (λ (n : ℕ). NameNot named n k) whole never)))
+      ∙ ap (option_and_then (box_of f)) (sym (stay k (subst (λ (n : ℕ). DoNotMove named n k) whole never)))
       ∙ sym (box_at_number f new k)
 
-  part : (k : ℕ) → IsOut named count (boxes_of a team) (boxes_of b team) k
+  part : (k : ℕ) → IsRemovedOrUnchanged named count (boxes_of a team) (boxes_of b team) k
       → (cell_box (boxes_of b team) k ≡ None) ⊎ (cell_box (boxes_of b team) k ≡ cell_box (map (box_of f) new) k)
   part k (inl (was, none)) = inl none
   part k (inr (never, as_before)) = inr (as_before ∙ as_new k never)
 
-  rest : (k : ℕ) → NameNot named count k → IsOut named count (boxes_of a team) (boxes_of b team) k
+  rest : (k : ℕ) → DoNotMove named count k → IsRemovedOrUnchanged named count (boxes_of a team) (boxes_of b team) k
       → cell_box (boxes_of b team) k ≡ cell_box (map (box_of f) new) k
   rest k never (inl (was, none)) = absurd (was never)
   rest k never (inr (not, as_before)) = as_before ∙ as_new k never
 
-  pub may_stand : length new ≡ length old → FitIn a team (map (box_of f) new) → MayStand team (map (box_of f) new) b
+  pub may_stand : length new ≡ length old → FitIn a team (map (box_of f) new) → BoxesMayBeInserted team (map (box_of f) new) b
   may_stand many fits = record {
     many =
         out.rest.many ∙ ap {B = ℕ} (λ (bs : List (Option Rect)). length bs) held ∙ length-map old (box_of f) ∙ sym many ∙ sym (length-map new (box_of f));
@@ -154,27 +154,27 @@ module _ (f : Frame) (team : ℕ) (named : List ℕ) (count : ℕ) (old new : Li
     fits = fits_still team (map (box_of f) new) b a out.rest.index out.rest.site out.rest.rooms fits;
   }
 
-  pub stand_but : StandButFor team (map (box_of f) new) named b
-  stand_but = λ k never. rest k (subst (λ (n : ℕ). NameNot named n k) (sym whole) never) (out.each k)
+  pub stand_but : AreInsertedExcept team (map (box_of f) new) named b
+  stand_but = λ k never. rest k (subst (λ (n : ℕ). DoNotMove named n k) (sym whole) never) (out.each k)
 
 -- what was taken out stands nowhere
-pub all_out : (team : ℕ) (named : List ℕ) (count : ℕ) (a b : Occupied) → count ≡ length named → TakesOut team named count a b → AreOut team named b
+pub all_out : (team : ℕ) (named : List ℕ) (count : ℕ) (a b : Occupied) → count ≡ length named → RemovesFirst team named count a b → AreRemoved team named b
 all_out team named count a b whole out = λ k less. gone k less (out.each (get_or named k 0))
   where
-    gone : (k : ℕ) → k < length named → IsOut named count (boxes_of a team) (boxes_of b team) (get_or named k 0) →
+    gone : (k : ℕ) → k < length named → IsRemovedOrUnchanged named count (boxes_of a team) (boxes_of b team) (get_or named k 0) →
         cell_box (boxes_of b team) (get_or named k 0) ≡ None
     gone k less (inl (was, none)) = none
     gone k less (inr (never, as_before)) = absurd (never k (omega (arith, less, whole)) refl)
 
 -- ---- of the moves from one on
 
-pub owns_count : (moves : List Move) → length moves ≡ length (owns moves)
+pub owns_count : (moves : List Move) → length moves ≡ length (moved_positions moves)
 owns_count moves = sym (length-map moves (λ (m : Move). m.own))
 
-owns_drop : (moves : List Move) (n : ℕ) → owns (drop n moves) ≡ drop n (owns moves)
+owns_drop : (moves : List Move) (n : ℕ) → moved_positions (drop n moves) ≡ drop n (moved_positions moves)
 owns_drop moves zero = refl
 owns_drop [] (suc n) = refl
 owns_drop (m ∷ ms) (suc n) = owns_drop ms n
 
-pub owns_from : (old new : List Move) (n : ℕ) → owns new ≡ owns old → owns (drop n old) ≡ owns (drop n new)
+pub owns_from : (old new : List Move) (n : ℕ) → moved_positions new ≡ moved_positions old → moved_positions (drop n old) ≡ moved_positions (drop n new)
 owns_from old new n same = owns_drop old n ∙ ap (λ (ns : List ℕ). drop n ns) (sym same) ∙ sym (owns_drop new n)

@@ -3,19 +3,19 @@ use Rattle.std.proofs.Common.{◌≡◌, ◌⊎◌, inl, inr, ◌<◌, ◌≤◌
 use Rattle.std.specs.Prelude.{All, Contains, IfSome, slice_get, option_map, unwrap_or}
 use Rattle.std.proofs.lemmas.List.{length-map}
 use Rattle.std.proofs.lemmas.List.Sums.{sum_by-cons}
-use Rattle.lf_units.specs.declared.area.Rect.{Rect}
+use Rattle.lf_units.specs.declared.geometry.Rect.{Rect}
 use Rattle.lf_floorplan.specs.declared.frame.Frame.{Frame}
 use Rattle.lf_floorplan.specs.declared.place.Place.{Place}
 use Rattle.lf_cells.specs.declared.cell.Cell.{Cell}
 use Rattle.lf_cells.specs.declared.cell.CellId.{CellId}
 use Rattle.lf_cells.specs.Cells.{id_of, moved}
 use Rattle.lf_segments.specs.declared.strip.Strip.{Strip}
-use Rattle.lf_occupancy.specs.Occupied.{FitIn, HasRoomFor, Occupied, boxes_of, count_in, felt, meets, reach}
+use Rattle.lf_occupancy.specs.Occupied.{FitIn, HasRoomFor, Occupied, boxes_of, count_in, widened, meets, reach}
 use Rattle.lf_occupancy.specs.Floorplans.{box_of}
 use Rattle.lf_occupancy.proofs.Counting.{meets_shares, set_is_one_more}
 use Rattle.lf_undo.specs.declared.moves.Move.{Move}
-use Rattle.lf_placement.specs.Placings.{made}
-use Rattle.lf_placement.specs.Steps.{asked_for, box_moved}
+use Rattle.lf_placement.specs.Placings.{moves_applied}
+use Rattle.lf_placement.specs.Steps.{requested_box, box_moved}
 
 one_more : (g : Strip) (b : Option Rect) (bs : List (Option Rect)) → count_in g (b ∷ bs) ≡ cond (meets g b) 1 0 + count_in g bs
 one_more g b bs = sum_by-cons (λ c. cond (meets g c) 1 0) b bs
@@ -51,7 +51,7 @@ box_still f (c ∷ cs) (suc own) (suc k) place to = box_still f cs own k place t
 
 -- each move makes it one more at most
 count_made : (g : Strip) (f : Frame) (moves : List Move) (cells : List Cell)
-    → count_in g (map (box_of f) (made moves cells)) ≤ count_in g (map (box_of f) cells) + length moves
+    → count_in g (map (box_of f) (moves_applied moves cells)) ≤ count_in g (map (box_of f) cells) + length moves
 count_made g f [] cells = omega arith
 count_made g f (m ∷ ms) cells =
     let rest = count_made g f ms (moved cells m.own m.old) in
@@ -67,12 +67,12 @@ record Meets (g : Strip) (f : Frame) (moves : List Move) (cells : List Cell) : T
 
 -- else it is no more
 meets_or_not : (g : Strip) (f : Frame) (moves : List Move) (cells : List Cell)
-    → Meets g f moves cells ⊎ (count_in g (map (box_of f) (made moves cells)) ≤ count_in g (map (box_of f) cells))
+    → Meets g f moves cells ⊎ (count_in g (map (box_of f) (moves_applied moves cells)) ≤ count_in g (map (box_of f) cells))
 meets_or_not g f [] cells = inr (omega arith)
 meets_or_not g f (m ∷ ms) cells = first (meets g (box_moved f (slice_get cells m.own) m.old)) refl (meets_or_not g f ms (moved cells m.own m.old)) where
   later : meets g (box_moved f (slice_get cells m.own) m.old) ≡ false
-      → Meets g f ms (moved cells m.own m.old) ⊎ (count_in g (map (box_of f) (made ms (moved cells m.own m.old))) ≤ count_in g (map (box_of f) (moved cells m.own m.old)))
-      → Meets g f (m ∷ ms) cells ⊎ (count_in g (map (box_of f) (made ms (moved cells m.own m.old))) ≤ count_in g (map (box_of f) cells))
+      → Meets g f ms (moved cells m.own m.old) ⊎ (count_in g (map (box_of f) (moves_applied ms (moved cells m.own m.old))) ≤ count_in g (map (box_of f) (moved cells m.own m.old)))
+      → Meets g f (m ∷ ms) cells ⊎ (count_in g (map (box_of f) (moves_applied ms (moved cells m.own m.old))) ≤ count_in g (map (box_of f) cells))
   later apart (inl there) = inl record {
     move = there.move;
     among = (suc there.among.0, let h = there.among.1 in omega (arith, h), there.among.2);
@@ -84,8 +84,8 @@ meets_or_not g f (m ∷ ms) cells = first (meets g (box_moved f (slice_get cells
       inr (omega (arith, most, is, still))
 
   first : (b : Bool) → meets g (box_moved f (slice_get cells m.own) m.old) ≡ b
-      → Meets g f ms (moved cells m.own m.old) ⊎ (count_in g (map (box_of f) (made ms (moved cells m.own m.old))) ≤ count_in g (map (box_of f) (moved cells m.own m.old)))
-      → Meets g f (m ∷ ms) cells ⊎ (count_in g (map (box_of f) (made ms (moved cells m.own m.old))) ≤ count_in g (map (box_of f) cells))
+      → Meets g f ms (moved cells m.own m.old) ⊎ (count_in g (map (box_of f) (moves_applied ms (moved cells m.own m.old))) ≤ count_in g (map (box_of f) (moved cells m.own m.old)))
+      → Meets g f (m ∷ ms) cells ⊎ (count_in g (map (box_of f) (moves_applied ms (moved cells m.own m.old))) ≤ count_in g (map (box_of f) cells))
   first true is rest = inl record { move = m; among = (0, omega arith, refl); yes = is }
   first false is rest = later is rest
 
@@ -99,39 +99,39 @@ no_id = record { team = 0; own = 0 }
 
 -- the room that was made for a box that meets the strip
 room_there : (g : Strip) (f : Frame) (team own more n : ℕ) (o : Occupied) (c : Option Cell) (place : Option Place) → slice_get o.index.strips n ≡ Some g
-    → g.team ≡ team → meets (felt (reach o) g) (box_moved f c place) ≡ true
+    → g.team ≡ team → meets (widened (reach o) g) (box_moved f c place) ≡ true
     → IfSome (box_moved f c place) (λ r. HasRoomFor o (unwrap_or (option_map (λ (x : Cell). id_of team own) c) no_id).team r more)
-    → (count_in (felt (reach o) g) (boxes_of o team) + more) ≤ get_or o.rooms n 0
+    → (count_in (widened (reach o) g) (boxes_of o team) + more) ≤ get_or o.rooms n 0
 room_there g f team own more n o None place there of_team met room = absurd cc
 room_there g f team own more n o (Some c) None there of_team met room = absurd cc
-room_there g f team own more n o (Some c) (Some p) there of_team met room = room n g there of_team (meets_shares (felt (reach o) g) _ met)
+room_there g f team own more n o (Some c) (Some p) there of_team met room = room n g there of_team (meets_shares (widened (reach o) g) _ met)
 
 pub room_made : (f : Frame) (team : ℕ) (cells : List Cell) (moves : List Move) (o : Occupied) → boxes_of o team ≡ map (box_of f) cells
     → FitIn o team (boxes_of o team)
-    → All (λ m. IfSome m.1 (λ r. HasRoomFor o m.0.team r (length (map (asked_for f team cells) moves)))) (map (asked_for f team cells) moves)
-    → FitIn o team (map (box_of f) (made moves cells))
+    → All (λ m. IfSome m.1 (λ r. HasRoomFor o m.0.team r (length (map (requested_box f team cells) moves)))) (map (requested_box f team cells) moves)
+    → FitIn o team (map (box_of f) (moves_applied moves cells))
 room_made f team cells moves o held fits room n g there of_team = go (meets_or_not around f moves cells) where
   around : Strip
-  around = felt (reach o) g
+  around = widened (reach o) g
 
   same : count_in around (boxes_of o team) ≡ count_in around (map (box_of f) cells)
   same = ap (count_in around) held
 
-  count : length (map (asked_for f team cells) moves) ≡ length moves
-  count = length-map moves (asked_for f team cells)
+  count : length (map (requested_box f team cells) moves) ≡ length moves
+  count = length-map moves (requested_box f team cells)
 
-  go : Meets around f moves cells ⊎ (count_in around (map (box_of f) (made moves cells)) ≤ count_in around (map (box_of f) cells))
-      → count_in around (map (box_of f) (made moves cells)) ≤ get_or o.rooms n 0
+  go : Meets around f moves cells ⊎ (count_in around (map (box_of f) (moves_applied moves cells)) ≤ count_in around (map (box_of f) cells))
+      → count_in around (map (box_of f) (moves_applied moves cells)) ≤ get_or o.rooms n 0
   go (inr most) = let before = fits n g there of_team in omega (arith, most, same, before)
   go (inl one) =
       let m = one.move in
       let k = one.among.0 in
       let inside = one.among.1 in
-      let within : k < length (map (asked_for f team cells) moves) = omega (arith, inside, count) in
-      let at : get_or (map (asked_for f team cells) moves) k (asked_for f team cells m) ≡ asked_for f team cells m =
-      map_at (asked_for f team cells) moves k (asked_for f team cells m) m inside ∙ ap (asked_for f team cells) one.among.2 in
-      let asked = subst (λ (a : CellId × Option Rect). IfSome a.1 (λ r. HasRoomFor o a.0.team r (length (map (asked_for f team cells) moves)))) at
-      (room k (asked_for f team cells m) within) in
-      let left = room_there g f team m.own (length (map (asked_for f team cells) moves)) n o (slice_get cells m.own) m.old there of_team one.yes asked in
+      let within : k < length (map (requested_box f team cells) moves) = omega (arith, inside, count) in
+      let at : get_or (map (requested_box f team cells) moves) k (requested_box f team cells m) ≡ requested_box f team cells m =
+      map_at (requested_box f team cells) moves k (requested_box f team cells m) m inside ∙ ap (requested_box f team cells) one.among.2 in
+      let asked = subst (λ (a : CellId × Option Rect). IfSome a.1 (λ r. HasRoomFor o a.0.team r (length (map (requested_box f team cells) moves)))) at
+      (room k (requested_box f team cells m) within) in
+      let left = room_there g f team m.own (length (map (requested_box f team cells) moves)) n o (slice_get cells m.own) m.old there of_team one.yes asked in
       let most = count_made around f moves cells in
       omega (arith, left, most, same, count)

@@ -3,7 +3,7 @@ use Rattle.std.proofs.Common.{◌≡◌, ◌≤◌, ℕ, zero, suc, [], ◌∷�
 use Rattle.std.specs.Prelude.{All, MatchOption, slice_get}
 use Rattle.std.specs.Option.{option_map}
 use Rattle.std.proofs.lemmas.Option.{get_or_from_slice_get, slice_get_within}
-use Rattle.lf_units.specs.declared.area.Rect.{Rect}
+use Rattle.lf_units.specs.declared.geometry.Rect.{Rect}
 use Rattle.lf_floorplan.specs.declared.frame.Frame.{Frame}
 use Rattle.lf_floorplan.specs.declared.macros.Macro.{Macro}
 use Rattle.lf_floorplan.specs.declared.place.Place.{Place}
@@ -13,18 +13,18 @@ use Rattle.lf_rtree.specs.declared.placed.Placed.{Placed}
 use Rattle.lf_rules.specs.declared.rule.Broken.{Broken}
 use Rattle.lf_rules.specs.declared.rule.Rule.{Rule}
 use Rattle.lf_rules.specs.declared.rule.Rule.TheVariants.{Overlap}
-use Rattle.lf_rules.specs.Legality.{padded_box, trial_of}
+use Rattle.lf_rules.specs.Legality.{padded_box, candidate_of}
 use Rattle.lf_rules.specs.Legalizer.{IsVerdict}
 use Rattle.lf_rules.specs.Team.{boxes_beside}
-use Rattle.lf_rules.specs.Legality.{IsFrameVerdict}
+use Rattle.lf_rules.specs.Legality.{IsFrameRuleVerdict}
 use Rattle.lf_cells.specs.declared.cell.Cell.{Cell}
 use Rattle.lf_cells.specs.declared.cell.CellId.{CellId}
-use Rattle.lf_cells.specs.declared.cell.Standing.{Standing}
-use Rattle.lf_cells.specs.Cells.{cell_at, cells_of, standing_of}
+use Rattle.lf_cells.specs.declared.cell.CellPlacement.{CellPlacement}
+use Rattle.lf_cells.specs.Cells.{cell_at, cells_of, placement_of}
 use Rattle.lf_legalize.specs.Members.{IsSizedCell, member_of}
 use Rattle.lf_occupancy.specs.Occupied.{IsFirstMet}
-use Rattle.lf_occupancy.specs.Floorplans.{IsOccupancyOf, StripsFeel}
-use Rattle.lf_placement.specs.Placings.{IsBrokenAlone, IsBrokenAt, Placing}
+use Rattle.lf_occupancy.specs.Floorplans.{IsOccupancyOf, WidenedStripsCover}
+use Rattle.lf_placement.specs.Placings.{IsBrokenFrameRule, IsBrokenAt, Placing}
 use Rattle.lf_placement.specs.Laws.{SameMacros}
 use Rattle.lf_placement.proofs.Overlapping.{met_decides}
 
@@ -43,26 +43,26 @@ no_broken = None
 -- a rule but overlap that is broken alone is the first that is broken
 alone_is_first : (p : Placing) (padding : ℕ) (id : CellId) (place : Place) (rule : Rule) (o : Option Cell)
     → MatchOption o (Some rule ≡ no_rule)
-    (λ c. (sites : ℕ) (others : List Placed) → IsFrameVerdict (trial_of p.frame id.team sites (macro_of p.frame c.mac) place others) (Some rule))
+    (λ c. (sites : ℕ) (others : List Placed) → IsFrameRuleVerdict (candidate_of p.frame id.team sites (macro_of p.frame c.mac) place others) (Some rule))
     → MatchOption o (alone rule ≡ no_broken)
-    (λ c. IsVerdict (trial_of p.frame id.team padding (macro_of p.frame c.mac) place (boxes_beside p.frame (map member_of (cells_of p.cells id.team)) id.own))
+    (λ c. IsVerdict (candidate_of p.frame id.team padding (macro_of p.frame c.mac) place (boxes_beside p.frame (map member_of (cells_of p.cells id.team)) id.own))
     (alone rule))
 alone_is_first p padding id place rule None none = absurd cc
 alone_is_first p padding id place rule (Some c) verdict = verdict padding (boxes_beside p.frame (map member_of (cells_of p.cells id.team)) id.own)
 
-pub broken_alone : (p : Placing) (padding : ℕ) (id : CellId) (place : Place) (rule : Rule) → IsBrokenAlone p id place (Some rule)
+pub broken_alone : (p : Placing) (padding : ℕ) (id : CellId) (place : Place) (rule : Rule) → IsBrokenFrameRule p id place (Some rule)
     → IsBrokenAt p padding id place (alone rule)
 broken_alone p padding id place rule broken = alone_is_first p padding id place rule (cell_at p.cells id) broken
 
-macro_is : (f : Frame) (cells : List Cell) (own : ℕ) (c : Cell) (standing : Standing) (mac : Macro) → All (λ d. IsSizedCell f d) cells
-    → slice_get cells own ≡ Some c → Some standing ≡ option_map standing_of (Some c) → mac ≡ get_or f.macros standing.mac mac → mac ≡ macro_of f c.mac
+macro_is : (f : Frame) (cells : List Cell) (own : ℕ) (c : Cell) (standing : CellPlacement) (mac : Macro) → All (λ d. IsSizedCell f d) cells
+    → slice_get cells own ≡ Some c → Some standing ≡ option_map placement_of (Some c) → mac ≡ get_or f.macros standing.mac mac → mac ≡ macro_of f c.mac
 macro_is f cells own c standing mac sized there stands is =
-    let same : standing.mac ≡ c.mac = ap {B = ℕ} (λ (s : Standing). s.mac) (one standing (standing_of c) stands) in
+    let same : standing.mac ≡ c.mac = ap {B = ℕ} (λ (s : CellPlacement). s.mac) (one standing (placement_of c) stands) in
     let whole : IsSizedCell f c =
     subst (λ (d : Cell). IsSizedCell f d) (get_or_from_slice_get cells own c c there) (sized own c (slice_get_within cells own c there)) in
     macro_there f c.mac mac whole.known (is ∙ ap (λ (n : ℕ). get_or f.macros n mac) same)
   where
-    one : (a b : Standing) → Some a ≡ Some b → a ≡ b
+    one : (a b : CellPlacement) → Some a ≡ Some b → a ≡ b
     one a b e = cc
 
 -- the cell's macro is of whole size
@@ -74,28 +74,28 @@ macro_sized f cells own c sized there =
     whole.sized
 
 -- where they hold, the cell that is met in the strips decides
-pub met_at : (p : Placing) (padding : ℕ) (id : CellId) (place : Place) (standing : Standing) (mac : Macro) (rect : Rect) (met : Option ℕ)
-    → All (λ d. IsSizedCell p.frame d) (cells_of p.cells id.team) → IsOccupancyOf p.frame p.cells p.held → StripsFeel → padding ≤ 16
-    → Some standing ≡ option_map standing_of (cell_at p.cells id) → mac ≡ get_or p.frame.macros standing.mac mac
-    → rect ≡ padded_box (trial_of p.frame id.team padding mac place (boxes_beside p.frame (map member_of (cells_of p.cells id.team)) id.own))
-    → IsBrokenAlone p id place None → IsFirstMet p.held id rect met
+pub met_at : (p : Placing) (padding : ℕ) (id : CellId) (place : Place) (standing : CellPlacement) (mac : Macro) (rect : Rect) (met : Option ℕ)
+    → All (λ d. IsSizedCell p.frame d) (cells_of p.cells id.team) → IsOccupancyOf p.frame p.cells p.held → WidenedStripsCover → padding ≤ 16
+    → Some standing ≡ option_map placement_of (cell_at p.cells id) → mac ≡ get_or p.frame.macros standing.mac mac
+    → rect ≡ padded_box (candidate_of p.frame id.team padding mac place (boxes_beside p.frame (map member_of (cells_of p.cells id.team)) id.own))
+    → IsBrokenFrameRule p id place None → IsFirstMet p.held id rect met
     → IsBrokenAt p padding id place (overlapping met)
 met_at p padding id place standing mac rect met sized follows feel few stands is box holds first = go (cell_at p.cells id) refl stands holds
   where
     others : List Placed
     others = boxes_beside p.frame (map member_of (cells_of p.cells id.team)) id.own
 
-    go : (o : Option Cell) → cell_at p.cells id ≡ o → Some standing ≡ option_map standing_of o
+    go : (o : Option Cell) → cell_at p.cells id ≡ o → Some standing ≡ option_map placement_of o
         → MatchOption o (no_rule ≡ no_rule)
-        (λ c. (sites : ℕ) (those : List Placed) → IsFrameVerdict (trial_of p.frame id.team sites (macro_of p.frame c.mac) place those) no_rule)
+        (λ c. (sites : ℕ) (those : List Placed) → IsFrameRuleVerdict (candidate_of p.frame id.team sites (macro_of p.frame c.mac) place those) no_rule)
         → MatchOption o (overlapping met ≡ no_broken)
-        (λ c. IsVerdict (trial_of p.frame id.team padding (macro_of p.frame c.mac) place others) (overlapping met))
+        (λ c. IsVerdict (candidate_of p.frame id.team padding (macro_of p.frame c.mac) place others) (overlapping met))
     go None there at those = absurd cc
     go (Some c) there at those =
         let same : mac ≡ macro_of p.frame c.mac = macro_is p.frame (cells_of p.cells id.team) id.own c standing mac sized there at is in
-        met_decides (trial_of p.frame id.team padding (macro_of p.frame c.mac) place others) p.cells p.held id rect met follows feel few
+        met_decides (candidate_of p.frame id.team padding (macro_of p.frame c.mac) place others) p.cells p.held id rect met follows feel few
         (macro_sized p.frame (cells_of p.cells id.team) id.own c sized there) refl refl
-        (subst (λ (m : Macro). rect ≡ padded_box (trial_of p.frame id.team padding m place others)) same box) (those padding others) first
+        (subst (λ (m : Macro). rect ≡ padded_box (candidate_of p.frame id.team padding m place others)) same box) (those padding others) first
 
 -- ---- what lasts while cells keep their macros
 
@@ -115,8 +115,8 @@ by_mac P N (Some d) None same held = absurd cc
 by_mac P N (Some d) (Some c) same held = let mac : c.mac ≡ d.mac = cc in rw mac held
 
 pub alone_lasts : (old new : Placing) (id : CellId) (place : Place) (broken : Option Rule) → new.frame ≡ old.frame
-    → SameMacros (cells_of old.cells id.team) (cells_of new.cells id.team) → IsBrokenAlone old id place broken → IsBrokenAlone new id place broken
+    → SameMacros (cells_of old.cells id.team) (cells_of new.cells id.team) → IsBrokenFrameRule old id place broken → IsBrokenFrameRule new id place broken
 alone_lasts old new id place broken frame same held =
     rw frame
-    (by_mac (λ mac. (padding : ℕ) (others : List Placed) → IsFrameVerdict (trial_of old.frame id.team padding (macro_of old.frame mac) place others) broken) (broken ≡ no_rule)
+    (by_mac (λ mac. (padding : ℕ) (others : List Placed) → IsFrameRuleVerdict (candidate_of old.frame id.team padding (macro_of old.frame mac) place others) broken) (broken ≡ no_rule)
     (cell_at old.cells id) (cell_at new.cells id) (mac_still (cells_of old.cells id.team) (cells_of new.cells id.team) id.own same) held)

@@ -4,7 +4,7 @@ use Rattle.std.specs.Prelude.{All, slice_get, unwrap_or}
 use Rattle.std.proofs.lemmas.Bool.{cases_eq}
 use Rattle.std.proofs.lemmas.List.{length-map}
 use Rattle.std.proofs.lemmas.List.Elements.{All-filter, All-map}
-use Rattle.lf_units.specs.declared.area.Rect.{Rect}
+use Rattle.lf_units.specs.declared.geometry.Rect.{Rect}
 use Rattle.lf_floorplan.specs.declared.frame.Frame.{Frame}
 use Rattle.lf_floorplan.specs.declared.loaded.Cell.{Cell as LoadedCell}
 use Rattle.lf_floorplan.specs.declared.loaded.Loaded.{Loaded}
@@ -13,17 +13,17 @@ use Rattle.lf_floorplan.specs.Boxes.{macro_of, no_macro}
 use Rattle.lf_floorplan.specs.Design.{IsCell}
 use Rattle.lf_cells.specs.declared.cell.Cell.{Cell}
 use Rattle.lf_cells.specs.Cells.{Cells, as_committed, cells_of}
-use Rattle.lf_cells.specs.Openings.{opening_cell, opening_cells, own_cells, team_numbers}
+use Rattle.lf_cells.specs.Openings.{initial_cell, initial_cells, own_cells, team_numbers}
 use Rattle.lf_legalize.specs.Members.{IsSizedCell}
-use Rattle.lf_segments.specs.Grounds.{IsGroundOf, Lookups}
-use Rattle.lf_occupancy.specs.Strips.{Marked, rooms_in}
-use Rattle.lf_occupancy.specs.Occupied.{FitIn, NoLess, Occupied, boxes_of}
+use Rattle.lf_segments.specs.Grounds.{IsIndexOf, FrameIndexView}
+use Rattle.lf_occupancy.specs.Strips.{Marked, capacities_in}
+use Rattle.lf_occupancy.specs.Occupied.{FitIn, KeepsCapacities, Occupied, boxes_of}
 use Rattle.lf_occupancy.specs.Floorplans.{IsOccupancyOf, box_of, boxes_in}
 use Rattle.lf_occupancy.proofs.Building.{boxes_there}
 use Rattle.lf_undo.specs.declared.moves.Move.{Move}
-use Rattle.lf_undo.specs.Entries.{Places, taken_back}
-use Rattle.lf_placement.specs.Placings.{Fits, IsPlacing, OtherCellsStay, Placing, SameButPlaces, boxes_at, committed_of, made, placing_of, places_of}
-use Rattle.lf_placement.specs.Steps.{made_back}
+use Rattle.lf_undo.specs.Entries.{Places, moves_taken_back}
+use Rattle.lf_placement.specs.Placings.{Fits, IsPlacing, OtherCellsStay, Placing, SameButPlaces, boxes_at, committed_of, moves_applied, placing_of, places_of}
+use Rattle.lf_placement.specs.Steps.{moves_reverted}
 use Rattle.lf_placement.specs.Laws.{SameMacros}
 use Rattle.lf_placement.proofs.Moves.{length_same, places_back, same_back, same_made}
 use Rattle.lf_placement.proofs.Boxes.{fits_still}
@@ -31,24 +31,24 @@ use Rattle.lf_placement.proofs.Changing.{boxes_alike_at, boxes_at_new, boxes_at_
 
 -- ---- what fits
 
-pub fits_made : (p : Placing) (team : ℕ) (moves : List Move) → Fits p team (places_of (made moves (cells_of p.cells team)))
-    → FitIn p.held team (map (box_of p.frame) (made moves (cells_of p.cells team)))
+pub fits_made : (p : Placing) (team : ℕ) (moves : List Move) → Fits p team (places_of (moves_applied moves (cells_of p.cells team)))
+    → FitIn p.held team (map (box_of p.frame) (moves_applied moves (cells_of p.cells team)))
 fits_made p team moves fits =
     let old = cells_of p.cells team in
-    subst (λ (bs : List (Option Rect)). FitIn p.held team bs) (boxes_at_new p.frame old (made moves old) (same_made moves old)) fits
+    subst (λ (bs : List (Option Rect)). FitIn p.held team bs) (boxes_at_new p.frame old (moves_applied moves old) (same_made moves old)) fits
 
-pub made_fits : (p : Placing) (team : ℕ) (moves : List Move) → FitIn p.held team (map (box_of p.frame) (made moves (cells_of p.cells team)))
-    → Fits p team (places_of (made moves (cells_of p.cells team)))
+pub made_fits : (p : Placing) (team : ℕ) (moves : List Move) → FitIn p.held team (map (box_of p.frame) (moves_applied moves (cells_of p.cells team)))
+    → Fits p team (places_of (moves_applied moves (cells_of p.cells team)))
 made_fits p team moves fits =
     let old = cells_of p.cells team in
-    subst (λ (bs : List (Option Rect)). FitIn p.held team bs) (sym (boxes_at_new p.frame old (made moves old) (same_made moves old))) fits
+    subst (λ (bs : List (Option Rect)). FitIn p.held team bs) (sym (boxes_at_new p.frame old (moves_applied moves old) (same_made moves old))) fits
 
-pub fits_back : (p : Placing) (team : ℕ) (moves : List Move) → Fits p team (taken_back moves (places_of (cells_of p.cells team)))
-    → FitIn p.held team (map (box_of p.frame) (made_back moves (cells_of p.cells team)))
+pub fits_back : (p : Placing) (team : ℕ) (moves : List Move) → Fits p team (moves_taken_back moves (places_of (cells_of p.cells team)))
+    → FitIn p.held team (map (box_of p.frame) (moves_reverted moves (cells_of p.cells team)))
 fits_back p team moves fits =
     let old = cells_of p.cells team in
     subst (λ (bs : List (Option Rect)). FitIn p.held team bs)
-    (ap (boxes_at p.frame old) (sym (places_back moves old)) ∙ boxes_at_new p.frame old (made_back moves old) (same_back moves old)) fits
+    (ap (boxes_at p.frame old) (sym (places_back moves old)) ∙ boxes_at_new p.frame old (moves_reverted moves old) (same_back moves old)) fits
 
 pub places_fit : (p : Placing) → IsOccupancyOf p.frame p.cells p.held → ((team : ℕ) → FitIn p.held team (boxes_of p.held team))
     → (team : ℕ) → Fits p team (places_of (cells_of p.cells team))
@@ -151,9 +151,9 @@ slice_get_some [] i within = absurd (omega arith)
 slice_get_some (x ∷ xs) zero within = (x, refl)
 slice_get_some (x ∷ xs) (suc i) within = slice_get_some xs i (omega arith)
 
-sized_cell : (f : Frame) (c : LoadedCell) → IsCell f c → IsSizedCell f (opening_cell c)
+sized_cell : (f : Frame) (c : LoadedCell) → IsCell f c → IsSizedCell f (initial_cell c)
 sized_cell f c known = go (slice_get_some f.macros c.mac known.mac_known) where
-  go : ((m : Macro) × (slice_get f.macros c.mac ≡ Some m)) → IsSizedCell f (opening_cell c)
+  go : ((m : Macro) × (slice_get f.macros c.mac ≡ Some m)) → IsSizedCell f (initial_cell c)
   go found =
       let is : macro_of f c.mac ≡ found.0 = ap (λ (o : Option Macro). unwrap_or o no_macro) found.1 in
       record { known = known.mac_known; sized = rw is (known.mac_sized found.0 found.1) }
@@ -168,16 +168,16 @@ length-filter-le {X} p (x ∷ xs) = go (p x) (length-filter-le p xs) where
 own_sized : (design : Loaded) (number : ℕ) → All (IsSizedCell design.frame) (own_cells number design.cells)
 own_sized design number =
     let own = filter (λ (c : LoadedCell). eqb c.team number) design.cells in
-    let known : All (λ (c : LoadedCell). IsSizedCell design.frame (opening_cell c)) design.cells =
+    let known : All (λ (c : LoadedCell). IsSizedCell design.frame (initial_cell c)) design.cells =
     λ i d within. sized_cell design.frame (get_or design.cells i d) (design.cells_known i d within) in
-    All-map (λ (c : Cell). IsSizedCell design.frame c) opening_cell own
-    (All-filter (λ (c : LoadedCell). eqb c.team number) (λ (c : LoadedCell). IsSizedCell design.frame (opening_cell c)) design.cells known)
+    All-map (λ (c : Cell). IsSizedCell design.frame c) initial_cell own
+    (All-filter (λ (c : LoadedCell). eqb c.team number) (λ (c : LoadedCell). IsSizedCell design.frame (initial_cell c)) design.cells known)
 
 own_few : (design : Loaded) (number : ℕ) → length (own_cells number design.cells) ≤ 4000000
 own_few design number =
     let own = filter (λ (c : LoadedCell). eqb c.team number) design.cells in
     let few : length own ≤ length design.cells = length-filter-le (λ (c : LoadedCell). eqb c.team number) design.cells in
-    rw (length-map own opening_cell) (omega (arith, few, design.few_cells))
+    rw (length-map own initial_cell) (omega (arith, few, design.few_cells))
 
 -- where cells are committed where they stand
 AreCommitted : List Cell → Type 0
@@ -187,7 +187,7 @@ committed_none : AreCommitted []
 unfolding AreCommitted
 committed_none = refl
 
-committed_each : (cells : List LoadedCell) → committed_of (map opening_cell cells) ≡ places_of (map opening_cell cells)
+committed_each : (cells : List LoadedCell) → committed_of (map initial_cell cells) ≡ places_of (map initial_cell cells)
 committed_each [] = refl
 committed_each (c ∷ cs) = ap (λ (r : Places). c.place ∷ r) (committed_each cs)
 
@@ -195,25 +195,25 @@ own_committed : (design : Loaded) (number : ℕ) → AreCommitted (own_cells num
 unfolding AreCommitted
 own_committed design number = committed_each (filter (λ (c : LoadedCell). eqb c.team number) design.cells)
 
-each_opening : (P : List Cell → Type 0) (design : Loaded) (cells : Cells) → cells.cells ≡ opening_cells design → P []
+each_opening : (P : List Cell → Type 0) (design : Loaded) (cells : Cells) → cells.cells ≡ initial_cells design → P []
     → ((number : ℕ) → P (own_cells number design.cells)) → (team : ℕ) → P (cells_of cells team)
 each_opening P design cells is none each team =
     subst (λ (rows : List (List Cell)). P (get_or rows team [])) (sym is)
     (rows_hold P (λ number. own_cells number design.cells) none each (team_numbers design) team)
 
-pub sized_opening : (design : Loaded) (cells : Cells) → cells.cells ≡ opening_cells design → (team : ℕ) → All (IsSizedCell design.frame) (cells_of cells team)
+pub sized_opening : (design : Loaded) (cells : Cells) → cells.cells ≡ initial_cells design → (team : ℕ) → All (IsSizedCell design.frame) (cells_of cells team)
 sized_opening design cells is =
     each_opening (λ cs. All (IsSizedCell design.frame) cs) design cells is (λ i d within. absurd (omega (arith, within))) (own_sized design)
 
-pub few_opening : (design : Loaded) (cells : Cells) → cells.cells ≡ opening_cells design → (team : ℕ) → length (cells_of cells team) ≤ 4000000
+pub few_opening : (design : Loaded) (cells : Cells) → cells.cells ≡ initial_cells design → (team : ℕ) → length (cells_of cells team) ≤ 4000000
 few_opening design cells is = each_opening (λ cs. length cs ≤ 4000000) design cells is (omega arith) (own_few design)
 
-committed_opening : (design : Loaded) (cells : Cells) → cells.cells ≡ opening_cells design → (team : ℕ)
+committed_opening : (design : Loaded) (cells : Cells) → cells.cells ≡ initial_cells design → (team : ℕ)
     → committed_of (cells_of cells team) ≡ places_of (cells_of cells team)
 unfolding AreCommitted
 committed_opening design cells is = each_opening AreCommitted design cells is committed_none (own_committed design)
 
-pub placing_opening : (design : Loaded) (cells : Cells) (held : Occupied) → cells.cells ≡ opening_cells design → IsOccupancyOf design.frame cells held
+pub placing_opening : (design : Loaded) (cells : Cells) (held : Occupied) → cells.cells ≡ initial_cells design → IsOccupancyOf design.frame cells held
     → ((team : ℕ) → FitIn held team (boxes_of held team)) → IsPlacing record { frame = design.frame; cells = cells; held = held }
 placing_opening design cells held is follows fits = record {
   sized = sized_opening design cells is;
@@ -227,19 +227,19 @@ placing_opening design cells held is follows fits = record {
 -- ---- laws
 
 pub last : (old new : Placing) (team : ℕ) (places : Places) → new.frame ≡ old.frame → new.held.index ≡ old.held.index
-    → new.held.site ≡ old.held.site → NoLess old.held.rooms new.held.rooms → SameMacros (cells_of old.cells team) (cells_of new.cells team) → Fits old team places → Fits new team places
+    → new.held.site ≡ old.held.site → KeepsCapacities old.held.rooms new.held.rooms → SameMacros (cells_of old.cells team) (cells_of new.cells team) → Fits old team places → Fits new team places
 last old new team places frame index site rooms same fits = λ n g there of_team.
     let less = rooms.each n in
-    let before = fits n g (subst (λ (looked : Lookups). slice_get looked.strips n ≡ Some g) index there) of_team in
+    let before = fits n g (subst (λ (looked : FrameIndexView). slice_get looked.strips n ≡ Some g) index there) of_team in
     rw (frame, site, boxes_alike_at old.frame (cells_of old.cells team) (cells_of new.cells team) places same) (omega (arith, before, less))
 
 -- where strips have gained room
 pub placing_grown : (f : Frame) (cells : Cells) (m n : Marked) → IsPlacing (placing_of f cells m) → n.index ≡ m.index → n.site ≡ m.site
-    → NoLess (rooms_in m.lanes) (rooms_in n.lanes) → IsPlacing (placing_of f cells n)
+    → KeepsCapacities (capacities_in m.lanes) (capacities_in n.lanes) → IsPlacing (placing_of f cells n)
 placing_grown f cells m n is index site rooms = record {
   sized = is.sized;
   few = is.few;
-  follows = record { index = subst (IsGroundOf f) (sym index) is.follows.index; site = site ∙ is.follows.site; boxes = boxes_there f cells };
+  follows = record { index = subst (IsIndexOf f) (sym index) is.follows.index; site = site ∙ is.follows.site; boxes = boxes_there f cells };
   committed = λ team.
       last (placing_of f cells m) (placing_of f cells n) team (committed_of (cells_of cells team)) refl index site rooms refl (is.committed team);
 }

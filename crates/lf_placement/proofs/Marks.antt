@@ -3,19 +3,19 @@ use Rattle.std.proofs.Common.{◌≡◌, ◌≢◌, ◌⊎◌, inl, inr, ⊎_eli
 use Rattle.std.specs.Prelude.{slice_get}
 use Rattle.std.proofs.lemmas.Bool.{cases_eq}
 use Rattle.std.proofs.lemmas.List.{get_or-set_same, length-map, set-set}
-use Rattle.lf_units.specs.declared.area.Rect.{Rect}
+use Rattle.lf_units.specs.declared.geometry.Rect.{Rect}
 use Rattle.lf_floorplan.specs.declared.frame.Frame.{Frame}
 use Rattle.lf_cells.specs.declared.cell.Cell.{Cell}
 use Rattle.lf_cells.specs.declared.cell.CellId.{CellId}
 use Rattle.lf_cells.specs.Cells.{Cells, cells_of, id_in, id_of}
-use Rattle.lf_segments.specs.Grounds.{IsGroundOf, Lookups}
+use Rattle.lf_segments.specs.Grounds.{IsIndexOf, FrameIndexView}
 use Rattle.lf_occupancy.specs.Occupied.{HasRoomFor, Occupied, boxes_of, cell_box}
 use Rattle.lf_occupancy.specs.Floorplans.{IsMarkedBy, IsOccupancyOf, box_of, boxes_in}
-use Rattle.lf_occupancy.specs.Strips.{CanEnter, CanLeave, Holds, IsAt, IsNowhere, Marked, felt_strips, filled_by, rooms_in}
+use Rattle.lf_occupancy.specs.Strips.{CanEnter, CanLeave, MarksBoxes, IsAt, HasNoBox, Marked, widened_strips, with_boxes, capacities_in}
 use Rattle.lf_occupancy.proofs.Building.{boxes_there, lanes_of_same}
 use Rattle.lf_occupancy.proofs.Knowing.{known_still, stands_nowhere}
 use Rattle.lf_placement.specs.Placings.{OtherCellsStay}
-use Rattle.lf_placement.specs.Steps.{AreOut, CanStand, HoldsSome, IsOut, IsPartly, KeepsRooms, MayEnter, MayHave, MayStand, StandButFor, TakesOut, box_set, working_boxes}
+use Rattle.lf_placement.specs.Steps.{AreRemoved, MovedMayBeInserted, MarksSome, IsRemovedOrUnchanged, IsPartly, KeepsRooms, CellMayBeInserted, BoxMayBeInserted, BoxesMayBeInserted, AreInsertedExcept, RemovesFirst, box_set, working_boxes}
 use Rattle.lf_placement.proofs.Boxes.{AreStanding, all_stand, box_put, has_cell, has_room, keeps, keeps_put, may_without, none_put, nowhere_now, out_next}
 use Rattle.lf_placement.proofs.Boxes.{set_none, standing_next, team_is}
 
@@ -23,13 +23,13 @@ abbrev AllBoxes : Type 0
 AllBoxes = List (List (Option Rect))
 
 -- what is kept of a table's cells is an occupancy of them
-pub of_marked : (f : Frame) (cells : Cells) (m : Marked) → IsMarkedBy f cells m → IsOccupancyOf f cells (filled_by m (boxes_in f cells))
+pub of_marked : (f : Frame) (cells : Cells) (m : Marked) → IsMarkedBy f cells m → IsOccupancyOf f cells (with_boxes m (boxes_in f cells))
 of_marked f cells m is = record { index = is.index; site = is.site; boxes = boxes_there f cells }
 
-pub follows_still : (f : Frame) (old new : Cells) (m n : Marked) → IsOccupancyOf f old (filled_by m (boxes_in f old)) → KeepsRooms m n →
-    IsOccupancyOf f new (filled_by n (boxes_in f new))
+pub follows_still : (f : Frame) (old new : Cells) (m n : Marked) → IsOccupancyOf f old (with_boxes m (boxes_in f old)) → KeepsRooms m n →
+    IsOccupancyOf f new (with_boxes n (boxes_in f new))
 follows_still f old new m n is kept = record {
-  index = subst (IsGroundOf f) (sym kept.index) is.index;
+  index = subst (IsIndexOf f) (sym kept.index) is.index;
   site = kept.site ∙ is.site;
   boxes = boxes_there f new;
 }
@@ -56,11 +56,11 @@ row_same (r ∷ rows) (suc k) own x same = ap (λ (rs : AllBoxes). r ∷ rs) (ro
 
 -- there is no such cell
 pub none_holds : (f : Frame) (cells : Cells) (team own : ℕ) (x : Option Rect) (m : Marked) (boxes : AllBoxes) → id_in (cells_of cells team) team own ≡ None →
-    IsPartly team (working_boxes f cells team) (filled_by m boxes) → Holds m boxes → Holds m (box_set boxes team own x)
+    IsPartly team (working_boxes f cells team) (with_boxes m boxes) → MarksBoxes m boxes → MarksBoxes m (box_set boxes team own x)
 none_holds f cells team own x m boxes none part holds =
-    subst (Holds m)
+    subst (MarksBoxes m)
     (sym (row_same boxes team own x
-    (sym (none_put team own (cells_of cells team) x (filled_by m boxes) (part.many ∙ length-map (cells_of cells team) (box_of f)) none))))
+    (sym (none_put team own (cells_of cells team) x (with_boxes m boxes) (part.many ∙ length-map (cells_of cells team) (box_of f)) none))))
     holds
 
 module _ (f : Frame) (cells : Cells) (team own : ℕ) (id : CellId) (is : Some id ≡ id_in (cells_of cells team) team own) where
@@ -72,9 +72,9 @@ module _ (f : Frame) (cells : Cells) (team own : ℕ) (id : CellId) (is : Some i
 
   -- it has no box
   pub bare_holds : (m : Marked) (boxes : AllBoxes) → None ≡ cell_box (working_boxes f cells id.team) id.own →
-      IsPartly team (working_boxes f cells team) (filled_by m boxes) → Holds m boxes → Holds m (box_set boxes team own None)
+      IsPartly team (working_boxes f cells team) (with_boxes m boxes) → MarksBoxes m boxes → MarksBoxes m (box_set boxes team own None)
   bare_holds m boxes at part holds =
-      subst (Holds m) (sym (row_same boxes team own None (set_none (get_or boxes team []) own (none (part.part own))))) holds
+      subst (MarksBoxes m) (sym (row_same boxes team own None (set_none (get_or boxes team []) own (none (part.part own))))) holds
     where
       none : (cell_box (get_or boxes team []) own ≡ None) ⊎ (cell_box (get_or boxes team []) own ≡ cell_box (working_boxes f cells team) own) →
           cell_box (get_or boxes team []) own ≡ None
@@ -82,10 +82,10 @@ module _ (f : Frame) (cells : Cells) (team own : ℕ) (id : CellId) (is : Some i
       none (inr stands) = stands ∙ here None at
 
   pub still_bare : (m : Marked) (boxes : AllBoxes) → None ≡ cell_box (working_boxes f cells id.team) id.own →
-      IsPartly team (working_boxes f cells team) (filled_by m boxes) → Holds m boxes →
-      Holds m (box_set boxes team own (cell_box (working_boxes f cells team) own))
+      IsPartly team (working_boxes f cells team) (with_boxes m boxes) → MarksBoxes m boxes →
+      MarksBoxes m (box_set boxes team own (cell_box (working_boxes f cells team) own))
   still_bare m boxes at part holds =
-      subst (λ (x : Option Rect). Holds m (box_set boxes team own x)) (sym (here None at)) (bare_holds m boxes at part holds)
+      subst (λ (x : Option Rect). MarksBoxes m (box_set boxes team own x)) (sym (here None at)) (bare_holds m boxes at part holds)
 
   -- it has this box
   pub is_at : (rect : Rect) (o : Occupied) → Some rect ≡ cell_box (working_boxes f cells id.team) id.own → IsPartly team (working_boxes f cells team) o →
@@ -101,15 +101,15 @@ module _ (f : Frame) (cells : Cells) (team own : ℕ) (id : CellId) (is : Some i
       two (inl out) = inl out
       two (inr stands) = inr (stands ∙ here (Some rect) at)
 
-  pub may_have : (rect : Rect) (o : Occupied) → Some rect ≡ cell_box (working_boxes f cells id.team) id.own → MayStand team (working_boxes f cells team) o →
-      MayHave id rect o
+  pub may_have : (rect : Rect) (o : Occupied) → Some rect ≡ cell_box (working_boxes f cells id.team) id.own → BoxesMayBeInserted team (working_boxes f cells team) o →
+      BoxMayBeInserted id rect o
   may_have rect o at may = record { at = is_at rect o at record { many = may.many; part = may.part }; room = room }
     where
       out : Occupied
       out = record { index = o.index; site = o.site; boxes = box_set o.boxes id.team id.own None; rooms = o.rooms }
 
-      own_may : MayStand id.team (working_boxes f cells id.team) o
-      own_may = subst (λ (i : CellId). MayStand i.team (working_boxes f cells i.team) o) (sym same) may
+      own_may : BoxesMayBeInserted id.team (working_boxes f cells id.team) o
+      own_may = subst (λ (i : CellId). BoxesMayBeInserted i.team (working_boxes f cells i.team) o) (sym same) may
 
       room : HasRoomFor out id.team rect 1
       room = has_room id (working_boxes f cells id.team) out rect
@@ -118,14 +118,14 @@ module _ (f : Frame) (cells : Cells) (team own : ℕ) (id : CellId) (is : Some i
 
   -- it has this box, and stands nowhere as yet
   pub is_nowhere : (rect : Rect) (o : Occupied) → Some rect ≡ cell_box (working_boxes f cells id.team) id.own →
-      IsPartly team (working_boxes f cells team) o → cell_box (boxes_of o team) own ≡ None → IsNowhere o.boxes id
+      IsPartly team (working_boxes f cells team) o → cell_box (boxes_of o team) own ≡ None → HasNoBox o.boxes id
   is_nowhere rect o at part out = record {
     known = (is_at rect o at part).known;
     at = subst (λ (i : CellId). cell_box (boxes_of o i.team) i.own ≡ None) (sym same) out;
   }
 
   pub may_enter : (rect : Rect) (m : Marked) → Some rect ≡ cell_box (working_boxes f cells id.team) id.own →
-      HoldsSome (MayEnter team (working_boxes f cells team) own) m → CanEnter m id rect
+      MarksSome (CellMayBeInserted team (working_boxes f cells team) own) m → CanEnter m id rect
   may_enter rect m at can = record {
     boxes = can.boxes;
     holds = can.holds;
@@ -134,44 +134,44 @@ module _ (f : Frame) (cells : Cells) (team own : ℕ) (id : CellId) (is : Some i
   }
     where
       o : Occupied
-      o = filled_by m can.boxes
+      o = with_boxes m can.boxes
 
-      nowhere : IsNowhere o.boxes id
+      nowhere : HasNoBox o.boxes id
       nowhere = is_nowhere rect o at record { many = can.is.may.many; part = can.is.may.part } can.is.out
 
-      own_may : MayStand id.team (working_boxes f cells id.team) o
-      own_may = subst (λ (i : CellId). MayStand i.team (working_boxes f cells i.team) o) (sym same) can.is.may
+      own_may : BoxesMayBeInserted id.team (working_boxes f cells id.team) o
+      own_may = subst (λ (i : CellId). BoxesMayBeInserted i.team (working_boxes f cells i.team) o) (sym same) can.is.may
 
   -- what holds of the cell's box holds of the box at that position
-  pub at_place : (m : Marked) (boxes : AllBoxes) (x : Option Rect) → Holds m (box_set boxes id.team id.own x) → Holds m (box_set boxes team own x)
-  at_place m boxes x holds = subst (λ (i : CellId). Holds m (box_set boxes i.team i.own x)) same holds
+  pub at_place : (m : Marked) (boxes : AllBoxes) (x : Option Rect) → MarksBoxes m (box_set boxes id.team id.own x) → MarksBoxes m (box_set boxes team own x)
+  at_place m boxes x holds = subst (λ (i : CellId). MarksBoxes m (box_set boxes i.team i.own x)) same holds
 
   pub at_work : (rect : Rect) (m : Marked) (boxes : AllBoxes) → Some rect ≡ cell_box (working_boxes f cells id.team) id.own →
-      Holds m (box_set boxes id.team id.own (Some rect)) → Holds m (box_set boxes team own (cell_box (working_boxes f cells team) own))
+      MarksBoxes m (box_set boxes id.team id.own (Some rect)) → MarksBoxes m (box_set boxes team own (cell_box (working_boxes f cells team) own))
   at_work rect m boxes at holds =
-      subst (λ (x : Option Rect). Holds m (box_set boxes team own x)) (sym (here (Some rect) at)) (at_place m boxes (Some rect) holds)
+      subst (λ (x : Option Rect). MarksBoxes m (box_set boxes team own x)) (sym (here (Some rect) at)) (at_place m boxes (Some rect) holds)
 
 -- ---- a cell is taken out and put in
 
-pub can_leave : (m : Marked) (id : CellId) (rect : Rect) → HoldsSome (MayHave id rect) m → CanLeave m id rect
+pub can_leave : (m : Marked) (id : CellId) (rect : Rect) → MarksSome (BoxMayBeInserted id rect) m → CanLeave m id rect
 can_leave m id rect may = record { boxes = may.boxes; holds = may.holds; is = may.is.at }
 
 room_as : (a b : Occupied) (team : ℕ) (rect : Rect) (more : ℕ) → b.index ≡ a.index → b.site ≡ a.site → b.rooms ≡ a.rooms → b.boxes ≡ a.boxes →
     HasRoomFor a team rect more → HasRoomFor b team rect more
 room_as a b team rect more index site rooms boxes room = λ n g there of_team shares.
-    rw (rooms, site, boxes) (room n g (subst (λ (looked : Lookups). slice_get looked.strips n ≡ Some g) index there) of_team (rw (sym site) shares))
+    rw (rooms, site, boxes) (room n g (subst (λ (looked : FrameIndexView). slice_get looked.strips n ≡ Some g) index there) of_team (rw (sym site) shares))
 
-pub out_nowhere : (boxes : AllBoxes) (id : CellId) (rect : Rect) → IsAt boxes id rect → IsNowhere (box_set boxes id.team id.own None) id
+pub out_nowhere : (boxes : AllBoxes) (id : CellId) (rect : Rect) → IsAt boxes id rect → HasNoBox (box_set boxes id.team id.own None) id
 out_nowhere boxes id rect at = record { known = known_still boxes id id None at.known at.known; at = stands_nowhere boxes id at.known }
 
-pub can_enter : (old mid : Marked) (id : CellId) (rect : Rect) → KeepsRooms old mid → (may : HoldsSome (MayHave id rect) old) →
-    Holds mid (box_set may.boxes id.team id.own None) → CanEnter mid id rect
+pub can_enter : (old mid : Marked) (id : CellId) (rect : Rect) → KeepsRooms old mid → (may : MarksSome (BoxMayBeInserted id rect) old) →
+    MarksBoxes mid (box_set may.boxes id.team id.own None) → CanEnter mid id rect
 can_enter old mid id rect kept may holds = record {
   boxes = box_set may.boxes id.team id.own None;
   holds = holds;
   nowhere = out_nowhere may.boxes id rect may.is.at;
-  room = room_as record { index = old.index; site = old.site; boxes = box_set may.boxes id.team id.own None; rooms = rooms_in old.lanes }
-      (filled_by mid (box_set may.boxes id.team id.own None)) id.team rect 1 kept.index kept.site kept.rooms refl may.is.room;
+  room = room_as record { index = old.index; site = old.site; boxes = box_set may.boxes id.team id.own None; rooms = capacities_in old.lanes }
+      (with_boxes mid (box_set may.boxes id.team id.own None)) id.team rect 1 kept.index kept.site kept.rooms refl may.is.room;
 }
 
 -- boxes changed twice are changed once
@@ -188,35 +188,35 @@ set_twice boxes id a b has =
 
 -- what is out of what stood is part of it
 pub partly_out : (f : Frame) (cells : Cells) (team : ℕ) (named : List ℕ) (n : ℕ) (old : Marked) (o : Occupied) →
-    TakesOut team named n (filled_by old (boxes_in f cells)) o → IsPartly team (working_boxes f cells team) o
+    RemovesFirst team named n (with_boxes old (boxes_in f cells)) o → IsPartly team (working_boxes f cells team) o
 partly_out f cells team named n old o out = record {
   many = out.rest.many ∙ ap (λ (bs : List (Option Rect)). length bs) (boxes_there f cells team);
   part = λ own. two own (out.each own);
 }
   where
-    two : (own : ℕ) → IsOut named n (get_or (boxes_in f cells) team []) (boxes_of o team) own →
+    two : (own : ℕ) → IsRemovedOrUnchanged named n (get_or (boxes_in f cells) team []) (boxes_of o team) own →
         (cell_box (boxes_of o team) own ≡ None) ⊎ (cell_box (boxes_of o team) own ≡ cell_box (working_boxes f cells team) own)
     two own (inl out_now) = inl out_now.1
     two own (inr still) = inr (still.1 ∙ ap (λ (bs : List (Option Rect)). cell_box bs own) (boxes_there f cells team))
 
-pub none_out : (team : ℕ) (named : List ℕ) (m : Marked) (boxes : AllBoxes) → Holds m boxes → HoldsSome (TakesOut team named 0 (filled_by m boxes)) m
+pub none_out : (team : ℕ) (named : List ℕ) (m : Marked) (boxes : AllBoxes) → MarksBoxes m boxes → MarksSome (RemovesFirst team named 0 (with_boxes m boxes)) m
 none_out team named m boxes holds = record {
   boxes = boxes;
   holds = holds;
-  is = record { each = λ own. inr (λ k less. absurd (omega (arith, less)), refl); rest = keeps team (filled_by m boxes) };
+  is = record { each = λ own. inr (λ k less. absurd (omega (arith, less)), refl); rest = keeps team (with_boxes m boxes) };
 }
 
 kept_strips : (team own : ℕ) (x : Option Rect) (mid new : Marked) (boxes : AllBoxes) → KeepsRooms mid new →
-    (boxes_of (filled_by new (box_set boxes team own x)) team ≡ set (get_or boxes team []) own x)
+    (boxes_of (with_boxes new (box_set boxes team own x)) team ≡ set (get_or boxes team []) own x)
 kept_strips team own x mid new boxes kept =
-    box_put record { team = team; own = own } x (filled_by mid boxes) (filled_by new (box_set boxes team own x)) refl
+    box_put record { team = team; own = own } x (with_boxes mid boxes) (with_boxes new (box_set boxes team own x)) refl
 
 pub one_out : (team : ℕ) (named : List ℕ) (n own : ℕ) (old : Occupied) (mid new : Marked) → own ≡ get_or named n 0 → KeepsRooms mid new →
-    (was : HoldsSome (TakesOut team named n old) mid) → Holds new (box_set was.boxes team own None) → HoldsSome (TakesOut team named (n + 1) old) new
+    (was : MarksSome (RemovesFirst team named n old) mid) → MarksBoxes new (box_set was.boxes team own None) → MarksSome (RemovesFirst team named (n + 1) old) new
 one_out team named n own old mid new is kept was holds =
     let id : CellId = record { team = team; own = own } in
-    let a = filled_by mid was.boxes in
-    let b = filled_by new (box_set was.boxes team own None) in
+    let a = with_boxes mid was.boxes in
+    let b = with_boxes new (box_set was.boxes team own None) in
     record {
       boxes = box_set was.boxes team own None;
       holds = holds;
@@ -224,29 +224,29 @@ one_out team named n own old mid new is kept was holds =
           (keeps_put id None a b refl kept.index kept.site kept.rooms) was.is;
     }
 
-standing_so_far : (f : Frame) (cells : Cells) (team : ℕ) (named : List ℕ) (o : Occupied) → CanStand f cells team named o → AreStanding f cells team named 0 o
+standing_so_far : (f : Frame) (cells : Cells) (team : ℕ) (named : List ℕ) (o : Occupied) → MovedMayBeInserted f cells team named o → AreStanding f cells team named 0 o
 standing_so_far f cells team named o can = record {
   may = can.may;
   rest = λ own never. can.rest own (λ k less. never k (omega arith) less);
   others = can.others;
 }
 
-pub none_stand : (f : Frame) (cells : Cells) (team : ℕ) (named : List ℕ) (m : Marked) → HoldsSome (CanStand f cells team named) m →
-    HoldsSome (AreStanding f cells team named 0) m
+pub none_stand : (f : Frame) (cells : Cells) (team : ℕ) (named : List ℕ) (m : Marked) → MarksSome (MovedMayBeInserted f cells team named) m →
+    MarksSome (AreStanding f cells team named 0) m
 none_stand f cells team named m can = record {
   boxes = can.boxes;
   holds = can.holds;
-  is = standing_so_far f cells team named (filled_by m can.boxes) can.is;
+  is = standing_so_far f cells team named (with_boxes m can.boxes) can.is;
 }
 
 pub one_stands : (f : Frame) (cells : Cells) (team : ℕ) (named : List ℕ) (n own : ℕ) (mid new : Marked) → own ≡ get_or named n 0 → KeepsRooms mid new →
-    (was : HoldsSome (AreStanding f cells team named n) mid) → Holds new (box_set was.boxes team own (cell_box (working_boxes f cells team) own)) →
-    HoldsSome (AreStanding f cells team named (n + 1)) new
+    (was : MarksSome (AreStanding f cells team named n) mid) → MarksBoxes new (box_set was.boxes team own (cell_box (working_boxes f cells team) own)) →
+    MarksSome (AreStanding f cells team named (n + 1)) new
 one_stands f cells team named n own mid new is kept was holds =
     let id : CellId = record { team = team; own = own } in
     let x : Option Rect = cell_box (working_boxes f cells team) own in
-    let a = filled_by mid was.boxes in
-    let b = filled_by new (box_set was.boxes team own x) in
+    let a = with_boxes mid was.boxes in
+    let b = with_boxes new (box_set was.boxes team own x) in
     record {
       boxes = box_set was.boxes team own x;
       holds = holds;
@@ -254,33 +254,33 @@ one_stands f cells team named n own mid new is kept was holds =
           (keeps_put id x a b refl kept.index kept.site kept.rooms) was.is;
     }
 
-pub may_of : (f : Frame) (cells : Cells) (team : ℕ) (named : List ℕ) (n : ℕ) (m : Marked) → HoldsSome (AreStanding f cells team named n) m →
-    HoldsSome (MayStand team (working_boxes f cells team)) m
+pub may_of : (f : Frame) (cells : Cells) (team : ℕ) (named : List ℕ) (n : ℕ) (m : Marked) → MarksSome (AreStanding f cells team named n) m →
+    MarksSome (BoxesMayBeInserted team (working_boxes f cells team)) m
 may_of f cells team named n m was = record { boxes = was.boxes; holds = was.holds; is = was.is.may }
 
-pub all_hold : (f : Frame) (cells : Cells) (team : ℕ) (named : List ℕ) (n : ℕ) (m : Marked) → length named ≤ n → HoldsSome (AreStanding f cells team named n) m →
-    Holds m (boxes_in f cells)
-all_hold f cells team named n m past was = lanes_of_same (felt_strips m.site m.index.strips) was.boxes (boxes_in f cells) m.lanes same was.holds
+pub all_hold : (f : Frame) (cells : Cells) (team : ℕ) (named : List ℕ) (n : ℕ) (m : Marked) → length named ≤ n → MarksSome (AreStanding f cells team named n) m →
+    MarksBoxes m (boxes_in f cells)
+all_hold f cells team named n m past was = lanes_of_same (widened_strips m.site m.index.strips) was.boxes (boxes_in f cells) m.lanes same was.holds
   where
     same : (other : ℕ) → get_or was.boxes other [] ≡ get_or (boxes_in f cells) other []
     same other = ⊎_elim
-        (λ (is : other ≡ team). rw is (all_stand f cells team named n (filled_by m was.boxes) past was.is ∙ sym (boxes_there f cells team)))
+        (λ (is : other ≡ team). rw is (all_stand f cells team named n (with_boxes m was.boxes) past was.is ∙ sym (boxes_there f cells team)))
         (λ (differ : other ≢ team). was.is.others other differ ∙ sym (boxes_there f cells other)) (cases_eq other team)
 
 -- the one cell that is named is put in
 pub one_enters : (f : Frame) (cells : Cells) (team : ℕ) (named : List ℕ) (own : ℕ) (old new : Marked) → length named ≡ 1 → own ≡ get_or named 0 0 →
-    KeepsRooms old new → (can : HoldsSome (CanStand f cells team named) old) →
-    Holds new (box_set can.boxes team own (cell_box (working_boxes f cells team) own)) → Holds new (boxes_in f cells)
+    KeepsRooms old new → (can : MarksSome (MovedMayBeInserted f cells team named) old) →
+    MarksBoxes new (box_set can.boxes team own (cell_box (working_boxes f cells team) own)) → MarksBoxes new (boxes_in f cells)
 one_enters f cells team named own old new one is kept can holds =
-    let begun : HoldsSome (AreStanding f cells team named 0) old =
-    record { boxes = can.boxes; holds = can.holds; is = standing_so_far f cells team named (filled_by old can.boxes) can.is } in
+    let begun : MarksSome (AreStanding f cells team named 0) old =
+    record { boxes = can.boxes; holds = can.holds; is = standing_so_far f cells team named (with_boxes old can.boxes) can.is } in
     all_hold f cells team named 1 new (omega (arith, one)) (one_stands f cells team named 0 own old new is kept begun holds)
 
 -- the cells that are lifted can stand where they are moved
 pub can_stand : (f : Frame) (old new : Cells) (team : ℕ) (named named_then : List ℕ) (count : ℕ) (before after : Marked) → OtherCellsStay team old new →
-    (out : HoldsSome (TakesOut team named count (filled_by before (boxes_in f old))) after) →
-    MayStand team (working_boxes f new team) (filled_by after out.boxes) → StandButFor team (working_boxes f new team) named_then (filled_by after out.boxes) →
-    AreOut team named_then (filled_by after out.boxes) → HoldsSome (CanStand f new team named_then) after
+    (out : MarksSome (RemovesFirst team named count (with_boxes before (boxes_in f old))) after) →
+    BoxesMayBeInserted team (working_boxes f new team) (with_boxes after out.boxes) → AreInsertedExcept team (working_boxes f new team) named_then (with_boxes after out.boxes) →
+    AreRemoved team named_then (with_boxes after out.boxes) → MarksSome (MovedMayBeInserted f new team named_then) after
 can_stand f old new team named named_then count before after stay out may rest gone = record {
   boxes = out.boxes;
   holds = out.holds;

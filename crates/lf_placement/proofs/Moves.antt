@@ -7,10 +7,10 @@ use Rattle.lf_cells.specs.declared.cell.Cell.{Cell}
 use Rattle.lf_cells.specs.declared.cell.CellId.{CellId}
 use Rattle.lf_cells.specs.Cells.{Cells, id_in, id_of, moved, working_at}
 use Rattle.lf_undo.specs.declared.moves.Move.{Move}
-use Rattle.lf_undo.specs.Entries.{Places, replaced, taken_back}
+use Rattle.lf_undo.specs.Entries.{Places, replaced, moves_taken_back}
 use Rattle.lf_undo.proofs.Undone.{undo_one_more}
-use Rattle.lf_placement.specs.Placings.{HaveMoved, OtherCellsStay, SameButPlaces, made, places_of, taken_up}
-use Rattle.lf_placement.specs.Steps.{made_back, owns}
+use Rattle.lf_placement.specs.Placings.{HaveMoved, OtherCellsStay, SameButPlaces, moves_applied, places_of, without_place}
+use Rattle.lf_placement.specs.Steps.{moves_reverted, moved_positions}
 
 past_moved : (cells : List Cell) (own : ℕ) (place : Option Place) → slice_get cells own ≡ None → moved cells own place ≡ cells
 past_moved [] own place none = refl
@@ -51,15 +51,15 @@ cells_through number a b c first second =
 pub same_moved : (cells : List Cell) (own : ℕ) (place : Option Place) → SameButPlaces cells (moved cells own place)
 same_moved [] own place = refl
 same_moved (c ∷ cs) zero place = refl
-same_moved (c ∷ cs) (suc own) place = ap (λ (r : List Cell). taken_up c ∷ r) (same_moved cs own place)
+same_moved (c ∷ cs) (suc own) place = ap (λ (r : List Cell). without_place c ∷ r) (same_moved cs own place)
 
-pub same_made : (moves : List Move) (cells : List Cell) → SameButPlaces cells (made moves cells)
+pub same_made : (moves : List Move) (cells : List Cell) → SameButPlaces cells (moves_applied moves cells)
 same_made [] cells = refl
 same_made (m ∷ ms) cells = same_made ms (moved cells m.own m.old) ∙ same_moved cells m.own m.old
 
-pub same_back : (moves : List Move) (cells : List Cell) → SameButPlaces cells (made_back moves cells)
+pub same_back : (moves : List Move) (cells : List Cell) → SameButPlaces cells (moves_reverted moves cells)
 same_back [] cells = refl
-same_back (m ∷ ms) cells = same_moved (made_back ms cells) m.own m.old ∙ same_back ms cells
+same_back (m ∷ ms) cells = same_moved (moves_reverted ms cells) m.own m.old ∙ same_back ms cells
 
 first_same : {a b : Cell} {rest others : List Cell} → a ∷ rest ≡ b ∷ others → a ≡ b
 first_same e = cc
@@ -76,7 +76,7 @@ rest_places e = cc
 with_place : Cell → Option Place → Cell
 with_place c place = record c { working = place }
 
-back_with : (c : Cell) → with_place (taken_up c) c.working ≡ c
+back_with : (c : Cell) → with_place (without_place c) c.working ≡ c
 unfolding with_place
 back_with c = refl
 
@@ -87,11 +87,11 @@ same_places [] (c ∷ cs) same places = absurd cc
 same_places (d ∷ ds) [] same places = absurd cc
 same_places (d ∷ ds) (c ∷ cs) same places =
     ap (λ (x : Cell). x ∷ cs)
-    (sym (back_with c) ∙ ap (λ (x : Cell). with_place x c.working) (first_same same) ∙ ap (with_place (taken_up d)) (first_place places) ∙ back_with d)
+    (sym (back_with c) ∙ ap (λ (x : Cell). with_place x c.working) (first_same same) ∙ ap (with_place (without_place d)) (first_place places) ∙ back_with d)
     ∙ ap (λ (r : List Cell). d ∷ r) (same_places ds cs (rest_same same) (rest_places places))
 
 pub length_same : (old new : List Cell) → SameButPlaces old new → length new ≡ length old
-length_same old new same = sym (length-map new taken_up) ∙ ap (λ (cs : List Cell). length cs) same ∙ length-map old taken_up
+length_same old new same = sym (length-map new without_place) ∙ ap (λ (cs : List Cell). length cs) same ∙ length-map old without_place
 
 -- ---- moves
 
@@ -100,9 +100,9 @@ places_moved [] own place = refl
 places_moved (c ∷ cs) zero place = refl
 places_moved (c ∷ cs) (suc own) place = ap (λ (r : Places). c.working ∷ r) (places_moved cs own place)
 
-pub places_back : (moves : List Move) (cells : List Cell) → places_of (made_back moves cells) ≡ taken_back moves (places_of cells)
+pub places_back : (moves : List Move) (cells : List Cell) → places_of (moves_reverted moves cells) ≡ moves_taken_back moves (places_of cells)
 places_back [] cells = refl
-places_back (m ∷ ms) cells = places_moved (made_back ms cells) m.own m.old ∙ ap (λ (ps : Places). set ps m.own m.old) (places_back ms cells)
+places_back (m ∷ ms) cells = places_moved (moves_reverted ms cells) m.own m.old ∙ ap (λ (ps : Places). set ps m.own m.old) (places_back ms cells)
 
 place_there : (cells : List Cell) (own : ℕ) → get_or (places_of cells) own None ≡ working_at cells own
 place_there [] own = refl
@@ -114,16 +114,16 @@ one_more : (before now : List Cell) (moves : List Move) (own : ℕ) (place old :
     → HaveMoved before (moves ++ record { own = own; old = old } ∷ []) (moved now own place)
 one_more before now moves own place old was have = record {
   places =
-      ap (λ (o : Option Place). taken_back (moves ++ record { own = own; old = o } ∷ []) (places_of (moved now own place))) (was ∙ sym (place_there now own))
-      ∙ ap (taken_back (moves ++ record { own = own; old = get_or (places_of now) own None } ∷ [])) (places_moved now own place)
+      ap (λ (o : Option Place). moves_taken_back (moves ++ record { own = own; old = o } ∷ []) (places_of (moved now own place))) (was ∙ sym (place_there now own))
+      ∙ ap (moves_taken_back (moves ++ record { own = own; old = get_or (places_of now) own None } ∷ [])) (places_moved now own place)
       ∙ undo_one_more (places_of before) (places_of now) moves own place have.places;
   same = same_moved now own place ∙ have.same;
 }
 
 -- moves that are taken back give the cells before
-pub have_back : (before now : List Cell) (moves : List Move) → HaveMoved before moves now → made_back moves now ≡ before
+pub have_back : (before now : List Cell) (moves : List Move) → HaveMoved before moves now → moves_reverted moves now ≡ before
 have_back before now moves have =
-    same_places before (made_back moves now) (same_back moves now ∙ have.same) (places_back moves now ∙ have.places)
+    same_places before (moves_reverted moves now) (same_back moves now ∙ have.same) (places_back moves now ∙ have.places)
 
 -- ---- the loop that makes moves
 
@@ -141,7 +141,7 @@ drop_replaced [] at old = refl
 drop_replaced (m ∷ ms) zero old = refl
 drop_replaced (m ∷ ms) (suc at) old = let more : suc at + 1 ≡ suc (at + 1) = omega arith in rw more (drop_replaced ms at old)
 
-owns_replaced : (moves : List Move) (at : ℕ) (old : Option Place) → owns (replaced moves at old) ≡ owns moves
+owns_replaced : (moves : List Move) (at : ℕ) (old : Option Place) → moved_positions (replaced moves at old) ≡ moved_positions moves
 owns_replaced [] at old = refl
 owns_replaced (m ∷ ms) zero old = refl
 owns_replaced (m ∷ ms) (suc at) old = ap (λ (r : List ℕ). m.own ∷ r) (owns_replaced ms at old)
@@ -153,16 +153,16 @@ drop_here (m ∷ ms) (suc at) next within is = let more : suc at + 1 ≡ suc (at
 
 -- so far: from these cells the moves from here on lead to those cells, and the notes so far have led to these
 pub record IsMakingAt (start to now : List Cell) (given moves : List Move) (from at : ℕ) : Type 0 where
-  pub rest : made (drop at moves) now ≡ to
+  pub rest : moves_applied (drop at moves) now ≡ to
   pub notes : (before : List Cell) → HaveMoved before (take from given) start → HaveMoved before (take at moves) now
-  pub owns : owns moves ≡ owns given
+  pub moved_positions : moved_positions moves ≡ moved_positions given
 
 pub making_next : (start to now : List Cell) (given moves : List Move) (from at : ℕ) (next : Move) (was : Option Place) → at < length moves
     → next ≡ get_or moves at next → was ≡ working_at now next.own → IsMakingAt start to now given moves from at
     → IsMakingAt start to (moved now next.own next.old) given (replaced moves at was) from (at + 1)
 making_next start to now given moves from at next was within is noted making = record {
-  rest = ap (λ (ms : List Move). made ms (moved now next.own next.old)) (drop_replaced moves at was)
-      ∙ ap (λ (ms : List Move). made ms now) (sym (drop_here moves at next within is)) ∙ making.rest;
+  rest = ap (λ (ms : List Move). moves_applied ms (moved now next.own next.old)) (drop_replaced moves at was)
+      ∙ ap (λ (ms : List Move). moves_applied ms now) (sym (drop_here moves at next within is)) ∙ making.rest;
   notes = λ before have.
       rw (take_replaced moves at was next within is)
       (one_more before now (take at moves) next.own next.old was noted (making.notes before have));
@@ -171,18 +171,18 @@ making_next start to now given moves from at next was within is noted making = r
 
 -- ---- the loop that takes moves back
 
-made_back-append : (first second : List Move) (cells : List Cell) → made_back (first ++ second) cells ≡ made_back first (made_back second cells)
+made_back-append : (first second : List Move) (cells : List Cell) → moves_reverted (first ++ second) cells ≡ moves_reverted first (moves_reverted second cells)
 made_back-append [] second cells = refl
 made_back-append (m ∷ first) second cells = ap (λ (cs : List Cell). moved cs m.own m.old) (made_back-append first second cells)
 
 -- the last of the moves that are left is taken back
 pub one_less : (now : List Cell) (moves : List Move) (n : ℕ) (m : Move) → n < length moves → m ≡ get_or moves n m
-    → made_back (take n moves) (moved now m.own m.old) ≡ made_back (take (n + 1) moves) now
+    → moves_reverted (take n moves) (moved now m.own m.old) ≡ moves_reverted (take (n + 1) moves) now
 one_less now moves n m within read =
     sym (made_back-append (take n moves) (m ∷ []) now)
-    ∙ ap (λ (x : Move). made_back (take n moves ++ x ∷ []) now) read
-    ∙ ap (λ (ms : List Move). made_back ms now) (sym (take_more moves n m within))
+    ∙ ap (λ (x : Move). moves_reverted (take n moves ++ x ∷ []) now) read
+    ∙ ap (λ (ms : List Move). moves_reverted ms now) (sym (take_more moves n m within))
 
-pub owns_length : (moves given : List Move) → owns moves ≡ owns given → length moves ≡ length given
+pub owns_length : (moves given : List Move) → moved_positions moves ≡ moved_positions given → length moves ≡ length given
 owns_length moves given same =
     sym (length-map moves (λ (m : Move). m.own)) ∙ ap (λ (ns : List ℕ). length ns) same ∙ length-map given (λ (m : Move). m.own)

@@ -5,15 +5,15 @@ use Rattle.std.specs.Prelude.{All, Any, Contains, option_and_then, slice_get}
 use Rattle.std.specs.Option.{option_map}
 use Rattle.std.proofs.lemmas.List.Elements.{All-nil, All-cons}
 use Rattle.std.proofs.lemmas.List.Sorted.{IsPermutation-refl}
-use Rattle.lf_units.specs.declared.area.Rect.{Rect}
+use Rattle.lf_units.specs.declared.geometry.Rect.{Rect}
 use Rattle.lf_units.specs.Area.{Covers, SharesPoint}
 use Rattle.lf_floorplan.specs.declared.frame.Frame.{Frame}
 use Rattle.lf_floorplan.specs.declared.place.Place.{Place}
 use Rattle.lf_rtree.specs.declared.placed.Placed.{Placed}
-use Rattle.lf_rtree.specs.Near.{IsLeastMet, IsNoneMet}
+use Rattle.lf_rtree.specs.Near.{IsLeastOverlapping, IsNoneOverlapping}
 use Rattle.lf_rules.specs.declared.rule.Rule.TheVariants.{Overlap}
-use Rattle.lf_rules.specs.Choice.{Spot, spot_of}
-use Rattle.lf_rules.specs.Legality.{IsFirstMet as IsFirstMetOf, Trial, box_of as box_of_trial, padded_box}
+use Rattle.lf_rules.specs.Choice.{SpotPlace, spot_of}
+use Rattle.lf_rules.specs.Legality.{IsFirstOverlapping as IsFirstMetOf, Candidate, box_of as box_of_trial, padded_box}
 use Rattle.lf_rules.specs.Padding.{length_of, wider}
 use Rattle.lf_rules.proofs.WiderLemmas.{length_least, length_upto}
 use Rattle.lf_floorplan.specs.Boxes.{IsSized, size_of}
@@ -30,21 +30,21 @@ use Rattle.lf_cells.specs.Cells.{Cells, cells_of}
 use Rattle.lf_legalize.specs.Members.{member_of}
 use Rattle.lf_segments.specs.declared.strip.Strip.{Strip}
 use Rattle.lf_occupancy.specs.Occupied.{IsFirstMet, MeetsInStrips, Occupied, box_at, reach}
-use Rattle.lf_occupancy.specs.Floorplans.{IsOccupancyOf, StripsFeel, box_of}
+use Rattle.lf_occupancy.specs.Floorplans.{IsOccupancyOf, WidenedStripsCover, box_of}
 
 -- ---- the boxes of cells, by their numbers
 
 abbrev numbered : ℕ → Rect → Placed
 numbered own rect = record { own = own; rect = rect }
 
-one_hold : (Q : Placed → Type 0) (f : Frame) (own mac : ℕ) (place : Option Spot) (rest : List Placed)
-    → ((p : Spot) → place ≡ Some p → Q (numbered own (box_in f mac p))) → All Q rest → All Q (with_box f own mac place rest)
+one_hold : (Q : Placed → Type 0) (f : Frame) (own mac : ℕ) (place : Option SpotPlace) (rest : List Placed)
+    → ((p : SpotPlace) → place ≡ Some p → Q (numbered own (box_in f mac p))) → All Q rest → All Q (with_box f own mac place rest)
 one_hold Q f own mac None rest h all = all
 one_hold Q f own mac (Some p) rest h all = All-cons Q (numbered own (box_in f mac p)) rest (h p refl) all
 
 -- what holds of each placed cell's box holds of all boxes
 boxes_hold : (Q : Placed → Type 0) (f : Frame) (own : ℕ) (cells : List Member)
-    → ((k : ℕ) (m : Member) (p : Spot) → slice_get cells k ≡ Some m → m.place ≡ Some p → Q (numbered (own + k) (box_in f m.mac p)))
+    → ((k : ℕ) (m : Member) (p : SpotPlace) → slice_get cells k ≡ Some m → m.place ≡ Some p → Q (numbered (own + k) (box_in f m.mac p)))
     → All Q (boxes_from f own cells)
 boxes_hold Q f own [] h = All-nil Q
 boxes_hold Q f own (x ∷ cells) h =
@@ -58,12 +58,12 @@ first_there b boxes = (0, omega arith, refl)
 later_there : (a b : Placed) (boxes : List Placed) → Contains boxes b → Contains (a ∷ boxes) b
 later_there a b boxes (k, within, is) = (suc k, omega (arith, within), is)
 
-behind_box : (f : Frame) (n mac : ℕ) (place : Option Spot) (rest : List Placed) (p : Placed) → Contains rest p → Contains (with_box f n mac place rest) p
+behind_box : (f : Frame) (n mac : ℕ) (place : Option SpotPlace) (rest : List Placed) (p : Placed) → Contains rest p → Contains (with_box f n mac place rest) p
 behind_box f n mac None rest p there = there
 behind_box f n mac (Some at) rest p there = later_there (numbered n (box_in f mac at)) p rest there
 
 -- a placed cell has its box among them
-box_there : (f : Frame) (n : ℕ) (cells : List Member) (k : ℕ) (m : Member) (p : Spot) → slice_get cells k ≡ Some m → m.place ≡ Some p
+box_there : (f : Frame) (n : ℕ) (cells : List Member) (k : ℕ) (m : Member) (p : SpotPlace) → slice_get cells k ≡ Some m → m.place ≡ Some p
     → Contains (boxes_from f n cells) (numbered (n + k) (box_in f m.mac p))
 box_there f n [] k m p there at = absurd cc
 box_there f n (c ∷ cells) zero m p there at =
@@ -72,7 +72,7 @@ box_there f n (c ∷ cells) zero m p there at =
     let number : n ≡ n + 0 = omega arith in
     subst (λ (x : Member). Contains (boxes_from f n (c ∷ cells)) (numbered (n + 0) (box_in f x.mac p))) same
     (subst (λ (i : ℕ). Contains (boxes_from f n (c ∷ cells)) (numbered i (box_in f c.mac p))) number
-    (subst (λ (o : Option Spot). Contains (with_box f n c.mac o (boxes_from f (n + 1) cells)) (numbered n (box_in f c.mac p))) (sym placed)
+    (subst (λ (o : Option SpotPlace). Contains (with_box f n c.mac o (boxes_from f (n + 1) cells)) (numbered n (box_in f c.mac p))) (sym placed)
     (first_there (numbered n (box_in f c.mac p)) (boxes_from f (n + 1) cells))))
 box_there f n (c ∷ cells) (suc k) m p there at =
     let number : (n + 1) + k ≡ n + suc k = omega arith in
@@ -98,11 +98,11 @@ box_read f (c ∷ cs) (suc k) = box_read f cs k
 
 -- the cell whose box it is
 some_box : (f : Frame) (cells : List Member) (k : ℕ) (box : Rect) → option_and_then (box_of_member f) (slice_get cells k) ≡ Some box
-    → (m : Member) × (p : Spot) × (slice_get cells k ≡ Some m) × (m.place ≡ Some p) × (box_in f m.mac p ≡ box)
+    → (m : Member) × (p : SpotPlace) × (slice_get cells k ≡ Some m) × (m.place ≡ Some p) × (box_in f m.mac p ≡ box)
 some_box f [] k box e = absurd cc
 some_box f (m ∷ cells) zero box e = at m.place refl e where
-  at : (place : Option Spot) → m.place ≡ place → option_map (box_in f m.mac) place ≡ Some box
-      → (n : Member) × (p : Spot) × (Some m ≡ Some n) × (n.place ≡ Some p) × (box_in f n.mac p ≡ box)
+  at : (place : Option SpotPlace) → m.place ≡ place → option_map (box_in f m.mac) place ≡ Some box
+      → (n : Member) × (p : SpotPlace) × (Some m ≡ Some n) × (n.place ≡ Some p) × (box_in f n.mac p ≡ box)
   at None is none = absurd cc
   at (Some p) is some = (m, p, refl, is, cc)
 some_box f (m ∷ cells) (suc k) box e = some_box f cells k box e
@@ -119,9 +119,9 @@ module _ (f : Frame) (table : Cells) (o : Occupied) (of : IsOccupancyOf f table 
       ap (λ (bs : List (Option Rect)). option_and_then (λ (box : Option Rect). box) (slice_get bs k)) (of.boxes id.team)
       ∙ box_read f (cells_of table id.team) k
 
-  placed_is : (k : ℕ) (m : Member) (p : Spot) → slice_get cells k ≡ Some m → m.place ≡ Some p → box_at o id.team k ≡ Some (box_in f m.mac p)
+  placed_is : (k : ℕ) (m : Member) (p : SpotPlace) → slice_get cells k ≡ Some m → m.place ≡ Some p → box_at o id.team k ≡ Some (box_in f m.mac p)
   placed_is k m p there at =
-      box_is k ∙ ap (λ (x : Option Member). option_and_then (box_of_member f) x) there ∙ ap (λ (x : Option Spot). option_map (box_in f m.mac) x) at
+      box_is k ∙ ap (λ (x : Option Member). option_and_then (box_of_member f) x) there ∙ ap (λ (x : Option SpotPlace). option_map (box_in f m.mac) x) at
 
   module _ (covered : (x y : ℤ) → Covers rect x y → Any (λ (g : Strip). (g.team ≡ id.team) × Covers (wider (reach o) g.area) x y) o.index.strips) where
     -- a box that is met is met in the strips
@@ -136,13 +136,13 @@ module _ (f : Frame) (table : Cells) (o : Occupied) (of : IsOccupancyOf f table 
       in_box = shares.in_second;
     }
 
-    none_in : ((own : ℕ) → MeetsInStrips o id rect own → ⊥) → IsNoneMet boxes rect id.own
+    none_in : ((own : ℕ) → MeetsInStrips o id rect own → ⊥) → IsNoneOverlapping boxes rect id.own
     none_in none =
         boxes_hold (λ q. q.own ≢ id.own → SharesPoint rect q.rect → ⊥) f 0 cells
         (λ k m p there at differ shares.
         none k (meets_in k (box_in f m.mac p) (λ same. differ (omega (arith, same))) (placed_is k m p there at) shares))
 
-    least_in : (own : ℕ) → MeetsInStrips o id rect own → ((other : ℕ) → MeetsInStrips o id rect other → own ≤ other) → IsLeastMet boxes rect id.own own
+    least_in : (own : ℕ) → MeetsInStrips o id rect own → ((other : ℕ) → MeetsInStrips o id rect other → own ≤ other) → IsLeastOverlapping boxes rect id.own own
     least_in own meets least =
         let cell = some_box f cells own meets.box (sym (box_is own) ∙ meets.is.stands) in
         let shares : SharesPoint rect meets.box = record { x = meets.x; y = meets.y; in_first = meets.in_rect; in_second = meets.in_box } in
@@ -166,7 +166,7 @@ module _ (f : Frame) (table : Cells) (o : Occupied) (of : IsOccupancyOf f table 
 -- ---- the verdict
 
 -- the box of a macro of whole size holds a point
-wide_trial : (t : Trial) → IsSized t.frame t.mac → (box_of_trial t).x1 <ℤ (box_of_trial t).x2
+wide_trial : (t : Candidate) → IsSized t.frame t.mac → (box_of_trial t).x1 <ℤ (box_of_trial t).x2
 wide_trial t sized =
     let small : IsSmall (turned (size_of t.frame t.mac) t.orient) = turned_small _ _ (small_pitch _ _ _ (sized_pitch t.frame t.mac sized)) in
     wide t.x _ small.wide
@@ -175,7 +175,7 @@ wide_trial t sized =
     wide x w h = omega (arith, ints)
 
 -- where the rules but overlap hold, the cell that is met in the strips decides
-pub met_decides : (t : Trial) (table : Cells) (o : Occupied) (id : CellId) (rect : Rect) (met : Option ℕ) → IsOccupancyOf t.frame table o → StripsFeel → t.padding ≤ 16 → IsSized t.frame t.mac
+pub met_decides : (t : Candidate) (table : Cells) (o : Occupied) (id : CellId) (rect : Rect) (met : Option ℕ) → IsOccupancyOf t.frame table o → WidenedStripsCover → t.padding ≤ 16 → IsSized t.frame t.mac
     → id.team ≡ t.team → t.others ≡ boxes_beside t.frame (map member_of (cells_of table t.team)) id.own → rect ≡ padded_box t
     → KeepsFrame t → IsFirstMet o id rect met
     → IsVerdict t (option_map (λ own. record { rule = Overlap; other = Some own }) met)

@@ -2,23 +2,23 @@
 use Rattle.std.proofs.Common.{◌≡◌, ◌≢◌, ◌⊎◌, inl, inr, ◌<◌, ◌≤◌, ℕ, zero, suc, ◌+◌, List, [], ◌∷◌, length, get_or, set, take, Option, Some, refl, ap, sym, subst, ◌∙◌, arith}
 use Rattle.std.specs.Prelude.{All, Contains, Err, IsSome, Ok, OnOk, Result, slice_get}
 use Rattle.std.specs.Option.{option_map}
-use Rattle.lf_units.specs.declared.area.Rect.{Rect}
+use Rattle.lf_units.specs.declared.geometry.Rect.{Rect}
 use Rattle.lf_floorplan.specs.declared.frame.Frame.{Frame}
 use Rattle.lf_floorplan.specs.declared.place.Place.{Place}
 use Rattle.lf_rules.specs.Choice.{spot_of}
 use Rattle.lf_rules.specs.Team.{box_in}
 use Rattle.lf_cells.specs.declared.cell.Cell.{Cell}
 use Rattle.lf_cells.specs.declared.cell.CellId.{CellId}
-use Rattle.lf_cells.specs.Cells.{AreAll, Cells, cells_of, committed_at, working_at}
-use Rattle.lf_segments.specs.Grounds.{IsGroundOf}
+use Rattle.lf_cells.specs.Cells.{AreAllIds, Cells, cells_of, committed_at, working_at}
+use Rattle.lf_segments.specs.Grounds.{IsIndexOf}
 use Rattle.lf_occupancy.specs.Floorplans.{boxes_in}
-use Rattle.lf_occupancy.specs.Occupied.{Bounds, FitIn, NoLess, Occupied, cell_box}
-use Rattle.lf_occupancy.specs.Strips.{Marked, filled_by, rooms_in}
+use Rattle.lf_occupancy.specs.Occupied.{Bounds, FitIn, KeepsCapacities, Occupied, cell_box}
+use Rattle.lf_occupancy.specs.Strips.{Marked, with_boxes, capacities_in}
 use Rattle.lf_occupancy.proofs.Building.{boxes_there}
 use Rattle.lf_undo.specs.declared.moves.Move.{Move}
-use Rattle.lf_undo.specs.Entries.{Places, taken_back}
+use Rattle.lf_undo.specs.Entries.{Places, moves_taken_back}
 use Rattle.lf_placement.specs.Placings.{AreSized, IsPlacing, Placing, SameButRooms, boxes_at, committed_of, placing_of, places_of}
-use Rattle.lf_placement.specs.Steps.{GainsRoom, box_moved}
+use Rattle.lf_placement.specs.Steps.{KeepsMarks, box_moved}
 use Rattle.lf_placement.proofs.Changing.{boxes_at_work}
 
 abbrev Boxes : Type 0
@@ -83,21 +83,21 @@ put_same (p ∷ ps) (suc own) place is = ap (λ (r : Places). p ∷ r) (put_same
 
 -- ---- what gains room
 
-pub gains_none : (m : Marked) → GainsRoom m m
+pub gains_none : (m : Marked) → KeepsMarks m m
 gains_none m = record { holds = λ boxes h. h; index = refl; site = refl; rooms = record { many = refl; each = λ n. omega arith } }
 
-no_less_through : (a b c : List ℕ) → NoLess a b → NoLess b c → NoLess a c
+no_less_through : (a b c : List ℕ) → KeepsCapacities a b → KeepsCapacities b c → KeepsCapacities a c
 no_less_through a b c first second = record {
   many = second.many ∙ first.many;
   each = λ n. let p = first.each n in let q = second.each n in omega (arith, p, q);
 }
 
-pub gains_through : (a b c : Marked) → GainsRoom a b → GainsRoom b c → GainsRoom a c
+pub gains_through : (a b c : Marked) → KeepsMarks a b → KeepsMarks b c → KeepsMarks a c
 gains_through a b c first second = record {
   holds = λ boxes h. second.holds boxes (first.holds boxes h);
   index = second.index ∙ first.index;
   site = second.site ∙ first.site;
-  rooms = no_less_through (rooms_in a.lanes) (rooms_in b.lanes) (rooms_in c.lanes) first.rooms second.rooms;
+  rooms = no_less_through (capacities_in a.lanes) (capacities_in b.lanes) (capacities_in c.lanes) first.rooms second.rooms;
 }
 
 pub same_through : (a b c : Placing) → SameButRooms a b → SameButRooms b c → SameButRooms a c
@@ -116,7 +116,7 @@ same_self p = record { frame = refl; cells = refl; index = refl; site = refl; bo
 -- ---- what fits
 
 -- where there is room for what is counted, what the tally bounds fits
-pub bounds_fit : (o : Occupied) (team : ℕ) (boxes : Boxes) (tally : List ℕ) → NoLess tally o.rooms → Bounds o team boxes tally → FitIn o team boxes
+pub bounds_fit : (o : Occupied) (team : ℕ) (boxes : Boxes) (tally : List ℕ) → KeepsCapacities tally o.rooms → Bounds o team boxes tally → FitIn o team boxes
 bounds_fit o team boxes tally room bounds = λ n g at of_team.
     let a = bounds n g at of_team in
     let b = room.each n in
@@ -154,7 +154,7 @@ team_next f cells o p team old new half here others = record {
     at t (inr same) = subst (λ (u : ℕ). Bounds p u (boxes_at f (cells_of cells u) (committed_of (cells_of cells u))) new) (sym same) here
 
 -- no team of a greater number has cells
-no_cells : (cells : Cells) (ids : List CellId) (teams t : ℕ) → AreAll cells ids → All (λ id. id.team < teams) ids → teams ≤ t → cells_of cells t ≡ []
+no_cells : (cells : Cells) (ids : List CellId) (teams t : ℕ) → AreAllIds cells ids → All (λ id. id.team < teams) ids → teams ≤ t → cells_of cells t ≡ []
 no_cells cells ids teams t all below past = go (cells_of cells t) refl where
   first : CellId
   first = record { team = t; own = 0 }
@@ -167,7 +167,7 @@ no_cells cells ids teams t all below past = go (cells_of cells t) refl where
       let same : (get_or ids there.0 first).team ≡ t = ap (λ (id : CellId). id.team) there.2 in
       absurd (omega (arith, less, same, past))
 
-pub all_committed : (f : Frame) (cells : Cells) (ids : List CellId) (teams team : ℕ) (o : Occupied) (tally : List ℕ) → AreAll cells ids
+pub all_committed : (f : Frame) (cells : Cells) (ids : List CellId) (teams team : ℕ) (o : Occupied) (tally : List ℕ) → AreAllIds cells ids
     → All (λ id. id.team < teams) ids → teams ≤ team → HalfCommitted f cells o team tally → (t : ℕ)
     → Bounds o t (boxes_at f (cells_of cells t) (committed_of (cells_of cells t))) tally
 all_committed f cells ids teams team o tally all below past half t = at (order t team) where
@@ -179,28 +179,28 @@ all_committed f cells ids teams team o tally all below past half t = at (order t
 
 -- the strips with the room that they have gained hold a placement
 pub placing_fitted : (f : Frame) (cells : Cells) (m n : Marked) → AreSized f cells → ((team : ℕ) → length (cells_of cells team) ≤ 4000000)
-    → IsGroundOf f m.index → m.site ≡ f.pitch.x → GainsRoom m n
-    → ((team : ℕ) → FitIn (filled_by n []) team (boxes_at f (cells_of cells team) (committed_of (cells_of cells team)))) → IsPlacing (placing_of f cells n)
+    → IsIndexOf f m.index → m.site ≡ f.pitch.x → KeepsMarks m n
+    → ((team : ℕ) → FitIn (with_boxes n []) team (boxes_at f (cells_of cells team) (committed_of (cells_of cells team)))) → IsPlacing (placing_of f cells n)
 placing_fitted f cells m n sized few ground site gains fits = record {
   sized = sized;
   few = few;
-  follows = record { index = subst (IsGroundOf f) (sym gains.index) ground; site = gains.site ∙ site; boxes = boxes_there f cells };
+  follows = record { index = subst (IsIndexOf f) (sym gains.index) ground; site = gains.site ∙ site; boxes = boxes_there f cells };
   committed = fits;
 }
 
 -- ---- moves that are taken back, the last one first
 
 back_suc : (places : Places) (moves : List Move) (n : ℕ) (m : Move) → n < length moves → m ≡ get_or moves n m
-    → taken_back (take n moves) (set places m.own m.old) ≡ taken_back (take (suc n) moves) places
+    → moves_taken_back (take n moves) (set places m.own m.old) ≡ moves_taken_back (take (suc n) moves) places
 back_suc places [] n m within is = absurd (omega (arith, within))
 back_suc places (x ∷ ms) zero m within is = ap (λ (y : Move). set places y.own y.old) is
 back_suc places (x ∷ ms) (suc n) m within is = ap (λ (ps : Places). set ps x.own x.old) (back_suc places ms n m (omega (arith, within)) is)
 
 pub back_less : (places : Places) (moves : List Move) (n : ℕ) (m : Move) → n < length moves → m ≡ get_or moves n m
-    → taken_back (take n moves) (set places m.own m.old) ≡ taken_back (take (n + 1) moves) places
+    → moves_taken_back (take n moves) (set places m.own m.old) ≡ moves_taken_back (take (n + 1) moves) places
 back_less places moves n m within is =
     let same : suc n ≡ n + 1 = omega arith in
-    back_suc places moves n m within is ∙ ap (λ (k : ℕ). taken_back (take k moves) places) same
+    back_suc places moves n m within is ∙ ap (λ (k : ℕ). moves_taken_back (take k moves) places) same
 
 -- what follows from two facts of a result that is Ok
 pub both_ok : {T E P Q R : Type 0} (r : Result T E) → (P → Q → R) → OnOk r P → OnOk r Q → OnOk r R

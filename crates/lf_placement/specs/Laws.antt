@@ -5,28 +5,28 @@ use Rattle.lf_rules.specs.declared.rule.Rule.{Rule}
 use Rattle.lf_cells.specs.declared.cell.Cell.{Cell}
 use Rattle.lf_cells.specs.declared.cell.CellId.{CellId}
 use Rattle.lf_cells.specs.Cells.{as_committed, cells_of}
-use Rattle.lf_occupancy.specs.Occupied.{NoLess}
+use Rattle.lf_occupancy.specs.Occupied.{KeepsCapacities}
 use Rattle.lf_undo.specs.Entries.{Places}
-use Rattle.lf_placement.specs.Placings.{Fits, IsBrokenAlone, Placing, SameButPlaces}
+use Rattle.lf_placement.specs.Placings.{Fits, IsBrokenFrameRule, Placing, SameButPlaces}
 
 -- the cells have the same macros
 abbrev pub SameMacros : List Cell → List Cell → Type 0
 SameMacros old new = map (λ c. c.mac) new ≡ map (λ c. c.mac) old
 
 -- places that fit the team still do where the frame and the strips stay, no room is less, and its cells keep their macros
-abbrev pub FitsLast : Type 0
-FitsLast =
+abbrev pub FittingIsStable : Type 0
+FittingIsStable =
     (old new : Placing) (team : ℕ) (places : Places) → new.frame ≡ old.frame → new.held.index ≡ old.held.index →
-    new.held.site ≡ old.held.site → NoLess old.held.rooms new.held.rooms →
+    new.held.site ≡ old.held.site → KeepsCapacities old.held.rooms new.held.rooms →
     SameMacros (cells_of old.cells team) (cells_of new.cells team) → Fits old team places → Fits new team places
 
 -- the first of the rules but overlap that a cell breaks at a place stays where the frame stays and its team's cells keep their macros
-abbrev pub AloneLasts : Type 0
-AloneLasts =
+abbrev pub FrameRuleIsStable : Type 0
+FrameRuleIsStable =
     (old new : Placing) (id : CellId) (place : Place) (broken : Option Rule) → new.frame ≡ old.frame →
-    SameMacros (cells_of old.cells id.team) (cells_of new.cells id.team) → IsBrokenAlone old id place broken → IsBrokenAlone new id place broken
+    SameMacros (cells_of old.cells id.team) (cells_of new.cells id.team) → IsBrokenFrameRule old id place broken → IsBrokenFrameRule new id place broken
 
 -- cells keep their macros where nothing but their places differs, or their places are committed
-pub record MacrosStay : Type 0 where
+pub record KeepsMacros : Type 0 where
   pub moved : (old new : List Cell) → SameButPlaces old new → SameMacros old new
   pub committed : (cells : List Cell) → SameMacros cells (map as_committed cells)

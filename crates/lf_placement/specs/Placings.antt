@@ -1,7 +1,7 @@
 -- Where the cells of all teams stand on a frame, and how moves change it.
 use Rattle.std.specs.Prelude.{◌≡◌, ◌≢◌, ◌≤◌, ℕ, All, List, [], ◌∷◌, map, length, MatchOption, Option, None}
 use Rattle.std.specs.Option.{option_map}
-use Rattle.lf_units.specs.declared.area.Rect.{Rect}
+use Rattle.lf_units.specs.declared.geometry.Rect.{Rect}
 use Rattle.lf_floorplan.specs.declared.frame.Frame.{Frame}
 use Rattle.lf_floorplan.specs.declared.place.Place.{Place}
 use Rattle.lf_floorplan.specs.Boxes.{macro_of}
@@ -9,17 +9,17 @@ use Rattle.lf_rtree.specs.declared.placed.Placed.{Placed}
 use Rattle.lf_rules.specs.declared.rule.Broken.{Broken}
 use Rattle.lf_rules.specs.declared.rule.Rule.{Rule}
 use Rattle.lf_rules.specs.Choice.{spot_of}
-use Rattle.lf_rules.specs.Legality.{IsFrameVerdict, Trial, trial_of}
+use Rattle.lf_rules.specs.Legality.{IsFrameRuleVerdict, Candidate, candidate_of}
 use Rattle.lf_rules.specs.Legalizer.{IsVerdict}
 use Rattle.lf_rules.specs.Team.{box_in, boxes_beside}
 use Rattle.lf_cells.specs.declared.cell.Cell.{Cell}
 use Rattle.lf_cells.specs.declared.cell.CellId.{CellId}
 use Rattle.lf_cells.specs.Cells.{Cells, cell_at, cells_of, moved}
-use Rattle.lf_occupancy.specs.Occupied.{Bounds, FitIn, NoLess, Occupied}
+use Rattle.lf_occupancy.specs.Occupied.{Bounds, FitIn, KeepsCapacities, Occupied}
 use Rattle.lf_occupancy.specs.Floorplans.{IsOccupancyOf, boxes_in}
-use Rattle.lf_occupancy.specs.Strips.{Holds, Marked, filled_by}
+use Rattle.lf_occupancy.specs.Strips.{MarksBoxes, Marked, with_boxes}
 use Rattle.lf_undo.specs.declared.moves.Move.{Move}
-use Rattle.lf_undo.specs.Entries.{Places, taken_back}
+use Rattle.lf_undo.specs.Entries.{Places, moves_taken_back}
 use Rattle.lf_legalize.specs.Members.{IsSizedCell, member_of}
 
 -- the frame, the cells of all teams, and what stands in the strips of the frame
@@ -30,7 +30,7 @@ pub record Placing : Type 0 where
 
 -- frame, cells and what is kept of the strips, with the cells' boxes at their working places
 abbrev pub placing_of : Frame → Cells → Marked → Placing
-placing_of f cells m = record { frame = f; cells = cells; held = filled_by m (boxes_in f cells) }
+placing_of f cells m = record { frame = f; cells = cells; held = with_boxes m (boxes_in f cells) }
 
 -- ---- places of a team's cells
 
@@ -59,21 +59,21 @@ BoundsAt p team places tally = Bounds p.held team (boxes_at p.frame (cells_of p.
 -- ---- moves
 
 -- the cells after these moves, made in their order
-abbrev pub made : List Move → List Cell → List Cell
-made [] cells = cells
-made (m ∷ ms) cells = made ms (moved cells m.own m.old)
+abbrev pub moves_applied : List Move → List Cell → List Cell
+moves_applied [] cells = cells
+moves_applied (m ∷ ms) cells = moves_applied ms (moved cells m.own m.old)
 
 -- a cell without its working place
-abbrev pub taken_up : Cell → Cell
-taken_up c = record c { working = None }
+abbrev pub without_place : Cell → Cell
+without_place c = record c { working = None }
 
 -- the cells differ in their working places alone
 abbrev pub SameButPlaces : List Cell → List Cell → Type 0
-SameButPlaces old new = map taken_up new ≡ map taken_up old
+SameButPlaces old new = map without_place new ≡ map without_place old
 
 -- the moves have led from the cells before to those now: taken back they give the places before, and nothing but places differs
 pub record HaveMoved (before : List Cell) (moves : List Move) (now : List Cell) : Type 0 where
-  pub places : taken_back moves (places_of now) ≡ places_of before
+  pub places : moves_taken_back moves (places_of now) ≡ places_of before
   pub same : SameButPlaces before now
 
 -- ---- what stays
@@ -98,7 +98,7 @@ pub record SameButRooms (old new : Placing) : Type 0 where
   pub index : new.held.index ≡ old.held.index
   pub site : new.held.site ≡ old.held.site
   pub boxes : new.held.boxes ≡ old.held.boxes
-  pub rooms : NoLess old.held.rooms new.held.rooms
+  pub rooms : KeepsCapacities old.held.rooms new.held.rooms
 
 -- ---- what a placement keeps
 
@@ -114,23 +114,23 @@ pub record IsPlacing (p : Placing) : Type 0 where
   pub committed : (team : ℕ) → Fits p team (committed_of (cells_of p.cells team))
 
 -- the strips hold the cells at their working places, and that is kept
-pub record IsStanding (f : Frame) (cells : Cells) (m : Marked) : Type 0 where
-  pub holds : Holds m (boxes_in f cells)
+pub record MatchesPlaces (f : Frame) (cells : Cells) (m : Marked) : Type 0 where
+  pub holds : MarksBoxes m (boxes_in f cells)
   pub placing : IsPlacing (placing_of f cells m)
 
 -- ---- a cell at a place
 
 -- the trial of a cell at a place, beside the other placed cells of its team, which has this padding
-abbrev pub trial_at : Placing → ℕ → CellId → Place → Cell → Trial
+abbrev pub trial_at : Placing → ℕ → CellId → Place → Cell → Candidate
 trial_at p padding id place c =
-    trial_of p.frame id.team padding (macro_of p.frame c.mac) place (boxes_beside p.frame (map member_of (cells_of p.cells id.team)) id.own)
+    candidate_of p.frame id.team padding (macro_of p.frame c.mac) place (boxes_beside p.frame (map member_of (cells_of p.cells id.team)) id.own)
 
 -- the first rule that the cell breaks there; None also where there is no such cell
 abbrev pub IsBrokenAt : Placing → ℕ → CellId → Place → Option Broken → Type 0
 IsBrokenAt p padding id place broken = MatchOption (cell_at p.cells id) (broken ≡ None) (λ c. IsVerdict (trial_at p padding id place c) broken)
 
 -- the first of the rules but overlap that the cell breaks there, whatever else stands and whatever the padding is; None also where there is no such cell
-abbrev pub IsBrokenAlone : Placing → CellId → Place → Option Rule → Type 0
-IsBrokenAlone p id place broken =
+abbrev pub IsBrokenFrameRule : Placing → CellId → Place → Option Rule → Type 0
+IsBrokenFrameRule p id place broken =
     MatchOption (cell_at p.cells id) (broken ≡ None)
-    (λ c. (padding : ℕ) (others : List Placed) → IsFrameVerdict (trial_of p.frame id.team padding (macro_of p.frame c.mac) place others) broken)
+    (λ c. (padding : ℕ) (others : List Placed) → IsFrameRuleVerdict (candidate_of p.frame id.team padding (macro_of p.frame c.mac) place others) broken)

@@ -1,7 +1,7 @@
 -- The steps of a change: its cells are taken out of the strips, moved in the table, and put back; no public clause cites it.
 use Rattle.std.specs.Prelude.{◌≡◌, ◌≢◌, ◌⊎◌, ℕ, ◌<◌, List, [], ◌∷◌, map, length, Option, None, option_and_then, slice_get, slice_index, slice_index_or, slice_set, unwrap_or}
 use Rattle.std.specs.Option.{option_map}
-use Rattle.lf_units.specs.declared.area.Rect.{Rect}
+use Rattle.lf_units.specs.declared.geometry.Rect.{Rect}
 use Rattle.lf_floorplan.specs.declared.frame.Frame.{Frame}
 use Rattle.lf_floorplan.specs.declared.place.Place.{Place}
 use Rattle.lf_rules.specs.Choice.{spot_of}
@@ -9,8 +9,8 @@ use Rattle.lf_rules.specs.Team.{box_in}
 use Rattle.lf_cells.specs.declared.cell.Cell.{Cell}
 use Rattle.lf_cells.specs.declared.cell.CellId.{CellId}
 use Rattle.lf_cells.specs.Cells.{Cells, cells_of, id_in, moved}
-use Rattle.lf_occupancy.specs.Occupied.{ArePartOf, FitIn, HasRoomFor, NoLess, Occupied, boxes_of, cell_box}
-use Rattle.lf_occupancy.specs.Strips.{Holds, IsAt, Marked, filled_by, rooms_in}
+use Rattle.lf_occupancy.specs.Occupied.{ArePartOf, FitIn, HasRoomFor, KeepsCapacities, Occupied, boxes_of, cell_box}
+use Rattle.lf_occupancy.specs.Strips.{MarksBoxes, IsAt, Marked, with_boxes, capacities_in}
 use Rattle.lf_occupancy.specs.Floorplans.{box_of}
 use Rattle.lf_undo.specs.declared.moves.Move.{Move}
 
@@ -23,22 +23,22 @@ abbrev pub working_boxes : Frame → Cells → ℕ → List (Option Rect)
 working_boxes f cells team = map (box_of f) (cells_of cells team)
 
 -- the cells after these moves are taken back, the last one first
-abbrev pub made_back : List Move → List Cell → List Cell
-made_back [] cells = cells
-made_back (m ∷ ms) cells = moved (made_back ms cells) m.own m.old
+abbrev pub moves_reverted : List Move → List Cell → List Cell
+moves_reverted [] cells = cells
+moves_reverted (m ∷ ms) cells = moved (moves_reverted ms cells) m.own m.old
 
 -- the positions that moves name
-abbrev pub owns : List Move → List ℕ
-owns moves = map (λ m. m.own) moves
+abbrev pub moved_positions : List Move → List ℕ
+moved_positions moves = map (λ m. m.own) moves
 
 -- none of the first so many names this position
-abbrev pub NameNot : List ℕ → ℕ → ℕ → Type 0
-NameNot named count own = (k : ℕ) → k < count → slice_index named k ≢ own
+abbrev pub DoNotMove : List ℕ → ℕ → ℕ → Type 0
+DoNotMove named count own = (k : ℕ) → k < count → slice_index named k ≢ own
 
 -- a named cell stands nowhere, and any other where it stood
-abbrev pub IsOut : List ℕ → ℕ → List (Option Rect) → List (Option Rect) → ℕ → Type 0
-IsOut named count old new own =
-    ((NameNot named count own → ⊥) × (cell_box new own ≡ None)) ⊎ (NameNot named count own × (cell_box new own ≡ cell_box old own))
+abbrev pub IsRemovedOrUnchanged : List ℕ → ℕ → List (Option Rect) → List (Option Rect) → ℕ → Type 0
+IsRemovedOrUnchanged named count old new own =
+    ((DoNotMove named count own → ⊥) × (cell_box new own ≡ None)) ⊎ (DoNotMove named count own × (cell_box new own ≡ cell_box old own))
 
 -- only boxes of this team may differ, and they are as many as before
 pub record KeepsStrips (team : ℕ) (old new : Occupied) : Type 0 where
@@ -49,10 +49,10 @@ pub record KeepsStrips (team : ℕ) (old new : Occupied) : Type 0 where
   pub rooms : new.rooms ≡ old.rooms
 
 -- the strips hold some boxes of which this is true
-pub record HoldsSome (Fact : Occupied → Type 0) (m : Marked) : Type 0 where
+pub record MarksSome (Fact : Occupied → Type 0) (m : Marked) : Type 0 where
   pub boxes : List (List (Option Rect))
-  pub holds : Holds m boxes
-  pub is : Fact (filled_by m boxes)
+  pub holds : MarksBoxes m boxes
+  pub is : Fact (with_boxes m boxes)
 
 -- the boxes of all teams, with this one for the team's cell of that position
 abbrev pub box_set : List (List (Option Rect)) → ℕ → ℕ → Option Rect → List (List (Option Rect))
@@ -62,14 +62,14 @@ box_set boxes team own box = slice_set boxes team (slice_set (slice_index_or box
 pub record KeepsRooms (old new : Marked) : Type 0 where
   pub index : new.index ≡ old.index
   pub site : new.site ≡ old.site
-  pub rooms : rooms_in new.lanes ≡ rooms_in old.lanes
+  pub rooms : capacities_in new.lanes ≡ capacities_in old.lanes
 
 -- the strips hold what they held, and none has less room
-pub record GainsRoom (old new : Marked) : Type 0 where
-  pub holds : (boxes : List (List (Option Rect))) → Holds old boxes → Holds new boxes
+pub record KeepsMarks (old new : Marked) : Type 0 where
+  pub holds : (boxes : List (List (Option Rect))) → MarksBoxes old boxes → MarksBoxes new boxes
   pub index : new.index ≡ old.index
   pub site : new.site ≡ old.site
-  pub rooms : NoLess (rooms_in old.lanes) (rooms_in new.lanes)
+  pub rooms : KeepsCapacities (capacities_in old.lanes) (capacities_in new.lanes)
 
 -- the boxes of the team's cells are part of these, which are as many
 pub record IsPartly (team : ℕ) (boxes : List (Option Rect)) (o : Occupied) : Type 0 where
@@ -77,45 +77,45 @@ pub record IsPartly (team : ℕ) (boxes : List (Option Rect)) (o : Occupied) : T
   pub part : ArePartOf (boxes_of o team) boxes
 
 -- the cells of all other teams stand at their working places
-abbrev pub OthersStand : Frame → Cells → ℕ → Occupied → Type 0
-OthersStand f cells team o = (other : ℕ) → other ≢ team → boxes_of o other ≡ working_boxes f cells other
+abbrev pub OthersAreInserted : Frame → Cells → ℕ → Occupied → Type 0
+OthersAreInserted f cells team o = (other : ℕ) → other ≢ team → boxes_of o other ≡ working_boxes f cells other
 
 -- the first so many of the named cells were taken out
-pub record TakesOut (team : ℕ) (named : List ℕ) (count : ℕ) (old new : Occupied) : Type 0 where
-  pub each : (own : ℕ) → IsOut named count (boxes_of old team) (boxes_of new team) own
+pub record RemovesFirst (team : ℕ) (named : List ℕ) (count : ℕ) (old new : Occupied) : Type 0 where
+  pub each : (own : ℕ) → IsRemovedOrUnchanged named count (boxes_of old team) (boxes_of new team) own
   pub rest : KeepsStrips team old new
 
 -- the team's boxes are part of these, which fit
-pub record MayStand (team : ℕ) (boxes : List (Option Rect)) (o : Occupied) : Type 0 where
+pub record BoxesMayBeInserted (team : ℕ) (boxes : List (Option Rect)) (o : Occupied) : Type 0 where
   pub many : length (boxes_of o team) ≡ length boxes
   pub part : ArePartOf (boxes_of o team) boxes
   pub fits : FitIn o team boxes
 
 -- so they are, and the cell of that position stands nowhere
-pub record MayEnter (team : ℕ) (boxes : List (Option Rect)) (own : ℕ) (o : Occupied) : Type 0 where
-  pub may : MayStand team boxes o
+pub record CellMayBeInserted (team : ℕ) (boxes : List (Option Rect)) (own : ℕ) (o : Occupied) : Type 0 where
+  pub may : BoxesMayBeInserted team boxes o
   pub out : cell_box (boxes_of o team) own ≡ None
 
 -- there is a cell of that id, which is out or has this box, and there is room for the box where it is out
-pub record MayHave (id : CellId) (rect : Rect) (o : Occupied) : Type 0 where
+pub record BoxMayBeInserted (id : CellId) (rect : Rect) (o : Occupied) : Type 0 where
   pub at : IsAt o.boxes id rect
   pub room : HasRoomFor record { index = o.index; site = o.site; boxes = box_set o.boxes id.team id.own None; rooms = o.rooms } id.team rect 1
 
 -- what none of these names stands where it is to stand
-abbrev pub StandButFor : ℕ → List (Option Rect) → List ℕ → Occupied → Type 0
-StandButFor team boxes named o = (own : ℕ) → NameNot named (length named) own → cell_box (boxes_of o team) own ≡ cell_box boxes own
+abbrev pub AreInsertedExcept : ℕ → List (Option Rect) → List ℕ → Occupied → Type 0
+AreInsertedExcept team boxes named o = (own : ℕ) → DoNotMove named (length named) own → cell_box (boxes_of o team) own ≡ cell_box boxes own
 
 -- none of the named cells stands anywhere
-abbrev pub AreOut : ℕ → List ℕ → Occupied → Type 0
-AreOut team named o = (k : ℕ) → k < length named → cell_box (boxes_of o team) (slice_index named k) ≡ None
+abbrev pub AreRemoved : ℕ → List ℕ → Occupied → Type 0
+AreRemoved team named o = (k : ℕ) → k < length named → cell_box (boxes_of o team) (slice_index named k) ≡ None
 
 -- the cells of a team are to be put where they stand, those named are out, and all others stand
-pub record CanStand (f : Frame) (cells : Cells) (team : ℕ) (named : List ℕ) (o : Occupied) : Type 0 where
-  pub may : MayStand team (working_boxes f cells team) o
-  pub rest : StandButFor team (working_boxes f cells team) named o
-  pub others : OthersStand f cells team o
-  pub out : AreOut team named o
+pub record MovedMayBeInserted (f : Frame) (cells : Cells) (team : ℕ) (named : List ℕ) (o : Occupied) : Type 0 where
+  pub may : BoxesMayBeInserted team (working_boxes f cells team) o
+  pub rest : AreInsertedExcept team (working_boxes f cells team) named o
+  pub others : OthersAreInserted f cells team o
+  pub out : AreRemoved team named o
 
 -- the cell that a move names, and its box at the move's place; no box where there is no such cell
-abbrev pub asked_for : Frame → ℕ → List Cell → Move → CellId × Option Rect
-asked_for f team cells m = (unwrap_or (id_in cells team m.own) record { team = 0; own = 0 }, box_moved f (slice_get cells m.own) m.old)
+abbrev pub requested_box : Frame → ℕ → List Cell → Move → CellId × Option Rect
+requested_box f team cells m = (unwrap_or (id_in cells team m.own) record { team = 0; own = 0 }, box_moved f (slice_get cells m.own) m.old)

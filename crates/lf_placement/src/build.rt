@@ -2,21 +2,21 @@
 
 ghost use Rattle.std.specs.Prelude.{◌≡◌, ◌≤◌, ℕ, IfOk, length};
 ghost use Rattle.lf_cells.specs.Cells.{cells_of};
-ghost use Rattle.lf_cells.specs.Openings.{opening_cells, opening_components};
+ghost use Rattle.lf_cells.specs.Openings.{initial_cells, initial_components};
 ghost use Rattle.lf_occupancy.specs.Floorplans.{HaveSize, IsMarkedBy, boxes_in};
-ghost use Rattle.lf_occupancy.specs.Strips.{Holds};
+ghost use Rattle.lf_occupancy.specs.Strips.{MarksBoxes};
 ghost use Rattle.lf_placement.specs.Placings.{AreSized, IsPlacing, placing_of};
 
-use crate::tallies::fit_all_committed;
+use crate::counted_capacity::fit_all_committed;
 use lf_cells::CellTable;
 use lf_floorplan::{Frame, Loaded};
 use lf_occupancy::Occupancy;
-use lf_segments::Ground;
+use lf_segments::FrameIndex;
 use std::alloc::{AllocError, Global};
 
 /// The frame, the cells of all teams, and what stands in the strips.
 #[derive(Drop)]
-pub(crate) struct Tables {
+pub(crate) struct BuiltParts {
     pub(crate) frame: Frame,
     pub(crate) cells: CellTable,
     pub(crate) occupancy: Occupancy,
@@ -25,8 +25,8 @@ pub(crate) struct Tables {
 /// The frame of a design, and the cells of all teams.
 fn cells_in(alloc: Global, loaded: Loaded) -> Result<(Frame, CellTable), AllocError>
     ensures frame { IfOk result (λ built. built.0 ≡ loaded.frame) }
-    ensures cells { IfOk result (λ built. built.1.cells ≡ opening_cells loaded) }
-    ensures components { IfOk result (λ built. built.1.components ≡ opening_components loaded) }
+    ensures cells { IfOk result (λ built. built.1.cells ≡ initial_cells loaded) }
+    ensures components { IfOk result (λ built. built.1.components ≡ initial_components loaded) }
     ensures sized { IfOk result (λ built. AreSized built.0 built.1) }
     ensures few { IfOk result (λ built. (team : ℕ) → length (cells_of built.1 team) ≤ 4000000) }
 {
@@ -39,7 +39,7 @@ fn occupancy_of(alloc: Global, frame: &Frame, cells: &CellTable) -> Result<Occup
     requires { HaveSize frame.now cells.now }
     ensures held { IfOk result (λ held. IsMarkedBy frame.now cells.now held) }
 {
-    let index = Ground::build(alloc, frame)?;
+    let index = FrameIndex::build(alloc, frame)?;
     Occupancy::build(alloc, frame, index, cells)
 }
 
@@ -51,7 +51,7 @@ pub(crate) fn fitted(
 ) -> Result<Occupancy, AllocError>
     requires sized { AreSized frame.now cells.now }
     requires few { (team : ℕ) → length (cells_of cells.now team) ≤ 4000000 }
-    ensures holds { IfOk result (λ held. Holds held (boxes_in frame.now cells.now)) }
+    ensures holds { IfOk result (λ held. MarksBoxes held (boxes_in frame.now cells.now)) }
     ensures placing { IfOk result (λ held. IsPlacing (placing_of frame.now cells.now held)) }
 {
     let mut occupancy = occupancy_of(alloc, frame, cells)?;
@@ -60,18 +60,18 @@ pub(crate) fn fitted(
 }
 
 /// The tables of a design.
-pub(crate) fn tables_of(alloc: Global, loaded: Loaded) -> Result<Tables, AllocError>
+pub(crate) fn tables_of(alloc: Global, loaded: Loaded) -> Result<BuiltParts, AllocError>
     ensures frame { IfOk result (λ tables. tables.frame ≡ loaded.frame) }
-    ensures cells { IfOk result (λ tables. tables.cells.cells ≡ opening_cells loaded) }
-    ensures components { IfOk result (λ tables. tables.cells.components ≡ opening_components loaded) }
-    ensures holds { IfOk result (λ tables. Holds tables.occupancy (boxes_in tables.frame tables.cells)) }
+    ensures cells { IfOk result (λ tables. tables.cells.cells ≡ initial_cells loaded) }
+    ensures components { IfOk result (λ tables. tables.cells.components ≡ initial_components loaded) }
+    ensures holds { IfOk result (λ tables. MarksBoxes tables.occupancy (boxes_in tables.frame tables.cells)) }
     ensures placing { IfOk result (λ tables. IsPlacing (placing_of tables.frame tables.cells tables.occupancy)) }
 {
     let built = cells_in(alloc, loaded)?;
     let (frame, cells) = built;
     let occupancy = occupancy_of(alloc, &frame, &cells)?;
     occupancy.boxes_fit();
-    Ok(Tables {
+    Ok(BuiltParts {
         frame,
         cells,
         occupancy,

@@ -10,28 +10,28 @@
 //!
 //! ```
 //! placement.reserve(alloc, team, moves.as_slice())?;
-//! placement.make(team, &mut moves, 0);
-//! placement.take_back(team, &moves);
+//! placement.apply(team, &mut moves, 0);
+//! placement.undo_moves(team, &moves);
 //! ```
 //!
 //! Room for places that a team had before is made where no cell is moved: with a tally of the boxes that stand, moves are taken back
 //! on a list of places.
 //!
 //! ```
-//! let mut tally = placement.tally(alloc)?;
-//! placement.fit_back(&mut tally, team, &mut places, &moves)?;
+//! let mut tally = placement.strip_counts(alloc)?;
+//! placement.reserve_undo(&mut tally, team, &mut places, &moves)?;
 //! ```
 #![tactic(auto)]
 
-mod back;
+mod apply;
 mod build;
+mod capacity;
+mod counted_capacity;
 mod laws;
-mod moving;
+mod occupancy_sync;
 mod placement;
-mod rooms;
-mod strips;
-mod table;
-mod tallies;
+mod table_sync;
+mod undo_capacity;
 
-pub use laws::{broken_alone_lasts, fits_last};
+pub use laws::{fitting_is_stable, frame_rule_is_stable};
 pub use placement::Placement;

@@ -6,24 +6,24 @@ ghost use Rattle.lf_rules.specs.Choice.{spot_of};
 ghost use Rattle.lf_rules.specs.Legalizer.{Legalizer};
 ghost use Rattle.lf_cells.specs.declared.cell.Cell.{Cell};
 ghost use Rattle.lf_cells.specs.Cells.{as_committed, cells_of};
-ghost use Rattle.lf_cells.specs.Openings.{opening_cells, opening_components};
+ghost use Rattle.lf_cells.specs.Openings.{initial_cells, initial_components};
 ghost use Rattle.lf_legalize.specs.Members.{best_of};
-ghost use Rattle.lf_occupancy.specs.Occupied.{NoLess};
-ghost use Rattle.lf_undo.specs.Entries.{Places, taken_back};
-ghost use Rattle.lf_placement.specs.Placings.{AreSized, BoundsAt, Fits, HaveMoved, IsBrokenAlone, IsBrokenAt, KeepsRest, OtherCellsStay, SameButRooms};
-ghost use Rattle.lf_placement.specs.Placings.{committed_of, made, places_of};
+ghost use Rattle.lf_occupancy.specs.Occupied.{KeepsCapacities};
+ghost use Rattle.lf_undo.specs.Entries.{Places, moves_taken_back};
+ghost use Rattle.lf_placement.specs.Placings.{AreSized, BoundsAt, Fits, HaveMoved, IsBrokenFrameRule, IsBrokenAt, KeepsRest, OtherCellsStay, SameButRooms};
+ghost use Rattle.lf_placement.specs.Placings.{committed_of, moves_applied, places_of};
 
-use crate::back::fit_moves_back;
-use crate::build::{Tables, fitted, tables_of};
-use crate::moving::{commit_places, make_moves, take_back_moves};
-use crate::rooms::make_room;
-use crate::tallies::{Change, fit_change};
+use crate::apply::{apply_moves, commit_places, revert_moves};
+use crate::build::{BuiltParts, fitted, tables_of};
+use crate::capacity::reserve_moves;
+use crate::counted_capacity::{Change, reserve_change};
+use crate::undo_capacity::fit_moves_back;
 use lf_cells::{CellId, CellTable};
 use lf_floorplan::{Frame, Loaded, PackedPlace, Place};
 use lf_legalize::Seeker;
-use lf_occupancy::{Occupancy, Tally, strips_feel};
-use lf_rules::{Broken, Padding, Rule, broken_alone, overlap_with, padded_box};
-use lf_segments::Plan;
+use lf_occupancy::{Occupancy, StripCounts, widened_strips_cover};
+use lf_rules::{Broken, Padding, Rule, broken_frame_rule, overlap_of, padded_box};
+use lf_segments::IndexedFrame;
 use lf_undo::{Move, Moves};
 use lf_units::Point;
 use std::alloc::{AllocError, Global};
@@ -44,13 +44,13 @@ pub struct Placement {
 }
 
 impl Model for Placement {
-    ghost use Rattle.lf_placement.specs.Placings.{IsStanding, Placing, placing_of};
+    ghost use Rattle.lf_placement.specs.Placings.{MatchesPlaces, Placing, placing_of};
 
     ghost Value = { Placing };
 
     ghost view = { λ p. placing_of p.frame p.cells p.occupancy };
 
-    ghost invariant = { λ p. IsStanding p.frame p.cells p.occupancy };
+    ghost invariant = { λ p. MatchesPlaces p.frame p.cells p.occupancy };
 }
 
 impl Placement {
@@ -59,10 +59,10 @@ impl Placement {
     /// `Err` if an allocation fails; the design is then gone.
     pub fn build(alloc: Global, loaded: Loaded) -> Result<Placement, AllocError>
         ensures frame { IfOk result (λ placement. placement.frame ≡ loaded.frame) }
-        ensures cells { IfOk result (λ placement. placement.cells.cells ≡ opening_cells loaded) }
-        ensures components { IfOk result (λ placement. placement.cells.components ≡ opening_components loaded) }
+        ensures cells { IfOk result (λ placement. placement.cells.cells ≡ initial_cells loaded) }
+        ensures components { IfOk result (λ placement. placement.cells.components ≡ initial_components loaded) }
     {
-        let Tables {
+        let BuiltParts {
             frame,
             cells,
             occupancy,
@@ -122,37 +122,37 @@ impl Placement {
     }
 
     /// The frame with what is looked up of it.
-    pub fn plan(&self) -> Plan<'_>
+    pub fn indexed_frame(&self) -> IndexedFrame<'_>
         ensures { result ≡ self.now.frame }
     {
-        Plan::new(&self.frame, self.occupancy.index())
+        IndexedFrame::new(&self.frame, self.occupancy.index())
     }
 
     /// The first of the rules but overlap that the cell breaks at the place, whatever else is placed;
     /// none also where there is no such cell. It allocates nothing.
-    pub fn broken_alone(&self, id: CellId, place: &Place) -> Option<Rule>
-        ensures { IsBrokenAlone self.now id place.now result }
+    pub fn broken_frame_rule(&self, id: CellId, place: &Place) -> Option<Rule>
+        ensures { IsBrokenFrameRule self.now id place.now result }
     {
-        let standing = self.cells.standing(id)?;
+        let standing = self.cells.placement_of(id)?;
         let mac = &self.frame.macros.as_slice()[standing.mac];
-        broken_alone(&self.plan(), id.team as usize, mac, place)
+        broken_frame_rule(&self.indexed_frame(), id.team as usize, mac, place)
     }
 
     /// The first of the team's other cells, by their positions, whose box shares a point with that of
     /// the cell at the place, made wider on its left and right by the padding, where it breaks no other
     /// rule: so overlap with it is the first rule that the cell breaks there. None iff the place is
     /// team-legal for the cell, or there is no such cell. It allocates nothing.
-    pub fn first_other(&self, id: CellId, place: &Place, padding: Padding) -> Option<u32>
-        requires { IsBrokenAlone self.now id place.now None }
+    pub fn first_overlapping(&self, id: CellId, place: &Place, padding: Padding) -> Option<u32>
+        requires { IsBrokenFrameRule self.now id place.now None }
         ensures { IsBrokenAt self.now padding.sites id place.now (option_map (λ own. record { rule = Overlap; other = Some own }) result) }
     {
-        let standing = self.cells.standing(id)?;
+        let standing = self.cells.placement_of(id)?;
         let mac = &self.frame.macros.as_slice()[standing.mac];
         let rect = padded_box(&self.frame, mac, place, padding);
-        strips_feel();
+        widened_strips_cover();
         self.occupancy
-            .filled(&self.frame, &self.cells)
-            .first_met(id, &rect)
+            .with_boxes(&self.frame, &self.cells)
+            .first_overlapping(id, &rect)
     }
 
     /// The first rule that the cell breaks at the place beside the other cells of its team, which has
@@ -160,10 +160,10 @@ impl Placement {
     pub fn first_broken(&self, id: CellId, place: &Place, padding: Padding) -> Option<Broken>
         ensures { IsBrokenAt self.now padding.sites id place.now result }
     {
-        if let Some(rule) = self.broken_alone(id, place) {
+        if let Some(rule) = self.broken_frame_rule(id, place) {
             return Some(Broken { rule, other: None });
         }
-        overlap_with(self.first_other(id, place, padding))
+        overlap_of(self.first_overlapping(id, place, padding))
     }
 
     /// The best place of the cell for a target, with this padding of its team; none where it has none,
@@ -185,22 +185,22 @@ impl Placement {
             alloc,
             &self.frame,
             &self.cells,
-            &self.occupancy.filled(&self.frame, &self.cells),
+            &self.occupancy.with_boxes(&self.frame, &self.cells),
             id,
             target,
             padding,
         )
     }
 
-    /// Makes the room that `make` asks where it makes these moves of the team's cells: these fit where the
+    /// Makes the room that `apply` asks where it makes these moves of the team's cells: these fit where the
     /// moves lead them. Cells and boxes are unchanged, and no strip has less room.
     ///
     /// `Err` if an allocation fails: then some room may have been made, and nothing else is changed.
     pub fn reserve(&mut self, alloc: Global, team: usize, moves: &[Move]) -> Result<(), AllocError>
-        ensures ok { OnOk result (Fits self.new team (places_of (made moves.now (cells_of self.old.cells team)))) }
+        ensures ok { OnOk result (Fits self.new team (places_of (moves_applied moves.now (cells_of self.old.cells team)))) }
         ensures same { SameButRooms self.old self.new }
     {
-        make_room(
+        reserve_moves(
             alloc,
             &self.frame,
             &self.cells,
@@ -210,35 +210,35 @@ impl Placement {
         )
     }
 
-    /// How many boxes each strip holds: the tally bounds the working places of each team. With `fit_back` it
+    /// How many boxes each strip holds: the tally bounds the working places of each team. With `reserve_undo` it
     /// becomes that of places which the team had before.
     ///
     /// `Err` if an allocation fails.
-    pub fn tally(&self, alloc: Global) -> Result<Tally, AllocError>
-        ensures room { IfOk result (λ tally. NoLess tally self.now.held.rooms) }
+    pub fn strip_counts(&self, alloc: Global) -> Result<StripCounts, AllocError>
+        ensures room { IfOk result (λ tally. KeepsCapacities tally self.now.held.rooms) }
         ensures bounds { (team : ℕ) → IfOk result (λ tally. BoundsAt self.now team (places_of (cells_of self.now.cells team)) tally) }
     {
-        self.occupancy.tally(alloc)
+        self.occupancy.strip_counts(alloc)
     }
 
     /// Counts a cell of the team at one place in place of another, and makes the room that is lacking then.
     ///
     /// `Err` if an allocation fails: then the tally counts something else.
-    pub(crate) fn fit_change(
+    pub(crate) fn reserve_change(
         &mut self,
-        tally: &mut Tally,
+        tally: &mut StripCounts,
         team: usize,
         change: &Change,
     ) -> Result<(), AllocError>
-        requires { NoLess tally.old self.old.held.rooms }
-        ensures room { OnOk result (NoLess tally.new self.new.held.rooms) }
+        requires { KeepsCapacities tally.old self.old.held.rooms }
+        ensures room { OnOk result (KeepsCapacities tally.new self.new.held.rooms) }
         ensures own { (places : Places) → slice_get places change.now.own ≡ Some change.now.from → BoundsAt self.old team places tally.old
             → OnOk result (BoundsAt self.new team (slice_set places change.now.own change.now.to) tally.new) }
         ensures others { (places : Places) → (other : ℕ) → other ≢ team → BoundsAt self.old other places tally.old
             → OnOk result (BoundsAt self.new other places tally.new) }
         ensures same { SameButRooms self.old self.new }
     {
-        fit_change(
+        reserve_change(
             &self.frame,
             &self.cells,
             &mut self.occupancy,
@@ -254,18 +254,18 @@ impl Placement {
     /// other, the newest first, the places before each of a team's undo entries fit.
     ///
     /// `Err` if an allocation fails: then the tally counts something else, and some room may have been made.
-    pub fn fit_back(
+    pub fn reserve_undo(
         &mut self,
-        tally: &mut Tally,
+        tally: &mut StripCounts,
         team: usize,
         places: &mut [PackedPlace],
         moves: &Moves,
     ) -> Result<(), AllocError>
         requires own { All (λ m. m.own < length places.old) moves.now }
-        requires room { NoLess tally.old self.old.held.rooms }
+        requires room { KeepsCapacities tally.old self.old.held.rooms }
         requires bounds { BoundsAt self.old team places.old tally.old }
-        ensures places { OnOk result (places.new ≡ taken_back moves.now places.old) }
-        ensures room { OnOk result (NoLess tally.new self.new.held.rooms) }
+        ensures places { OnOk result (places.new ≡ moves_taken_back moves.now places.old) }
+        ensures room { OnOk result (KeepsCapacities tally.new self.new.held.rooms) }
         ensures bounds { OnOk result (BoundsAt self.new team places.new tally.new) }
         ensures fits { OnOk result (Fits self.new team places.new) }
         ensures others { (at : Places) → (other : ℕ) → other ≢ team → BoundsAt self.old other at tally.old
@@ -280,15 +280,15 @@ impl Placement {
     /// that one have led here from some cells, all of them now lead from the same cells. The cells fit
     /// where the moves lead them. Other teams, the frame, the positions of components and the rooms of the
     /// strips are unchanged. It allocates nothing.
-    pub fn make(&mut self, team: usize, moves: &mut Moves, from: usize)
-        requires { Fits self.old team (places_of (made (drop from moves.old) (cells_of self.old.cells team))) }
-        ensures own { cells_of self.new.cells team ≡ made (drop from moves.old) (cells_of self.old.cells team) }
+    pub fn apply(&mut self, team: usize, moves: &mut Moves, from: usize)
+        requires { Fits self.old team (places_of (moves_applied (drop from moves.old) (cells_of self.old.cells team))) }
+        ensures own { cells_of self.new.cells team ≡ moves_applied (drop from moves.old) (cells_of self.old.cells team) }
         ensures moved { (before : List Cell) → HaveMoved before (take from moves.old) (cells_of self.old.cells team)
             → HaveMoved before moves.new (cells_of self.new.cells team) }
         ensures others { OtherCellsStay team self.old.cells self.new.cells }
         ensures rest { KeepsRest self.old self.new }
     {
-        make_moves(
+        apply_moves(
             &self.frame,
             &mut self.cells,
             &mut self.occupancy,
@@ -301,13 +301,13 @@ impl Placement {
     /// Takes moves of the team's cells back, the last one first: where they have led here from some cells,
     /// the team has these again. The cells fit at the places that they go back to. Other teams, the frame,
     /// the positions of components and the rooms of the strips are unchanged. It allocates nothing.
-    pub fn take_back(&mut self, team: usize, moves: &Moves)
-        requires { Fits self.old team (taken_back moves.now (places_of (cells_of self.old.cells team))) }
+    pub fn undo_moves(&mut self, team: usize, moves: &Moves)
+        requires { Fits self.old team (moves_taken_back moves.now (places_of (cells_of self.old.cells team))) }
         ensures own { (before : List Cell) → HaveMoved before moves.now (cells_of self.old.cells team) → cells_of self.new.cells team ≡ before }
         ensures others { OtherCellsStay team self.old.cells self.new.cells }
         ensures rest { KeepsRest self.old self.new }
     {
-        take_back_moves(
+        revert_moves(
             &self.frame,
             &mut self.cells,
             &mut self.occupancy,
@@ -337,7 +337,7 @@ impl Placement {
     }
 
     /// A law: the working places of each team fit.
-    pub fn places_stand(&self)
+    pub fn boxes_match_places(&self)
         ensures { (team : ℕ) → Fits self.now team (places_of (cells_of self.now.cells team)) }
     {
         self.occupancy.boxes_fit();

@@ -6,7 +6,7 @@ use Rattle.std.specs.List.{onto_first, position_or_len}
 use Rattle.lf_proto.specs.Stream.{limit, is_line_feed, within_limit, without_return, ended_line, last_line, lines_in, lines_of}
 use Rattle.lf_proto.specs.Framing.{Framing, with_more}
 use Rattle.lf_proto.specs.Pieces.{lines_from, pieces, with_front}
-use Rattle.lf_proto.specs.Feeds.{Ends, without_return_of, FeedsAt, Feeds, FinishesAt, given, Takes, none_left, next_piece, GivesTheLines}
+use Rattle.lf_proto.specs.Feeds.{EndsLine, without_return_of, FeedsAt, Feeds, FinishesAt, given_line, TakesBytes, none_left, next_piece, FramingKeepsLines}
 use Rattle.lf_proto.specs.declared.framer.Fed.{Fed}
 use Rattle.lf_proto.specs.declared.framer.Got.{Got}
 
@@ -124,23 +124,23 @@ with_more-bounded None bytes = tt
 with_more-bounded (Some held) bytes = within_limit-bounded (held ++ bytes)
 
 -- what is given for ended bytes is their line
-given-ended : (bytes : List ℕ) (got : Got) (line : List ℕ) → Ends (without_return_of (within_limit bytes)) got line → given got line ≡ ended_line bytes ∷ []
+given-ended : (bytes : List ℕ) (got : Got) (line : List ℕ) → EndsLine (without_return_of (within_limit bytes)) got line → given_line got line ≡ ended_line bytes ∷ []
 given-ended bytes got line = go (nat_le (length bytes) limit)
   where
-    go : (fits : Bool) → Ends (without_return_of (cond fits (Some bytes) None)) got line → given got line ≡ cond fits (Some (without_return bytes)) None ∷ []
+    go : (fits : Bool) → EndsLine (without_return_of (cond fits (Some bytes) None)) got line → given_line got line ≡ cond fits (Some (without_return bytes)) None ∷ []
     go true ends = rw (ends.0, ends.1) refl
     go false ends = rw ends refl
 
 -- one feed gives the lines that it takes from the front
 abbrev pub Step : Framing → Framing → List ℕ → List ℕ → Fed → Type 0
-Step old middle piece rest fed = lines_from old.pending (pieces (piece ++ rest)) ≡ given fed.got middle.line ++ lines_from middle.pending (pieces (drop fed.used piece ++ rest))
+Step old middle piece rest fed = lines_from old.pending (pieces (piece ++ rest)) ≡ given_line fed.got middle.line ++ lines_from middle.pending (pieces (drop fed.used piece ++ rest))
 
 held_step : (pending : Option (List ℕ)) (piece rest : List ℕ) → length piece ≤ position_or_len is_line_feed piece → lines_from pending (pieces (piece ++ rest)) ≡ lines_from (with_more pending piece) (pieces rest)
 held_step None piece rest none = ap (lines_from None) (pieces-held piece rest none) ∙ lines_from-held piece (pieces rest)
 held_step (Some held) piece rest none =
     ap (lines_from (Some held)) (pieces-held piece rest none) ∙ (ap lines_in (with_front-append held piece (pieces rest)) ∙ lines_in-within (held ++ piece) (pieces rest))
 
-ended_step : (pending : Option (List ℕ)) (front rest : List ℕ) (got : Got) (line : List ℕ) → Ends (without_return_of (with_more pending front)) got line → lines_from pending (front ∷ pieces rest) ≡ given got line ++ lines_from (Some []) (pieces rest)
+ended_step : (pending : Option (List ℕ)) (front rest : List ℕ) (got : Got) (line : List ℕ) → EndsLine (without_return_of (with_more pending front)) got line → lines_from pending (front ∷ pieces rest) ≡ given_line got line ++ lines_from (Some []) (pieces rest)
 ended_step None front rest got line ends = rw (ends, with_front-nil rest) (lines_from-over front rest)
 ended_step (Some held) front rest got line ends =
     lines_in-ended (held ++ front) rest ∙ sym (rw (with_front-nil rest) (ap (λ l. l ++ lines_in (pieces rest)) (given-ended (held ++ front) got line ends)))
@@ -163,15 +163,15 @@ feed_step old middle piece rest fed = go (nat_lt (position_or_len is_line_feed p
         let none : length piece ≤ position_or_len is_line_feed piece = grind (arith, nat_tests) in
         (rw (used, more, pending, drop_whole piece) (held_step old.pending piece rest none), rw pending (with_more-bounded old.pending piece))
 
-takes_lines : {old new : Framing} {stream : List ℕ} {lines : List (Option (List ℕ))} → Takes old stream lines new → IsBounded old.pending → (lines_from old.pending (pieces stream) ≡ lines ++ lines_from new.pending ([] ∷ [])) × IsBounded new.pending
+takes_lines : {old new : Framing} {stream : List ℕ} {lines : List (Option (List ℕ))} → TakesBytes old stream lines new → IsBounded old.pending → (lines_from old.pending (pieces stream) ≡ lines ++ lines_from new.pending ([] ∷ [])) × IsBounded new.pending
 takes_lines (none_left framing) bounded = (refl, bounded)
 takes_lines (next_piece old middle new piece rest fed lines feeds takes) bounded =
     let step = feed_step old middle piece rest fed feeds in
     let later = takes_lines takes step.1 in
-    (step.0 ∙ (ap (λ l. given fed.got middle.line ++ l) later.0 ∙ sym (append_assoc (given fed.got middle.line) lines (lines_from new.pending ([] ∷ [])))), later.1)
+    (step.0 ∙ (ap (λ l. given_line fed.got middle.line ++ l) later.0 ∙ sym (append_assoc (given_line fed.got middle.line) lines (lines_from new.pending ([] ∷ [])))), later.1)
 
 -- what is given at the end is the line of what is held
-pub finish_gives : (pending : Option (List ℕ)) (got : Got) (line : List ℕ) → IsBounded pending → FinishesAt pending got line → lines_from pending ([] ∷ []) ≡ given got line
+pub finish_gives : (pending : Option (List ℕ)) (got : Got) (line : List ℕ) → IsBounded pending → FinishesAt pending got line → lines_from pending ([] ∷ []) ≡ given_line got line
 finish_gives None got line bounded ends = rw ends refl
 finish_gives (Some []) got line bounded ends = rw ends refl
 finish_gives (Some (b ∷ held)) got line bounded (is_line, is) =
@@ -179,7 +179,7 @@ finish_gives (Some (b ∷ held)) got line bounded (is_line, is) =
     let kept : last_line (b ∷ held) ≡ Some (b ∷ held) ∷ [] = rw fits refl in
     rw (is_line, is) (ap last_line (append-nil (b ∷ held)) ∙ kept)
 
-pub gives_lines : GivesTheLines
+pub gives_lines : FramingKeepsLines
 gives_lines fresh full end stream lines got starts takes finishes =
     let start : IsBounded fresh.pending = rw starts (omega arith) in
     let whole = takes_lines takes start in

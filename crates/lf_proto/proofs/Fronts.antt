@@ -7,7 +7,7 @@ use Rattle.std.proofs.lemmas.List.Folds.{length-flat_map-take}
 use Rattle.std.specs.List.{flat_map, join_with_byte}
 use Rattle.lf_proto.specs.ReplyText.{line_text}
 use Rattle.lf_proto.specs.Words.{spaced, word_text}
-use Rattle.lf_proto.specs.declared.text.Word.{Word}
+use Rattle.lf_proto.specs.declared.reply_words.Word.{Word}
 
 pub kept_more : (old more mid new : List ℕ) (n m : ℕ) → n ≡ length old → mid ≡ old ++ more → take m new ≡ mid → take n new ≡ old
 kept_more old more mid new n m long is kept =

@@ -9,7 +9,7 @@ use Rattle.std.specs.Char.{is_ascii_digit}
 use Rattle.std.specs.Fmt.{decimal, signed_decimal}
 use Rattle.std.specs.List.{slice_split, onto_first, list_all, join_with_byte}
 use Rattle.std.specs.Prelude.{slice_index}
-use Rattle.lf_units.specs.declared.area.Point.{Point}
+use Rattle.lf_units.specs.declared.geometry.Point.{Point}
 use Rattle.lf_orient.specs.declared.Orient.{Orient}
 use Rattle.lf_orient.specs.declared.Orient.TheVariants.{N, W, S, E, FN, FW, FS, FE}
 use Rattle.lf_floorplan.specs.declared.place.Place.{Place}
@@ -22,11 +22,11 @@ use Rattle.lf_proto.specs.Numbers.{◌>>=◌, digits, below, session_number, pad
 use Rattle.lf_proto.specs.Printed.{target_words, operand_words, action_words, printed_fields, printed, ReadsBack}
 use Rattle.lf_orient.specs.Words.{orient_word}
 use Rattle.lf_proto.specs.ReplyText.{place_words}
-use Rattle.lf_proto.specs.Requests.{command_in, orient_named, place_written, target_of, operands_by, action_by, asked_by, ArePlain, IsInRange, IsTarget, IsPlainAction, IsPlain}
+use Rattle.lf_proto.specs.Requests.{command_in, orient_named, place_written, target_of, operands_by, action_by, command_by_verb, ArePlain, IsInRange, IsTarget, IsPlainAction, IsPlain}
 use Rattle.lf_proto.specs.Verbs.{shape_in, parts_of, joined, NamesReadBack, PartsJoin}
 use Rattle.lf_proto.specs.declared.request.Command.{Command}
 use Rattle.lf_proto.specs.declared.request.Command.TheVariants.{Bye, To}
-use Rattle.lf_proto.specs.declared.request.Order.TheVariants.{Open, Within}
+use Rattle.lf_proto.specs.declared.request.TeamCommand.TheVariants.{Open, Within}
 use Rattle.lf_proto.specs.declared.verb.Operands.{Operands}
 use Rattle.lf_proto.specs.declared.verb.Operands.TheVariants.{Alone, Cell, CellAt, CellTo, Cells, Sites}
 use Rattle.lf_proto.specs.declared.verb.Action.{Action}
@@ -122,7 +122,7 @@ module _ (names : NamesReadBack) (parts : PartsJoin (List ℕ)) where
   command_in-printed Bye plain = refl
   command_in-printed (To team Open) plain = refl
   command_in-printed (To team (Within session action)) (team_is, small, plain) =
-      ap (λ v. asked_by v (action_words action).0 (team ∷ decimal session ∷ (action_words action).1)) (names (parts_of action).0).0
+      ap (λ v. command_by_verb v (action_words action).0 (team ∷ decimal session ∷ (action_words action).1)) (names (parts_of action).0).0
       ∙ (ap (λ n. n >>= (λ s. action_by (parts_of action).0 (action_words action).1 >>= (λ a. Some (To team (Within s a))))) (session_number-decimal session small)
       ∙ ap (λ o. o >>= (λ a. Some (To team (Within session a)))) (action-printed action plain))
 

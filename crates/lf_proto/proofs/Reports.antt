@@ -11,10 +11,10 @@ use Rattle.serde_json.specs.Written.{has_float, compact_text, items_text}
 use Rattle.lf_floorplan.specs.Bounds.{IsName}
 use Rattle.lf_rules.specs.declared.rule.Broken.{Broken}
 use Rattle.lf_rules.specs.declared.rule.Rule.{Rule}
-use Rattle.lf_rules.specs.Reports.{IsTold}
+use Rattle.lf_rules.specs.Reports.{HasPrintableNames}
 use Rattle.lf_proto.specs.ReportText.{violation_by, violation_data, violation_in, violation_named, report_by, report_front, report_text}
-use Rattle.lf_rules.specs.declared.report.Report.{Report}
-use Rattle.lf_rules.specs.declared.report.Violation.{Violation}
+use Rattle.lf_rules.specs.declared.report_types.Report.{Report}
+use Rattle.lf_rules.specs.declared.report_types.Violation.{Violation}
 use Rattle.serde_json.specs.View.{items_of}
 
 -- a violation has no number with a fraction
@@ -59,15 +59,15 @@ other_printed names (Some own) printed = λ name e. name_printed names own name 
 
 -- the names in a violation are names of a text
 pub names_told : (names : List (List ℕ)) (own : ℕ) (verdict : Option Broken) (v : Violation) → All IsName names →
-    Some v ≡ option_and_then (violation_in names own) verdict → IsTold v
+    Some v ≡ option_and_then (violation_in names own) verdict → HasPrintableNames v
 names_told names own verdict v printed is = go verdict is
   where
-    named : (b : Broken) (o : Option (List ℕ)) → slice_get names own ≡ o → Some v ≡ option_map (violation_named names b) o → IsTold v
+    named : (b : Broken) (o : Option (List ℕ)) → slice_get names own ≡ o → Some v ≡ option_map (violation_named names b) o → HasPrintableNames v
     named b None at e = absurd cc
     named b (Some name) at e =
         let same : violation_named names b name ≡ v = cc in
-        subst IsTold same (record { cell_printed = name_printed names own name printed at; other_printed = other_printed names b.other printed })
+        subst HasPrintableNames same (record { cell_printed = name_printed names own name printed at; other_printed = other_printed names b.other printed })
 
-    go : (o : Option Broken) → Some v ≡ option_and_then (violation_in names own) o → IsTold v
+    go : (o : Option Broken) → Some v ≡ option_and_then (violation_in names own) o → HasPrintableNames v
     go None e = absurd cc
     go (Some b) e = named b (slice_get names own) refl e

@@ -4,12 +4,12 @@ use denote.Ref.{Bor}
 use Rattle.lf_floorplan.specs.declared.place.Place.{Place}
 use Rattle.lf_proto.specs.declared.request.Command.{Command}
 use Rattle.lf_proto.specs.declared.request.Command.TheVariants.{Bye, To}
-use Rattle.lf_proto.specs.declared.request.Order.{Order}
-use Rattle.lf_proto.specs.declared.request.Order.TheVariants.{Open, Within}
+use Rattle.lf_proto.specs.declared.request.TeamCommand.{TeamCommand}
+use Rattle.lf_proto.specs.declared.request.TeamCommand.TheVariants.{Open, Within}
 use Rattle.lf_proto.specs.Verbs.{action_of}
 
 -- an order to a team, its cells named by lists of bytes
-abbrev pub order_of : Order (Bor (List ℕ)) Place → Order (List ℕ) Place
+abbrev pub order_of : TeamCommand (Bor (List ℕ)) Place → TeamCommand (List ℕ) Place
 order_of Open = Open
 order_of (Within session action) = Within session (action_of action)
 

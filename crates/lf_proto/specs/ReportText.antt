@@ -5,8 +5,8 @@ use Rattle.serde_json.specs.View.{items_of}
 use Rattle.serde_json.specs.Written.{compact_text, items_text}
 use Rattle.lf_rules.specs.declared.rule.Broken.{Broken}
 use Rattle.lf_rules.specs.declared.rule.Rule.{Rule}
-use Rattle.lf_rules.specs.declared.report.Violation.{Violation}
-use Rattle.lf_rules.specs.declared.report.Report.{Report}
+use Rattle.lf_rules.specs.declared.report_types.Violation.{Violation}
+use Rattle.lf_rules.specs.declared.report_types.Report.{Report}
 use Rattle.lf_rules.specs.Legality.{number_of}
 
 -- a cell of that name breaks this rule first, and for Overlap meets that other one of these cells first

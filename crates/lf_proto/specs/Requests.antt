@@ -3,7 +3,7 @@ use Rattle.std.specs.Prelude.{ℕ, ◌<◌, ◌^◌, cond, List, [], ◌∷◌, 
 use Rattle.std.specs.Int.Signed.{lt_z, lt_z_yes}
 use Rattle.std.specs.List.{list_all}
 use Rattle.std.specs.Str.{bytes_eq}
-use Rattle.lf_units.specs.declared.area.Point.{Point}
+use Rattle.lf_units.specs.declared.geometry.Point.{Point}
 use Rattle.lf_orient.specs.declared.Orient.{Orient}
 use Rattle.lf_orient.specs.declared.Orient.TheVariants.{N, W, S, E, FN, FW, FS, FE}
 use Rattle.lf_floorplan.specs.declared.place.Place.{Place}
@@ -11,7 +11,7 @@ use Rattle.lf_proto.specs.Lines.{fields, is_line_byte, IsName}
 use Rattle.lf_proto.specs.Numbers.{◌>>=◌, session_number, shown, padding, coordinate}
 use Rattle.lf_proto.specs.declared.request.Command.{Command}
 use Rattle.lf_proto.specs.declared.request.Command.TheVariants.{Bye, To}
-use Rattle.lf_proto.specs.declared.request.Order.TheVariants.{Open, Within}
+use Rattle.lf_proto.specs.declared.request.TeamCommand.TheVariants.{Open, Within}
 use Rattle.lf_proto.specs.declared.verb.Verb.{Verb}
 use Rattle.lf_proto.specs.declared.verb.Shape.{Shape}
 use Rattle.lf_proto.specs.declared.verb.Shape.TheVariants.{Alone, Cell, CellAt, CellTo, Cells, Sites}
@@ -143,14 +143,14 @@ abbrev pub outside_of : List ℕ → List (List ℕ) → Option (Command (List �
 outside_of word arguments = cond (bytes_eq word (codes "bye")) (bye_of arguments) (cond (bytes_eq word (codes "open")) (open_of arguments) None)
 
 -- the command of a line, from the session's verb that its first word names, if any, that word and the fields after it
-abbrev pub asked_by : Option Verb → List ℕ → List (List ℕ) → Option (Command (List ℕ) Place)
-asked_by (Some verb) word = within_of verb
-asked_by None word = outside_of word
+abbrev pub command_by_verb : Option Verb → List ℕ → List (List ℕ) → Option (Command (List ℕ) Place)
+command_by_verb (Some verb) word = within_of verb
+command_by_verb None word = outside_of word
 
 -- the command of a line's fields: the first word, then its fields
 abbrev pub command_in : List (List ℕ) → Option (Command (List ℕ) Place)
 command_in [] = None
-command_in (word ∷ arguments) = asked_by (verb_named word) word arguments
+command_in (word ∷ arguments) = command_by_verb (verb_named word) word arguments
 
 -- the command that a line gives, if it is a request
 abbrev pub command_on : List ℕ → Option (Command (List ℕ) Place)

@@ -1,8 +1,8 @@
 -- The words that a reply line is written from.
 use Rattle.std.specs.Prelude.{ℕ, List, ◌∷◌, decimal}
 use Rattle.std.specs.Fmt.{signed_decimal}
-use Rattle.lf_proto.specs.declared.text.Word.{Word}
-use Rattle.lf_proto.specs.declared.text.Word.TheVariants.{Text, Number, Length, Signed}
+use Rattle.lf_proto.specs.declared.reply_words.Word.{Word}
+use Rattle.lf_proto.specs.declared.reply_words.Word.TheVariants.{Text, Number, Length, Signed}
 
 -- the text of a word of a reply
 abbrev pub word_text : Word → List ℕ

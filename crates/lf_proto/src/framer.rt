@@ -2,7 +2,7 @@
 
 ghost use Rattle.std.specs.Prelude.{◌≡◌, ◌<◌, ◌≤◌, Some, [], IfOk, IfSome, length, position, vec_len, vec_capacity};
 ghost use Rattle.lf_proto.specs.Framing.{held_of, with_more};
-ghost use Rattle.lf_proto.specs.Feeds.{Feeds, FinishesAt, GivesTheLines};
+ghost use Rattle.lf_proto.specs.Feeds.{Feeds, FinishesAt, FramingKeepsLines};
 ghost use Rattle.lf_proto.specs.Stream.{is_line_feed, limit, without_return};
 
 use std::alloc::{AllocError, Global};
@@ -159,6 +159,6 @@ impl LineFramer {
 
 /// However the bytes of a stream come in pieces, a new framer that is fed them, what a feed did not use with the next,
 /// and then finishes has given the lines of the whole stream.
-pub fn gives_the_lines()
-    ensures { GivesTheLines }
+pub fn framing_keeps_lines()
+    ensures { FramingKeepsLines }
 {}

@@ -16,24 +16,24 @@
 #![tactic(auto)]
 
 mod framer;
-mod line;
-mod number;
+mod numbers;
+mod parse;
 mod reply;
-mod report;
-mod reported;
+mod reply_words;
+mod report_text;
 mod request;
 mod request_list;
-mod text;
 mod verb;
+mod violations;
 
-pub use framer::{Fed, Got, LineFramer, gives_the_lines};
-pub use line::{
+pub use framer::{Fed, Got, LineFramer, framing_keeps_lines};
+pub use parse::{
     BadRequest, blanks_around_pass, blanks_between_pass, parse_line, printed_reads_back,
 };
 pub use reply::{Refusal, Reply, Text};
-pub use report::{put_violation, report_begun, report_closed, report_json};
-pub use reported::{Names, put_verdict};
-pub use request::{Command, Order, Request};
+pub use reply_words::reply_text;
+pub use report_text::{put_violation, report_begun, report_closed, report_json};
+pub use request::{Command, Request, TeamCommand};
 pub use request_list::RequestList;
-pub use text::reply_text;
 pub use verb::{Action, Change};
+pub use violations::{Names, put_verdict};

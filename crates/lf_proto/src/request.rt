@@ -17,12 +17,12 @@ pub enum Command<N, P = Place> {
     /// Reply: `ok`.
     Bye,
     /// A command to the team of that name; `-` is the team of the ground outside all fences.
-    To { team: N, order: Order<N, P> },
+    To { team: N, order: TeamCommand<N, P> },
 }
 
 /// An order to one team.
 #[derive(Drop)]
-pub enum Order<N, P = Place> {
+pub enum TeamCommand<N, P = Place> {
     /// Takes the team's least free session slot.
     ///
     /// Reply: `ok N REV`. Refusals: 10.
@@ -34,14 +34,14 @@ pub enum Order<N, P = Place> {
 /// A command whose names are slices of its line.
 pub type Request<'a> = Command<&'a [u8]>;
 
-impl Order<&[u8]> {
+impl TeamCommand<&[u8]> {
     /// A copy that owns its names.
-    pub(crate) fn to_owned(&self, alloc: Global) -> Result<Order<Name>, AllocError>
+    pub(crate) fn to_owned(&self, alloc: Global) -> Result<TeamCommand<Name>, AllocError>
         ensures { IfOk result (λ order. order ≡ order_of self.now) }
     {
         Ok(match self {
-            Order::Open => Order::Open,
-            Order::Within { session, action } => Order::Within {
+            TeamCommand::Open => TeamCommand::Open,
+            TeamCommand::Within { session, action } => TeamCommand::Within {
                 session: *session,
                 action: action.to_owned(alloc)?,
             },
@@ -64,16 +64,16 @@ impl Command<&[u8]> {
     }
 }
 
-impl Order<Name> {
+impl TeamCommand<Name> {
     /// The same order with its names lent.
-    pub(crate) fn lent(&self) -> Order<&[u8]>
+    pub(crate) fn borrowed(&self) -> TeamCommand<&[u8]>
         ensures { order_of result ≡ self.now }
     {
         match self {
-            Order::Open => Order::Open,
-            Order::Within { session, action } => Order::Within {
+            TeamCommand::Open => TeamCommand::Open,
+            TeamCommand::Within { session, action } => TeamCommand::Within {
                 session: *session,
-                action: action.lent(),
+                action: action.borrowed(),
             },
         }
     }
@@ -81,14 +81,14 @@ impl Order<Name> {
 
 impl Command<Name> {
     /// The same command, which borrows its names.
-    pub fn lent(&self) -> Request<'_>
+    pub fn borrowed(&self) -> Request<'_>
         ensures { command_of result ≡ self.now }
     {
         match self {
             Command::Bye => Command::Bye,
             Command::To { team, order } => Command::To {
                 team: team.as_bytes(),
-                order: order.lent(),
+                order: order.borrowed(),
             },
         }
     }

@@ -65,7 +65,7 @@ impl RequestList {
         ensures { option_map command_of result ≡ slice_get self.now position }
     {
         match self.commands.get(position) {
-            Some(command) => Some(command.lent()),
+            Some(command) => Some(command.borrowed()),
             None => None,
         }
     }

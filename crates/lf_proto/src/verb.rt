@@ -323,7 +323,7 @@ impl Operands<&&[u8]> {
 
 impl<'a> Operands<&'a Name> {
     /// The same fields with their names lent as bytes.
-    fn lent(self) -> Operands<&'a [u8]>
+    fn borrowed(self) -> Operands<&'a [u8]>
         ensures { operands_of result ≡ operands_of self.entry }
     {
         match self {
@@ -354,13 +354,13 @@ impl Action<&[u8]> {
 
 impl Action<Name> {
     /// The same action with its names lent.
-    pub(crate) fn lent(&self) -> Action<&[u8]>
+    pub(crate) fn borrowed(&self) -> Action<&[u8]>
         ensures { action_of result ≡ self.now }
     {
         parts_join();
         copies_join();
         let (verb, operands) = self.parts();
-        match join(verb, operands.lent()) {
+        match join(verb, operands.borrowed()) {
             Some(action) => action,
             None => unreachable!(),
         }

@@ -8,7 +8,7 @@ use Rattle.std.proofs.lemmas.Option.{slice_get_within, get_or_from_slice_get, sl
 use Rattle.std.proofs.lemmas.List.Elements.{All-nil, All-cons, All-head, All-tail}
 use Rattle.std.proofs.lemmas.List.Sums.{length-filter}
 use Rattle.std.proofs.lemmas.List.Kept.{AllPairs-cons}
-use Rattle.lf_units.specs.declared.area.Rect.{Rect}
+use Rattle.lf_units.specs.declared.geometry.Rect.{Rect}
 use Rattle.lf_units.specs.Area.{SharesPoint}
 use Rattle.lf_floorplan.specs.declared.frame.Frame.{Frame}
 use Rattle.lf_floorplan.specs.declared.loaded.Cell.{Cell}
@@ -16,16 +16,16 @@ use Rattle.lf_floorplan.specs.declared.place.Place.{Place}
 use Rattle.lf_floorplan.specs.Bounds.{IsName}
 use Rattle.lf_floorplan.specs.Design.{IsCell, CellIsSized}
 use Rattle.lf_rules.specs.declared.rule.Broken.{Broken}
-use Rattle.lf_rules.specs.declared.report.Listed.{Listed}
-use Rattle.lf_rules.specs.declared.report.Violation.{Violation}
-use Rattle.lf_rules.specs.declared.report.Report.{Report}
-use Rattle.lf_rules.specs.Legality.{Trial, IsTeamLegal}
+use Rattle.lf_rules.specs.declared.report_types.Listed.{Listed}
+use Rattle.lf_rules.specs.declared.report_types.Violation.{Violation}
+use Rattle.lf_rules.specs.declared.report_types.Report.{Report}
+use Rattle.lf_rules.specs.Legality.{Candidate, IsTeamLegal}
 use Rattle.lf_rules.specs.Legalizer.{Legalizer, IsVerdict}
-use Rattle.lf_rules.specs.Choice.{Spot, spot_of, Lifted, IsLegalAt, trial_at}
-use Rattle.lf_rules.specs.Team.{Member, box_in, lifted_from}
-use Rattle.lf_rules.specs.FullyLegal.{Standing, alone_at, standing_at, KeepsRules, StandApart, IsFullyLegal}
-use Rattle.lf_rules.specs.Reports.{IsTold, IsClean}
-use Rattle.lf_reports.specs.Reports.{named, member_of, standing_of, name_among, listed_at, trial_among, broken_among, violation_of, violation_by, violation_at, violations_in, report_of, IsListed}
+use Rattle.lf_rules.specs.Choice.{SpotPlace, spot_of, PlacementQuery, IsLegalAt, candidate_at}
+use Rattle.lf_rules.specs.Team.{Member, box_in, query_from}
+use Rattle.lf_rules.specs.FullyLegal.{DesignCell, candidate_alone, design_cells_at, KeepsRules, DoNotOverlap, IsFullyLegal}
+use Rattle.lf_rules.specs.Reports.{HasPrintableNames, IsClean}
+use Rattle.lf_reports.specs.Reports.{named, member_of, design_cell_of, name_among, listed_at, candidate_among, broken_among, violation_of, violation_by, violation_at, violations_in, report_of, IsListed}
 use Rattle.lf_rules.proofs.BesideLemmas.{beside_hold}
 use Rattle.lf_rules.proofs.LegalParts.{frame_beside, legal_by_parts}
 use Rattle.lf_rules.proofs.TidyLemmas.{turn, Clear, clear_of_legal}
@@ -98,40 +98,40 @@ all_none g a (suc n) none =
 -- ---- one cell
 
 -- the cell at this spot among the others that are listed
-abbrev lifted_among : Frame → ℕ → Cells → ℕ → Listed (List ℕ) → Lifted
-lifted_among f padding cells own c = lifted_from f c.team padding (map member_of cells) own c.mac
+abbrev lifted_among : Frame → ℕ → Cells → ℕ → Listed (List ℕ) → PlacementQuery
+lifted_among f padding cells own c = query_from f c.team padding (map member_of cells) own c.mac
 
 -- wherever the cell stands it is legal
 abbrev IsFine : Frame → ℕ → Cells → ℕ → Listed (List ℕ) → Type 0
-IsFine f padding cells own c = (p : Spot) → option_map spot_of c.place ≡ Some p → IsLegalAt (lifted_among f padding cells own c) p
+IsFine f padding cells own c = (p : SpotPlace) → option_map spot_of c.place ≡ Some p → IsLegalAt (lifted_among f padding cells own c) p
 
 none_of_map : {X Y : Type 0} (h : X → Y) (o : Option X) → option_map h o ≡ None → o ≡ None
 none_of_map h None e = refl
 none_of_map h (Some x) e = absurd cc
 
-legal_by : (t : Trial) (v : Option Broken) → IsVerdict t v → v ≡ None → IsTeamLegal t
+legal_by : (t : Candidate) (v : Option Broken) → IsVerdict t v → v ≡ None → IsTeamLegal t
 legal_by t None verdict e = verdict
 legal_by t (Some b) verdict e = absurd cc
 
-none_by : (t : Trial) (v : Option Broken) → IsVerdict t v → IsTeamLegal t → v ≡ None
+none_by : (t : Candidate) (v : Option Broken) → IsVerdict t v → IsTeamLegal t → v ≡ None
 none_by t None verdict legal = refl
 none_by t (Some b) verdict legal = absurd (verdict.broken (legal b.rule))
 
 fine_at : (l : Legalizer) (f : Frame) (padding : ℕ) (cells : Cells) (own : ℕ) (c : Listed (List ℕ)) → IsListed f c → (place : Option Place) →
-    option_and_then (λ p. l.first_broken (trial_among f padding cells own c p)) place ≡ None →
-    (p : Spot) → option_map spot_of place ≡ Some p → IsLegalAt (lifted_among f padding cells own c) p
+    option_and_then (λ p. l.first_broken (candidate_among f padding cells own c p)) place ≡ None →
+    (p : SpotPlace) → option_map spot_of place ≡ Some p → IsLegalAt (lifted_among f padding cells own c) p
 fine_at l f padding cells own c is None none p at = absurd cc
 fine_at l f padding cells own c is (Some place) none p at =
-    let t = trial_among f padding cells own c place in
+    let t = candidate_among f padding cells own c place in
     let same : spot_of place ≡ p = cc in
-    subst (λ (s : Spot). IsLegalAt (lifted_among f padding cells own c) s) same (legal_by t (l.first_broken t) (l.finds_first_broken t is.sized) none)
+    subst (λ (s : SpotPlace). IsLegalAt (lifted_among f padding cells own c) s) same (legal_by t (l.first_broken t) (l.finds_first_broken t is.sized) none)
 
 unbroken_at : (l : Legalizer) (f : Frame) (padding : ℕ) (cells : Cells) (own : ℕ) (c : Listed (List ℕ)) → IsListed f c → (place : Option Place) →
-    ((p : Spot) → option_map spot_of place ≡ Some p → IsLegalAt (lifted_among f padding cells own c) p) →
-    option_and_then (λ p. l.first_broken (trial_among f padding cells own c p)) place ≡ None
+    ((p : SpotPlace) → option_map spot_of place ≡ Some p → IsLegalAt (lifted_among f padding cells own c) p) →
+    option_and_then (λ p. l.first_broken (candidate_among f padding cells own c p)) place ≡ None
 unbroken_at l f padding cells own c is None fine = refl
 unbroken_at l f padding cells own c is (Some place) fine =
-    let t = trial_among f padding cells own c place in
+    let t = candidate_among f padding cells own c place in
     none_by t (l.first_broken t) (l.finds_first_broken t is.sized) (fine (spot_of place) refl)
 
 -- ---- all cells
@@ -165,25 +165,25 @@ no_violation l f padding cells all fine = all_none (violation_at l f padding cel
 abbrev unplaced_of : Cells → Cells
 unplaced_of cells = filter (λ c. is_none c.place) cells
 
-placed_each : (cells : Cells) → length (unplaced_of cells) ≡ 0 → (own : ℕ) (c : Listed (List ℕ)) → slice_get cells own ≡ Some c → IsSome (standing_of c).place
+placed_each : (cells : Cells) → length (unplaced_of cells) ≡ 0 → (own : ℕ) (c : Listed (List ℕ)) → slice_get cells own ≡ Some c → IsSome (design_cell_of c).place
 placed_each [] none own c there = absurd cc
 placed_each (x ∷ cells) none own c there = by x.place refl (λ zeros k at. placed_each cells zeros k c at) own there
   where
-    by : (place : Option Place) → x.place ≡ place → (length (unplaced_of cells) ≡ 0 → (k : ℕ) → slice_get cells k ≡ Some c → IsSome (standing_of c).place) →
-        (own : ℕ) → slice_get (x ∷ cells) own ≡ Some c → IsSome (standing_of c).place
+    by : (place : Option Place) → x.place ≡ place → (length (unplaced_of cells) ≡ 0 → (k : ℕ) → slice_get cells k ≡ Some c → IsSome (design_cell_of c).place) →
+        (own : ℕ) → slice_get (x ∷ cells) own ≡ Some c → IsSome (design_cell_of c).place
     by None is rest k at = absurd (let more : length (x ∷ unplaced_of cells) ≡ 0 = rw is at none in cc)
-    by (Some p) is rest zero at = let same : x ≡ c = cc in subst (λ (y : Listed (List ℕ)). IsSome (standing_of y).place) same (rw is refl)
+    by (Some p) is rest zero at = let same : x ≡ c = cc in subst (λ (y : Listed (List ℕ)). IsSome (design_cell_of y).place) same (rw is refl)
     by (Some p) is rest (suc k) at = let zeros : length (unplaced_of cells) ≡ 0 = rw is at none in rest zeros k at
 
 placed_all : (cells : Cells) → count_by (λ c. is_none c.place) cells ≡ 0 → (own : ℕ) (c : Listed (List ℕ)) → slice_get cells own ≡ Some c →
-    IsSome (standing_of c).place
+    IsSome (design_cell_of c).place
 placed_all cells none = placed_each cells (length-filter (λ c. is_none c.place) cells ∙ none)
 
 lacks : (place : Option Place) → place ≡ None → IsSome (option_map spot_of place) → ⊥
 lacks None is some = cc
 lacks (Some p) is some = cc
 
-unplaced_nil : (cells : Cells) → ((own : ℕ) (c : Listed (List ℕ)) → slice_get cells own ≡ Some c → IsSome (standing_of c).place) →
+unplaced_nil : (cells : Cells) → ((own : ℕ) (c : Listed (List ℕ)) → slice_get cells own ≡ Some c → IsSome (design_cell_of c).place) →
     length (unplaced_of cells) ≡ 0
 unplaced_nil [] placed = refl
 unplaced_nil (x ∷ cells) placed = by x.place refl (placed 0 x refl) (unplaced_nil cells (λ own c there. placed (suc own) c there))
@@ -192,18 +192,18 @@ unplaced_nil (x ∷ cells) placed = by x.place refl (placed 0 x refl) (unplaced_
     by None is some rest = absurd (lacks x.place is some)
     by (Some p) is some rest = rw is rest
 
-none_unplaced : (cells : Cells) → ((own : ℕ) (c : Listed (List ℕ)) → slice_get cells own ≡ Some c → IsSome (standing_of c).place) →
+none_unplaced : (cells : Cells) → ((own : ℕ) (c : Listed (List ℕ)) → slice_get cells own ≡ Some c → IsSome (design_cell_of c).place) →
     count_by (λ c. is_none c.place) cells ≡ 0
 none_unplaced cells placed = sym (length-filter (λ c. is_none c.place) cells) ∙ unplaced_nil cells placed
 
 -- ---- the law
 
-to_legal : (l : Legalizer) (f : Frame) (cells : Cells) → All (IsListed f) cells → IsClean (report_of l f 0 cells) → IsFullyLegal f (map standing_of cells)
+to_legal : (l : Legalizer) (f : Frame) (cells : Cells) → All (IsListed f) cells → IsClean (report_of l f 0 cells) → IsFullyLegal f (map design_cell_of cells)
 to_legal l f cells all clean = record {
-  placed = each_hold standing_of (λ s. IsSome s.place) cells (placed_all cells clean.all_placed);
-  kept = each_hold standing_of (λ s. ForSome s.place (λ p. KeepsRules f s p)) cells
+  placed = each_hold design_cell_of (λ s. IsSome s.place) cells (placed_all cells clean.all_placed);
+  kept = each_hold design_cell_of (λ s. ForSome s.place (λ p. KeepsRules f s p)) cells
       (λ own c there p is. keeps f c.team (map member_of cells) own (member_of c) p (fine own c there p is));
-  apart = pairs_hold standing_of (λ a b. StandApart f a b) cells
+  apart = pairs_hold design_cell_of (λ a b. DoNotOverlap f a b) cells
       (λ i j a b less here there p is_p q is_q meet. clear_of_legal f a.team 0 (map member_of cells) i a.mac p (fine i a here p is_p) j (member_of b) q
       (λ e. omega (arith, less, e)) (image_at member_of cells j b there) is_q (shares_padded f 0 (box_in f a.mac p) (box_in f b.mac q) meet));
 }
@@ -212,18 +212,18 @@ to_legal l f cells all clean = record {
     fine = all_fine l f 0 cells all clean.none_broken
 
 -- a cell that keeps rules 1 to 7 and is clear of the others is legal
-legal_of : (f : Frame) (cells : Cells) (own : ℕ) (c : Listed (List ℕ)) (p : Spot) → KeepsRules f (standing_of c) p →
+legal_of : (f : Frame) (cells : Cells) (own : ℕ) (c : Listed (List ℕ)) (p : SpotPlace) → KeepsRules f (design_cell_of c) p →
     Clear f (map member_of cells) own (box_in f c.mac p) → IsLegalAt (lifted_among f 0 cells own c) p
 legal_of f cells own c p kept clear =
     let lifted = lifted_among f 0 cells own c in
-    (legal_by_parts (trial_at lifted p)).1 (
-      frame_beside (alone_at f (standing_of c) p) lifted.others kept,
+    (legal_by_parts (candidate_at lifted p)).1 (
+      frame_beside (candidate_alone f (design_cell_of c) p) lifted.others kept,
       subst (λ (box : Rect). All (λ other. SharesPoint box other.rect → ⊥) lifted.others) (sym (wider_none f (box_in f c.mac p)))
           (beside_hold (λ rect. SharesPoint (box_in f c.mac p) rect → ⊥) f (map member_of cells) own clear),
     )
 
 -- each cell of a fully legal design is clear of the others
-legal_clear : (f : Frame) (cells : Cells) → IsFullyLegal f (map standing_of cells) → (own : ℕ) (c : Listed (List ℕ)) (p : Spot) → slice_get cells own ≡ Some c →
+legal_clear : (f : Frame) (cells : Cells) → IsFullyLegal f (map design_cell_of cells) → (own : ℕ) (c : Listed (List ℕ)) (p : SpotPlace) → slice_get cells own ≡ Some c →
     option_map spot_of c.place ≡ Some p → Clear f (map member_of cells) own (box_in f c.mac p)
 legal_clear f cells legal own c p here is k m q differ there is_q meets = elim order [
   | inl less ↦ pair k own d c less other.1.0 here q at_q p is (turn (box_in f c.mac p) (box_in f d.mac q) met)
@@ -245,18 +245,18 @@ legal_clear f cells legal own c p here is k m q differ there is_q meets = elim o
     met : SharesPoint (box_in f c.mac p) (box_in f d.mac q)
     met = subst (λ (n : ℕ). SharesPoint (box_in f c.mac p) (box_in f n q)) (sym (ap (λ (y : Member). y.mac) other.1.1)) meets
 
-    pair : (i j : ℕ) (a b : Listed (List ℕ)) → i < j → slice_get cells i ≡ Some a → slice_get cells j ≡ Some b → StandApart f (standing_of a) (standing_of b)
-    pair = pairs_of standing_of (λ a b. StandApart f a b) cells legal.apart
+    pair : (i j : ℕ) (a b : Listed (List ℕ)) → i < j → slice_get cells i ≡ Some a → slice_get cells j ≡ Some b → DoNotOverlap f (design_cell_of a) (design_cell_of b)
+    pair = pairs_of design_cell_of (λ a b. DoNotOverlap f a b) cells legal.apart
 
-to_clean : (l : Legalizer) (f : Frame) (cells : Cells) → All (IsListed f) cells → IsFullyLegal f (map standing_of cells) → IsClean (report_of l f 0 cells)
+to_clean : (l : Legalizer) (f : Frame) (cells : Cells) → All (IsListed f) cells → IsFullyLegal f (map design_cell_of cells) → IsClean (report_of l f 0 cells)
 to_clean l f cells all legal = record {
-  all_placed = none_unplaced cells (each_of standing_of (λ s. IsSome s.place) cells legal.placed);
+  all_placed = none_unplaced cells (each_of design_cell_of (λ s. IsSome s.place) cells legal.placed);
   none_broken = no_violation l f 0 cells all (λ own c there p is. legal_of f cells own c p
-      (each_of standing_of (λ s. ForSome s.place (λ q. KeepsRules f s q)) cells legal.kept own c there p is) (legal_clear f cells legal own c p there is));
+      (each_of design_cell_of (λ s. ForSome s.place (λ q. KeepsRules f s q)) cells legal.kept own c there p is) (legal_clear f cells legal own c p there is));
 }
 
 pub clean_is_legal : (l : Legalizer) (f : Frame) (cells : Cells) → All (IsListed f) cells →
-    IsClean (report_of l f 0 cells) ↔ IsFullyLegal f (map standing_of cells)
+    IsClean (report_of l f 0 cells) ↔ IsFullyLegal f (map design_cell_of cells)
 clean_is_legal l f cells all = (λ clean. to_legal l f cells all clean, λ legal. to_clean l f cells all legal)
 
 -- ---- the names in a report
@@ -278,25 +278,25 @@ other_printed f cells all (Some own) name is = by (slice_get cells own) refl is
     by (Some c) there at = let same : c.name ≡ name = cc in subst IsName same (listed_is f cells all own c there).printed
 
 told_by : (f : Frame) (cells : Cells) → All (IsListed f) cells → (c : Listed (List ℕ)) → IsListed f c → (o : Option Broken) (v : Violation) →
-    option_map (violation_of cells c) o ≡ Some v → IsTold v
+    option_map (violation_of cells c) o ≡ Some v → HasPrintableNames v
 told_by f cells all c is None v at = absurd cc
 told_by f cells all c is (Some b) v at =
     let same : violation_of cells c b ≡ v = cc in
-    subst IsTold same (record { cell_printed = is.printed; other_printed = other_printed f cells all b.other })
+    subst HasPrintableNames same (record { cell_printed = is.printed; other_printed = other_printed f cells all b.other })
 
-pub all_told : (l : Legalizer) (f : Frame) (padding : ℕ) (cells : Cells) → All (IsListed f) cells → All IsTold (violations_in l f padding cells)
-all_told l f padding cells all = found_hold IsTold (violation_at l f padding cells) 0 (length cells) (λ own v at. by own v (slice_get cells own) refl at)
+pub all_told : (l : Legalizer) (f : Frame) (padding : ℕ) (cells : Cells) → All (IsListed f) cells → All HasPrintableNames (violations_in l f padding cells)
+all_told l f padding cells all = found_hold HasPrintableNames (violation_at l f padding cells) 0 (length cells) (λ own v at. by own v (slice_get cells own) refl at)
   where
-    by : (own : ℕ) (v : Violation) (o : Option (Listed (List ℕ))) → slice_get cells own ≡ o → option_and_then (violation_by l f padding cells own) o ≡ Some v → IsTold v
+    by : (own : ℕ) (v : Violation) (o : Option (Listed (List ℕ))) → slice_get cells own ≡ o → option_and_then (violation_by l f padding cells own) o ≡ Some v → HasPrintableNames v
     by own v None there at = absurd cc
     by own v (Some c) there at = told_by f cells all c (listed_is f cells all own c there) (broken_among l f padding cells own c) v at
 
 -- ---- the cells of a design
 
-pub standing_listed : (cells : List Cell) (places : List (Option Place)) → map standing_of (listed_at cells places) ≡ standing_at cells places
+pub standing_listed : (cells : List Cell) (places : List (Option Place)) → map design_cell_of (listed_at cells places) ≡ design_cells_at cells places
 standing_listed [] places = refl
-standing_listed (c ∷ cells) [] = ap (λ (rest : List Standing). record { team = c.team; mac = c.mac; place = None } ∷ rest) (standing_listed cells [])
-standing_listed (c ∷ cells) (p ∷ places) = ap (λ (rest : List Standing). record { team = c.team; mac = c.mac; place = option_map spot_of p } ∷ rest) (standing_listed cells places)
+standing_listed (c ∷ cells) [] = ap (λ (rest : List DesignCell). record { team = c.team; mac = c.mac; place = None } ∷ rest) (standing_listed cells [])
+standing_listed (c ∷ cells) (p ∷ places) = ap (λ (rest : List DesignCell). record { team = c.team; mac = c.mac; place = option_map spot_of p } ∷ rest) (standing_listed cells places)
 
 listed_cell : (f : Frame) → CellIsSized → (c : Cell) (place : Option Place) → IsCell f c →
     IsListed f (record { name = c.name; team = c.team; mac = c.mac; place = place })

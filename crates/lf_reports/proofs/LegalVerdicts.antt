@@ -10,9 +10,9 @@ use Rattle.lf_floorplan.specs.declared.loaded.Cell.{Cell}
 use Rattle.lf_floorplan.specs.declared.place.Place.{Place}
 use Rattle.lf_floorplan.specs.Design.{IsCell, CellIsSized}
 use Rattle.lf_rules.specs.declared.rule.Broken.{Broken}
-use Rattle.lf_rules.specs.declared.report.Listed.{Listed}
-use Rattle.lf_rules.specs.declared.report.Violation.{Violation}
-use Rattle.lf_rules.specs.FullyLegal.{Standing, IsFullyLegal, standing_at}
+use Rattle.lf_rules.specs.declared.report_types.Listed.{Listed}
+use Rattle.lf_rules.specs.declared.report_types.Violation.{Violation}
+use Rattle.lf_rules.specs.FullyLegal.{DesignCell, IsFullyLegal, design_cells_at}
 use Rattle.lf_rules.specs.Legalizer.{Legalizer}
 use Rattle.lf_rules.specs.Reports.{IsClean}
 use Rattle.lf_reports.specs.Reports.{AreVerdicts, IsFaultless, broken_among, listed_at, report_of, verdict_at, violation_at, violation_by, violation_of, violations_in}
@@ -75,9 +75,9 @@ unplaced_are (c ∷ cells) (p ∷ places) long =
 
 -- the report of a design at these places is clean if and only if it is then fully legal
 pub clean_there : (l : Legalizer) (f : Frame) (cells : List Cell) (places : List (Option Place)) → CellIsSized → All (IsCell f) cells →
-    IsClean (report_of l f 0 (listed_at cells places)) ↔ IsFullyLegal f (standing_at cells places)
+    IsClean (report_of l f 0 (listed_at cells places)) ↔ IsFullyLegal f (design_cells_at cells places)
 clean_there l f cells places sized known =
-    subst (λ (standing : List Standing). IsClean (report_of l f 0 (listed_at cells places)) ↔ IsFullyLegal f standing) (standing_listed cells places)
+    subst (λ (standing : List DesignCell). IsClean (report_of l f 0 (listed_at cells places)) ↔ IsFullyLegal f standing) (standing_listed cells places)
     (clean_is_legal l f (listed_at cells places) (all_listed f sized cells places known))
 
 length_nil : {Y : Type 0} (ys : List Y) → length ys ≡ 0 → ys ≡ []
@@ -85,7 +85,7 @@ length_nil [] e = refl
 length_nil (y ∷ ys) e = absurd cc
 
 pub legal_by_verdicts : (l : Legalizer) (f : Frame) (cells : List Cell) (places : List (Option Place)) (verdicts : List (Option Broken)) → CellIsSized → All (IsCell f) cells →
-    length places ≡ length cells → AreVerdicts l f 0 (listed_at cells places) verdicts → IsFaultless places verdicts ↔ IsFullyLegal f (standing_at cells places)
+    length places ≡ length cells → AreVerdicts l f 0 (listed_at cells places) verdicts → IsFaultless places verdicts ↔ IsFullyLegal f (design_cells_at cells places)
 legal_by_verdicts l f cells places verdicts sized known long are =
     let listed = listed_at cells places in
     let unplaced = unplaced_are cells places long in

@@ -2,25 +2,25 @@
 use Rattle.std.proofs.Common.{◌≡◌, ℕ, List, Option, Some, None, sym, subst}
 use Rattle.std.specs.Prelude.{All, IsPermutation, MatchOption}
 use Rattle.std.specs.Option.{option_map}
-use Rattle.lf_units.specs.declared.area.Rect.{Rect}
+use Rattle.lf_units.specs.declared.geometry.Rect.{Rect}
 use Rattle.lf_units.specs.Area.{SharesPoint}
 use Rattle.lf_rtree.specs.declared.placed.Placed.{Placed}
-use Rattle.lf_rtree.specs.Near.{IsLeastMet, IsNoneMet}
+use Rattle.lf_rtree.specs.Near.{IsLeastOverlapping, IsNoneOverlapping}
 use Rattle.lf_rules.specs.declared.rule.Rule.{Rule}
 use Rattle.lf_rules.specs.declared.rule.Rule.TheVariants.{Overlap}
-use Rattle.lf_rules.specs.Legality.{Trial, IsFirstMet, IsFrameVerdict, padded_box}
+use Rattle.lf_rules.specs.Legality.{Candidate, IsFirstOverlapping, IsFrameRuleVerdict, padded_box}
 use Rattle.lf_rules.specs.Legalizer.{IsVerdict}
 use Rattle.lf_rules.specs.Team.{Member, boxes_from, boxes_beside}
 use Rattle.lf_rules.proofs.LeastMet.{first_beside, none_beside}
 use Rattle.lf_rules.proofs.RuleLemmas.{ApartAt, met_verdict}
 
 -- where all rules but overlap hold, the least number that is met in a tree of the cells' boxes decides
-pub met_in_tree : (t : Trial) (cells : List Member) (own : ℕ) (tree : List Placed) (box : Rect) (verdict : Option Rule) (met : Option ℕ) →
-    t.others ≡ boxes_beside t.frame cells own → box ≡ padded_box t → verdict ≡ None → IsFrameVerdict t verdict →
+pub met_in_tree : (t : Candidate) (cells : List Member) (own : ℕ) (tree : List Placed) (box : Rect) (verdict : Option Rule) (met : Option ℕ) →
+    t.others ≡ boxes_beside t.frame cells own → box ≡ padded_box t → verdict ≡ None → IsFrameRuleVerdict t verdict →
     IsPermutation (boxes_from t.frame 0 cells) tree →
-    MatchOption met (IsNoneMet tree box own) (IsLeastMet tree box own) → IsVerdict t (option_map (λ other. record { rule = Overlap; other = Some other }) met)
+    MatchOption met (IsNoneOverlapping tree box own) (IsLeastOverlapping tree box own) → IsVerdict t (option_map (λ other. record { rule = Overlap; other = Some other }) met)
 met_in_tree t cells own tree box verdict met beside at none said same found = met_verdict t box verdict met at none said (by met found)
   where
-    by : (m : Option ℕ) → MatchOption m (IsNoneMet tree box own) (IsLeastMet tree box own) → MatchOption m (ApartAt t box) (λ other. IsFirstMet box t.others other)
+    by : (m : Option ℕ) → MatchOption m (IsNoneOverlapping tree box own) (IsLeastOverlapping tree box own) → MatchOption m (ApartAt t box) (λ other. IsFirstOverlapping box t.others other)
     by None none_met = subst (All (λ p. SharesPoint box p.rect → ⊥)) (sym beside) (none_beside t.frame cells tree box own same none_met)
-    by (Some other) least = subst (λ (boxes : List Placed). IsFirstMet box boxes other) (sym beside) (first_beside t.frame cells tree box own other same least)
+    by (Some other) least = subst (λ (boxes : List Placed). IsFirstOverlapping box boxes other) (sym beside) (first_beside t.frame cells tree box own other same least)

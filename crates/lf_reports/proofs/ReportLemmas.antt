@@ -5,15 +5,15 @@ use Rattle.std.specs.List.{range_with_len, cons_option}
 use Rattle.lf_floorplan.specs.declared.frame.Frame.{Frame}
 use Rattle.lf_floorplan.specs.declared.place.Place.{Place}
 use Rattle.lf_rules.specs.declared.rule.Broken.{Broken}
-use Rattle.lf_rules.specs.declared.report.Listed.{Listed}
-use Rattle.lf_rules.specs.Legalizer.{Legalizer, IsVerdict, VerdictIsOne}
-use Rattle.lf_reports.specs.Reports.{IsListed, trial_among, broken_among, violation_of, violation_by, violation_at}
+use Rattle.lf_rules.specs.declared.report_types.Listed.{Listed}
+use Rattle.lf_rules.specs.Legalizer.{Legalizer, IsVerdict, VerdictIsUnique}
+use Rattle.lf_reports.specs.Reports.{IsListed, candidate_among, broken_among, violation_of, violation_by, violation_at}
 
 -- a verdict on the cell's trial is what every legalizer says
 pub broken_is : (l : Legalizer) (f : Frame) (padding : ℕ) (cells : List (Listed (List ℕ))) (own : ℕ) (c : Listed (List ℕ)) (place : Place) (found : Option Broken) →
-    VerdictIsOne → IsListed f c → IsVerdict (trial_among f padding cells own c place) found → found ≡ l.first_broken (trial_among f padding cells own c place)
+    VerdictIsUnique → IsListed f c → IsVerdict (candidate_among f padding cells own c place) found → found ≡ l.first_broken (candidate_among f padding cells own c place)
 broken_is l f padding cells own c place found one listed verdict =
-    one (trial_among f padding cells own c place) found (l.first_broken (trial_among f padding cells own c place)) verdict (l.finds_first_broken (trial_among f padding cells own c place) listed.sized)
+    one (candidate_among f padding cells own c place) found (l.first_broken (candidate_among f padding cells own c place)) verdict (l.finds_first_broken (candidate_among f padding cells own c place) listed.sized)
 
 -- what a number more adds to the list of what is found at each
 found_more : {Y : Type 0} (g : ℕ → Option Y) (a n : ℕ) →

@@ -12,11 +12,11 @@ use Rattle.lf_rtree.specs.declared.placed.Placed.{Placed}
 use Rattle.lf_floorplan.specs.declared.frame.Frame.{Frame}
 use Rattle.lf_floorplan.specs.declared.place.Place.{Place}
 use Rattle.lf_rules.specs.declared.rule.Broken.{Broken}
-use Rattle.lf_rules.specs.declared.report.Listed.{Listed}
-use Rattle.lf_rules.specs.Choice.{Spot, spot_of}
+use Rattle.lf_rules.specs.declared.report_types.Listed.{Listed}
+use Rattle.lf_rules.specs.Choice.{SpotPlace, spot_of}
 use Rattle.lf_rules.specs.Legalizer.{Legalizer}
 use Rattle.lf_rules.specs.Team.{Member, box_in, with_box, boxes_from}
-use Rattle.lf_reports.specs.Reports.{IsListed, member_of, named, trial_among, broken_among, verdict_at, AreVerdicts, AreSomeVerdicts, HaveVerdicts, IsPut, PutsVerdict}
+use Rattle.lf_reports.specs.Reports.{IsListed, member_of, named, candidate_among, broken_among, verdict_at, AreVerdicts, AreSomeVerdicts, HaveVerdicts, IsVerdictSet, SetsVerdict}
 
 first_there : (x : Placed) (xs : List Placed) → Contains (x ∷ xs) x
 first_there x xs = (0, omega arith, refl)
@@ -26,7 +26,7 @@ later_there x y xs (k, within, is) = (suc k, omega (arith, within), is)
 
 -- ---- the numbers of boxes
 
-with_known : (f : Frame) (n m mac : ℕ) (place : Option Spot) (rest : List Placed) → n < m → All (λ p. p.own < m) rest →
+with_known : (f : Frame) (n m mac : ℕ) (place : Option SpotPlace) (rest : List Placed) → n < m → All (λ p. p.own < m) rest →
     All (λ p. p.own < m) (with_box f n mac place rest)
 with_known f n m mac None rest below all = all
 with_known f n m mac (Some p) rest below all = All-cons (λ p. p.own < m) (record { own = n; rect = box_in f mac p }) rest below all
@@ -44,11 +44,11 @@ numbers_known f cells boxes same =
     let from : 0 + length cells ≡ length cells = omega arith in
     All-permutation (λ p. p.own < length cells) (boxes_from f 0 cells) boxes same (subst (λ (m : ℕ). All (λ p. p.own < m) (boxes_from f 0 cells)) from (boxes_known f 0 cells))
 
-behind_box : (f : Frame) (n mac : ℕ) (place : Option Spot) (rest : List Placed) (p : Placed) → Contains rest p → Contains (with_box f n mac place rest) p
+behind_box : (f : Frame) (n mac : ℕ) (place : Option SpotPlace) (rest : List Placed) (p : Placed) → Contains rest p → Contains (with_box f n mac place rest) p
 behind_box f n mac None rest p there = there
 behind_box f n mac (Some at) rest p there = later_there (record { own = n; rect = box_in f mac at }) p rest there
 
-box_there : (f : Frame) (n : ℕ) (cells : List Member) (k : ℕ) (m : Member) (p : Spot) → slice_get cells k ≡ Some m → m.place ≡ Some p →
+box_there : (f : Frame) (n : ℕ) (cells : List Member) (k : ℕ) (m : Member) (p : SpotPlace) → slice_get cells k ≡ Some m → m.place ≡ Some p →
     Contains (boxes_from f n cells) (record { own = n + k; rect = box_in f m.mac p })
 box_there f n [] k m p there at = absurd cc
 box_there f n (c ∷ cells) zero m p there at =
@@ -57,7 +57,7 @@ box_there f n (c ∷ cells) zero m p there at =
     let number : n ≡ n + 0 = omega arith in
     subst (λ (x : Member). Contains (boxes_from f n (c ∷ cells)) (record { own = n + 0; rect = box_in f x.mac p })) same
     (subst (λ (i : ℕ). Contains (boxes_from f n (c ∷ cells)) (record { own = i; rect = box_in f c.mac p })) number
-    (subst (λ (o : Option Spot). Contains (with_box f n c.mac o (boxes_from f (n + 1) cells)) (record { own = n; rect = box_in f c.mac p })) (sym placed)
+    (subst (λ (o : Option SpotPlace). Contains (with_box f n c.mac o (boxes_from f (n + 1) cells)) (record { own = n; rect = box_in f c.mac p })) (sym placed)
     (first_there (record { own = n; rect = box_in f c.mac p }) (boxes_from f (n + 1) cells))))
 box_there f n (c ∷ cells) (suc k) m p there at =
     let number : (n + 1) + k ≡ n + suc k = omega arith in
@@ -77,7 +77,7 @@ differ_or_not a b =
 
 pub puts : (l : Legalizer) (f : Frame) (padding : ℕ) (cells : List (Listed (List ℕ))) (own : ℕ) (cell : Listed (List ℕ)) (v : Option Broken) (old : List (Option Broken)) →
     slice_get cells own ≡ Some cell →
-    v ≡ broken_among l f padding cells own cell → own < length old → AreSomeVerdicts l f padding cells old → PutsVerdict l f padding cells own old (set old own v)
+    v ≡ broken_among l f padding cells own cell → own < length old → AreSomeVerdicts l f padding cells old → SetsVerdict l f padding cells own old (set old own v)
 puts l f padding cells own cell v old there is within some = record {
   some = record { count = length-set old own v ∙ some.count; each = λ other c at. either other c at (differ_or_not other own) };
   put = λ c at. here own c refl at;
@@ -102,11 +102,11 @@ puts l f padding cells own cell v old there is within some = record {
 
 -- the same where the verdict is only set if a rule is broken
 pub puts_or_keeps : (l : Legalizer) (f : Frame) (padding : ℕ) (cells : List (Listed (List ℕ))) (own : ℕ) (cell : Listed (List ℕ)) (v : Option Broken) (old new : List (Option Broken)) → slice_get cells own ≡ Some cell →
-    v ≡ broken_among l f padding cells own cell → own < length old → AreSomeVerdicts l f padding cells old → IsPut own v old new → PutsVerdict l f padding cells own old new
+    v ≡ broken_among l f padding cells own cell → own < length old → AreSomeVerdicts l f padding cells old → IsVerdictSet own v old new → SetsVerdict l f padding cells own old new
 puts_or_keeps l f padding cells own cell v old new there is within some (inr set_now) =
-    subst (λ (n : List (Option Broken)). PutsVerdict l f padding cells own old n) (sym set_now) (puts l f padding cells own cell v old there is within some)
+    subst (λ (n : List (Option Broken)). SetsVerdict l f padding cells own old n) (sym set_now) (puts l f padding cells own cell v old there is within some)
 puts_or_keeps l f padding cells own cell v old new there is within some (inl (nothing, same)) =
-    subst (λ (n : List (Option Broken)). PutsVerdict l f padding cells own old n) (sym same) record {
+    subst (λ (n : List (Option Broken)). SetsVerdict l f padding cells own old n) (sym same) record {
       some = some;
       put = λ c at. right c at (some.each own c at);
       kept = λ other c at had. had;
@@ -164,7 +164,7 @@ fetched_more cells fetched boxes k d c within there so_far =
 
 -- a box more
 pub one_more : (l : Legalizer) (f : Frame) (padding : ℕ) (cells : List (Listed (List ℕ))) (boxes : List Placed) (p : Placed) (old new : List (Option Broken)) →
-    HaveVerdicts l f padding cells boxes old → PutsVerdict l f padding cells p.own old new → HaveVerdicts l f padding cells (boxes ++ p ∷ []) new
+    HaveVerdicts l f padding cells boxes old → SetsVerdict l f padding cells p.own old new → HaveVerdicts l f padding cells (boxes ++ p ∷ []) new
 one_more l f padding cells boxes p old new have puts =
     let Has : List (Option Broken) → Placed → Type 0 = λ verdicts q. (c : Listed (List ℕ)) → slice_get cells q.own ≡ Some c → verdict_at verdicts q.own ≡ broken_among l f padding cells q.own c in
     record {
@@ -175,7 +175,7 @@ one_more l f padding cells boxes p old new have puts =
 
 -- behind boxes that are done, one more of those at hand
 pub next_done : (l : Legalizer) (f : Frame) (padding : ℕ) (cells : List (Listed (List ℕ))) (done boxes : List Placed) (k : ℕ) (d : Placed) (old new : List (Option Broken)) →
-    k < length boxes → HaveVerdicts l f padding cells (done ++ take k boxes) old → PutsVerdict l f padding cells (get_or boxes k d).own old new →
+    k < length boxes → HaveVerdicts l f padding cells (done ++ take k boxes) old → SetsVerdict l f padding cells (get_or boxes k d).own old new →
     HaveVerdicts l f padding cells (done ++ take (k + 1) boxes) new
 next_done l f padding cells done boxes k d old new within have puts =
     let parts : (done ++ take k boxes) ++ get_or boxes k d ∷ [] ≡ done ++ take (k + 1) boxes =
@@ -190,7 +190,7 @@ all_done l f padding cells boxes verdicts same have = record { count = have.some
     by : (own : ℕ) (c : Listed (List ℕ)) → slice_get cells own ≡ Some c → (place : Option Place) → c.place ≡ place →
         verdict_at verdicts own ≡ broken_among l f padding cells own c
     by own c at None unplaced =
-        let nothing : broken_among l f padding cells own c ≡ None = ap (λ (o : Option Place). option_and_then (λ p. l.first_broken (trial_among f padding cells own c p)) o) unplaced in
+        let nothing : broken_among l f padding cells own c ≡ None = ap (λ (o : Option Place). option_and_then (λ p. l.first_broken (candidate_among f padding cells own c p)) o) unplaced in
         elim (have.some.each own c at) [
           | inl none ↦ none ∙ sym nothing
           | inr right ↦ right

@@ -9,14 +9,14 @@ use Rattle.lf_floorplan.specs.Bounds.{IsName}
 use Rattle.lf_floorplan.specs.Boxes.{IsSized, macro_of}
 use Rattle.lf_rtree.specs.declared.placed.Placed.{Placed}
 use Rattle.lf_rules.specs.declared.rule.Broken.{Broken}
-use Rattle.lf_rules.specs.declared.report.Listed.{Listed}
-use Rattle.lf_rules.specs.declared.report.Violation.{Violation}
-use Rattle.lf_rules.specs.declared.report.Report.{Report}
-use Rattle.lf_rules.specs.Legality.{Trial, trial_of}
+use Rattle.lf_rules.specs.declared.report_types.Listed.{Listed}
+use Rattle.lf_rules.specs.declared.report_types.Violation.{Violation}
+use Rattle.lf_rules.specs.declared.report_types.Report.{Report}
+use Rattle.lf_rules.specs.Legality.{Candidate, candidate_of}
 use Rattle.lf_rules.specs.Legalizer.{Legalizer}
 use Rattle.lf_rules.specs.Choice.{spot_of}
 use Rattle.lf_rules.specs.Team.{Member, boxes_beside}
-use Rattle.lf_rules.specs.FullyLegal.{Standing, IsFullyLegal}
+use Rattle.lf_rules.specs.FullyLegal.{DesignCell, IsFullyLegal}
 use Rattle.lf_rules.specs.Reports.{IsClean}
 
 -- the cell with its name as a list of bytes
@@ -28,16 +28,16 @@ abbrev pub member_of : Listed (List ℕ) → Member
 member_of c = record { mac = c.mac; place = option_map spot_of c.place }
 
 -- the cell as a fully legal design has it
-abbrev pub standing_of : Listed (List ℕ) → Standing
-standing_of c = record { team = c.team; mac = c.mac; place = option_map spot_of c.place }
+abbrev pub design_cell_of : Listed (List ℕ) → DesignCell
+design_cell_of c = record { team = c.team; mac = c.mac; place = option_map spot_of c.place }
 
 -- the cell of that number, tried where it stands, with a padding, beside the other placed cells that are listed
-abbrev pub trial_among : Frame → ℕ → List (Listed (List ℕ)) → ℕ → Listed (List ℕ) → Place → Trial
-trial_among f padding cells own c p = trial_of f c.team padding (macro_of f c.mac) p (boxes_beside f (map member_of cells) own)
+abbrev pub candidate_among : Frame → ℕ → List (Listed (List ℕ)) → ℕ → Listed (List ℕ) → Place → Candidate
+candidate_among f padding cells own c p = candidate_of f c.team padding (macro_of f c.mac) p (boxes_beside f (map member_of cells) own)
 
 -- the first rule that the cell breaks where it stands; an unplaced cell breaks none
 abbrev pub broken_among : Legalizer → Frame → ℕ → List (Listed (List ℕ)) → ℕ → Listed (List ℕ) → Option Broken
-broken_among l f padding cells own c = option_and_then (λ p. l.first_broken (trial_among f padding cells own c p)) c.place
+broken_among l f padding cells own c = option_and_then (λ p. l.first_broken (candidate_among f padding cells own c p)) c.place
 
 -- the verdict of that number: the first rule that is broken, or none
 abbrev pub verdict_at : List (Option Broken) → ℕ → Option Broken
@@ -60,11 +60,11 @@ pub record AreSomeVerdicts (l : Legalizer) (f : Frame) (padding : ℕ) (cells : 
       (verdict_at verdicts own ≡ None) ⊎ (verdict_at verdicts own ≡ broken_among l f padding cells own c)
 
 -- the verdict is set at its number, if it says that a rule is broken; else nothing is changed
-abbrev pub IsPut : ℕ → Option Broken → List (Option Broken) → List (Option Broken) → Type 0
-IsPut own verdict old new = ((verdict ≡ None) × (new ≡ old)) ⊎ (new ≡ set old own verdict)
+abbrev pub IsVerdictSet : ℕ → Option Broken → List (Option Broken) → List (Option Broken) → Type 0
+IsVerdictSet own verdict old new = ((verdict ≡ None) × (new ≡ old)) ⊎ (new ≡ set old own verdict)
 
 -- the cell of this number has its verdict, and so has each cell that had it
-pub record PutsVerdict (l : Legalizer) (f : Frame) (padding : ℕ) (cells : List (Listed (List ℕ))) (own : ℕ) (old new : List (Option Broken)) : Type 0 where
+pub record SetsVerdict (l : Legalizer) (f : Frame) (padding : ℕ) (cells : List (Listed (List ℕ))) (own : ℕ) (old new : List (Option Broken)) : Type 0 where
   pub some : AreSomeVerdicts l f padding cells new
   pub put : (c : Listed (List ℕ)) → slice_get cells own ≡ Some c → verdict_at new own ≡ broken_among l f padding cells own c
   pub kept : (other : ℕ) (c : Listed (List ℕ)) → slice_get cells other ≡ Some c → verdict_at old other ≡ broken_among l f padding cells other c →
@@ -110,7 +110,7 @@ pub record IsListed (f : Frame) (c : Listed (List ℕ)) : Type 0 where
 abbrev pub CleanIsLegal : Type 0
 CleanIsLegal =
     (l : Legalizer) (f : Frame) (cells : List (Listed (List ℕ))) → All (IsListed f) cells →
-    IsClean (report_of l f 0 cells) ↔ IsFullyLegal f (map standing_of cells)
+    IsClean (report_of l f 0 cells) ↔ IsFullyLegal f (map design_cell_of cells)
 
 -- the cells of a loaded design at these places, one for each cell in its order
 abbrev pub listed_at : List Cell → List (Option Place) → List (Listed (List ℕ))

@@ -9,16 +9,16 @@
 //! cells of any teams, and the report is clean iff the design is fully legal.
 //!
 //! ```
-//! let verdicts = verdicts_on(alloc, &plan, &cells, padding)?;
-//! let report = report_by_verdicts(alloc, &cells, &verdicts)?;
+//! let verdicts = verdicts_with_plan(alloc, &plan, &cells, padding)?;
+//! let report = report_from_verdicts(alloc, &cells, &verdicts)?;
 //! ```
 #![tactic(auto)]
 
-mod illegal;
+mod broken_cell;
 mod laws;
-mod report;
+mod verdicts;
 
-pub use illegal::BrokenCell;
+pub use broken_cell::BrokenCell;
 pub use laws::clean_is_legal;
 pub use lf_rules::{Listed, Report, Violation};
-pub use report::{check_all, report_by_verdicts, verdicts_of_all, verdicts_on};
+pub use verdicts::{check_all, report_from_verdicts, verdicts_of_all, verdicts_with_plan};

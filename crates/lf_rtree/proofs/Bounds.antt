@@ -5,7 +5,7 @@ use Rattle.std.proofs.lemmas.Int.{ints}
 use Rattle.std.proofs.lemmas.List.Elements.{All-append, All-cons, All-nil, All-weaker}
 use Rattle.std.proofs.lemmas.List.{take_more, take-append-drop}
 use Rattle.lf_units.specs.Area.{SharesPoint}
-use Rattle.lf_units.specs.declared.area.Rect.{Rect}
+use Rattle.lf_units.specs.declared.geometry.Rect.{Rect}
 use Rattle.lf_rtree.specs.Packed.{IsBound}
 use Rattle.lf_rtree.specs.declared.placed.Placed.{Placed}
 use Rattle.lf_rtree.specs.declared.bound.Bound.{Bound}

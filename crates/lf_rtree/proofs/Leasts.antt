@@ -5,8 +5,8 @@ use Rattle.std.proofs.lemmas.List.Elements.{All-append, All-weaker, Contains-app
 use Rattle.std.proofs.lemmas.List.{take_more, take-append-drop}
 use Rattle.std.proofs.lemmas.List.Sorted.{All-permutation, Contains-permutation, IsPermutation-append_comm}
 use Rattle.lf_units.specs.Area.{SharesPoint}
-use Rattle.lf_units.specs.declared.area.Rect.{Rect}
-use Rattle.lf_rtree.specs.Near.{IsMet}
+use Rattle.lf_units.specs.declared.geometry.Rect.{Rect}
+use Rattle.lf_rtree.specs.Near.{IsOverlapping}
 use Rattle.lf_rtree.specs.Packed.{IsBound, IsUpTo, IsLeastOf, HoldsNoLess}
 use Rattle.lf_rtree.specs.declared.placed.Placed.{Placed}
 use Rattle.lf_rtree.specs.declared.bound.Bound.{Bound}
@@ -28,7 +28,7 @@ no_greater_along None b c first second = tt
 no_greater_along (Some x) b c first second = up_to_less b c x first second
 
 -- what is met of the first list, of the second and of a list in another order is met of both and of the other
-met_before : (xs ys : List Placed) (rect : Rect) (but : ℕ) (a : Option ℕ) → IsSomeAnd a (IsMet xs rect but) → IsSomeAnd a (IsMet (xs ++ ys) rect but)
+met_before : (xs ys : List Placed) (rect : Rect) (but : ℕ) (a : Option ℕ) → IsSomeAnd a (IsOverlapping xs rect but) → IsSomeAnd a (IsOverlapping (xs ++ ys) rect but)
 met_before xs ys rect but None m = absurd m
 met_before xs ys rect but (Some own) m = record {
   placed = m.placed;
@@ -38,7 +38,7 @@ met_before xs ys rect but (Some own) m = record {
   shares = m.shares;
 }
 
-met_behind : (xs ys : List Placed) (rect : Rect) (but : ℕ) (a : Option ℕ) → IsSomeAnd a (IsMet ys rect but) → IsSomeAnd a (IsMet (xs ++ ys) rect but)
+met_behind : (xs ys : List Placed) (rect : Rect) (but : ℕ) (a : Option ℕ) → IsSomeAnd a (IsOverlapping ys rect but) → IsSomeAnd a (IsOverlapping (xs ++ ys) rect but)
 met_behind xs ys rect but None m = absurd m
 met_behind xs ys rect but (Some own) m = record {
   placed = m.placed;
@@ -48,7 +48,7 @@ met_behind xs ys rect but (Some own) m = record {
   shares = m.shares;
 }
 
-met_permuted : (xs ys : List Placed) (rect : Rect) (but : ℕ) (a : Option ℕ) → IsPermutation xs ys → IsSomeAnd a (IsMet xs rect but) → IsSomeAnd a (IsMet ys rect but)
+met_permuted : (xs ys : List Placed) (rect : Rect) (but : ℕ) (a : Option ℕ) → IsPermutation xs ys → IsSomeAnd a (IsOverlapping xs rect but) → IsSomeAnd a (IsOverlapping ys rect but)
 met_permuted xs ys rect but None moved m = absurd m
 met_permuted xs ys rect but (Some own) moved m = record {
   placed = m.placed;
@@ -67,7 +67,7 @@ least_along xs ys rect but a b c first second = record {
     | inl kept ↦ elim first.from [
       | inl kept_first ↦ inl (kept ∙ kept_first)
       | inr m ↦
-          let P : Option ℕ → Type 0 = λ o. IsSomeAnd o (IsMet (xs ++ ys) rect but) in
+          let P : Option ℕ → Type 0 = λ o. IsSomeAnd o (IsOverlapping (xs ++ ys) rect but) in
           inr (subst P (sym kept) (met_before xs ys rect but b m))
     ]
   ];

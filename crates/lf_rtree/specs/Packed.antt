@@ -1,8 +1,8 @@
 -- How boxes and bounds make a tree, and what the steps of a search through it return.
 use Rattle.std.specs.Prelude.{◌≡◌, ◌≢◌, ◌⊎◌, ℕ, ◌/◌, ◌≤◌, ◌≤ℤ◌, Option, IfSome, IsSomeAnd, List, [], ◌∷◌, ◌++◌, length, take, drop, All}
 use Rattle.lf_units.specs.Area.{SharesPoint}
-use Rattle.lf_units.specs.declared.area.Rect.{Rect}
-use Rattle.lf_rtree.specs.Near.{AreNear, IsMet}
+use Rattle.lf_units.specs.declared.geometry.Rect.{Rect}
+use Rattle.lf_rtree.specs.Near.{AreNear, IsOverlapping}
 use Rattle.lf_rtree.specs.declared.placed.Placed.{Placed}
 use Rattle.lf_rtree.specs.declared.bound.Bound.{Bound}
 
@@ -28,7 +28,7 @@ IsUpTo least own = IsSomeAnd least (λ n. n ≤ own)
 
 -- the least of the number so far and of the numbers, other than `but`, of the boxes that share a point with the rectangle
 pub record IsLeastOf (boxes : List Placed) (rect : Rect) (but : ℕ) (so_far least : Option ℕ) : Type 0 where
-  pub from : (least ≡ so_far) ⊎ IsSomeAnd least (IsMet boxes rect but)
+  pub from : (least ≡ so_far) ⊎ IsSomeAnd least (IsOverlapping boxes rect but)
   pub no_greater : IfSome so_far (IsUpTo least)
   pub least_met : All (λ p. p.own ≢ but → SharesPoint rect p.rect → IsUpTo least p.own) boxes
 

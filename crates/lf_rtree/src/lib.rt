@@ -5,17 +5,17 @@
 //!
 //! ```
 //! let tree = RTree::build(Global, boxes)?;
-//! tree.find_near(&rect, &mut found)?; // the boxes that share a point with `rect`
-//! let least = tree.least_met(&rect, own); // the least number of such a box, `own` left aside
+//! tree.find_overlapping(&rect, &mut found)?; // the boxes that share a point with `rect`
+//! let least = tree.least_overlapping(&rect, own); // the least number of such a box, `own` left aside
 //! ```
 #![tactic(auto)]
 
 mod bound;
-mod grown;
-mod least;
-mod near;
+mod bounds_above;
+mod least_overlapping;
+mod overlapping;
 mod placed;
-mod sorted;
+mod sort;
 mod tree;
 
 pub use placed::Placed;

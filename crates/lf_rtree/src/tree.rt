@@ -1,14 +1,14 @@
 //! A packed tree of boxes.
 
 ghost use Rattle.std.specs.Prelude.{◌≡◌, IfOk, OnOk, MatchOption, IsPermutation};
-ghost use Rattle.lf_rtree.specs.Near.{AreNear, IsLeastMet, IsNoneMet};
+ghost use Rattle.lf_rtree.specs.Near.{AreNear, IsLeastOverlapping, IsNoneOverlapping};
 
 use crate::bound::Bound;
-use crate::grown::grow;
-use crate::least::least_among;
-use crate::near::push_near_of_run;
+use crate::bounds_above::grow;
+use crate::least_overlapping::least_among;
+use crate::overlapping::push_near_of_run;
 use crate::placed::Placed;
-use crate::sorted::sort_for_depth;
+use crate::sort::sort_for_depth;
 use lf_units::Rect;
 use std::alloc::{AllocError, Global};
 use std::marker::Model;
@@ -58,7 +58,7 @@ impl RTree {
 
     /// Replaces the contents of `found` by the boxes that share a point with this rectangle, each
     /// as often as it is in the tree. If an allocation fails, `found` holds some of them.
-    pub fn find_near(&self, rect: &Rect, found: &mut Vec<Placed>) -> Result<(), AllocError>
+    pub fn find_overlapping(&self, rect: &Rect, found: &mut Vec<Placed>) -> Result<(), AllocError>
         ensures { OnOk result (AreNear self.now rect.now found.new.items) }
     {
         found.clear();
@@ -67,8 +67,8 @@ impl RTree {
 
     /// The least number, other than `but`, of a box that shares a point with this rectangle; none
     /// iff there is no such box. It allocates nothing.
-    pub fn least_met(&self, rect: &Rect, but: u32) -> Option<u32>
-        ensures { MatchOption result (IsNoneMet self.now rect.now but) (IsLeastMet self.now rect.now but) }
+    pub fn least_overlapping(&self, rect: &Rect, but: u32) -> Option<u32>
+        ensures { MatchOption result (IsNoneOverlapping self.now rect.now but) (IsLeastOverlapping self.now rect.now but) }
     {
         least_among(
             self.boxes.as_slice(),

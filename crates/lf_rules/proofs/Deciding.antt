@@ -4,13 +4,13 @@ use Rattle.std.specs.Prelude.{All, Any, MatchOption}
 use Rattle.std.proofs.lemmas.Int.{ints}
 use Rattle.std.proofs.Math.Nat.{mul-mod_left}
 use Rattle.std.proofs.lemmas.List.Elements.{All-nil, All-cons, All-head, All-tail}
-use Rattle.lf_units.specs.declared.area.Rect.{Rect}
+use Rattle.lf_units.specs.declared.geometry.Rect.{Rect}
 use Rattle.lf_units.specs.Area.{Covers, SharesPoint, CoveredBy}
 use Rattle.lf_units.proofs.Edges.{edges_of_shared, shared_of_edges}
 use Rattle.lf_floorplan.specs.declared.frame.Frame.{Frame}
 use Rattle.lf_floorplan.specs.declared.parts.Row.{Row}
 use Rattle.lf_floorplan.specs.declared.parts.Team.{Team}
-use Rattle.lf_floorplan.specs.Standing.{IsSitesHigh, IsBottomRow, IsRowOfBox, Carries, changed}
+use Rattle.lf_floorplan.specs.Standing.{IsSitesHigh, IsBottomRow, IsRowOfBox, Supports, changed}
 use Rattle.lf_floorplan.specs.Ground.{InGround}
 use Rattle.std.specs.Option.{option_map}
 use Rattle.lf_orient.specs.declared.Rail.{Rail}
@@ -187,7 +187,7 @@ same_rail (Some Ground) (Some Power) = inr (λ e. cc)
 same_rail (Some Power) (Some Ground) = inr (λ e. cc)
 same_rail (Some Power) (Some Power) = inl refl
 
-pub some_carrying : (f : Frame) (box : Rect) (r : Row) (j : ℕ) → Settles ((s : Row) × Carries f box r j s)
+pub some_carrying : (f : Frame) (box : Rect) (r : Row) (j : ℕ) → Settles ((s : Row) × Supports f box r j s)
 some_carrying f box r j =
     turned_round
     (λ a. (a.1, record { heeded = (a.0, a.2, a.3); at_row = a.4.0; rail = a.4.1 }))

@@ -7,95 +7,95 @@ use Rattle.std.proofs.lemmas.List.Kept.{AllPairs-cons}
 use Rattle.lf_floorplan.specs.declared.frame.Frame.{Frame}
 use Rattle.lf_floorplan.proofs.GroundLemmas.{teams_apart}
 use Rattle.lf_rules.specs.declared.rule.Rule.TheVariants.{Fence}
-use Rattle.lf_rules.specs.Choice.{Spot, IsLegalAt, trial_at}
-use Rattle.lf_rules.specs.Team.{Member, box_in, lifted_from, StandsLegal}
-use Rattle.lf_rules.specs.FullyLegal.{Standing, KeepsRules, StandApart, IsFullyLegal, standing_in, with_team, standing_from}
+use Rattle.lf_rules.specs.Choice.{SpotPlace, IsLegalAt, candidate_at}
+use Rattle.lf_rules.specs.Team.{Member, box_in, query_from, IsLegalCell}
+use Rattle.lf_rules.specs.FullyLegal.{DesignCell, KeepsRules, DoNotOverlap, IsFullyLegal, design_cell, with_team, design_cells_from}
 use Rattle.lf_rules.proofs.LegalParts.{frame_beside, legal_by_parts}
 use Rattle.lf_rules.proofs.TidyLemmas.{clear_of_legal}
 use Rattle.lf_rules.proofs.WiderLemmas.{shares_padded}
 
 -- what holds of each cell of the team and of the others holds of all
-team_hold : (P : Standing → Type 0) (team : ℕ) (cells : List Member) (rest : List Standing) →
-    ((own : ℕ) (m : Member) → slice_get cells own ≡ Some m → P (standing_in team m)) → All P rest → All P (with_team team cells rest)
+team_hold : (P : DesignCell → Type 0) (team : ℕ) (cells : List Member) (rest : List DesignCell) →
+    ((own : ℕ) (m : Member) → slice_get cells own ≡ Some m → P (design_cell team m)) → All P rest → All P (with_team team cells rest)
 team_hold P team [] rest h all = all
 team_hold P team (m ∷ cells) rest h all =
-    All-cons P (standing_in team m) (with_team team cells rest) (h 0 m refl) (team_hold P team cells rest (λ own x there. h (suc own) x there) all)
+    All-cons P (design_cell team m) (with_team team cells rest) (h 0 m refl) (team_hold P team cells rest (λ own x there. h (suc own) x there) all)
 
-teams_hold : (P : Standing → Type 0) (team : ℕ) (teams : List (List Member)) →
-    ((k : ℕ) (cells : List Member) → slice_get teams k ≡ Some cells → (own : ℕ) (m : Member) → slice_get cells own ≡ Some m → P (standing_in (team + k) m)) →
-    All P (standing_from team teams)
+teams_hold : (P : DesignCell → Type 0) (team : ℕ) (teams : List (List Member)) →
+    ((k : ℕ) (cells : List Member) → slice_get teams k ≡ Some cells → (own : ℕ) (m : Member) → slice_get cells own ≡ Some m → P (design_cell (team + k) m)) →
+    All P (design_cells_from team teams)
 teams_hold P team [] h = All-nil P
 teams_hold P team (cells ∷ teams) h =
-    team_hold P team cells (standing_from (team + 1) teams) (λ own m there. subst (λ (n : ℕ). P (standing_in n m)) (omega arith) (h 0 cells refl own m there))
-    (teams_hold P (team + 1) teams (λ k others is own m there. subst (λ (n : ℕ). P (standing_in n m)) (omega arith) (h (suc k) others is own m there)))
+    team_hold P team cells (design_cells_from (team + 1) teams) (λ own m there. subst (λ (n : ℕ). P (design_cell n m)) (omega arith) (h 0 cells refl own m there))
+    (teams_hold P (team + 1) teams (λ k others is own m there. subst (λ (n : ℕ). P (design_cell n m)) (omega arith) (h (suc k) others is own m there)))
 
 -- what holds between each two cells of the team, of each of them and of the others among each other
-team_pairs : (R : Standing → Standing → Type 0) (team : ℕ) (cells : List Member) (rest : List Standing) →
-    ((i j : ℕ) (a b : Member) → i < j → slice_get cells i ≡ Some a → slice_get cells j ≡ Some b → R (standing_in team a) (standing_in team b)) →
-    ((i : ℕ) (a : Member) → slice_get cells i ≡ Some a → All (R (standing_in team a)) rest) →
+team_pairs : (R : DesignCell → DesignCell → Type 0) (team : ℕ) (cells : List Member) (rest : List DesignCell) →
+    ((i j : ℕ) (a b : Member) → i < j → slice_get cells i ≡ Some a → slice_get cells j ≡ Some b → R (design_cell team a) (design_cell team b)) →
+    ((i : ℕ) (a : Member) → slice_get cells i ≡ Some a → All (R (design_cell team a)) rest) →
     AllPairs R rest → AllPairs R (with_team team cells rest)
 team_pairs R team [] rest within beyond pairs = pairs
 team_pairs R team (m ∷ cells) rest within beyond pairs =
-    AllPairs-cons R (standing_in team m) (with_team team cells rest)
-    (team_hold (R (standing_in team m)) team cells rest (λ own x there. within 0 (suc own) m x (omega arith) refl there) (beyond 0 m refl))
+    AllPairs-cons R (design_cell team m) (with_team team cells rest)
+    (team_hold (R (design_cell team m)) team cells rest (λ own x there. within 0 (suc own) m x (omega arith) refl there) (beyond 0 m refl))
     (team_pairs R team cells rest (λ i j a b less here there. within (suc i) (suc j) a b (omega arith) here there) (λ i a there. beyond (suc i) a there) pairs)
 
 -- a team-legal cell keeps rules 1 to 7 alone
-pub keeps : (f : Frame) (team : ℕ) (cells : List Member) (own : ℕ) (m : Member) (p : Spot) → IsLegalAt (lifted_from f team 0 cells own m.mac) p → KeepsRules f (standing_in team m) p
+pub keeps : (f : Frame) (team : ℕ) (cells : List Member) (own : ℕ) (m : Member) (p : SpotPlace) → IsLegalAt (query_from f team 0 cells own m.mac) p → KeepsRules f (design_cell team m) p
 keeps f team cells own m p legal =
-    let t = trial_at (lifted_from f team 0 cells own m.mac) p in
+    let t = candidate_at (query_from f team 0 cells own m.mac) p in
     frame_beside t [] ((legal_by_parts t).0 legal).0
 
 -- a cell that stands legal is placed, and legal at its place
-placed_there : (P : Spot → Type 0) (place : Option Spot) → MatchOption place ⊥ P → IsSome place
+placed_there : (P : SpotPlace → Type 0) (place : Option SpotPlace) → MatchOption place ⊥ P → IsSome place
 placed_there P None stands = absurd stands
 placed_there P (Some p) stands = refl
 
-legal_there : (P : Spot → Type 0) (place : Option Spot) → MatchOption place ⊥ P → (p : Spot) → place ≡ Some p → P p
+legal_there : (P : SpotPlace → Type 0) (place : Option SpotPlace) → MatchOption place ⊥ P → (p : SpotPlace) → place ≡ Some p → P p
 legal_there P None stands p is = absurd stands
 legal_there P (Some q) stands p is = let same : q ≡ p = cc in subst P same stands
 
 -- the design of the teams from `team` on, each of whose cells stands legal
 abbrev TeamsLegal : Frame → ℕ → List (List Member) → Type 0
-TeamsLegal f team teams = (k : ℕ) (cells : List Member) → slice_get teams k ≡ Some cells → (own : ℕ) → StandsLegal f (team + k) 0 cells own
+TeamsLegal f team teams = (k : ℕ) (cells : List Member) → slice_get teams k ≡ Some cells → (own : ℕ) → IsLegalCell f (team + k) 0 cells own
 
-legal_at : (f : Frame) (team : ℕ) (cells : List Member) (own : ℕ) (m : Member) (p : Spot) → StandsLegal f team 0 cells own → slice_get cells own ≡ Some m → m.place ≡ Some p →
-    IsLegalAt (lifted_from f team 0 cells own m.mac) p
-legal_at f team cells own m p stands there is = legal_there (λ s. IsLegalAt (lifted_from f team 0 cells own m.mac) s) m.place (stands m there) p is
+legal_at : (f : Frame) (team : ℕ) (cells : List Member) (own : ℕ) (m : Member) (p : SpotPlace) → IsLegalCell f team 0 cells own → slice_get cells own ≡ Some m → m.place ≡ Some p →
+    IsLegalAt (query_from f team 0 cells own m.mac) p
+legal_at f team cells own m p stands there is = legal_there (λ s. IsLegalAt (query_from f team 0 cells own m.mac) s) m.place (stands m there) p is
 
 -- two cells of one team stand apart
-one_team : (f : Frame) (team : ℕ) (cells : List Member) (i j : ℕ) (a b : Member) → i < j → ((own : ℕ) → StandsLegal f team 0 cells own) →
-    slice_get cells i ≡ Some a → slice_get cells j ≡ Some b → StandApart f (standing_in team a) (standing_in team b)
+one_team : (f : Frame) (team : ℕ) (cells : List Member) (i j : ℕ) (a b : Member) → i < j → ((own : ℕ) → IsLegalCell f team 0 cells own) →
+    slice_get cells i ≡ Some a → slice_get cells j ≡ Some b → DoNotOverlap f (design_cell team a) (design_cell team b)
 one_team f team cells i j a b less stands here there p is_p q is_q meet =
     clear_of_legal f team 0 cells i a.mac p (legal_at f team cells i a p (stands i) here is_p) j b q (λ e. omega (arith, less, e)) there is_q
     (shares_padded f 0 (box_in f a.mac p) (box_in f b.mac q) meet)
 
 -- two cells of different teams stand apart
-two_teams : (f : Frame) (s t : ℕ) (first second : List Member) (i j : ℕ) (a b : Member) → (s ≡ t → ⊥) → StandsLegal f s 0 first i → StandsLegal f t 0 second j →
-    slice_get first i ≡ Some a → slice_get second j ≡ Some b → StandApart f (standing_in s a) (standing_in t b)
+two_teams : (f : Frame) (s t : ℕ) (first second : List Member) (i j : ℕ) (a b : Member) → (s ≡ t → ⊥) → IsLegalCell f s 0 first i → IsLegalCell f t 0 second j →
+    slice_get first i ≡ Some a → slice_get second j ≡ Some b → DoNotOverlap f (design_cell s a) (design_cell t b)
 two_teams f s t first second i j a b differ stands_a stands_b here there p is_p q is_q meet =
     teams_apart f s t (box_in f a.mac p) (box_in f b.mac q) differ (legal_at f s first i a p stands_a here is_p Fence) (legal_at f t second j b q stands_b there is_q Fence) meet
 
-teams_pairs : (f : Frame) (team : ℕ) (teams : List (List Member)) → TeamsLegal f team teams → AllPairs (λ a b. StandApart f a b) (standing_from team teams)
+teams_pairs : (f : Frame) (team : ℕ) (teams : List (List Member)) → TeamsLegal f team teams → AllPairs (λ a b. DoNotOverlap f a b) (design_cells_from team teams)
 teams_pairs f team [] legal = λ i j d less within. absurd (omega arith)
 teams_pairs f team (cells ∷ teams) legal =
-    team_pairs (λ a b. StandApart f a b) team cells (standing_from (team + 1) teams)
+    team_pairs (λ a b. DoNotOverlap f a b) team cells (design_cells_from (team + 1) teams)
     (λ i j a b less here there. one_team f team cells i j a b less own_legal here there)
-    (λ i a here. teams_hold (λ b. StandApart f (standing_in team a) b) (team + 1) teams
+    (λ i a here. teams_hold (λ b. DoNotOverlap f (design_cell team a) b) (team + 1) teams
     (λ k others is own m there. two_teams f team ((team + 1) + k) cells others i own a m (λ e. omega (arith, e)) (own_legal i) (later k others is own) here there))
     (teams_pairs f (team + 1) teams later)
   where
-    own_legal : (own : ℕ) → StandsLegal f team 0 cells own
-    own_legal own = subst (λ (n : ℕ). StandsLegal f n 0 cells own) (omega arith) (legal 0 cells refl own)
+    own_legal : (own : ℕ) → IsLegalCell f team 0 cells own
+    own_legal own = subst (λ (n : ℕ). IsLegalCell f n 0 cells own) (omega arith) (legal 0 cells refl own)
 
     later : TeamsLegal f (team + 1) teams
-    later k others is own = subst (λ (n : ℕ). StandsLegal f n 0 others own) (omega arith) (legal (suc k) others is own)
+    later k others is own = subst (λ (n : ℕ). IsLegalCell f n 0 others own) (omega arith) (legal (suc k) others is own)
 
-pub teams_legal : (f : Frame) (teams : List (List Member)) → ((team : ℕ) (cells : List Member) → slice_get teams team ≡ Some cells → (own : ℕ) → StandsLegal f team 0 cells own) →
-    IsFullyLegal f (standing_from 0 teams)
+pub teams_legal : (f : Frame) (teams : List (List Member)) → ((team : ℕ) (cells : List Member) → slice_get teams team ≡ Some cells → (own : ℕ) → IsLegalCell f team 0 cells own) →
+    IsFullyLegal f (design_cells_from 0 teams)
 teams_legal f teams legal = record {
-  placed = teams_hold (λ c. IsSome c.place) 0 teams (λ k cells is own m there. placed_there (λ s. IsLegalAt (lifted_from f k 0 cells own m.mac) s) m.place (legal k cells is own m there));
+  placed = teams_hold (λ c. IsSome c.place) 0 teams (λ k cells is own m there. placed_there (λ s. IsLegalAt (query_from f k 0 cells own m.mac) s) m.place (legal k cells is own m there));
   kept = teams_hold (λ c. ForSome c.place (λ p. KeepsRules f c p)) 0 teams
-      (λ k cells is own m there p is_p. subst (λ (n : ℕ). KeepsRules f (standing_in n m) p) (omega arith) (keeps f k cells own m p (legal_at f k cells own m p (legal k cells is own) there is_p)));
-  apart = teams_pairs f 0 teams (λ k cells is own. subst (λ (n : ℕ). StandsLegal f n 0 cells own) (omega arith) (legal k cells is own));
+      (λ k cells is own m there p is_p. subst (λ (n : ℕ). KeepsRules f (design_cell n m) p) (omega arith) (keeps f k cells own m p (legal_at f k cells own m p (legal k cells is own) there is_p)));
+  apart = teams_pairs f 0 teams (λ k cells is own. subst (λ (n : ℕ). IsLegalCell f n 0 cells own) (omega arith) (legal k cells is own));
 }

@@ -1,21 +1,21 @@
 -- Tidying moves cells alone.
 use Rattle.std.proofs.Common.{◌≡◌, ℕ, zero, suc, ◌+◌, List, [], ◌∷◌, Option, Some, None, refl, ◌∙◌, ap, slice_get}
 use Rattle.std.specs.Prelude.{map, slice_set, length}
-use Rattle.lf_units.specs.declared.area.Point.{Point}
+use Rattle.lf_units.specs.declared.geometry.Point.{Point}
 use Rattle.lf_floorplan.specs.declared.frame.Frame.{Frame}
-use Rattle.lf_rules.specs.Choice.{Spot, Lifted}
+use Rattle.lf_rules.specs.Choice.{SpotPlace, PlacementQuery}
 use Rattle.lf_rules.specs.Legalizer.{Legalizer}
-use Rattle.lf_rules.specs.Team.{Member, lifted_from}
-use Rattle.lf_rules.specs.Tidy.{Tidied, Going, Stuck, target_of, sent_to, tidied_to, tidied_own, tidy_cell, tidied_from, tidied}
+use Rattle.lf_rules.specs.Team.{Member, query_from}
+use Rattle.lf_rules.specs.Tidy.{Tidied, Going, Stuck, target_of, tidied_to_best, tidied_to, tidied_own, tidy_cell, tidied_from, tidied}
 
 abbrev macs_of : List Member → List ℕ
 macs_of cells = map (λ m. m.mac) cells
 
-abbrev placed_at : ℕ → Option Spot → Member
+abbrev placed_at : ℕ → Option SpotPlace → Member
 placed_at mac place = record { mac = mac; place = place }
 
 -- a cell that is set to another place keeps all macros
-macs_set : (cells : List Member) (n : ℕ) (m : Member) (place : Option Spot) → slice_get cells n ≡ Some m → macs_of (slice_set cells n (placed_at m.mac place)) ≡ macs_of cells
+macs_set : (cells : List Member) (n : ℕ) (m : Member) (place : Option SpotPlace) → slice_get cells n ≡ Some m → macs_of (slice_set cells n (placed_at m.mac place)) ≡ macs_of cells
 macs_set [] n m place there = refl
 macs_set (x ∷ cells) zero m place there =
     let same : m ≡ x = cc in
@@ -27,11 +27,11 @@ abbrev HasMacs : List ℕ → Tidied → Type 0
 HasMacs macs (Going cells moved) = macs_of cells ≡ macs
 HasMacs macs (Stuck own) = Unit {0}
 
-sent : (macs : List ℕ) (found : Option Spot) (cells : List Member) (moved n : ℕ) (m : Member) → slice_get cells n ≡ Some m → macs_of cells ≡ macs → HasMacs macs (sent_to found cells moved n m.mac)
+sent : (macs : List ℕ) (found : Option SpotPlace) (cells : List Member) (moved n : ℕ) (m : Member) → slice_get cells n ≡ Some m → macs_of cells ≡ macs → HasMacs macs (tidied_to_best found cells moved n m.mac)
 sent macs None cells moved n m there is = tt
 sent macs (Some p) cells moved n m there is = macs_set cells n m (Some p) there ∙ is
 
-to_target : (macs : List ℕ) (target : Option Point) (l : Legalizer) (c : Lifted) (cells : List Member) (moved n : ℕ) (m : Member) → slice_get cells n ≡ Some m → macs_of cells ≡ macs →
+to_target : (macs : List ℕ) (target : Option Point) (l : Legalizer) (c : PlacementQuery) (cells : List Member) (moved n : ℕ) (m : Member) → slice_get cells n ≡ Some m → macs_of cells ≡ macs →
     HasMacs macs (tidied_to target l c cells moved n m.mac)
 to_target macs None l c cells moved n m there is = is
 to_target macs (Some target) l c cells moved n m there is = sent macs (l.best_place c target) cells moved n m there is
@@ -40,7 +40,7 @@ one_own : (macs : List ℕ) (found : Option Member) (l : Legalizer) (f : Frame) 
     HasMacs macs (tidied_own found l f team padding cells moved n)
 one_own macs None l f team padding cells moved n there is = is
 one_own macs (Some m) l f team padding cells moved n there is =
-    to_target macs (target_of l (lifted_from f team padding cells n m.mac) m.place) l (lifted_from f team padding cells n m.mac) cells moved n m there is
+    to_target macs (target_of l (query_from f team padding cells n m.mac) m.place) l (query_from f team padding cells n m.mac) cells moved n m there is
 
 one_cell : (macs : List ℕ) (l : Legalizer) (f : Frame) (team padding n : ℕ) (t : Tidied) → HasMacs macs t → HasMacs macs (tidy_cell l f team padding t n)
 one_cell macs l f team padding n (Stuck own) is = tt

@@ -4,13 +4,13 @@ use Rattle.std.specs.Prelude.{All, Contains, IsPermutation, filter, take}
 use Rattle.std.proofs.lemmas.Bool.Decides.{nat_tests}
 use Rattle.std.proofs.lemmas.List.Elements.{All-nil, All-cons, All-head, All-tail, All-weaker, All-contains}
 use Rattle.std.proofs.lemmas.List.Sorted.{All-permutation, Contains-permutation, IsPermutation-sym}
-use Rattle.lf_units.specs.declared.area.Rect.{Rect}
+use Rattle.lf_units.specs.declared.geometry.Rect.{Rect}
 use Rattle.lf_units.specs.Area.{SharesPoint}
 use Rattle.lf_rtree.specs.declared.placed.Placed.{Placed}
-use Rattle.lf_rtree.specs.Near.{IsLeastMet, IsNoneMet}
+use Rattle.lf_rtree.specs.Near.{IsLeastOverlapping, IsNoneOverlapping}
 use Rattle.lf_floorplan.specs.declared.frame.Frame.{Frame}
-use Rattle.lf_rules.specs.Choice.{Spot}
-use Rattle.lf_rules.specs.Legality.{IsFirstMet}
+use Rattle.lf_rules.specs.Choice.{SpotPlace}
+use Rattle.lf_rules.specs.Legality.{IsFirstOverlapping}
 use Rattle.lf_rules.specs.Team.{Member, box_in, with_box, boxes_from, boxes_beside}
 use Rattle.lf_rules.proofs.BesideLemmas.{filtered_hold}
 
@@ -23,7 +23,7 @@ boxes_above : (f : Frame) (n : ℕ) (cells : List Member) → All (λ p. n ≤ p
 boxes_above f n [] = All-nil (λ p. n ≤ p.own)
 boxes_above f n (m ∷ cells) = by m.place (All-weaker (λ p. n + 1 ≤ p.own) (λ p. n ≤ p.own) (λ p above. omega (arith, above)) (boxes_from f (n + 1) cells) (boxes_above f (n + 1) cells))
   where
-    by : (place : Option Spot) → All (λ p. n ≤ p.own) (boxes_from f (n + 1) cells) →
+    by : (place : Option SpotPlace) → All (λ p. n ≤ p.own) (boxes_from f (n + 1) cells) →
         All (λ p. n ≤ p.own) (with_box f n m.mac place (boxes_from f (n + 1) cells))
     by None rest = rest
     by (Some p) rest = All-cons (λ q. n ≤ q.own) (record { own = n; rect = box_in f m.mac p }) (boxes_from f (n + 1) cells) (omega arith) rest
@@ -32,7 +32,7 @@ boxes_rise : (f : Frame) (n : ℕ) (cells : List Member) → Rise (boxes_from f 
 boxes_rise f n [] = tt
 boxes_rise f n (m ∷ cells) = by m.place (boxes_rise f (n + 1) cells)
   where
-    by : (place : Option Spot) → Rise (boxes_from f (n + 1) cells) → Rise (with_box f n m.mac place (boxes_from f (n + 1) cells))
+    by : (place : Option SpotPlace) → Rise (boxes_from f (n + 1) cells) → Rise (with_box f n m.mac place (boxes_from f (n + 1) cells))
     by None rest = rest
     by (Some p) rest = (All-weaker (λ q. n + 1 ≤ q.own) (λ q. n < q.own) (λ q above. omega (arith, above)) (boxes_from f (n + 1) cells) (boxes_above f (n + 1) cells), rest)
 
@@ -40,7 +40,7 @@ abbrev others : List Placed → ℕ → List Placed
 others boxes but = filter (λ p. not (eqb p.own but)) boxes
 
 -- what is met among more boxes, of which the first is not met
-later : (b : Placed) (boxes : List Placed) (box : Rect) (own : ℕ) → (SharesPoint box b.rect → ⊥) → IsFirstMet box boxes own → IsFirstMet box (b ∷ boxes) own
+later : (b : Placed) (boxes : List Placed) (box : Rect) (own : ℕ) → (SharesPoint box b.rect → ⊥) → IsFirstOverlapping box boxes own → IsFirstOverlapping box (b ∷ boxes) own
 later b boxes box own apart met = record {
   place = suc met.place;
   cell = met.cell;
@@ -52,7 +52,7 @@ later b boxes box own apart met = record {
 
 -- the box itself is the least one met
 here : (b : Placed) (boxes : List Placed) (box : Rect) (but own : ℕ) (t : Bool) → not (eqb b.own but) ≡ t → b.own ≡ own → own ≢ but → SharesPoint box b.rect →
-    IsFirstMet box (cond t (b ∷ others boxes but) (others boxes but)) own
+    IsFirstOverlapping box (cond t (b ∷ others boxes but) (others boxes but)) own
 here b boxes box but own true e same other shares = record {
   place = 0;
   cell = b;
@@ -68,20 +68,20 @@ here b boxes box but own false e same other shares =
 -- the least one met is a later box
 there : (b : Placed) (boxes : List Placed) (box : Rect) (but own : ℕ) (t : Bool) → not (eqb b.own but) ≡ t → b.own < own →
     (b.own ≢ but → SharesPoint box b.rect → own ≤ b.own) →
-    IsFirstMet box (others boxes but) own → IsFirstMet box (cond t (b ∷ others boxes but) (others boxes but)) own
+    IsFirstOverlapping box (others boxes but) own → IsFirstOverlapping box (cond t (b ∷ others boxes but) (others boxes but)) own
 there b boxes box but own true e below least met =
     let differ : b.own ≢ but = λ same. grind (arith, nat_tests) in
     later b (others boxes but) box own (λ shares. let no_greater = least differ shares in omega (arith, below, no_greater)) met
 there b boxes box but own false e below least met = met
 
-first_of_least : (boxes : List Placed) (box : Rect) (but own : ℕ) → Rise boxes → IsLeastMet boxes box but own → IsFirstMet box (others boxes but) own
+first_of_least : (boxes : List Placed) (box : Rect) (but own : ℕ) → Rise boxes → IsLeastOverlapping boxes box but own → IsFirstOverlapping box (others boxes but) own
 first_of_least [] box but own rise least = let within = least.met.among.1 in absurd (omega (arith, within))
 first_of_least (b ∷ boxes) box but own rise least = at least.met.among (first_of_least boxes box but own rise.1)
   where
     p : Placed
     p = least.met.placed
 
-    at : Contains (b ∷ boxes) p → (IsLeastMet boxes box but own → IsFirstMet box (others boxes but) own) → IsFirstMet box (others (b ∷ boxes) but) own
+    at : Contains (b ∷ boxes) p → (IsLeastOverlapping boxes box but own → IsFirstOverlapping box (others boxes but) own) → IsFirstOverlapping box (others (b ∷ boxes) but) own
     at (zero, within, is) deeper =
         here b boxes box but own (not (eqb b.own but)) refl (ap (λ (q : Placed). q.own) is ∙ least.met.number) least.met.other (subst (λ (q : Placed). SharesPoint box q.rect) (sym is) least.met.shares)
     at (suc k, within, is) deeper =
@@ -97,7 +97,7 @@ first_of_least (b ∷ boxes) box but own rise least = at least.met.among (first_
 
 -- the least number that is met in a tree of the cells' boxes is the first other cell that is met
 pub first_beside : (f : Frame) (cells : List Member) (tree : List Placed) (box : Rect) (but own : ℕ) → IsPermutation (boxes_from f 0 cells) tree →
-    IsLeastMet tree box but own → IsFirstMet box (boxes_beside f cells but) own
+    IsLeastOverlapping tree box but own → IsFirstOverlapping box (boxes_beside f cells but) own
 first_beside f cells tree box but own same least =
     let boxes : List Placed = boxes_from f 0 cells in
     let back = IsPermutation-sym boxes tree same in
@@ -114,7 +114,7 @@ first_beside f cells tree box but own same least =
 
 -- where none is met in the tree, no other cell is
 pub none_beside : (f : Frame) (cells : List Member) (tree : List Placed) (box : Rect) (but : ℕ) → IsPermutation (boxes_from f 0 cells) tree →
-    IsNoneMet tree box but → All (λ p. SharesPoint box p.rect → ⊥) (boxes_beside f cells but)
+    IsNoneOverlapping tree box but → All (λ p. SharesPoint box p.rect → ⊥) (boxes_beside f cells but)
 none_beside f cells tree box but same none =
     let boxes : List Placed = boxes_from f 0 cells in
     let all = All-permutation (λ q. q.own ≢ but → SharesPoint box q.rect → ⊥) tree boxes (IsPermutation-sym boxes tree same) none in

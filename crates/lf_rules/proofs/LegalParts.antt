@@ -2,20 +2,20 @@
 -- is the first broken where each lesser one holds. Here alone the eight rules are listed.
 use Rattle.std.proofs.Common.{◌≡◌, ◌≢◌, ◌⊎◌, ◌↔◌, ℕ, zero, suc, ◌+◌, ◌<◌, ◌≤◌, List, None, inl, inr, refl, sym, ◌∙◌, ap, subst, arith}
 use Rattle.lf_floorplan.specs.Ground.{StaysInGround, IsClear}
-use Rattle.lf_floorplan.specs.Standing.{StandsOn}
+use Rattle.lf_floorplan.specs.Standing.{RestsOnRows}
 use Rattle.lf_rtree.specs.declared.placed.Placed.{Placed}
 use Rattle.lf_rules.specs.declared.rule.Rule.{Rule}
 use Rattle.lf_rules.specs.declared.rule.Rule.TheVariants.{Height, Row as RowRule, Stand, Orient as OrientRule, Rail as RailRule, Fence, Obstacle, Overlap}
-use Rattle.lf_rules.specs.Legality.{Trial, box_of, Holds, IsApart, IsOnRail, IsOriented, IsTeamLegal, number_of, IsFirstBroken, LessPadding}
+use Rattle.lf_rules.specs.Legality.{Candidate, box_of, Holds, IsApart, IsOnRail, IsOriented, IsTeamLegal, number_of, IsFirstBroken, LessPaddingKeepsLegal}
 use Rattle.lf_rules.specs.Padding.{length_of}
 use Rattle.lf_rules.proofs.WiderLemmas.{length_upto, shares_wider}
 
 -- each lesser rule holds
-abbrev pub HoldsBelow : Trial → Rule → Type 0
+abbrev pub HoldsBelow : Candidate → Rule → Type 0
 HoldsBelow t r = (s : Rule) → number_of s < number_of r → Holds t s
 
 -- the frame's rules hold: those of numbers up to 7
-abbrev pub KeepsFrame : Trial → Type 0
+abbrev pub KeepsFrame : Candidate → Type 0
 KeepsFrame t = (r : Rule) → number_of r ≤ 7 → Holds t r
 
 -- ---- the rules and their numbers
@@ -53,11 +53,11 @@ pub rule_same : (a b : Rule) → number_of a ≡ number_of b → a ≡ b
 rule_same a b e = sym (numbered a).back ∙ ap rule_at e ∙ (numbered b).back
 
 -- no rule is lesser than the first
-pub none_below : (t : Trial) → HoldsBelow t Height
+pub none_below : (t : Candidate) → HoldsBelow t Height
 none_below t s less = let least = (numbered s).least in absurd (omega (arith, less, least))
 
 -- where a rule holds and each lesser one, each holds that is lesser than the next
-pub next_below : (t : Trial) (r next : Rule) → number_of next ≡ number_of r + 1 → HoldsBelow t r → Holds t r → HoldsBelow t next
+pub next_below : (t : Candidate) (r next : Rule) → number_of next ≡ number_of r + 1 → HoldsBelow t r → Holds t r → HoldsBelow t next
 next_below t r next is below held s less = elim order [
   | inl lesser ↦ below s lesser
   | inr same ↦ subst (Holds t) (sym (rule_same s r same)) held
@@ -69,18 +69,18 @@ next_below t r next is below held s less = elim order [
 -- ---- the first broken rule
 
 -- a rule but overlap that is broken is the first broken where each lesser one holds
-pub first_broken_by : (t : Trial) (r : Rule) → HoldsBelow t r → (Holds t r → ⊥) → r ≢ Overlap → IsFirstBroken t record { rule = r; other = None }
+pub first_broken_by : (t : Candidate) (r : Rule) → HoldsBelow t r → (Holds t r → ⊥) → r ≢ Overlap → IsFirstBroken t record { rule = r; other = None }
 first_broken_by t r below not_so other = record { broken = not_so; lesser = below; other = other }
 
 -- ---- a legal place in two parts
 
-pub frame_below : (t : Trial) → HoldsBelow t Overlap → KeepsFrame t
+pub frame_below : (t : Candidate) → HoldsBelow t Overlap → KeepsFrame t
 frame_below t below r few = below r (omega (arith, few))
 
-pub below_overlap : (t : Trial) → KeepsFrame t → HoldsBelow t Overlap
+pub below_overlap : (t : Candidate) → KeepsFrame t → HoldsBelow t Overlap
 below_overlap t keeps r less = keeps r (omega (arith, less))
 
-all_hold : (t : Trial) → KeepsFrame t → IsApart t → IsTeamLegal t
+all_hold : (t : Candidate) → KeepsFrame t → IsApart t → IsTeamLegal t
 all_hold t keeps apart r = elim order [
   | inl few ↦ keeps r few
   | inr last ↦ subst (Holds t) (sym (rule_same r Overlap last)) apart
@@ -90,20 +90,20 @@ all_hold t keeps apart r = elim order [
     order = let most = (numbered r).most in grind (arith, most)
 
 -- a place is team-legal exactly where it keeps the frame's rules and is apart
-pub legal_by_parts : (t : Trial) → IsTeamLegal t ↔ (KeepsFrame t × IsApart t)
+pub legal_by_parts : (t : Candidate) → IsTeamLegal t ↔ (KeepsFrame t × IsApart t)
 legal_by_parts t = (λ legal. ((λ r few. legal r), legal Overlap), λ parts. all_hold t parts.0 parts.1)
 
 -- ---- the frame's rules by their meaning
 
 -- what the frame's rules say: where the box stands, how it is turned, and which ground it covers
-pub record StandsInFrame (t : Trial) : Type 0 where
-  pub stands : StandsOn t.frame (box_of t)
+pub record StandsInFrame (t : Candidate) : Type 0 where
+  pub stands : RestsOnRows t.frame (box_of t)
   pub oriented : IsOriented t
   pub on_rail : IsOnRail t
   pub ground : StaysInGround t.frame t.team (box_of t)
   pub clear : IsClear t.frame (box_of t)
 
-pub frame_kept : (t : Trial) → StandsInFrame t → KeepsFrame t
+pub frame_kept : (t : Candidate) → StandsInFrame t → KeepsFrame t
 frame_kept t s Height few = s.stands.height
 frame_kept t s RowRule few = s.stands.row
 frame_kept t s Stand few = s.stands.stand
@@ -113,7 +113,7 @@ frame_kept t s Fence few = s.ground
 frame_kept t s Obstacle few = s.clear
 frame_kept t s Overlap few = absurd (omega (arith, few))
 
-pub frame_meant : (t : Trial) → KeepsFrame t → StandsInFrame t
+pub frame_meant : (t : Candidate) → KeepsFrame t → StandsInFrame t
 frame_meant t keeps = record {
   stands = record { height = keeps Height (omega arith); row = keeps RowRule (omega arith); stand = keeps Stand (omega arith) };
   oriented = keeps OrientRule (omega arith);
@@ -123,23 +123,23 @@ frame_meant t keeps = record {
 }
 
 -- the same cell at the same place, with these other cells beside it
-abbrev pub beside : Trial → List Placed → Trial
+abbrev pub beside : Candidate → List Placed → Candidate
 beside t others = record t { others = others }
 
 -- the frame's rules do not ask for the other cells
-pub frame_beside : (t : Trial) (others : List Placed) → KeepsFrame t → KeepsFrame (beside t others)
+pub frame_beside : (t : Candidate) (others : List Placed) → KeepsFrame t → KeepsFrame (beside t others)
 frame_beside t others keeps =
     let s = frame_meant t keeps in
     frame_kept (beside t others) record { stands = s.stands; oriented = s.oriented; on_rail = s.on_rail; ground = s.ground; clear = s.clear }
 
 -- nor for the padding
-pub frame_padded : (t : Trial) (padding : ℕ) → KeepsFrame t → KeepsFrame (record t { padding = padding })
+pub frame_padded : (t : Candidate) (padding : ℕ) → KeepsFrame t → KeepsFrame (record t { padding = padding })
 frame_padded t padding keeps =
     let s = frame_meant t keeps in
     frame_kept (record t { padding = padding }) record { stands = s.stands; oriented = s.oriented; on_rail = s.on_rail; ground = s.ground; clear = s.clear }
 
 -- with less padding a legal place stays legal
-pub legal_with_less : LessPadding
+pub legal_with_less : LessPaddingKeepsLegal
 legal_with_less t less upto legal =
     let longer = length_upto t.frame less t.padding upto in
     (legal_by_parts (record t { padding = less })).1 (

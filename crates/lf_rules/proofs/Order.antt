@@ -1,20 +1,20 @@
 -- The order of places by their keys.
 use Rattle.std.proofs.Common.{◌≡◌, ◌⊎◌, ℕ, ℤ, ◌<◌, ◌<ℤ◌, inl, inr, sym, arith, IsTrue, ◌↔◌, nat_lt}
 use Rattle.std.proofs.lemmas.Int.{ints}
-use Rattle.lf_units.specs.declared.area.Point.{Point}
+use Rattle.lf_units.specs.declared.geometry.Point.{Point}
 use Rattle.lf_orient.specs.declared.Orient.{Orient}
-use Rattle.lf_rules.specs.Choice.{Spot, Precedes, distance, rank}
+use Rattle.lf_rules.specs.Choice.{SpotPlace, Precedes, distance, rank}
 
-abbrev spot_with : ℤ → ℤ → Orient → Spot
+abbrev spot_with : ℤ → ℤ → Orient → SpotPlace
 spot_with x y o = record { x = x; y = y; orient = o }
 
-pub same_spot : (p q : Spot) → p.x ≡ q.x → p.y ≡ q.y → p.orient ≡ q.orient → p ≡ q
+pub same_spot : (p q : SpotPlace) → p.x ≡ q.x → p.y ≡ q.y → p.orient ≡ q.orient → p ≡ q
 same_spot p q a b c = let e : spot_with p.x p.y p.orient ≡ spot_with q.x q.y q.orient = cc in e
 
 pub ordered : (a b : ℤ) → (a <ℤ b) ⊎ ((a ≡ b) ⊎ (b <ℤ a))
 ordered a b = grind (arith, ints)
 
-pub through : (target : Point) (p q r : Spot) → Precedes target p q → Precedes target q r → Precedes target p r
+pub through : (target : Point) (p q r : SpotPlace) → Precedes target p q → Precedes target q r → Precedes target p r
 through target p q r (inl a) (inl b) = inl (omega arith)
 through target p q r (inl a) (inr b) = inl (omega arith)
 through target p q r (inr a) (inl b) = inl (omega arith)
@@ -27,14 +27,14 @@ through target p q r (inr (d, inr (u, inr (w, a)))) (inr (e, inr (v, inl b))) = 
 through target p q r (inr (d, inr (u, inr (w, a)))) (inr (e, inr (v, inr (z, b)))) =
     inr (omega arith, inr (omega (arith, ints), inr (omega (arith, ints), omega arith)))
 
-pub not_itself : (target : Point) (p : Spot) → Precedes target p p → ⊥
+pub not_itself : (target : Point) (p : SpotPlace) → Precedes target p p → ⊥
 not_itself target p (inl a) = omega arith
 not_itself target p (inr (d, inl a)) = omega (arith, ints)
 not_itself target p (inr (d, inr (u, inl a))) = omega (arith, ints)
 not_itself target p (inr (d, inr (u, inr (w, a)))) = omega arith
 
 -- at equal distance and y, and at different x, the lesser x comes first
-pub by_x : (target : Point) (p q : Spot) → distance target p ≡ distance target q → p.y ≡ q.y → (p.x ≡ q.x → ⊥) → (p.x <ℤ q.x) ↔ Precedes target p q
+pub by_x : (target : Point) (p q : SpotPlace) → distance target p ≡ distance target q → p.y ≡ q.y → (p.x ≡ q.x → ⊥) → (p.x <ℤ q.x) ↔ Precedes target p q
 by_x target p q d u differ = (λ less. inr (d, inr (u, inl less)), back)
   where
     back : Precedes target p q → p.x <ℤ q.x
@@ -44,7 +44,7 @@ by_x target p q d u differ = (λ less. inr (d, inr (u, inl less)), back)
     back (inr (_, inr (_, inr (e, _)))) = absurd (differ e)
 
 -- at one corner the lesser rank comes first
-pub by_rank : (target : Point) (p q : Spot) → distance target p ≡ distance target q → p.y ≡ q.y → p.x ≡ q.x → (rank p.orient < rank q.orient) ↔ Precedes target p q
+pub by_rank : (target : Point) (p q : SpotPlace) → distance target p ≡ distance target q → p.y ≡ q.y → p.x ≡ q.x → (rank p.orient < rank q.orient) ↔ Precedes target p q
 by_rank target p q d u v = (λ less. inr (d, inr (u, inr (v, less))), back)
   where
     back : Precedes target p q → rank p.orient < rank q.orient
@@ -57,7 +57,7 @@ pub rank_test : (m n a b : ℕ) (P : Type 0) → m ≡ a → n ≡ b → (a < b)
 rank_test m n a b P e f both = (λ t. both.0 (grind arith), λ s. let less = both.1 s in grind arith)
 
 -- of two places that stand upright one precedes the other, unless they are one
-pub compared : (target : Point) (p q : Spot) → (rank p.orient ≡ rank q.orient → p.orient ≡ q.orient) → (p ≡ q) ⊎ (Precedes target p q ⊎ Precedes target q p)
+pub compared : (target : Point) (p q : SpotPlace) → (rank p.orient ≡ rank q.orient → p.orient ≡ q.orient) → (p ≡ q) ⊎ (Precedes target p q ⊎ Precedes target q p)
 compared target p q injective = by_distance order
   where
     order : (distance target p < distance target q) ⊎ ((distance target p ≡ distance target q) ⊎ (distance target q < distance target p))

@@ -4,11 +4,11 @@ use Rattle.std.specs.Option.{IsSomeAnd}
 use Rattle.std.proofs.lemmas.Int.{ints}
 use Rattle.std.proofs.lemmas.Option.{slice_get_read, slice_get_within, get_or_from_slice_get}
 use Rattle.std.proofs.lemmas.List.Elements.{All-contains}
-use Rattle.lf_units.specs.declared.area.Point.{Point}
-use Rattle.lf_units.specs.declared.area.Rect.{Rect}
+use Rattle.lf_units.specs.declared.geometry.Point.{Point}
+use Rattle.lf_units.specs.declared.geometry.Rect.{Rect}
 use Rattle.lf_floorplan.specs.declared.frame.Frame.{Frame}
 use Rattle.lf_floorplan.specs.declared.parts.Row.{Row}
-use Rattle.lf_floorplan.specs.Standing.{Carries, ExtendsOver, IsBottomRow, IsRowAt, IsRowOfBox}
+use Rattle.lf_floorplan.specs.Standing.{Supports, ExtendsOver, IsBottomRow, IsRowAt, IsRowOfBox}
 use Rattle.lf_floorplan.proofs.RowAtLemmas.{row_at_one}
 use Rattle.lf_rules.specs.Solid.{IsOnlyRow}
 
@@ -73,11 +73,11 @@ no_other_bottom f box p r is wide only not_so s b =
 -- ---- a row that carries the box
 
 pub none_carries : (f : Frame) (box : Rect) (bottom : Row) (j : ℕ) (p : Point) → p ≡ foot f box j → box.x1 <ℤ box.x2 → IsOnlyRow f p None
-    → (s : Row) → Carries f box bottom j s → ⊥
+    → (s : Row) → Supports f box bottom j s → ⊥
 none_carries f box bottom j p is wide none s c = (subst (λ (q : Point). IsOnlyRow f q None) is none) s c.heeded (extends f box j s wide c.at_row)
 
 pub one_carries : (f : Frame) (box : Rect) (bottom : Row) (j : ℕ) (p : Point) (r : Row) → p ≡ foot f box j → box.x1 <ℤ box.x2
-    → IsOnlyRow f p (Some r) → (s : Row) → Carries f box bottom j s → Carries f box bottom j r
+    → IsOnlyRow f p (Some r) → (s : Row) → Supports f box bottom j s → Supports f box bottom j r
 one_carries f box bottom j p r is wide only s c =
     let same : s ≡ r = (subst (λ (q : Point). IsOnlyRow f q (Some r)) is only).1 s c.heeded (extends f box j s wide c.at_row) in
-    subst (λ (q : Row). Carries f box bottom j q) same c
+    subst (λ (q : Row). Supports f box bottom j q) same c

@@ -3,7 +3,7 @@ use Rattle.std.proofs.Common.{◌≡◌, ◌⊎◌, ℕ, ℤ, pos, negsuc, ◌+�
 use Rattle.std.proofs.lemmas.Int.{ints}
 use Rattle.std.proofs.lemmas.Option.{slice_get_read, get_or_from_slice_get}
 use Rattle.std.proofs.Math.Nat.{lt_of_mul-lt-mul_right}
-use Rattle.lf_units.specs.declared.area.Point.{Point}
+use Rattle.lf_units.specs.declared.geometry.Point.{Point}
 use Rattle.lf_orient.specs.declared.Orient.{Orient}
 use Rattle.lf_orient.specs.declared.Orient.TheVariants.{N, W, S, E, FN, FW, FS, FE}
 use Rattle.lf_orient.specs.declared.Symmetry.{Symmetry}
@@ -13,9 +13,9 @@ use Rattle.lf_rules.specs.declared.rule.Rule.TheVariants.{Row as RowRule, Orient
 use Rattle.lf_floorplan.specs.Boxes.{IsSized, size_of}
 use Rattle.lf_floorplan.specs.Sizes.{turned}
 use Rattle.lf_rules.specs.Legality.{Holds}
-use Rattle.lf_rules.specs.Choice.{Spot, Lifted, IsLegalAt, MayGo, IsChoice, IsUpright, trial_at, rank}
+use Rattle.lf_rules.specs.Choice.{SpotPlace, PlacementQuery, IsLegalAt, IsAllowedPlace, IsChoice, IsUpright, candidate_at, rank}
 use Rattle.lf_floorplan.proofs.SizeBounds.{IsSmall, small_pitch, turned_small, sized_pitch}
-use Rattle.lf_rules.specs.Looking.{LooksAt, IsAtSite, IsOnSites, IsOnRows, spot_at}
+use Rattle.lf_rules.specs.Looking.{ScansPlaces, IsAtSite, IsOnSites, IsOnRows, spot_at}
 use Rattle.lf_rules.proofs.Looking.{onward}
 use Rattle.lf_rules.proofs.Order.{same_spot, compared}
 
@@ -49,11 +49,11 @@ one_of_four s E t = absurd cc
 one_of_four s FW t = absurd cc
 one_of_four s FE t = absurd cc
 
-pub legal_upright : (cell : Lifted) (p : Spot) → IsLegalAt cell p → OneOfFour p.orient
-legal_upright cell p legal = let held : Holds (trial_at cell p) OrientRule = legal OrientRule in one_of_four cell.mac.symmetry p.orient held.0
+pub legal_upright : (cell : PlacementQuery) (p : SpotPlace) → IsLegalAt cell p → OneOfFour p.orient
+legal_upright cell p legal = let held : Holds (candidate_at cell p) OrientRule = legal OrientRule in one_of_four cell.mac.symmetry p.orient held.0
 
 -- a place on a site where the cell may go is one of the four there
-pub which : (cell : Lifted) (pitch : Point) (r : Row) (site : ℕ) (p : Spot) → IsAtSite pitch r site p → MayGo cell p →
+pub which : (cell : PlacementQuery) (pitch : Point) (r : Row) (site : ℕ) (p : SpotPlace) → IsAtSite pitch r site p → IsAllowedPlace cell p →
     (p ≡ spot_at pitch r site N) ⊎ ((p ≡ spot_at pitch r site S) ⊎ ((p ≡ spot_at pitch r site FN) ⊎ (p ≡ spot_at pitch r site FS)))
 which cell pitch r site p at may = elim (legal_upright cell p may.legal) [
   | inl n ↦ inl (same_spot p (spot_at pitch r site N) at.x_is at.y_is n)
@@ -67,11 +67,11 @@ which cell pitch r site p at may = elim (legal_upright cell p may.legal) [
 ]
 
 -- looking at the four places on a site
-pub all_four : (cell : Lifted) (target pitch : Point) (r : Row) (site : ℕ) (a b c d e : Option Spot) (n s fn fs : Spot) →
+pub all_four : (cell : PlacementQuery) (target pitch : Point) (r : Row) (site : ℕ) (a b c d e : Option SpotPlace) (n s fn fs : SpotPlace) →
     n ≡ spot_at pitch r site N → s ≡ spot_at pitch r site S → fn ≡ spot_at pitch r site FN → fs ≡ spot_at pitch r site FS →
-    LooksAt (λ p. p ≡ n) cell target a b → LooksAt (λ p. p ≡ s) cell target b c →
-    LooksAt (λ p. p ≡ fn) cell target c d → LooksAt (λ p. p ≡ fs) cell target d e →
-    LooksAt (IsAtSite pitch r site) cell target a e
+    ScansPlaces (λ p. p ≡ n) cell target a b → ScansPlaces (λ p. p ≡ s) cell target b c →
+    ScansPlaces (λ p. p ≡ fn) cell target c d → ScansPlaces (λ p. p ≡ fs) cell target d e →
+    ScansPlaces (IsAtSite pitch r site) cell target a e
 all_four cell target pitch r site a b c d e n s fn fs is_n is_s is_fn is_fs l1 l2 l3 l4 =
     let last = onward (λ p. p ≡ fn) (λ p. p ≡ fs) (λ p. (p ≡ fn) ⊎ (p ≡ fs)) cell target c d e (λ p h l. h) l3 l4 in
     let later = onward (λ p. p ≡ s) (λ p. (p ≡ fn) ⊎ (p ≡ fs)) (λ p. (p ≡ s) ⊎ ((p ≡ fn) ⊎ (p ≡ fs))) cell target b c e (λ p h l. h) l2 last in
@@ -79,13 +79,13 @@ all_four cell target pitch r site a b c d e n s fn fs is_n is_s is_fn is_fs l1 l
     (λ p at may. rw (is_n, is_s, is_fn, is_fs) (which cell pitch r site p at may)) l1 later
 
 -- one more site of a row
-pub next_site : (cell : Lifted) (target pitch : Point) (r : Row) (site : ℕ) (a b c : Option Spot) →
-    LooksAt (IsOnSites pitch r site) cell target a b → LooksAt (IsAtSite pitch r site) cell target b c →
-    LooksAt (IsOnSites pitch r (site + 1)) cell target a c
+pub next_site : (cell : PlacementQuery) (target pitch : Point) (r : Row) (site : ℕ) (a b c : Option SpotPlace) →
+    ScansPlaces (IsOnSites pitch r site) cell target a b → ScansPlaces (IsAtSite pitch r site) cell target b c →
+    ScansPlaces (IsOnSites pitch r (site + 1)) cell target a c
 next_site cell target pitch r site a b c l1 l2 =
     onward (IsOnSites pitch r site) (IsAtSite pitch r site) (IsOnSites pitch r (site + 1)) cell target a b c split l1 l2
   where
-    split : (p : Spot) → IsOnSites pitch r (site + 1) p → MayGo cell p → IsOnSites pitch r site p ⊎ IsAtSite pitch r site p
+    split : (p : SpotPlace) → IsOnSites pitch r (site + 1) p → IsAllowedPlace cell p → IsOnSites pitch r site p ⊎ IsAtSite pitch r site p
     split p on may =
         let within = on.within in
         let order : (on.site < site) ⊎ (on.site ≡ site) = grind arith in
@@ -95,13 +95,13 @@ next_site cell target pitch r site a b c l1 l2 =
         ]
 
 -- one more row
-pub next_row : (cell : Lifted) (target pitch : Point) (rows : List Row) (n : ℕ) (r : Row) (a b c : Option Spot) → slice_get rows n ≡ Some r →
-    LooksAt (IsOnRows pitch rows n) cell target a b → LooksAt (IsOnSites pitch r r.sites) cell target b c →
-    LooksAt (IsOnRows pitch rows (n + 1)) cell target a c
+pub next_row : (cell : PlacementQuery) (target pitch : Point) (rows : List Row) (n : ℕ) (r : Row) (a b c : Option SpotPlace) → slice_get rows n ≡ Some r →
+    ScansPlaces (IsOnRows pitch rows n) cell target a b → ScansPlaces (IsOnSites pitch r r.sites) cell target b c →
+    ScansPlaces (IsOnRows pitch rows (n + 1)) cell target a c
 next_row cell target pitch rows n r a b c there l1 l2 =
     onward (IsOnRows pitch rows n) (IsOnSites pitch r r.sites) (IsOnRows pitch rows (n + 1)) cell target a b c split l1 l2
   where
-    split : (p : Spot) → IsOnRows pitch rows (n + 1) p → MayGo cell p → IsOnRows pitch rows n p ⊎ IsOnSites pitch r r.sites p
+    split : (p : SpotPlace) → IsOnRows pitch rows (n + 1) p → IsAllowedPlace cell p → IsOnRows pitch rows n p ⊎ IsOnSites pitch r r.sites p
     split p on may =
         let within = on.within in
         let order : (on.number < n) ⊎ (on.number ≡ n) = grind arith in
@@ -123,9 +123,9 @@ site_within (pos n) x left width site sites positive wide on_grid ends =
 site_within (negsuc n) x left width site sites positive wide on_grid ends = absurd (omega (arith, ints))
 
 -- a legal place is on a site of a row of the frame
-pub stands : (cell : Lifted) (p : Spot) → IsSized cell.frame cell.mac → IsLegalAt cell p → IsOnRows cell.frame.pitch cell.frame.rows (length cell.frame.rows) p
+pub stands : (cell : PlacementQuery) (p : SpotPlace) → IsSized cell.frame cell.mac → IsLegalAt cell p → IsOnRows cell.frame.pitch cell.frame.rows (length cell.frame.rows) p
 stands cell p sized legal =
-    let held : Holds (trial_at cell p) RowRule = legal RowRule in
+    let held : Holds (candidate_at cell p) RowRule = legal RowRule in
     let row = held.0 in
     let bottom = held.1 in
     let small : IsSmall (turned (size_of cell.frame cell.mac) p.orient) = turned_small _ _ (small_pitch _ _ _ (sized_pitch _ _ sized)) in
@@ -167,11 +167,11 @@ rank_tells a b (inr (inr (inr p))) (inr (inl q)) e = absurd (clash a b _ _ p q e
 rank_tells a b (inr (inr (inr p))) (inr (inr (inl q))) e = absurd (clash a b _ _ p q e (omega arith))
 
 -- what was looked at holds every place where the cell may go, so the best of it is the choice
-pub chosen : (cell : Lifted) (target : Point) (found : Option Spot) → IsSized cell.frame cell.mac →
-    LooksAt (IsOnRows cell.frame.pitch cell.frame.rows (length cell.frame.rows)) cell target None found → IsChoice cell target found
+pub chosen : (cell : PlacementQuery) (target : Point) (found : Option SpotPlace) → IsSized cell.frame cell.mac →
+    ScansPlaces (IsOnRows cell.frame.pitch cell.frame.rows (length cell.frame.rows)) cell target None found → IsChoice cell target found
 chosen cell target None sized looked = λ p may. looked.seen p (stands cell p sized may.legal) may
 chosen cell target (Some b) sized looked =
-    let may : MayGo cell b = looked.may_go tt in
+    let may : IsAllowedPlace cell b = looked.may_go tt in
     record {
       may_go = may;
       least = λ p there. elim (compared target p b (rank_tells p.orient b.orient (legal_upright cell p there.legal) (legal_upright cell b may.legal))) [

@@ -3,7 +3,7 @@ use Rattle.std.proofs.Common.{◌≡◌, ◌⊎◌, ℕ, zero, suc, ℤ, ◌%◌
 use Rattle.std.specs.Prelude.{All, take}
 use Rattle.std.proofs.lemmas.Int.{ints}
 use Rattle.std.proofs.lemmas.List.Elements.{All-nil, All-cons}
-use Rattle.lf_units.specs.declared.area.Rect.{Rect}
+use Rattle.lf_units.specs.declared.geometry.Rect.{Rect}
 use Rattle.lf_units.specs.Area.{SharesPoint}
 use Rattle.lf_orient.specs.declared.Orient.{Orient}
 use Rattle.lf_orient.specs.declared.Orient.TheVariants.{N, W, S, E, FN, FW, FS, FE}
@@ -12,10 +12,10 @@ use Rattle.lf_orient.specs.Orientation.{is_allowed, EqualUnder, rail_below, flip
 use Rattle.lf_floorplan.specs.declared.parts.Row.{Row}
 use Rattle.lf_rtree.specs.declared.placed.Placed.{Placed}
 use Rattle.lf_rules.specs.declared.rule.Broken.{Broken}
-use Rattle.lf_rules.specs.Legality.{IsFirstMet, Trial, IsFirstBroken, box_of, padded_box}
+use Rattle.lf_rules.specs.Legality.{IsFirstOverlapping, Candidate, IsFirstBroken, box_of, padded_box}
 use Rattle.lf_floorplan.specs.Boxes.{IsSized, size_of}
 use Rattle.lf_floorplan.specs.Sizes.{turned}
-use Rattle.lf_floorplan.specs.Standing.{Carries}
+use Rattle.lf_floorplan.specs.Standing.{Supports}
 use Rattle.lf_rules.specs.Legalizer.{IsVerdict}
 use Rattle.lf_floorplan.proofs.SizeBounds.{IsSmall, small_pitch, turned_small, sized_pitch}
 use Rattle.lf_rules.proofs.RuleLemmas.{Found, OnRows, on_rows, frame_of, height_broken, row_broken, stand_broken, orient_broken, rail_broken, fence_broken, obstacle_broken, overlap_broken}
@@ -66,7 +66,7 @@ equal_under s a b =
     (turned_round (λ p. (p.0.0, p.0.1, p.1)) (λ p. ((p.0, p.1), p.2)) (both (both (truth s.x) (truth s.y)) (same_orient b (flipped_over_x (flipped_over_y a)))))))
 
 -- the first that is met, or none is
-first_or_none : (box : Rect) (others : List Placed) → ((own : ℕ) × IsFirstMet box others own) ⊎ All (λ p. SharesPoint box p.rect → ⊥) others
+first_or_none : (box : Rect) (others : List Placed) → ((own : ℕ) × IsFirstOverlapping box others own) ⊎ All (λ p. SharesPoint box p.rect → ⊥) others
 first_or_none box [] = inr (All-nil (λ p. SharesPoint box p.rect → ⊥))
 first_or_none box (p ∷ ps) = elim (shares box p.rect) [
   | inl meets ↦ inl (p.own, record { place = 0; cell = p; there = refl; named = refl; meets = meets; first = All-nil (λ q. SharesPoint box q.rect → ⊥) })
@@ -76,14 +76,14 @@ first_or_none box (p ∷ ps) = elim (shares box p.rect) [
   ]
 ]
 
-abbrev Verdict : Trial → Type 0
+abbrev Verdict : Candidate → Type 0
 Verdict t = (v : Option Broken) × IsVerdict t v
 
 -- the answer that this rule is the first broken
-broke : {t : Trial} {b : Broken} → IsFirstBroken t b → Verdict t
+broke : {t : Candidate} {b : Broken} → IsFirstBroken t b → Verdict t
 broke {b = b} is = (Some b, is)
 
-on_areas : (t : Trial) → OnRows t → Verdict t
+on_areas : (t : Candidate) → OnRows t → Verdict t
 on_areas t rows = elim (all_in_ground t.frame t.team (box_of t)) [
   | inr n ↦ broke (fence_broken t rows n)
   | inl g ↦ elim (each (λ o. SharesPoint (box_of t) o → ⊥) (λ o. elim (shares (box_of t) o) [ inl m ↦ inr (λ c. c m) | inr c ↦ inl c ]) t.frame.obstacles) [
@@ -95,8 +95,8 @@ on_areas t rows = elim (all_in_ground t.frame t.team (box_of t)) [
   ]
 ]
 
-on_found : (t : Trial) (k : ℕ) (r : Row) → Found t (box_of t) k r → Verdict t
-on_found t k r found = elim (each_below (λ j. (s : Row) × Carries t.frame (box_of t) r j s) (λ j. some_carrying t.frame (box_of t) r j) k) [
+on_found : (t : Candidate) (k : ℕ) (r : Row) → Found t (box_of t) k r → Verdict t
+on_found t k r found = elim (each_below (λ j. (s : Row) × Supports t.frame (box_of t) r j s) (λ j. some_carrying t.frame (box_of t) r j) k) [
   | inr n ↦ broke (stand_broken t (box_of t) k r found n)
   | inl s ↦ elim (both (truth (is_allowed t.mac.symmetry t.orient)) (implied (same_count (k % 2) 1) (equal_under t.frame.site.symmetry t.orient r.orient))) [
     | inr n ↦ broke (orient_broken t (box_of t) k r found s n)
@@ -107,7 +107,7 @@ on_found t k r found = elim (each_below (λ j. (s : Row) × Carries t.frame (box
   ]
 ]
 
-pub verdict_there : (t : Trial) → IsSized t.frame t.mac → Verdict t
+pub verdict_there : (t : Candidate) → IsSized t.frame t.mac → Verdict t
 verdict_there t sized =
     let small : IsSmall (turned (size_of t.frame t.mac) t.orient) = turned_small _ _ (small_pitch _ _ _ (sized_pitch _ _ sized)) in
     elim (some_height t.frame (box_of t)) [

@@ -1,16 +1,16 @@
 -- The walk through the rules in their order: a frame `h` was measured, and the answers are about `f`, which is the same frame.
 use Rattle.std.proofs.Common.{◌≡◌, ◌%◌, ℕ, List, [], None, sym, subst, IsTrue}
-use Rattle.lf_units.specs.declared.area.Rect.{Rect}
+use Rattle.lf_units.specs.declared.geometry.Rect.{Rect}
 use Rattle.lf_orient.specs.Orientation.{EqualUnder, is_allowed}
 use Rattle.lf_floorplan.specs.declared.frame.Frame.{Frame}
 use Rattle.lf_floorplan.specs.declared.macros.Macro.{Macro}
 use Rattle.lf_floorplan.specs.declared.parts.Row.{Row}
 use Rattle.lf_floorplan.specs.declared.place.Place.{Place}
 use Rattle.lf_floorplan.specs.Ground.{IsClear, StaysInGround}
-use Rattle.lf_floorplan.specs.Standing.{IsBottomRow, IsSitesHigh, StandsOn}
+use Rattle.lf_floorplan.specs.Standing.{IsBottomRow, IsSitesHigh, RestsOnRows}
 use Rattle.lf_rtree.specs.declared.placed.Placed.{Placed}
 use Rattle.lf_rules.specs.declared.rule.Rule.TheVariants.{Row as RowRule, Stand, Orient as OrientRule, Rail as RailRule, Fence, Obstacle}
-use Rattle.lf_rules.specs.Legality.{IsFirstBroken, Trial, box_of, trial_of}
+use Rattle.lf_rules.specs.Legality.{IsFirstBroken, Candidate, box_of, candidate_of}
 use Rattle.lf_rules.specs.Solid.{IsSolid}
 use Rattle.lf_rules.proofs.LegalParts.{KeepsFrame}
 use Rattle.lf_rules.proofs.RuleLemmas.{Found, OnRows, OrientedAt, RailAt, StandsAt, fence_not, frame_at, obstacle_not, on_rows, orient_broken, rail_broken, row_broken, rows_stand_at, stand_broken}
@@ -19,12 +19,12 @@ use Rattle.lf_rules.proofs.RuleLemmas.{Found, OnRows, OrientedAt, RailAt, Stands
 abbrev MeasuredFit : Frame → Macro → Place → ℕ → Row → Type 0
 MeasuredFit h mac place k r = IsTrue (is_allowed mac.symmetry place.orient) × (k % 2 ≡ 1 → EqualUnder h.site.symmetry place.orient r.orient)
 
-module _ (h f : Frame) (same : h ≡ f) (team : ℕ) (mac : Macro) (place : Place) (padding : ℕ) (others : List Placed) (box : Rect) (is : box ≡ box_of (trial_of h team padding mac place others)) where
-  abbrev t : Trial
-  t = trial_of f team padding mac place others
+module _ (h f : Frame) (same : h ≡ f) (team : ℕ) (mac : Macro) (place : Place) (padding : ℕ) (others : List Placed) (box : Rect) (is : box ≡ box_of (candidate_of h team padding mac place others)) where
+  abbrev t : Candidate
+  t = candidate_of f team padding mac place others
 
   box_is : box ≡ box_of t
-  box_is = subst (λ (g : Frame). box ≡ box_of (trial_of g team padding mac place others)) same is
+  box_is = subst (λ (g : Frame). box ≡ box_of (candidate_of g team padding mac place others)) same is
 
   fits : (k : ℕ) (r : Row) → MeasuredFit h mac place k r → OrientedAt t k r
   fits k r o = (o.0, λ odd. subst (λ (g : Frame). EqualUnder g.site.symmetry place.orient r.orient) same (o.1 odd))
@@ -64,12 +64,12 @@ module _ (h f : Frame) (same : h ≡ f) (team : ℕ) (mac : Macro) (place : Plac
   pub all_kept : OnRows t → StaysInGround f team box → IsClear f box → KeepsFrame t
   all_kept rows inside clear = frame_at t box box_is rows inside clear
 
-  stand_there : OnRows t → StandsOn f box
+  stand_there : OnRows t → RestsOnRows f box
   stand_there rows = rows_stand_at t box box_is rows
 
 -- the box stands on rows
-pub stands : (h f : Frame) (same : h ≡ f) (team : ℕ) (mac : Macro) (place : Place) (box : Rect) → box ≡ box_of (trial_of h team 0 mac place []) → IsSolid box →
-    (k : ℕ) (r : Row) → IsSitesHigh h box k → IsBottomRow f box r → StandsAt (trial_of f team 0 mac place []) box k r → MeasuredFit h mac place k r →
-    RailAt (trial_of f team 0 mac place []) k r → StandsOn f box
+pub stands : (h f : Frame) (same : h ≡ f) (team : ℕ) (mac : Macro) (place : Place) (box : Rect) → box ≡ box_of (candidate_of h team 0 mac place []) → IsSolid box →
+    (k : ℕ) (r : Row) → IsSitesHigh h box k → IsBottomRow f box r → StandsAt (candidate_of f team 0 mac place []) box k r → MeasuredFit h mac place k r →
+    RailAt (candidate_of f team 0 mac place []) k r → RestsOnRows f box
 stands h f same team mac place box is solid k r tall bottom s o p =
     stand_there h f same team mac place 0 [] box is (rows_kept h f same team mac place 0 [] box is solid k r tall bottom s o p)

@@ -2,14 +2,14 @@
 use Rattle.std.proofs.Common.{◌≡◌, ◌⊎◌, ℕ, ℤ, pos, negsuc, ◌+ℤ◌, ◌-ℤ◌, ◌*ℤ◌, ◌*◌, ◌≤ℤ◌, ◌<ℤ◌, ◌≤◌, inl, inr, arith}
 use Rattle.std.proofs.lemmas.Int.{ints}
 use Rattle.std.proofs.lemmas.Nat.{mul-le}
-use Rattle.lf_units.specs.declared.area.Rect.{Rect}
+use Rattle.lf_units.specs.declared.geometry.Rect.{Rect}
 use Rattle.lf_units.specs.Area.{SharesPoint}
 use Rattle.lf_units.proofs.Same.{same_rect}
 use Rattle.lf_floorplan.specs.declared.frame.Frame.{Frame}
-use Rattle.lf_rules.specs.Padding.{WiderEitherWay, length_of, wider}
+use Rattle.lf_rules.specs.Padding.{PaddingIsSymmetric, length_of, wider}
 
 -- of two boxes that hold a point it makes no difference which is made wider
-pub either_way : WiderEitherWay
+pub either_way : PaddingIsSymmetric
 either_way by a b least wide_a wide_b m = elim order [
   | inl left ↦ record {
     x = a.x1;

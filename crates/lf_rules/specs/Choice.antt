@@ -2,8 +2,8 @@
 use Rattle.std.specs.Prelude.{◌≡◌, ◌⊎◌, ℕ, ℤ, pos, ◌+◌, ◌<◌, ◌-ℤ◌, ◌<ℤ◌, List, [], ◌∷◌, Option, slice_get, IsSome, MatchOption}
 use Rattle.std.specs.Int.RustNames.{unsigned_abs}
 use Rattle.std.specs.Option.{option_map_or}
-use Rattle.lf_units.specs.declared.area.Point.{Point}
-use Rattle.lf_units.specs.declared.area.Rect.{Rect}
+use Rattle.lf_units.specs.declared.geometry.Point.{Point}
+use Rattle.lf_units.specs.declared.geometry.Rect.{Rect}
 use Rattle.lf_orient.specs.declared.Orient.{Orient}
 use Rattle.lf_orient.specs.declared.Orient.TheVariants.{N, S, FN, FS}
 use Rattle.lf_orient.specs.Orientation.{rail_below}
@@ -15,20 +15,20 @@ use Rattle.lf_floorplan.specs.Bounds.{IsDefNumber}
 use Rattle.lf_floorplan.specs.Boxes.{IsSized}
 use Rattle.lf_floorplan.specs.Ground.{MeetsSoft}
 use Rattle.lf_rtree.specs.declared.placed.Placed.{Placed}
-use Rattle.lf_rules.specs.Legality.{Trial, box_of, IsTeamLegal}
+use Rattle.lf_rules.specs.Legality.{Candidate, box_of, IsTeamLegal}
 
 -- a place over all whole numbers
-pub record Spot : Type 0 where
+pub record SpotPlace : Type 0 where
   pub x : ℤ
   pub y : ℤ
   pub orient : Orient
 
 -- a place of the program, over whole numbers
-abbrev pub spot_of : Place → Spot
+abbrev pub spot_of : Place → SpotPlace
 spot_of p = record { x = p.x; y = p.y; orient = p.orient }
 
 -- a cell taken from its place: its team, the team's padding, its macro, and the team's other placed cells
-pub record Lifted : Type 0 where
+pub record PlacementQuery : Type 0 where
   pub frame : Frame
   pub team : ℕ
   pub padding : ℕ
@@ -36,22 +36,22 @@ pub record Lifted : Type 0 where
   pub others : List Placed
 
 -- the cell, tried at a place
-abbrev pub trial_at : Lifted → Spot → Trial
-trial_at c p =
+abbrev pub candidate_at : PlacementQuery → SpotPlace → Candidate
+candidate_at c p =
     record { frame = c.frame; team = c.team; padding = c.padding; mac = c.mac; x = p.x; y = p.y; orient = p.orient; others = c.others }
 
 -- the place is team-legal for the cell
-abbrev pub IsLegalAt : Lifted → Spot → Type 0
-IsLegalAt c p = IsTeamLegal (trial_at c p)
+abbrev pub IsLegalAt : PlacementQuery → SpotPlace → Type 0
+IsLegalAt c p = IsTeamLegal (candidate_at c p)
 
 -- a search may put the cell at the place: it is team-legal, and the cell's box there shares no point with a soft blockage
-pub record MayGo (c : Lifted) (p : Spot) : Type 0 where
+pub record IsAllowedPlace (c : PlacementQuery) (p : SpotPlace) : Type 0 where
   pub legal : IsLegalAt c p
-  pub off_soft : MeetsSoft c.frame (box_of (trial_at c p)) → ⊥
+  pub off_soft : MeetsSoft c.frame (box_of (candidate_at c p)) → ⊥
 
 -- a legal place of a macro of whole size has coordinates that a DEF text can hold
 abbrev pub LegalInRange : Type 0
-LegalInRange = (t : Trial) → IsSized t.frame t.mac → IsTeamLegal t → IsDefNumber t.x × IsDefNumber t.y
+LegalInRange = (t : Candidate) → IsSized t.frame t.mac → IsTeamLegal t → IsDefNumber t.x × IsDefNumber t.y
 
 -- ---- the best place
 
@@ -64,18 +64,18 @@ rank FS = 3
 rank _ = 4
 
 -- the distance of the place from the target along x plus that along y
-abbrev pub distance : Point → Spot → ℕ
+abbrev pub distance : Point → SpotPlace → ℕ
 distance target p = unsigned_abs (p.x -ℤ target.x) + unsigned_abs (p.y -ℤ target.y)
 
 -- p has the lesser key: by distance, then y, then x, then rank
-abbrev pub Precedes : Point → Spot → Spot → Type 0
+abbrev pub Precedes : Point → SpotPlace → SpotPlace → Type 0
 Precedes target p q =
     (distance target p < distance target q)
     ⊎ ((distance target p ≡ distance target q)
     × ((p.y <ℤ q.y) ⊎ ((p.y ≡ q.y) × ((p.x <ℤ q.x) ⊎ ((p.x ≡ q.x) × (rank p.orient < rank q.orient))))))
 
 -- both places have one key
-pub record SameKey (target : Point) (p q : Spot) : Type 0 where
+pub record SameKey (target : Point) (p q : SpotPlace) : Type 0 where
   pub as_far : distance target p ≡ distance target q
   pub y_is : p.y ≡ q.y
   pub x_is : p.x ≡ q.x
@@ -87,31 +87,31 @@ IsUpright o = IsSome (rail_below o)
 
 -- two upright places of one key are one place
 abbrev pub KeysDiffer : Type 0
-KeysDiffer = (target : Point) (p q : Spot) → IsUpright p.orient → IsUpright q.orient → SameKey target p q → p ≡ q
+KeysDiffer = (target : Point) (p q : SpotPlace) → IsUpright p.orient → IsUpright q.orient → SameKey target p q → p ≡ q
 
 -- the keys order the upright places: none precedes itself, the order is transitive, and of two different
 -- places one precedes the other
 pub record KeyOrders : Type 0 where
-  pub not_itself : (target : Point) (p : Spot) → Precedes target p p → ⊥
-  pub through : (target : Point) (p q r : Spot) → Precedes target p q → Precedes target q r → Precedes target p r
-  pub total : (target : Point) (p q : Spot) → IsUpright p.orient → IsUpright q.orient → (p ≡ q) ⊎ (Precedes target p q ⊎ Precedes target q p)
+  pub not_itself : (target : Point) (p : SpotPlace) → Precedes target p p → ⊥
+  pub through : (target : Point) (p q r : SpotPlace) → Precedes target p q → Precedes target q r → Precedes target p r
+  pub total : (target : Point) (p q : SpotPlace) → IsUpright p.orient → IsUpright q.orient → (p ≡ q) ⊎ (Precedes target p q ⊎ Precedes target q p)
 
 -- a legal place is upright
 abbrev pub LegalIsUpright : Type 0
-LegalIsUpright = (c : Lifted) (p : Spot) → IsLegalAt c p → IsUpright p.orient
+LegalIsUpright = (c : PlacementQuery) (p : SpotPlace) → IsLegalAt c p → IsUpright p.orient
 
 -- the place of least key among those where a search may put the cell
-pub record IsBest (c : Lifted) (target : Point) (best : Spot) : Type 0 where
-  pub may_go : MayGo c best
-  pub least : (p : Spot) → MayGo c p → (p ≡ best) ⊎ Precedes target best p
+pub record IsBest (c : PlacementQuery) (target : Point) (best : SpotPlace) : Type 0 where
+  pub may_go : IsAllowedPlace c best
+  pub least : (p : SpotPlace) → IsAllowedPlace c p → (p ≡ best) ⊎ Precedes target best p
 
 -- what a search for the best place finds: that place, or nothing only if there is no place where it may put the cell
-abbrev pub IsChoice : Lifted → Point → Option Spot → Type 0
-IsChoice c target found = MatchOption found ((p : Spot) → MayGo c p → ⊥) (λ best. IsBest c target best)
+abbrev pub IsChoice : PlacementQuery → Point → Option SpotPlace → Type 0
+IsChoice c target found = MatchOption found ((p : SpotPlace) → IsAllowedPlace c p → ⊥) (λ best. IsBest c target best)
 
 -- a search has one answer
-abbrev pub ChoiceIsOne : Type 0
-ChoiceIsOne = (c : Lifted) (target : Point) (a b : Option Spot) → IsChoice c target a → IsChoice c target b → a ≡ b
+abbrev pub BestPlaceIsUnique : Type 0
+BestPlaceIsUnique = (c : PlacementQuery) (target : Point) (a b : Option SpotPlace) → IsChoice c target a → IsChoice c target b → a ≡ b
 
 -- ---- the anchor
 

@@ -1,6 +1,6 @@
 -- When a place is legal for a cell: the eight rules, and the first of them that is broken.
 use Rattle.std.specs.Prelude.{◌≡◌, ◌≢◌, ℕ, ℤ, ◌%◌, ◌<◌, ◌≤◌, List, All, IsTrue, Option, None, Some, slice_get, take, MatchOption}
-use Rattle.lf_units.specs.declared.area.Rect.{Rect}
+use Rattle.lf_units.specs.declared.geometry.Rect.{Rect}
 use Rattle.lf_units.specs.Area.{SharesPoint}
 use Rattle.lf_orient.specs.declared.Orient.{Orient}
 use Rattle.lf_orient.specs.Orientation.{is_allowed, EqualUnder, rail_below}
@@ -11,7 +11,7 @@ use Rattle.lf_floorplan.specs.declared.place.Place.{Place}
 use Rattle.lf_floorplan.specs.Boxes.{size_of}
 use Rattle.lf_floorplan.specs.Sizes.{turned, box_at}
 use Rattle.lf_floorplan.specs.Ground.{StaysInGround, IsClear}
-use Rattle.lf_floorplan.specs.Standing.{IsSitesHigh, IsBottomRow, HasHeight, HasBottomRow, IsCarried}
+use Rattle.lf_floorplan.specs.Standing.{IsSitesHigh, IsBottomRow, HasHeight, HasBottomRow, IsSupported}
 use Rattle.lf_rules.specs.Padding.{length_of, wider}
 use Rattle.lf_rules.specs.declared.rule.Rule.{Rule}
 use Rattle.lf_rules.specs.declared.rule.Rule.TheVariants.{Height, Row as RowRule, Stand, Orient as OrientRule, Rail as RailRule, Fence, Obstacle, Overlap}
@@ -20,7 +20,7 @@ use Rattle.lf_rules.specs.declared.rule.Broken.{Broken}
 
 -- a cell of a team, by its macro, tried at a place beside the team's other placed cells, from which the team's padding, in core
 -- sites, is to keep it apart
-pub record Trial : Type 0 where
+pub record Candidate : Type 0 where
   pub frame : Frame
   pub team : ℕ
   pub padding : ℕ
@@ -31,42 +31,42 @@ pub record Trial : Type 0 where
   pub others : List Placed
 
 -- the same, at a place of the program
-abbrev pub trial_of : Frame → ℕ → ℕ → Macro → Place → List Placed → Trial
-trial_of f team padding m p others =
+abbrev pub candidate_of : Frame → ℕ → ℕ → Macro → Place → List Placed → Candidate
+candidate_of f team padding m p others =
     record { frame = f; team = team; padding = padding; mac = m; x = p.x; y = p.y; orient = p.orient; others = others }
 
 -- the box of the cell there
-abbrev pub box_of : Trial → Rect
+abbrev pub box_of : Candidate → Rect
 box_of t = box_at (turned (size_of t.frame t.mac) t.orient) t.x t.y
 
 -- that box, made wider on its left and right by the padding
-abbrev pub padded_box : Trial → Rect
+abbrev pub padded_box : Candidate → Rect
 padded_box t = wider (length_of t.frame t.padding) (box_of t)
 
 -- the orientation fits the macro and, if the height is odd, also the bottom row (LEF SYMMETRY of MACRO and SITE)
-abbrev pub IsOriented : Trial → Type 0
+abbrev pub IsOriented : Candidate → Type 0
 IsOriented t =
     IsTrue (is_allowed t.mac.symmetry t.orient)
     × ((k : ℕ) (r : Row) → IsSitesHigh t.frame (box_of t) k → IsBottomRow t.frame (box_of t) r →
     k % 2 ≡ 1 → EqualUnder t.frame.site.symmetry t.orient r.orient)
 
 -- if the height is even, the macro's bottom rail is the bottom row's
-abbrev pub IsOnRail : Trial → Type 0
+abbrev pub IsOnRail : Candidate → Type 0
 IsOnRail t =
     (k : ℕ) (r : Row) → IsSitesHigh t.frame (box_of t) k → IsBottomRow t.frame (box_of t) r →
     k % 2 ≡ 0 → rail_below r.orient ≡ Some t.mac.rail
 
 -- the box, made wider by the padding, shares no point with the box of another placed cell of the team
-abbrev pub IsApart : Trial → Type 0
+abbrev pub IsApart : Candidate → Type 0
 IsApart t = All (λ other. SharesPoint (padded_box t) other.rect → ⊥) t.others
 
 -- The rule holds. A rule on the height or the bottom row speaks of every one there is, and a box has one
 -- of each at most. So if rule 1 or 2 fails, rules 3 and 5 hold trivially, and rule 4 only asks for an
 -- orientation of the macro; the first broken rule is the lesser one in any case.
-abbrev pub Holds : Trial → Rule → Type 0
+abbrev pub Holds : Candidate → Rule → Type 0
 Holds t Height = HasHeight t.frame (box_of t)
 Holds t RowRule = HasBottomRow t.frame (box_of t)
-Holds t Stand = IsCarried t.frame (box_of t)
+Holds t Stand = IsSupported t.frame (box_of t)
 Holds t OrientRule = IsOriented t
 Holds t RailRule = IsOnRail t
 Holds t Fence = StaysInGround t.frame t.team (box_of t)
@@ -74,7 +74,7 @@ Holds t Obstacle = IsClear t.frame (box_of t)
 Holds t Overlap = IsApart t
 
 -- a place is team-legal: every rule holds
-abbrev pub IsTeamLegal : Trial → Type 0
+abbrev pub IsTeamLegal : Candidate → Type 0
 IsTeamLegal t = (r : Rule) → Holds t r
 
 -- the rules are tested in the order of their numbers
@@ -89,7 +89,7 @@ number_of Obstacle = 7
 number_of Overlap = 8
 
 -- the first of the placed cells whose box shares a point with this rectangle has this number
-pub record IsFirstMet (box : Rect) (others : List Placed) (own : ℕ) : Type 0 where
+pub record IsFirstOverlapping (box : Rect) (others : List Placed) (own : ℕ) : Type 0 where
   pub place : ℕ
   pub cell : Placed
   pub there : slice_get others place ≡ Some cell
@@ -99,15 +99,15 @@ pub record IsFirstMet (box : Rect) (others : List Placed) (own : ℕ) : Type 0 w
 
 -- the first broken rule: it is broken, each lesser one holds, and for Overlap the first other cell that
 -- is met is named
-pub record IsFirstBroken (t : Trial) (b : Broken) : Type 0 where
+pub record IsFirstBroken (t : Candidate) (b : Broken) : Type 0 where
   pub broken : Holds t b.rule → ⊥
   pub lesser : (r : Rule) → number_of r < number_of b.rule → Holds t r
-  pub other : MatchOption b.other (b.rule ≢ Overlap) (λ own. (b.rule ≡ Overlap) × IsFirstMet (padded_box t) t.others own)
+  pub other : MatchOption b.other (b.rule ≢ Overlap) (λ own. (b.rule ≡ Overlap) × IsFirstOverlapping (padded_box t) t.others own)
 
 -- the rules but overlap: all of them hold, or this one is the first that is broken
-abbrev pub IsFrameVerdict : Trial → Option Rule → Type 0
-IsFrameVerdict t verdict = MatchOption verdict ((r : Rule) → number_of r ≤ 7 → Holds t r) (λ rule. IsFirstBroken t record { rule = rule; other = None })
+abbrev pub IsFrameRuleVerdict : Candidate → Option Rule → Type 0
+IsFrameRuleVerdict t verdict = MatchOption verdict ((r : Rule) → number_of r ≤ 7 → Holds t r) (λ rule. IsFirstBroken t record { rule = rule; other = None })
 
 -- with less padding a place that was team-legal stays so
-abbrev pub LessPadding : Type 0
-LessPadding = (t : Trial) (less : ℕ) → less ≤ t.padding → IsTeamLegal t → IsTeamLegal (record t { padding = less })
+abbrev pub LessPaddingKeepsLegal : Type 0
+LessPaddingKeepsLegal = (t : Candidate) (less : ℕ) → less ≤ t.padding → IsTeamLegal t → IsTeamLegal (record t { padding = less })

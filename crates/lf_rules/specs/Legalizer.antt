@@ -1,27 +1,27 @@
 -- What the rules say of places, as functions: the first broken rule, and the best place.
 use Rattle.std.specs.Prelude.{◌≡◌, Option, MatchOption}
-use Rattle.lf_units.specs.declared.area.Point.{Point}
+use Rattle.lf_units.specs.declared.geometry.Point.{Point}
 use Rattle.lf_floorplan.specs.Boxes.{IsSized}
 use Rattle.lf_rules.specs.declared.rule.Broken.{Broken}
-use Rattle.lf_rules.specs.Legality.{Trial, IsTeamLegal, IsFirstBroken}
-use Rattle.lf_rules.specs.Choice.{Spot, Lifted, IsChoice}
+use Rattle.lf_rules.specs.Legality.{Candidate, IsTeamLegal, IsFirstBroken}
+use Rattle.lf_rules.specs.Choice.{SpotPlace, PlacementQuery, IsChoice}
 
 -- the answer for a trial: the first broken rule, and none if and only if the place is team-legal
-abbrev pub IsVerdict : Trial → Option Broken → Type 0
+abbrev pub IsVerdict : Candidate → Option Broken → Type 0
 IsVerdict t verdict = MatchOption verdict (IsTeamLegal t) (λ b. IsFirstBroken t b)
 
 -- a legalizer gives the first broken rule of each trial and the best place of each cell, if the macro
 -- is whole in database units; by the laws of this crate there is one, and each answer is unique
 pub record Legalizer : Type 0 where
-  pub first_broken : Trial → Option Broken
-  pub best_place : Lifted → Point → Option Spot
-  pub finds_first_broken : (t : Trial) → IsSized t.frame t.mac → IsVerdict t (first_broken t)
-  pub finds_best_place : (c : Lifted) (target : Point) → IsSized c.frame c.mac → IsChoice c target (best_place c target)
+  pub first_broken : Candidate → Option Broken
+  pub best_place : PlacementQuery → Point → Option SpotPlace
+  pub finds_first_broken : (t : Candidate) → IsSized t.frame t.mac → IsVerdict t (first_broken t)
+  pub finds_best_place : (c : PlacementQuery) (target : Point) → IsSized c.frame c.mac → IsChoice c target (best_place c target)
 
 -- a trial has one verdict
-abbrev pub VerdictIsOne : Type 0
-VerdictIsOne = (t : Trial) (a b : Option Broken) → IsVerdict t a → IsVerdict t b → a ≡ b
+abbrev pub VerdictIsUnique : Type 0
+VerdictIsUnique = (t : Candidate) (a b : Option Broken) → IsVerdict t a → IsVerdict t b → a ≡ b
 
 -- each trial of a macro of whole size has a verdict
-abbrev pub VerdictIsThere : Type 0
-VerdictIsThere = (t : Trial) → IsSized t.frame t.mac → (verdict : Option Broken) × IsVerdict t verdict
+abbrev pub VerdictExists : Type 0
+VerdictExists = (t : Candidate) → IsSized t.frame t.mac → (verdict : Option Broken) × IsVerdict t verdict

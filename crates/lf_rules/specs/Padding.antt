@@ -1,6 +1,6 @@
 -- Boxes made wider, by which a team keeps its cells apart.
 use Rattle.std.specs.Prelude.{ℕ, ℤ, pos, negsuc, ◌+ℤ◌, ◌-ℤ◌, ◌*ℤ◌, ◌≤ℤ◌, ◌<ℤ◌}
-use Rattle.lf_units.specs.declared.area.Rect.{Rect}
+use Rattle.lf_units.specs.declared.geometry.Rect.{Rect}
 use Rattle.lf_units.specs.Area.{SharesPoint}
 use Rattle.lf_floorplan.specs.declared.frame.Frame.{Frame}
 
@@ -23,6 +23,6 @@ pub record HasRoomAround (r : Rect) : Type 0 where
   pub high : r.x2 ≤ℤ pos 4611686018427387904
 
 -- of two boxes that hold a point, one made wider shares a point with the other where the other made wider shares one with it
-abbrev pub WiderEitherWay : Type 0
-WiderEitherWay =
+abbrev pub PaddingIsSymmetric : Type 0
+PaddingIsSymmetric =
     (by : ℤ) (a b : Rect) → pos 0 ≤ℤ by → a.x1 <ℤ a.x2 → b.x1 <ℤ b.x2 → SharesPoint (wider by a) b → SharesPoint (wider by b) a

@@ -2,11 +2,11 @@
 use Rattle.std.specs.Prelude.{◌≡◌, []}
 use Rattle.std.specs.Option.{ForSome}
 use Rattle.lf_floorplan.specs.Bounds.{IsName}
-use Rattle.lf_rules.specs.declared.report.Violation.{Violation}
-use Rattle.lf_rules.specs.declared.report.Report.{Report}
+use Rattle.lf_rules.specs.declared.report_types.Violation.{Violation}
+use Rattle.lf_rules.specs.declared.report_types.Report.{Report}
 
 -- the names in the violation are names of a text
-pub record IsTold (v : Violation) : Type 0 where
+pub record HasPrintableNames (v : Violation) : Type 0 where
   pub cell_printed : IsName v.cell
   pub other_printed : ForSome v.other IsName
 

@@ -1,12 +1,12 @@
 -- Tidying a team, cell by cell in loading order.
 use Rattle.std.specs.Prelude.{◌≡◌, ℕ, zero, suc, ◌+◌, List, All, length, map, Option, Some, None, slice_get, slice_set}
 use Rattle.std.specs.Option.{option_map}
-use Rattle.lf_units.specs.declared.area.Point.{Point}
+use Rattle.lf_units.specs.declared.geometry.Point.{Point}
 use Rattle.lf_floorplan.specs.declared.frame.Frame.{Frame}
 use Rattle.lf_floorplan.specs.Boxes.{IsSized, macro_of}
-use Rattle.lf_rules.specs.Choice.{Spot, Lifted, trial_at, anchor}
+use Rattle.lf_rules.specs.Choice.{SpotPlace, PlacementQuery, candidate_at, anchor}
 use Rattle.lf_rules.specs.Legalizer.{Legalizer}
-use Rattle.lf_rules.specs.Team.{Member, lifted_from, StandsLegal}
+use Rattle.lf_rules.specs.Team.{Member, query_from, IsLegalCell}
 
 -- the state of tidying: the cells, and how many of them went to their best place; or the number of a cell
 -- that has none
@@ -14,29 +14,29 @@ pub data Tidied : Type 0 where
   Going : List Member → ℕ → Tidied
   Stuck : ℕ → Tidied
 
-abbrev pub point_of : Spot → Point
+abbrev pub point_of : SpotPlace → Point
 point_of p = record { x = p.x; y = p.y }
 
 -- the target to which a cell is tidied: its team's anchor if it is unplaced, its own corner if it breaks
 -- a rule; None if it stays
-abbrev pub target_of : Legalizer → Lifted → Option Spot → Option Point
+abbrev pub target_of : Legalizer → PlacementQuery → Option SpotPlace → Option Point
 target_of l c None = Some (anchor c.frame c.team)
-target_of l c (Some p) = option_map (λ broken. point_of p) (l.first_broken (trial_at c p))
+target_of l c (Some p) = option_map (λ broken. point_of p) (l.first_broken (candidate_at c p))
 
 -- the cell goes to its best place; stuck if it has none
-abbrev pub sent_to : Option Spot → List Member → ℕ → ℕ → ℕ → Tidied
-sent_to None cells moved own mac = Stuck own
-sent_to (Some p) cells moved own mac = Going (slice_set cells own record { mac = mac; place = Some p }) (moved + 1)
+abbrev pub tidied_to_best : Option SpotPlace → List Member → ℕ → ℕ → ℕ → Tidied
+tidied_to_best None cells moved own mac = Stuck own
+tidied_to_best (Some p) cells moved own mac = Going (slice_set cells own record { mac = mac; place = Some p }) (moved + 1)
 
 -- the cell stays if it has no target, else it goes to its best place for it
-abbrev pub tidied_to : Option Point → Legalizer → Lifted → List Member → ℕ → ℕ → ℕ → Tidied
+abbrev pub tidied_to : Option Point → Legalizer → PlacementQuery → List Member → ℕ → ℕ → ℕ → Tidied
 tidied_to None l c cells moved own mac = Going cells moved
-tidied_to (Some target) l c cells moved own mac = sent_to (l.best_place c target) cells moved own mac
+tidied_to (Some target) l c cells moved own mac = tidied_to_best (l.best_place c target) cells moved own mac
 
 abbrev pub tidied_own : Option Member → Legalizer → Frame → ℕ → ℕ → List Member → ℕ → ℕ → Tidied
 tidied_own None l f team padding cells moved own = Going cells moved
 tidied_own (Some m) l f team padding cells moved own =
-    let c = lifted_from f team padding cells own m.mac in tidied_to (target_of l c m.place) l c cells moved own m.mac
+    let c = query_from f team padding cells own m.mac in tidied_to (target_of l c m.place) l c cells moved own m.mac
 
 -- one cell is tidied, unless an earlier one has no best place
 abbrev pub tidy_cell : Legalizer → Frame → ℕ → ℕ → Tidied → ℕ → Tidied
@@ -57,7 +57,7 @@ abbrev pub TidiedIsLegal : Type 0
 TidiedIsLegal =
     (l : Legalizer) (f : Frame) (team padding : ℕ) (cells new : List Member) (moved : ℕ) →
     All (λ m. IsSized f (macro_of f m.mac)) cells →
-    tidied l f team padding cells ≡ Going new moved → (own : ℕ) → StandsLegal f team padding new own
+    tidied l f team padding cells ≡ Going new moved → (own : ℕ) → IsLegalCell f team padding new own
 
 -- tidying only moves cells: their number, order and macros stay
 abbrev pub TidiedKeepsCells : Type 0
@@ -71,4 +71,4 @@ TidyKeepsLegal =
     (l : Legalizer) (f : Frame) (team padding : ℕ) (cells new : List Member) (moved count own other : ℕ) →
     All (λ m. IsSized f (macro_of f m.mac)) cells →
     tidy_cell l f team padding (Going cells moved) own ≡ Going new count →
-    StandsLegal f team padding cells other → StandsLegal f team padding new other
+    IsLegalCell f team padding cells other → IsLegalCell f team padding new other

@@ -1,20 +1,20 @@
 //! Laws on the definitions of a legal place.
 
-ghost use Rattle.lf_rules.specs.Choice.{ChoiceIsOne, KeyOrders, KeysDiffer, LegalInRange, LegalIsUpright};
+ghost use Rattle.lf_rules.specs.Choice.{BestPlaceIsUnique, KeyOrders, KeysDiffer, LegalInRange, LegalIsUpright};
 ghost use Rattle.lf_rules.specs.FullyLegal.{TeamsMakeLegal};
-ghost use Rattle.lf_rules.specs.Legality.{LessPadding};
-ghost use Rattle.lf_rules.specs.Legalizer.{Legalizer, VerdictIsOne, VerdictIsThere};
-ghost use Rattle.lf_rules.specs.Padding.{WiderEitherWay};
+ghost use Rattle.lf_rules.specs.Legality.{LessPaddingKeepsLegal};
+ghost use Rattle.lf_rules.specs.Legalizer.{Legalizer, VerdictIsUnique, VerdictExists};
+ghost use Rattle.lf_rules.specs.Padding.{PaddingIsSymmetric};
 ghost use Rattle.lf_rules.specs.Tidy.{TidiedIsLegal, TidiedKeepsCells, TidyKeepsLegal};
 
 /// A cell at a place has one verdict: one first broken rule with one other cell, or none.
-pub fn verdict_is_one()
-    ensures { VerdictIsOne }
+pub fn verdict_is_unique()
+    ensures { VerdictIsUnique }
 {}
 
 /// A cell of a macro of whole size has a verdict at each place.
-pub fn verdict_is_there()
-    ensures { VerdictIsThere }
+pub fn verdict_exists()
+    ensures { VerdictExists }
 {}
 
 /// A legal place is upright: N, S, FN or FS.
@@ -33,8 +33,8 @@ pub fn key_is_total()
 {}
 
 /// A search for a best place has one answer.
-pub fn choice_is_one()
-    ensures { ChoiceIsOne }
+pub fn best_place_is_unique()
+    ensures { BestPlaceIsUnique }
 {}
 
 /// A team-legal place has coordinates that a DEF text can hold.
@@ -43,7 +43,7 @@ pub fn legal_in_range()
 {}
 
 /// There is a legalizer: at each place a cell has a first broken rule or none, and each cell has a best place or none.
-pub fn legalizer_is_there()
+pub fn legalizer_exists()
     ensures { Legalizer }
 {}
 
@@ -68,11 +68,11 @@ pub fn teams_make_legal()
 {}
 
 /// With less padding a place that was team-legal stays so.
-pub fn less_padding()
-    ensures { LessPadding }
+pub fn less_padding_keeps_legal()
+    ensures { LessPaddingKeepsLegal }
 {}
 
 /// It makes no difference which of two boxes that hold a point is made wider by a padding: rule 8 holds of both cells or of none.
-pub fn wider_either_way()
-    ensures { WiderEitherWay }
+pub fn padding_is_symmetric()
+    ensures { PaddingIsSymmetric }
 {}

@@ -17,31 +17,31 @@
 //! ```
 #![tactic(auto)]
 
-mod area;
+mod boxes;
 mod cover;
-mod first;
+mod frame_scan;
 mod laws;
+mod overlap;
 mod padding;
-mod report;
+mod report_types;
 mod rows;
 mod rule;
-mod size;
 mod soft;
-mod whole;
+mod verdict;
 
+pub use boxes::{box_of, box_with_points, padded_box};
 pub use cover::is_covered;
-pub use first::{broken_alone, first_broken, is_on_rail, is_oriented, overlap_with};
+pub use frame_scan::FrameScan;
 pub use laws::{
-    choice_is_one, key_is_total, keys_differ, legal_in_range, legal_is_upright, legalizer_is_there,
-    less_padding, teams_make_legal, tidied_is_legal, tidied_keeps_cells, tidy_keeps_legal,
-    verdict_is_one, verdict_is_there, wider_either_way,
+    best_place_is_unique, key_is_total, keys_differ, legal_in_range, legal_is_upright,
+    legalizer_exists, less_padding_keeps_legal, padding_is_symmetric, teams_make_legal,
+    tidied_is_legal, tidied_keeps_cells, tidy_keeps_legal, verdict_exists, verdict_is_unique,
 };
 pub use lf_floorplan::Place;
 pub use lf_rtree::Placed;
-pub use padding::{Padding, wider};
-pub use report::{Listed, Report, Violation};
-pub use rows::{carries, height_in_sites, is_bottom_row};
+pub use padding::{Padding, widen};
+pub use report_types::{Listed, Report, Violation};
+pub use rows::{height_in_sites, is_bottom_row, supports};
 pub use rule::{Broken, Rule};
-pub use size::{box_of, padded_box, solid_box};
-pub use soft::meets_soft;
-pub use whole::Whole;
+pub use soft::overlaps_soft;
+pub use verdict::{broken_frame_rule, first_broken, is_on_rail, is_oriented, overlap_of};

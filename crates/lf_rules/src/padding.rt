@@ -70,7 +70,7 @@ fn plus(x: i64, by: i64) -> i64
 
 /// The rectangle made wider by a length on its left and on its right, in database units. The length is from 0 to
 /// 320,000,000,000, and the x range within 2^62 either way.
-pub fn wider(rect: &Rect, by: i64) -> Rect
+pub fn widen(rect: &Rect, by: i64) -> Rect
     requires short { IsShort by }
     requires room { HasRoomAround rect.now }
     ensures { result ≡ widened by rect.now }

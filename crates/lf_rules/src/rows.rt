@@ -3,13 +3,13 @@
 ghost use Rattle.std.specs.Prelude.{◌≡◌, ◌↔◌, ℕ, ℤ, pos, ◌<◌, ◌≤◌, ◌+ℤ◌, ◌-ℤ◌, ◌*ℤ◌, ◌<ℤ◌, ◌≤ℤ◌, IsTrue, MatchOption, Contains, Some, if◌then◌else◌, IfSome, length, slice_get};
 ghost use Rattle.std.specs.Option.{option_map};
 ghost use Rattle.lf_orient.specs.Orientation.{rail_below};
-ghost use Rattle.lf_floorplan.specs.Rows.{IsHeeded};
+ghost use Rattle.lf_floorplan.specs.Rows.{IsCoreRow};
 ghost use Rattle.lf_floorplan.specs.declared.parts.Row.{Row};
-ghost use Rattle.lf_floorplan.specs.Standing.{IsSitesHigh, IsRowOfBox, IsBottomRow, Carries, changed};
+ghost use Rattle.lf_floorplan.specs.Standing.{IsSitesHigh, IsRowOfBox, IsBottomRow, Supports, changed};
 ghost use Rattle.lf_rules.specs.Solid.{IsOnlyRow, IsSolid};
 
 use crate::cover::corner_of;
-use lf_floorplan::{Frame, Near, Row};
+use lf_floorplan::{Frame, FrameQuery, Row};
 use lf_orient::{Orient, Rail, opposite, row_rail};
 use lf_units::{Point, Rect};
 
@@ -66,7 +66,7 @@ fn is_on_grid(pitch: &Point, rect: &Rect, row: &Row) -> bool
 fn is_row_of_box(frame: &Frame, rect: &Rect, sites: u32, row: &Row) -> bool
     requires solid { IsSolid rect.now }
     requires few { sites ≤ 8 }
-    requires heeded { IsHeeded frame.now.pitch row.now }
+    requires heeded { IsCoreRow frame.now.pitch row.now }
     ensures { IsTrue result ↔ IsRowOfBox frame.now rect.now sites row.now }
 {
     if i64::from(row.y) != level(&frame.pitch, rect, sites) {
@@ -86,7 +86,7 @@ fn is_row_of_box(frame: &Frame, rect: &Rect, sites: u32, row: &Row) -> bool
 pub fn is_bottom_row(frame: &Frame, rect: &Rect, row: &Row) -> bool
     requires solid { IsSolid rect.now }
     requires known { Contains frame.now.rows row.now }
-    requires heeded { IsHeeded frame.now.pitch row.now }
+    requires heeded { IsCoreRow frame.now.pitch row.now }
     ensures { IsTrue result ↔ IsBottomRow frame.now rect.now row.now }
 {
     if !is_row_of_box(frame, rect, 0, row) {
@@ -99,16 +99,16 @@ pub fn is_bottom_row(frame: &Frame, rect: &Rect, row: &Row) -> bool
 fn row_of(frame: &Frame, number: usize) -> &Row
     requires { number < length frame.now.rows }
     ensures row { slice_get frame.now.rows number ≡ Some result.now }
-    ensures heeded { IsHeeded frame.now.pitch result.now }
+    ensures heeded { IsCoreRow frame.now.pitch result.now }
     ensures known { Contains frame.now.rows result.now }
 {
     &frame.rows.as_slice()[number]
 }
 
 /// The row that lies at the point's y and extends over its x.
-fn row_at<'a, N: Near>(near: &'a N, point: &Point) -> Option<&'a Row>
+fn row_at<'a, N: FrameQuery>(near: &'a N, point: &Point) -> Option<&'a Row>
     ensures only { IsOnlyRow (N.of near.now) point.now (option_map (λ r. r.now) result) }
-    ensures heeded { IfSome result (λ r. IsHeeded (N.of near.now).pitch r.now) }
+    ensures heeded { IfSome result (λ r. IsCoreRow (N.of near.now).pitch r.now) }
 {
     match near.row_at(point.y, point.x) {
         Some(number) => Some(row_of(near.frame(), number)),
@@ -117,7 +117,7 @@ fn row_at<'a, N: Near>(near: &'a N, point: &Point) -> Option<&'a Row>
 }
 
 /// The bottom row of the box.
-pub(crate) fn bottom_row<'a, N: Near>(near: &'a N, rect: &Rect) -> Option<&'a Row>
+pub(crate) fn bottom_row<'a, N: FrameQuery>(near: &'a N, rect: &Rect) -> Option<&'a Row>
     requires { IsSolid rect.now }
     ensures { MatchOption result ((r : Row) → IsBottomRow (N.of near.now) rect.now r → ⊥) (λ r. IsBottomRow (N.of near.now) rect.now r.now) }
 {
@@ -144,12 +144,12 @@ fn changed_rail(orient: Orient, times: u32) -> Option<Rail>
 /// Whether the row carries the box this many site heights above its bottom row: it lies there, under all of its width, and its
 /// rail is the bottom row's, alternated as often. Rule 3 asks for such a row at each height. The box has points, the row is one
 /// of the frame, and it is at most 8 sites up.
-pub fn carries(frame: &Frame, rect: &Rect, bottom: &Row, sites: u32, row: &Row) -> bool
+pub fn supports(frame: &Frame, rect: &Rect, bottom: &Row, sites: u32, row: &Row) -> bool
     requires solid { IsSolid rect.now }
     requires few { sites ≤ 8 }
     requires known { Contains frame.now.rows row.now }
-    requires heeded { IsHeeded frame.now.pitch row.now }
-    ensures { IsTrue result ↔ Carries frame.now rect.now bottom.now sites row.now }
+    requires heeded { IsCoreRow frame.now.pitch row.now }
+    ensures { IsTrue result ↔ Supports frame.now rect.now bottom.now sites row.now }
 {
     if !is_row_of_box(frame, rect, sites, row) {
         return false;
@@ -158,23 +158,23 @@ pub fn carries(frame: &Frame, rect: &Rect, bottom: &Row, sites: u32, row: &Row) 
 }
 
 /// Whether a row of the frame carries the box this many site heights above its bottom row.
-fn is_carried<N: Near>(near: &N, rect: &Rect, bottom: &Row, sites: u32) -> bool
+fn is_carried<N: FrameQuery>(near: &N, rect: &Rect, bottom: &Row, sites: u32) -> bool
     requires solid { IsSolid rect.now }
     requires few { sites ≤ 8 }
-    ensures { IsTrue result ↔ ((s : Row) × Carries (N.of near.now) rect.now bottom.now sites s) }
+    ensures { IsTrue result ↔ ((s : Row) × Supports (N.of near.now) rect.now bottom.now sites s) }
 {
     let frame = near.frame();
     let Some(row) = row_at(near, &foot_of(&frame.pitch, rect, sites)) else {
         return false;
     };
-    carries(frame, rect, bottom, sites, row)
+    supports(frame, rect, bottom, sites, row)
 }
 
 /// Whether rows of the frame carry the box over all of its height.
-pub(crate) fn is_standing<N: Near>(near: &N, rect: &Rect, bottom: &Row, height: u32) -> bool
+pub(crate) fn is_standing<N: FrameQuery>(near: &N, rect: &Rect, bottom: &Row, height: u32) -> bool
     requires solid { IsSolid rect.now }
     requires few { height ≤ 8 }
-    ensures { IsTrue result ↔ ((j : ℕ) → j < height → (s : Row) × Carries (N.of near.now) rect.now bottom.now j s) }
+    ensures { IsTrue result ↔ ((j : ℕ) → j < height → (s : Row) × Supports (N.of near.now) rect.now bottom.now j s) }
 {
     for sites in 0..height {
         if !is_carried(near, rect, bottom, sites) {

@@ -16,7 +16,7 @@ fn meets_one(rect: &Rect, others: &[Rect]) -> bool
 
 /// Whether the rectangle, in database units, shares a point with a soft blockage of the frame. It
 /// allocates nothing.
-pub fn meets_soft(frame: &Frame, rect: &Rect) -> bool
+pub fn overlaps_soft(frame: &Frame, rect: &Rect) -> bool
     ensures { IsTrue result ↔ MeetsSoft frame.now rect.now }
 {
     meets_one(rect, frame.soft.as_slice())

@@ -5,13 +5,13 @@ use Rattle.std.specs.Prelude.{Any, IfSome, IsPermutation, IsSomeAnd, None, Optio
 use Rattle.std.proofs.lemmas.Int.{ints, by_lt_z}
 use Rattle.std.proofs.lemmas.List.{get_or_default, take_more}
 use Rattle.std.proofs.lemmas.List.Sorted.{All-permutation, IsPermutation-sym}
-use Rattle.lf_units.specs.declared.area.Rect.{Rect}
+use Rattle.lf_units.specs.declared.geometry.Rect.{Rect}
 use Rattle.lf_units.specs.Area.{Covers, SharesPoint}
 use Rattle.lf_units.proofs.Any.{any_first, any_later, any_cases, any_parts, any_left, any_right, any_one, none_of_nothing}
 use Rattle.lf_spans.specs.declared.span.Span.{Span}
 use Rattle.lf_rtree.specs.declared.placed.Placed.{Placed}
-use Rattle.lf_spans.specs.Spans.{Holds, IsFilled, AreApart, LiesInOne, IsRising, IsFree, IsJoin, IsMeet}
-use Rattle.lf_segments.specs.Boxes.{across, AreSpansAt, AreUnder, IsCoveredAt, IsCoveredOver}
+use Rattle.lf_spans.specs.Spans.{Holds, IsFilled, AreApart, LiesInOneOf, IsRising, IsFree, IsJoin, IsMeet}
+use Rattle.lf_segments.specs.Boxes.{x_extent, AreSpansAt, AreUnder, IsCoveredAt, IsCoveredOver}
 
 -- the order of what is taken is nothing to what is free
 pub free_moved : (range : Span) (taken sorted free : List Span) → IsPermutation taken sorted → IsFree range sorted free → IsFree range taken free
@@ -35,26 +35,26 @@ passed : (boxes : List Placed) (k : ℕ) (d : Placed) → k < length boxes → t
 passed boxes k d within = take_more boxes k d within
 
 pub spans_more : (boxes : List Placed) (k : ℕ) (d : Placed) (y : ℤ) (spans : List Span) → k < length boxes → AreSpansAt (take k boxes) y spans →
-    (get_or boxes k d).rect.y1 ≤ℤ y → y <ℤ (get_or boxes k d).rect.y2 → AreSpansAt (take (k + 1) boxes) y (spans ++ across (get_or boxes k d).rect ∷ [])
+    (get_or boxes k d).rect.y1 ≤ℤ y → y <ℤ (get_or boxes k d).rect.y2 → AreSpansAt (take (k + 1) boxes) y (spans ++ x_extent (get_or boxes k d).rect ∷ [])
 spans_more boxes k d y spans within old bottom top =
     let p : Placed = get_or boxes k d in
-    let both : AreSpansAt (take k boxes ++ p ∷ []) y (spans ++ across p.rect ∷ []) = λ x. (
-      (λ h. elim (any_parts (λ t. Holds t x) spans (across p.rect ∷ []) h) [
+    let both : AreSpansAt (take k boxes ++ p ∷ []) y (spans ++ x_extent p.rect ∷ []) = λ x. (
+      (λ h. elim (any_parts (λ t. Holds t x) spans (x_extent p.rect ∷ []) h) [
         | inl early ↦ any_left (λ (q : Placed). Covers q.rect x y) (take k boxes) (p ∷ []) ((old x).0 early)
         | inr late ↦
-            let holds : Holds (across p.rect) x = any_one (λ t. Holds t x) (across p.rect) late in
+            let holds : Holds (x_extent p.rect) x = any_one (λ t. Holds t x) (x_extent p.rect) late in
             let covers : Covers p.rect x y = record { left = holds.low; right = holds.high; bottom = bottom; top = top } in
             any_right (λ (q : Placed). Covers q.rect x y) (take k boxes) (p ∷ []) (any_first (λ (q : Placed). Covers q.rect x y) p [] covers)
       ]),
       (λ h. elim (any_parts (λ (q : Placed). Covers q.rect x y) (take k boxes) (p ∷ []) h) [
-        | inl early ↦ any_left (λ t. Holds t x) spans (across p.rect ∷ []) ((old x).1 early)
+        | inl early ↦ any_left (λ t. Holds t x) spans (x_extent p.rect ∷ []) ((old x).1 early)
         | inr late ↦
             let covers : Covers p.rect x y = any_one (λ (q : Placed). Covers q.rect x y) p late in
-            let holds : Holds (across p.rect) x = record { low = covers.left; high = covers.right } in
-            any_right (λ t. Holds t x) spans (across p.rect ∷ []) (any_first (λ t. Holds t x) (across p.rect) [] holds)
+            let holds : Holds (x_extent p.rect) x = record { low = covers.left; high = covers.right } in
+            any_right (λ t. Holds t x) spans (x_extent p.rect ∷ []) (any_first (λ t. Holds t x) (x_extent p.rect) [] holds)
       ]),
     ) in
-    subst (λ (bs : List Placed). AreSpansAt bs y (spans ++ across p.rect ∷ [])) (sym (passed boxes k d within)) both
+    subst (λ (bs : List Placed). AreSpansAt bs y (spans ++ x_extent p.rect ∷ [])) (sym (passed boxes k d within)) both
 
 pub spans_skip : (boxes : List Placed) (k : ℕ) (d : Placed) (y : ℤ) (spans : List Span) → k < length boxes → AreSpansAt (take k boxes) y spans →
     ((((get_or boxes k d).rect.y1 ≤ℤ y) × (y <ℤ (get_or boxes k d).rect.y2)) → ⊥) → AreSpansAt (take (k + 1) boxes) y spans
@@ -83,12 +83,12 @@ covered_of boxes y free spans joined met at j m = record {
 
 pub record CoversSoFar (boxes : List Placed) (lower upper : ℤ) (last : Option Placed) (free covered : List Span) (k : ℕ) : Type 0 where
   pub rising : IsRising covered
-  pub in_free : (s : Span) → IsFilled s → LiesInOne covered s → LiesInOne free s
-  pub at_lower : (s : Span) → IsFilled s → LiesInOne covered s → AreUnder boxes lower s
-  pub at_last : (s : Span) → IsFilled s → LiesInOne covered s → IfSome last (λ p. AreUnder boxes p.rect.y2 s)
-  pub at_ends : (s : Span) → IsFilled s → LiesInOne covered s → (m : ℕ) (d : Placed) → m < k → (get_or boxes m d).rect.y2 <ℤ upper →
+  pub in_free : (s : Span) → IsFilled s → LiesInOneOf covered s → LiesInOneOf free s
+  pub at_lower : (s : Span) → IsFilled s → LiesInOneOf covered s → AreUnder boxes lower s
+  pub at_last : (s : Span) → IsFilled s → LiesInOneOf covered s → IfSome last (λ p. AreUnder boxes p.rect.y2 s)
+  pub at_ends : (s : Span) → IsFilled s → LiesInOneOf covered s → (m : ℕ) (d : Placed) → m < k → (get_or boxes m d).rect.y2 <ℤ upper →
       AreUnder boxes (get_or boxes m d).rect.y2 s
-  pub all : (s : Span) → IsFilled s → LiesInOne free s → ((y : ℤ) → lower ≤ℤ y → y <ℤ upper → AreUnder boxes y s) → LiesInOne covered s
+  pub all : (s : Span) → IsFilled s → LiesInOneOf free s → ((y : ℤ) → lower ≤ℤ y → y <ℤ upper → AreUnder boxes y s) → LiesInOneOf covered s
 
 pub covers_start : (boxes : List Placed) (lower upper : ℤ) (free covered : List Span) → lower <ℤ upper → IsCoveredAt boxes lower free covered →
     CoversSoFar boxes lower upper None free covered 0
@@ -158,7 +158,7 @@ covers_more boxes lower upper last free covered slice new k e within c from unde
     n : IsCoveredAt boxes (get_or boxes k e).rect.y2 covered new
     n = subst (λ (xs : List Span). IsCoveredAt boxes (get_or boxes k e).rect.y2 xs new) same at_slice
 
-    older : (s : Span) → IsFilled s → LiesInOne new s → LiesInOne covered s
+    older : (s : Span) → IsFilled s → LiesInOneOf new s → LiesInOneOf covered s
     older s g h = ((n.exact s g).0 h).0
 
 -- the last of the lower edge and the ends at y or below it: no box ends between it and y

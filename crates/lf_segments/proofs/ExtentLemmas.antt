@@ -4,10 +4,10 @@ use Rattle.std.proofs.Common.{◌<ℤ◌, arith, List, length, get_or, ◌*◌, 
 use Rattle.std.specs.Prelude.{All}
 use Rattle.std.proofs.lemmas.Int.{ints, clamps}
 use Rattle.std.proofs.lemmas.Option.{slice_get-get_or}
-use Rattle.lf_units.specs.declared.area.Point.{Point}
-use Rattle.lf_units.specs.declared.area.Rect.{Rect}
+use Rattle.lf_units.specs.declared.geometry.Point.{Point}
+use Rattle.lf_units.specs.declared.geometry.Rect.{Rect}
 use Rattle.lf_floorplan.specs.Bounds.{IsNearDefRect}
-use Rattle.lf_floorplan.specs.Rows.{IsHeeded, row_area}
+use Rattle.lf_floorplan.specs.Rows.{IsCoreRow, row_area}
 use Rattle.lf_floorplan.specs.declared.parts.Row.{Row}
 use Rattle.lf_floorplan.proofs.SizeBounds.{IsSmall}
 use Rattle.lf_segments.specs.Grounds.{IsInside, hull}
@@ -70,7 +70,7 @@ inside_through a b d p q = record {
 }
 
 -- a row of the frame begins at a coordinate of DEF, and ends near those
-pub area_near : (pitch : Point) (r : Row) → IsSmall pitch → IsHeeded pitch r → IsNearDefRect (row_area pitch r)
+pub area_near : (pitch : Point) (r : Row) → IsSmall pitch → IsCoreRow pitch r → IsNearDefRect (row_area pitch r)
 area_near pitch r small h = record {
   across = record { from = h.x_in_def; to = omega (arith, ints, h.ends); in_order = wider pitch.x r.sites small.wide };
   up = record { from = h.y_in_def; to = omega (arith, ints, h.y_in_def.most, small.y_small); in_order = omega (arith, ints, small.high) };

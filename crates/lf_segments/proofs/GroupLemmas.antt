@@ -9,19 +9,19 @@ use Rattle.std.proofs.lemmas.Option.{slice_get_within}
 use Rattle.std.proofs.lemmas.List.{get_or_default, get_or-take, get_or-drop, length-take, length-drop, length-map}
 use Rattle.std.proofs.lemmas.List.Elements.{All-contains, All-map, Contains-get_or}
 use Rattle.std.proofs.lemmas.List.Sorted.{All-permutation, Contains-permutation, IsPermutation-sym}
-use Rattle.lf_units.specs.declared.area.Rect.{Rect}
+use Rattle.lf_units.specs.declared.geometry.Rect.{Rect}
 use Rattle.lf_units.specs.Area.{Covers, SharesPoint}
 use Rattle.lf_units.proofs.Any.{has_item}
 use Rattle.lf_spans.specs.declared.span.Span.{Span}
 use Rattle.lf_rtree.specs.declared.placed.Placed.{Placed}
-use Rattle.lf_spans.specs.Spans.{Holds, IsFilled, AreApart, LiesInOne, IsFree}
+use Rattle.lf_spans.specs.Spans.{Holds, IsFilled, AreApart, LiesInOneOf, IsFree}
 use Rattle.lf_floorplan.specs.declared.frame.Frame.{Frame}
 use Rattle.lf_floorplan.specs.declared.parts.Row.{Row}
 use Rattle.lf_floorplan.specs.Rows.{row_area}
 use Rattle.lf_floorplan.specs.Ground.{InGround}
 use Rattle.lf_floorplan.proofs.GroundLemmas.{ground_one, ground_there}
 use Rattle.lf_segments.specs.Segments.{IsClearAt, IsOpen}
-use Rattle.lf_segments.specs.Boxes.{across, IsMetAt, Tell, AreBoxesOf, IsNextGroup, IsCoveredOver, AreClear, AreOpen}
+use Rattle.lf_segments.specs.Boxes.{x_extent, IsMetAt, DetermineCover, AreBoxesOf, IsNextGroup, IsCoveredOver, AreClear, AreOpen}
 
 -- ---- the next group of boxes that stand by their numbers
 
@@ -150,10 +150,10 @@ none_met near group least u g above from x y (k, p, within, is, (same, covers)) 
 
 -- ---- what is free beside boxes
 
-unmapped : (P : Span → Type 0) (boxes : List Placed) → All P (map (λ p. across p.rect) boxes) → All (λ p. P (across p.rect)) boxes
+unmapped : (P : Span → Type 0) (boxes : List Placed) → All P (map (λ p. x_extent p.rect) boxes) → All (λ p. P (x_extent p.rect)) boxes
 unmapped P boxes all k d within =
-    let long = length-map boxes (λ p. across p.rect) in
-    subst P (get_or-map (λ (p : Placed). across p.rect) boxes k d) (all k (across d.rect) (omega (arith, long, within)))
+    let long = length-map boxes (λ p. x_extent p.rect) in
+    subst P (get_or-map (λ (p : Placed). x_extent p.rect) boxes k d) (all k (x_extent d.rect) (omega (arith, long, within)))
 
 -- x lies in the range of the area, and no box covers a point of the area there
 pub record IsBeside (area : Rect) (boxes : List Placed) (x : ℤ) : Type 0 where
@@ -162,11 +162,11 @@ pub record IsBeside (area : Rect) (boxes : List Placed) (x : ℤ) : Type 0 where
   pub none : (y : ℤ) → Covers area x y → All (λ p. Covers p.rect x y → ⊥) boxes
 
 pub free_is_beside : (area : Rect) (boxes : List Placed) (free : List Span) → All (λ p. SharesPoint area p.rect) boxes →
-    IsFree (across area) (map (λ p. across p.rect) boxes) free → (s : Span) → IsFilled s → LiesInOne free s ↔ ((x : ℤ) → Holds s x → IsBeside area boxes x)
+    IsFree (x_extent area) (map (λ p. x_extent p.rect) boxes) free → (s : Span) → IsFilled s → LiesInOneOf free s ↔ ((x : ℤ) → Holds s x → IsBeside area boxes x)
 free_is_beside area boxes free near f s g = (
   λ h x holds.
       let both = (f.exact s g).0 h in
-      let inside : Holds (across area) x = both.0 x holds in
+      let inside : Holds (x_extent area) x = both.0 x holds in
       record {
         left = inside.low;
         right = inside.high;
@@ -174,7 +174,7 @@ free_is_beside area boxes free near f s g = (
       },
   λ each. (f.exact s g).1 (
     (λ x holds. let b = each x holds in record { low = b.left; high = b.right }),
-    All-map (λ t. AreApart s t) (λ (p : Placed). across p.rect) boxes (λ k d within x holds over.
+    All-map (λ t. AreApart s t) (λ (p : Placed). x_extent p.rect) boxes (λ k d within x holds over.
         let b = each x holds in
         let q : SharesPoint area (get_or boxes k d).rect = near k d within in
         let in_area : Covers area x q.y = record { left = b.left; right = b.right; bottom = q.in_first.bottom; top = q.in_first.top } in
@@ -199,7 +199,7 @@ moved_boxes f obstacles r boxes sorted moved b = record {
   known = All-permutation (λ p. p.own ≤ length f.teams) boxes sorted moved b.known;
   near = All-permutation (λ p. SharesPoint (row_area f.pitch r) p.rect) boxes sorted moved b.near;
   tell = λ x y covers.
-      let t : Tell f obstacles boxes x y = b.tell x y covers in
+      let t : DetermineCover f obstacles boxes x y = b.tell x y covers in
       record {
         fence = λ team is_fence. (
           λ ground. met boxes sorted moved team x y ((t.fence team is_fence).0 ground),
@@ -225,7 +225,7 @@ fences_alone f obstacles r near n teams many within fences rest b = record {
   known = λ k d inside. let low = own_below k d inside in omega (arith, low);
   near = λ k d inside. subst (λ (p : Placed). SharesPoint (row_area f.pitch r) p.rect) (sym (at k d inside)) (b.near k d (in_near k inside));
   tell = λ x y covers.
-      let t : Tell f obstacles near x y = b.tell x y covers in
+      let t : DetermineCover f obstacles near x y = b.tell x y covers in
       record {
         fence = λ team is_fence. (
           λ ground. first_met team x y is_fence ((t.fence team is_fence).0 ground),
@@ -283,7 +283,7 @@ none_of {P} rects never k d within p = never (has_item P rects (get_or rects k d
 
 pub clear_spans_of : (f : Frame) (obstacles : List Rect) (r : Row) (near boxes : List Placed) (free : List Span) → AreBoxesOf f obstacles r near →
     IsNextGroup near (length f.teams) boxes →
-    IsFree (across (row_area f.pitch r)) (map (λ p. across p.rect) boxes) free → AreClear f obstacles r free
+    IsFree (x_extent (row_area f.pitch r)) (map (λ p. x_extent p.rect) boxes) free → AreClear f obstacles r free
 clear_spans_of f obstacles r near boxes free b g is_free = record { rising = is_free.rising; exact = exact }
   where
     n : ℕ
@@ -303,7 +303,7 @@ clear_spans_of f obstacles r near boxes free b g is_free = record { rising = is_
     met : (x y : ℤ) → IsMetAt near n x y ↔ Any (λ p. Covers p.rect x y) boxes
     met = group_met near boxes n n g number (omega arith)
 
-    exact : (s : Span) → IsFilled s → LiesInOne free s ↔ ((x : ℤ) → Holds s x → IsClearAt f obstacles r x)
+    exact : (s : Span) → IsFilled s → LiesInOneOf free s ↔ ((x : ℤ) → Holds s x → IsClearAt f obstacles r x)
     exact s filled =
         let beside = free_is_beside (row_area f.pitch r) boxes free touch is_free s filled in (
           λ h x holds.
@@ -328,7 +328,7 @@ clear_spans_of f obstacles r near boxes free b g is_free = record { rising = is_
         )
 
 pub ground_spans_of : (f : Frame) (obstacles : List Rect) (r : Row) (near : List Placed) (free : List Span) → AreBoxesOf f obstacles r near →
-    IsFree (across (row_area f.pitch r)) (map (λ p. across p.rect) near) free → AreOpen f obstacles r (length f.teams) free
+    IsFree (x_extent (row_area f.pitch r)) (map (λ p. x_extent p.rect) near) free → AreOpen f obstacles r (length f.teams) free
 ground_spans_of f obstacles r near free b is_free = record { rising = is_free.rising; exact = exact }
   where
     n : ℕ
@@ -362,7 +362,7 @@ ground_spans_of f obstacles r near free b is_free = record { rising = is_free.ri
               All-contains (λ q. Covers q x y → ⊥) obstacles a.1 (o.clear.clear y covers) (a.0, a.2, a.3) a.4
         ]
 
-    exact : (s : Span) → IsFilled s → LiesInOne free s ↔ ((x : ℤ) → Holds s x → IsOpen f obstacles r n x)
+    exact : (s : Span) → IsFilled s → LiesInOneOf free s ↔ ((x : ℤ) → Holds s x → IsOpen f obstacles r n x)
     exact s filled =
         let beside = free_is_beside (row_area f.pitch r) near free b.near is_free s filled in (
           λ h x holds.
@@ -397,7 +397,7 @@ fence_spans_of f obstacles r near group least own area clear slice covered b g n
     met : (x y : ℤ) → IsMetAt near own x y ↔ Any (λ p. Covers p.rect x y) group
     met = group_met near group least own g number from
 
-    exact : (s : Span) → IsFilled s → LiesInOne covered s ↔ ((x : ℤ) → Holds s x → IsOpen f obstacles r own x)
+    exact : (s : Span) → IsFilled s → LiesInOneOf covered s ↔ ((x : ℤ) → Holds s x → IsOpen f obstacles r own x)
     exact s filled = (
       λ h x holds.
           let both = (co.exact s filled).0 h in

@@ -5,17 +5,17 @@ use Rattle.std.specs.Prelude.{All, Contains}
 use Rattle.std.proofs.Math.Nat.{suc-mul}
 use Rattle.std.proofs.lemmas.Int.{ints}
 use Rattle.std.proofs.lemmas.Option.{slice_get-get_or}
-use Rattle.lf_units.specs.declared.area.Rect.{Rect}
+use Rattle.lf_units.specs.declared.geometry.Rect.{Rect}
 use Rattle.lf_units.specs.Area.{Covers, SharesPoint}
 use Rattle.lf_spans.specs.Spans.{Holds}
 use Rattle.lf_floorplan.specs.declared.frame.Frame.{Frame}
 use Rattle.lf_floorplan.specs.declared.parts.Row.{Row}
 use Rattle.lf_floorplan.specs.Rows.{row_area}
 use Rattle.lf_floorplan.specs.Ground.{StaysInGround}
-use Rattle.lf_floorplan.specs.Standing.{IsSitesHigh, IsBottomRow, IsRowOfBox, Carries, StandsOn}
+use Rattle.lf_floorplan.specs.Standing.{IsSitesHigh, IsBottomRow, IsRowOfBox, Supports, RestsOnRows}
 use Rattle.lf_segments.specs.declared.segment.Segment.{Segment}
 use Rattle.lf_segments.specs.Segments.{IsOpen, IsCutBeside, LiesInSegment}
-use Rattle.lf_segments.specs.Boxes.{across}
+use Rattle.lf_segments.specs.Boxes.{x_extent}
 use Rattle.lf_segments.specs.Laws.{LiesInSegments}
 
 -- one height more
@@ -63,7 +63,7 @@ level_of p low y high (suc k) from below = elim order [
     order = grind (arith, ints)
 
 -- the points of a row that carries the box, over the box's x range, are points of the box
-point_of_row : (f : Frame) (box : Rect) (k j : ℕ) (r : Row) (x y : ℤ) → IsSitesHigh f box k → j < k → IsRowOfBox f box j r → Holds (across box) x →
+point_of_row : (f : Frame) (box : Rect) (k j : ℕ) (r : Row) (x y : ℤ) → IsSitesHigh f box k → j < k → IsRowOfBox f box j r → Holds (x_extent box) x →
     Covers (row_area f.pitch r) x y → Covers box x y
 point_of_row f box k j r x y high less at holds covers =
     let p : ℤ = f.pitch.y in
@@ -94,10 +94,10 @@ point_in_row f box j r x y at covers from below =
 row_at : (f : Frame) (s : Row) → Contains f.rows s → (n : ℕ) × (slice_get f.rows n ≡ Some s)
 row_at f s (n, within, is) = (n, slice_get-get_or f.rows n s within ∙ ap (λ (r : Row). Some r) is)
 
-pub segments_hold : (f : Frame) (obstacles : List Rect) (segments : List Segment) (team : ℕ) (box : Rect) → IsCutBeside f obstacles segments → StandsOn f box → box.x1 <ℤ box.x2 →
+pub segments_hold : (f : Frame) (obstacles : List Rect) (segments : List Segment) (team : ℕ) (box : Rect) → IsCutBeside f obstacles segments → RestsOnRows f box → box.x1 <ℤ box.x2 →
     StaysInGround f team box → All (λ o. SharesPoint box o → ⊥) obstacles → LiesInSegments f segments team box
 segments_hold f obstacles segments team box cut stands wide ground clear k bottom j n r high at_bottom less is carries =
-    (cut.exact n r team (across box) is wide).1 (λ x holds. record {
+    (cut.exact n r team (x_extent box) is wide).1 (λ x holds. record {
       clear = record {
         left = let a = carries.at_row.left in let b = holds.low in omega (arith, ints, a, b);
         right = let a = carries.at_row.right in let b = holds.high in omega (arith, ints, a, b);
@@ -113,11 +113,11 @@ pub record InSegment (f : Frame) (segments : List Segment) (team : ℕ) (box : R
   pub number : ℕ
   pub row : Row
   pub stands : slice_get f.rows number ≡ Some row
-  pub lies : LiesInSegment segments number team (across box)
+  pub lies : LiesInSegment segments number team (x_extent box)
   pub covers : Covers (row_area f.pitch row) x y
 
 -- so does each point of a box that stands on rows and lies in segments
-pub in_segment : (f : Frame) (segments : List Segment) (team : ℕ) (box : Rect) → StandsOn f box → LiesInSegments f segments team box →
+pub in_segment : (f : Frame) (segments : List Segment) (team : ℕ) (box : Rect) → RestsOnRows f box → LiesInSegments f segments team box →
     (x y : ℤ) → Covers box x y → InSegment f segments team box x y
 in_segment f segments team box stands lies x y covers =
     let k = stands.height.0 in
@@ -128,7 +128,7 @@ in_segment f segments team box stands lies x y covers =
     level_of f.pitch.y box.y1 y f.pitch_whole.high k covers.bottom (subst (λ (t : ℤ). y <ℤ t) high.high covers.top) in
     let carried = stands.stand k bottom high at_bottom l.j l.less in
     let row : Row = carried.0 in
-    let carries : Carries f box bottom l.j row = carried.1 in
+    let carries : Supports f box bottom l.j row = carried.1 in
     let place = row_at f row carries.heeded in
     record {
       number = place.0;
@@ -144,17 +144,17 @@ record OpenPoint (f : Frame) (obstacles : List Rect) (team : ℕ) (x y : ℤ) : 
   there : IsOpen f obstacles row team x
   covers : Covers (row_area f.pitch row) x y
 
-open_point : (f : Frame) (obstacles : List Rect) (segments : List Segment) (team : ℕ) (box : Rect) → IsCutBeside f obstacles segments → StandsOn f box → box.x1 <ℤ box.x2 →
+open_point : (f : Frame) (obstacles : List Rect) (segments : List Segment) (team : ℕ) (box : Rect) → IsCutBeside f obstacles segments → RestsOnRows f box → box.x1 <ℤ box.x2 →
     LiesInSegments f segments team box → (x y : ℤ) → Covers box x y → OpenPoint f obstacles team x y
 open_point f obstacles segments team box cut stands wide lies x y covers =
     let i = in_segment f segments team box stands lies x y covers in
     record {
       row = i.row;
-      there = (cut.exact i.number i.row team (across box) i.stands wide).0 i.lies x record { low = covers.left; high = covers.right };
+      there = (cut.exact i.number i.row team (x_extent box) i.stands wide).0 i.lies x record { low = covers.left; high = covers.right };
       covers = i.covers;
     }
 
-pub segments_suffice : (f : Frame) (obstacles : List Rect) (segments : List Segment) (team : ℕ) (box : Rect) → IsCutBeside f obstacles segments → StandsOn f box → box.x1 <ℤ box.x2 →
+pub segments_suffice : (f : Frame) (obstacles : List Rect) (segments : List Segment) (team : ℕ) (box : Rect) → IsCutBeside f obstacles segments → RestsOnRows f box → box.x1 <ℤ box.x2 →
     LiesInSegments f segments team box → StaysInGround f team box × All (λ o. SharesPoint box o → ⊥) obstacles
 segments_suffice f obstacles segments team box cut stands wide lies = (
   λ x y covers. let o = open_point f obstacles segments team box cut stands wide lies x y covers in o.there.ground y o.covers,

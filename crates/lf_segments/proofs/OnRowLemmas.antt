@@ -8,25 +8,25 @@ use Rattle.std.proofs.Math.Nat.{mul-le-mul_right}
 use Rattle.std.proofs.lemmas.Int.{ints}
 use Rattle.std.proofs.lemmas.List.Elements.{All-contains, All-nil}
 use Rattle.std.proofs.lemmas.Option.{get_or_from_slice_get, slice_get-get_or, slice_get_within}
-use Rattle.lf_units.specs.declared.area.Rect.{Rect}
+use Rattle.lf_units.specs.declared.geometry.Rect.{Rect}
 use Rattle.lf_units.specs.Area.{SharesPoint}
 use Rattle.lf_spans.specs.Spans.{Holds, LiesIn}
-use Rattle.lf_spans.specs.Steps.{In}
+use Rattle.lf_spans.specs.Steps.{ContainsSpan}
 use Rattle.lf_spans.proofs.Edges.{in_of_lies}
 use Rattle.lf_floorplan.specs.declared.frame.Frame.{Frame}
 use Rattle.lf_floorplan.specs.declared.parts.Row.{Row}
 use Rattle.lf_floorplan.specs.Bounds.{IsDefNumber}
 use Rattle.lf_floorplan.specs.Ground.{IsClear, StaysInGround}
-use Rattle.lf_floorplan.specs.Rows.{IsHeeded, row_area}
-use Rattle.lf_floorplan.specs.Standing.{Carries, ExtendsOver, IsBottomRow, IsRowOfBox, IsSitesHigh, StandsOn}
+use Rattle.lf_floorplan.specs.Rows.{IsCoreRow, row_area}
+use Rattle.lf_floorplan.specs.Standing.{Supports, ExtendsOver, IsBottomRow, IsRowOfBox, IsSitesHigh, RestsOnRows}
 use Rattle.lf_floorplan.proofs.RowAtLemmas.{row_at_one}
 use Rattle.lf_segments.specs.declared.rows_by_y.RowEntry.{RowEntry}
 use Rattle.lf_segments.specs.declared.segment.Segment.{Segment}
-use Rattle.lf_segments.specs.Boxes.{across}
-use Rattle.lf_segments.specs.Grounds.{IsGroundOf, Lookups}
-use Rattle.lf_segments.specs.Laws.{CutIsOne, LiesAt, LiesInSegments, SegmentsDecide}
+use Rattle.lf_segments.specs.Boxes.{x_extent}
+use Rattle.lf_segments.specs.Grounds.{IsIndexOf, FrameIndexView}
+use Rattle.lf_segments.specs.Laws.{CutIsUnique, LiesAt, LiesInSegments, SegmentsDecide}
 use Rattle.lf_segments.specs.Plans.{IsSoftOf}
-use Rattle.lf_segments.specs.RowsByY.{BeginsBy, IsEntryOf, IsLastAt, IsRowsByY}
+use Rattle.lf_segments.specs.RowsByY.{BeginsUpTo, IsEntryOf, IsLastAt, IsRowsByY}
 use Rattle.lf_segments.specs.Segments.{ComesBefore, IsAt, IsCutBeside, LiesInSegment}
 use Rattle.lf_segments.proofs.OneLemmas.{one_at}
 
@@ -53,7 +53,7 @@ record HasEntry (f : Frame) (es : List RowEntry) (y x : ℤ) (r : Row) : Type 0 
   entry : RowEntry
   there : Contains es entry
   left : entry.x ≡ r.x
-  begins : BeginsBy y x entry
+  begins : BeginsUpTo y x entry
 
 has_entry : (f : Frame) (es : List RowEntry) (y x : ℤ) (n : ℕ) (r : Row) → IsRowsByY f es → slice_get f.rows n ≡ Some r → ExtendsOver f y x r →
     HasEntry f es y x r
@@ -68,10 +68,10 @@ has_entry f es y x n r rows stands over =
     let left = over.left in
     record { entry = e; there = there; left = same; begins = record { at_level = at.level ∙ over.at_level; left = omega (arith, ints, same, left) } }
 
-pub no_row : (f : Frame) (es : List RowEntry) (y x : ℤ) → IsRowsByY f es → All (λ e. BeginsBy y x e → ⊥) es → All (λ r. ExtendsOver f y x r → ⊥) f.rows
+pub no_row : (f : Frame) (es : List RowEntry) (y x : ℤ) → IsRowsByY f es → All (λ e. BeginsUpTo y x e → ⊥) es → All (λ r. ExtendsOver f y x r → ⊥) f.rows
 no_row f es y x rows none k d within over =
     let h = has_entry f es y x k (get_or f.rows k d) rows (slice_get-get_or f.rows k d within) over in
-    All-contains (λ e. BeginsBy y x e → ⊥) es h.entry none h.there h.begins
+    All-contains (λ e. BeginsUpTo y x e → ⊥) es h.entry none h.there h.begins
 
 some_sites : (sites : ℕ) (p : ℤ) → 1 ≤ sites → pos 0 <ℤ p → pos 0 <ℤ (pos sites *ℤ p)
 some_sites sites (pos n) least wide =
@@ -81,13 +81,13 @@ some_sites sites (negsuc n) least wide = absurd (omega (arith, ints, wide))
 
 -- where the last row that does not begin right of x ends by x, no row extends over x
 pub ended_row : (f : Frame) (es : List RowEntry) (y x : ℤ) (e : RowEntry) (r : Row) → IsRowsByY f es → IsLastAt es y x e → slice_get f.rows e.row ≡ Some r →
-    IsHeeded f.pitch r → (row_area f.pitch r).x2 ≤ℤ x → All (λ r. ExtendsOver f y x r → ⊥) f.rows
+    IsCoreRow f.pitch r → (row_area f.pitch r).x2 ≤ℤ x → All (λ r. ExtendsOver f y x r → ⊥) f.rows
 ended_row f es y x e r rows last stands heeded ended k d within over =
     let s : Row = get_or f.rows k d in
     let at_k : slice_get f.rows k ≡ Some s = slice_get-get_or f.rows k d within in
     let h = has_entry f es y x k s rows at_k over in
     let at : IsCorner e r = corner f e r (All-contains (IsEntryOf f) es e rows.known last.there) stands in
-    let beyond : h.entry.x ≤ℤ e.x = All-contains (λ o. BeginsBy y x o → o.x ≤ℤ e.x) es h.entry last.last h.there h.begins in
+    let beyond : h.entry.x ≤ℤ e.x = All-contains (λ o. BeginsUpTo y x o → o.x ≤ℤ e.x) es h.entry last.last h.there h.begins in
     let same = at.left in
     let other = h.left in
     let by = last.begins.left in
@@ -128,20 +128,20 @@ here_of xs row team n x g at stands =
     record { there = (n, slice_get_within xs n g stands, is); at = subst (IsAt row team x) is (at g) }
 
 pub lies_of_end : (xs : List Segment) (row team n : ℕ) (g : Segment) (box : Rect) → ((d : Segment) → IsAt row team box.x1 (get_or xs n d)) →
-    slice_get xs n ≡ Some g → box.x2 ≤ℤ g.span.hi → LiesInSegment xs row team (across box)
+    slice_get xs n ≡ Some g → box.x2 ≤ℤ g.span.hi → LiesInSegment xs row team (x_extent box)
 lies_of_end xs row team n g box at stands ends =
     let h = here_of xs row team n box.x1 g at stands in
     let from = h.at.holds.low in
-    let lies : LiesIn (across box) g.span =
+    let lies : LiesIn (x_extent box) g.span =
     λ x k. let low = k.low in let high = k.high in record { low = omega (arith, ints, from, low); high = omega (arith, ints, high, ends) } in
     (h.there.0, g, h.there.1, h.there.2, (h.at.of, lies))
 
 pub end_of_lies : (xs : List Segment) (row team n : ℕ) (g : Segment) (box : Rect) → AllPairs ComesBefore xs → box.x1 <ℤ box.x2 →
-    ((d : Segment) → IsAt row team box.x1 (get_or xs n d)) → slice_get xs n ≡ Some g → LiesInSegment xs row team (across box) → box.x2 ≤ℤ g.span.hi
+    ((d : Segment) → IsAt row team box.x1 (get_or xs n d)) → slice_get xs n ≡ Some g → LiesInSegment xs row team (x_extent box) → box.x2 ≤ℤ g.span.hi
 end_of_lies xs row team n g box pairs wide at stands (k, other, inside, is, both) =
     let h = here_of xs row team n box.x1 g at stands in
     let of = both.0 in
-    let i : In (across box) other.span = in_of_lies (across box) other.span wide both.1 in
+    let i : ContainsSpan (x_extent box) other.span = in_of_lies (x_extent box) other.span wide both.1 in
     let low = i.low in
     let high = i.high in
     let holds : Holds other.span box.x1 = record { low = low; high = omega (arith, ints, wide, high) } in
@@ -162,17 +162,17 @@ there_of None P h = absurd h
 there_of (Some r) P h = record { row = r; is = refl; has = h }
 
 pub lies_at_row : (f : Frame) (xs : List Segment) (team n : ℕ) (box : Rect) (y : ℤ) → IsSomeAnd (slice_get f.rows n) (ExtendsOver f y box.x1) →
-    LiesInSegment xs n team (across box) → LiesAt f xs team box y
+    LiesInSegment xs n team (x_extent box) → LiesAt f xs team box y
 lies_at_row f xs team n box y some lies =
     let t = there_of (slice_get f.rows n) (ExtendsOver f y box.x1) some in
     record { number = n; row = t.row; stands = t.is; extends = t.has; lies = lies }
 
 pub at_row_lies : (f : Frame) (xs : List Segment) (team n : ℕ) (box : Rect) (y : ℤ) → IsSomeAnd (slice_get f.rows n) (ExtendsOver f y box.x1) →
-    LiesAt f xs team box y → LiesInSegment xs n team (across box)
+    LiesAt f xs team box y → LiesInSegment xs n team (x_extent box)
 at_row_lies f xs team n box y some l =
     let t = there_of (slice_get f.rows n) (ExtendsOver f y box.x1) some in
     let same : l.number ≡ n = row_at_one f y box.x1 l.number n l.row t.row l.stands t.is l.extends t.has in
-    subst (λ (k : ℕ). LiesInSegment xs k team (across box)) same l.lies
+    subst (λ (k : ℕ). LiesInSegment xs k team (x_extent box)) same l.lies
 
 pub no_row_lies : (f : Frame) (xs : List Segment) (team : ℕ) (box : Rect) (y : ℤ) → All (λ r. ExtendsOver f y box.x1 r → ⊥) f.rows → LiesAt f xs team box y → ⊥
 no_row_lies f xs team box y none l =
@@ -182,11 +182,11 @@ no_row_lies f xs team box y none l =
 -- ---- all rows of the box
 
 -- the lower edge of a box on rows is a coordinate of DEF
-pub starts_in_def : (f : Frame) (box : Rect) → StandsOn f box → IsDefNumber box.y1
+pub starts_in_def : (f : Frame) (box : Rect) → RestsOnRows f box → IsDefNumber box.y1
 starts_in_def f box stands =
     let r : Row = stands.row.0 in
     let bottom : IsBottomRow f box r = stands.row.1 in
-    let heeded : IsHeeded f.pitch r = All-contains (IsHeeded f.pitch) f.rows r f.rows_heeded bottom.heeded in
+    let heeded : IsCoreRow f.pitch r = All-contains (IsCoreRow f.pitch) f.rows r f.rows_heeded bottom.heeded in
     let level = bottom.at_bottom.at_level in
     let above = heeded.y_in_def.above in
     let most = heeded.y_in_def.most in
@@ -209,7 +209,7 @@ all_lie f xs team box level wide lies most k bottom j n r high at_bottom less st
     let l = lies j (omega (arith, less, bound)) in
     let same : l.number ≡ n =
     row_at_one f (box.y1 +ℤ (pos j *ℤ f.pitch.y)) box.x1 l.number n l.row r l.stands stands l.extends (extends_of f box j r wide carries.at_row) in
-    subst (λ (m : ℕ). LiesInSegment xs m team (across box)) same l.lies
+    subst (λ (m : ℕ). LiesInSegment xs m team (x_extent box)) same l.lies
 
 -- a number of heights that is not higher is not more
 not_more : (p : ℤ) → pos 0 <ℤ p → (k n : ℕ) → (pos k *ℤ p) ≤ℤ (pos n *ℤ p) → k ≤ n
@@ -230,13 +230,13 @@ ends_by_level f box level ends k high =
     not_more f.pitch.y f.pitch_whole.high k level (omega (arith, ints, ends, whole))
 
 -- where the row at a level below the box's height does not have it in a segment, the box does not lie in segments
-pub level_lies : (f : Frame) (xs : List Segment) (team : ℕ) (box : Rect) (level : ℕ) → box.x1 <ℤ box.x2 → StandsOn f box →
+pub level_lies : (f : Frame) (xs : List Segment) (team : ℕ) (box : Rect) (level : ℕ) → box.x1 <ℤ box.x2 → RestsOnRows f box →
     (box.y1 +ℤ (pos level *ℤ f.pitch.y)) <ℤ box.y2 → LiesInSegments f xs team box → LiesAt f xs team box (box.y1 +ℤ (pos level *ℤ f.pitch.y))
 level_lies f xs team box level wide stands under lies = elim order [
   | inl less ↦
       let carried = stands.stand k bottom high at_bottom level less in
       let s : Row = carried.0 in
-      let carries : Carries f box bottom level s = carried.1 in
+      let carries : Supports f box bottom level s = carried.1 in
       let place : Contains f.rows s = carries.heeded in
       let there : slice_get f.rows place.0 ≡ Some s = slice_get-get_or f.rows place.0 s place.1 ∙ ap (λ (r : Row). Some r) place.2 in
       record {
@@ -276,13 +276,13 @@ level_lies f xs team box level wide stands under lies = elim order [
 
 -- ---- what that says of ground and obstacles
 
-pub ground_of : (f : Frame) (xs : List Segment) (team : ℕ) (box : Rect) (b : Bool) → SegmentsDecide → IsCutBeside f [] xs → StandsOn f box → box.x1 <ℤ box.x2 →
+pub ground_of : (f : Frame) (xs : List Segment) (team : ℕ) (box : Rect) (b : Bool) → SegmentsDecide → IsCutBeside f [] xs → RestsOnRows f box → box.x1 <ℤ box.x2 →
     (IsTrue b ↔ LiesInSegments f xs team box) → (IsTrue b ↔ StaysInGround f team box)
 ground_of f xs team box b decide cut stands wide answer =
     let both = decide f [] xs team box cut stands wide in
     (λ yes. (both.1 (answer.0 yes)).0, λ inside. answer.1 (both.0 (inside, All-nil (λ o. SharesPoint box o → ⊥))))
 
-pub clear_of : (f : Frame) (xs : List Segment) (team : ℕ) (box : Rect) (b : Bool) → SegmentsDecide → IsCutBeside f f.obstacles xs → StandsOn f box →
+pub clear_of : (f : Frame) (xs : List Segment) (team : ℕ) (box : Rect) (b : Bool) → SegmentsDecide → IsCutBeside f f.obstacles xs → RestsOnRows f box →
     box.x1 <ℤ box.x2 → StaysInGround f team box → (IsTrue b ↔ LiesInSegments f xs team box) → (IsTrue b ↔ IsClear f box)
 clear_of f xs team box b decide cut stands wide inside answer =
     let both = decide f f.obstacles xs team box cut stands wide in
@@ -302,7 +302,7 @@ past_end xs n none = elim order [
     order : (length xs ≤ n) ⊎ (n < length xs)
     order = grind arith
 
-pub soft_of_ground : (f : Frame) (g : Lookups) (n : ℕ) → CutIsOne → IsGroundOf f g → IsSoftOf f n (get_or g.soft n [])
+pub soft_of_ground : (f : Frame) (g : FrameIndexView) (n : ℕ) → CutIsUnique → IsIndexOf f g → IsSoftOf f n (get_or g.soft n [])
 soft_of_ground f g n one is = record {
   there = λ xs s cut stands.
       is.soft.each n s (subst (λ (ys : List Segment). slice_get ys n ≡ Some s) (one f f.obstacles xs g.segments cut is.segments) stands);

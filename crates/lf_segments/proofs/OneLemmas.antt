@@ -4,9 +4,9 @@ use Rattle.std.specs.Prelude.{All, AllPairs, Contains}
 use Rattle.std.proofs.lemmas.Int.{ints}
 use Rattle.std.proofs.lemmas.List.{get_or_default}
 use Rattle.std.proofs.lemmas.List.Elements.{All-contains, All-head, All-tail, All-weaker}
-use Rattle.lf_units.specs.declared.area.Rect.{Rect}
+use Rattle.lf_units.specs.declared.geometry.Rect.{Rect}
 use Rattle.lf_spans.specs.Spans.{Holds, IsFilled, LiesIn}
-use Rattle.lf_spans.specs.Steps.{In}
+use Rattle.lf_spans.specs.Steps.{ContainsSpan}
 use Rattle.lf_spans.proofs.Edges.{in_of_lies}
 use Rattle.lf_floorplan.specs.declared.frame.Frame.{Frame}
 use Rattle.lf_floorplan.specs.declared.parts.Row.{Row}
@@ -86,8 +86,8 @@ in_other f obstacles a b first second g there =
     one_at a g back.1 g.span.lo first.in_order there (back.0, back.2, back.3) (sym back.4.0.in_row) (sym back.4.0.of_team) start
     (outer g.span.lo (inner g.span.lo start)) in
     let outer_g : LiesIn h.span g.span = subst (λ (v : Segment). LiesIn h.span v.span) (sym one) outer in
-    let less : In g.span h.span = in_of_lies g.span h.span known.filled inner in
-    let more : In h.span g.span = in_of_lies h.span g.span h_known.filled outer_g in
+    let less : ContainsSpan g.span h.span = in_of_lies g.span h.span known.filled inner in
+    let more : ContainsSpan h.span g.span = in_of_lies h.span g.span h_known.filled outer_g in
     let whole : h ≡ g = same_segment h g same_row same_team (omega (arith, ints, less.low, more.low)) (omega (arith, ints, less.high, more.high)) in
     subst (Contains b) whole in_b
 

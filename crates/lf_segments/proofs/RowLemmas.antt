@@ -8,9 +8,9 @@ use Rattle.std.proofs.lemmas.Option.{slice_get_within}
 use Rattle.std.proofs.lemmas.List.{get_or_default, get_or_append_left, get_or-append_right, length-append, length-map}
 use Rattle.std.proofs.lemmas.List.Elements.{All-nil, All-append, All-weaker, All-map}
 use Rattle.lf_units.proofs.Any.{any_parts, any_left, any_right, any_map, any_mapped}
-use Rattle.lf_units.specs.declared.area.Rect.{Rect}
+use Rattle.lf_units.specs.declared.geometry.Rect.{Rect}
 use Rattle.lf_spans.specs.declared.span.Span.{Span}
-use Rattle.lf_spans.specs.Spans.{Holds, IsFilled, LiesIn, LiesInOne}
+use Rattle.lf_spans.specs.Spans.{Holds, IsFilled, LiesIn, LiesInOneOf}
 use Rattle.lf_floorplan.specs.declared.frame.Frame.{Frame}
 use Rattle.lf_floorplan.specs.declared.parts.Row.{Row}
 use Rattle.lf_segments.specs.declared.segment.Segment.{Segment}
@@ -46,13 +46,13 @@ pairs_append {X} R xs ys first second across i j d less within = elim (side i) [
 
 -- ---- a span in segments of a row
 
-in_map : (number team : ℕ) (spans : List Span) (s : Span) → LiesInOne spans s → LiesInSegment (map (segment_of number team) spans) number team s
+in_map : (number team : ℕ) (spans : List Span) (s : Span) → LiesInOneOf spans s → LiesInSegment (map (segment_of number team) spans) number team s
 in_map number team spans s a =
     any_map (segment_of number team) (λ g. IsOf number team g × LiesIn s g.span) spans
     (a.0, a.1, a.2, a.3, (record { in_row = refl; of_team = refl }, a.4))
 
 of_map : (number team : ℕ) (spans : List Span) (row u : ℕ) (s : Span) → LiesInSegment (map (segment_of number team) spans) row u s →
-    (number ≡ row) × (team ≡ u) × LiesInOne spans s
+    (number ≡ row) × (team ≡ u) × LiesInOneOf spans s
 of_map number team spans row u s a =
     let b = any_mapped (segment_of number team) (λ g. IsOf row u g × LiesIn s g.span) spans a in
     let at : IsOf row u (segment_of number team b.1) = b.4.0 in

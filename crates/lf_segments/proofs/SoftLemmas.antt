@@ -9,7 +9,7 @@ use Rattle.std.proofs.lemmas.List.{drop-append-le, take-append-le}
 use Rattle.std.proofs.lemmas.List.Elements.{All-contains, All-tail}
 use Rattle.std.proofs.lemmas.List.Sorted.{Contains-permutation, IsPermutation-sym}
 use Rattle.std.proofs.lemmas.Option.{slice_get_within, get_or_from_slice_get}
-use Rattle.lf_units.specs.declared.area.Rect.{Rect}
+use Rattle.lf_units.specs.declared.geometry.Rect.{Rect}
 use Rattle.lf_units.specs.Area.{Covers, SharesPoint}
 use Rattle.lf_units.proofs.Any.{any_first, any_map, any_mapped, any_one, has_item}
 use Rattle.lf_spans.specs.declared.span.Span.{Span}
@@ -20,7 +20,7 @@ use Rattle.lf_rtree.proofs.Nears.{each_near, only_near}
 use Rattle.lf_floorplan.specs.declared.frame.Frame.{Frame}
 use Rattle.lf_segments.specs.declared.segment.Segment.{Segment}
 use Rattle.lf_segments.specs.declared.strip.Strip.{Strip}
-use Rattle.lf_segments.specs.Boxes.{across, numbered}
+use Rattle.lf_segments.specs.Boxes.{x_extent, numbered}
 use Rattle.lf_segments.specs.Grounds.{AreSoft}
 use Rattle.lf_segments.specs.Soft.{AreMetSpans, AreSoftIn, AreSoftOver, IsSoftAt, pieces, soft_boxes}
 use Rattle.lf_segments.specs.Strips.{strip_of}
@@ -111,19 +111,19 @@ pieces_more spans more (a ∷ rest) within =
 
 -- ---- what soft blockages cover of a strip
 
-pub spans_met_of : (area : Rect) (boxes : List Placed) (joined met : List Span) → IsJoin (map (λ p. across p.rect) boxes) joined →
-    IsMeet (across area ∷ []) joined met → AreMetSpans area boxes met
+pub spans_met_of : (area : Rect) (boxes : List Placed) (joined met : List Span) → IsJoin (map (λ p. x_extent p.rect) boxes) joined →
+    IsMeet (x_extent area ∷ []) joined met → AreMetSpans area boxes met
 spans_met_of area boxes joined met j m = record {
   rising = m.rising;
   exact = λ s filled. (
     λ h.
         let both = (m.exact s filled).0 h in (
-          any_one (λ t. LiesIn s t) (across area) both.0,
-          λ x holds. any_mapped (λ (p : Placed). across p.rect) (λ t. Holds t x) boxes ((j.exact s filled).0 both.1 x holds),
+          any_one (λ t. LiesIn s t) (x_extent area) both.0,
+          λ x holds. any_mapped (λ (p : Placed). x_extent p.rect) (λ t. Holds t x) boxes ((j.exact s filled).0 both.1 x holds),
         ),
     λ h. (m.exact s filled).1 (
-      any_first (λ t. LiesIn s t) (across area) [] h.0,
-      (j.exact s filled).1 (λ x holds. any_map (λ (p : Placed). across p.rect) (λ t. Holds t x) boxes (h.1 x holds)),
+      any_first (λ t. LiesIn s t) (x_extent area) [] h.0,
+      (j.exact s filled).1 (λ x holds. any_map (λ (p : Placed). x_extent p.rect) (λ t. Holds t x) boxes (h.1 x holds)),
     ),
   );
 }
@@ -138,7 +138,7 @@ soft_of f area tree near spans moved n m = record {
   );
 }
   where
-    soft_there : (x : ℤ) → Holds (across area) x → Any (λ p. Holds (across p.rect) x) near → IsSoftAt f area x
+    soft_there : (x : ℤ) → Holds (x_extent area) x → Any (λ p. Holds (x_extent p.rect) x) near → IsSoftAt f area x
     soft_there x in_area (k, p, within, is, over) =
         let there : Contains near p = (k, within, is) in
         let found = All-contains (λ q. Contains tree q × SharesPoint area q.rect) near p (only_near tree area near n) there in
@@ -153,7 +153,7 @@ soft_of f area tree near spans moved n m = record {
               record { left = over.low; right = over.high; bottom = touch.in_second.bottom; top = touch.in_second.top };
         }
 
-    met_there : (x : ℤ) → Holds (across area) x → IsSoftAt f area x → Any (λ p. Holds (across p.rect) x) near
+    met_there : (x : ℤ) → Holds (x_extent area) x → IsSoftAt f area x → Any (λ p. Holds (x_extent p.rect) x) near
     met_there x in_area h =
         let a = h.soft in
         let r : Rect = a.1 in
@@ -163,7 +163,7 @@ soft_of f area tree near spans moved n m = record {
         let inside : Contains near (numbered 0 r) =
         All-contains (λ q. SharesPoint area q.rect → Contains near q) tree (numbered 0 r) (each_near tree area near n) there
         record { x = x; y = h.y; in_first = h.covers; in_second = covers } in
-        has_item (λ p. Holds (across p.rect) x) near (numbered 0 r) inside record { low = covers.left; high = covers.right }
+        has_item (λ p. Holds (x_extent p.rect) x) near (numbered 0 r) inside record { low = covers.left; high = covers.right }
 
 -- one more strip
 pub soft_more : (f : Frame) (strips : List Strip) (k : ℕ) (d : Strip) (old new : List (List Span)) (more : List Span) → k < length strips →

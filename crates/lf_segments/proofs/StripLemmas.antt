@@ -10,7 +10,7 @@ use Rattle.std.proofs.lemmas.Option.{slice_get-get_or}
 use Rattle.lf_spans.specs.Spans.{Holds}
 use Rattle.lf_floorplan.specs.declared.frame.Frame.{Frame}
 use Rattle.lf_floorplan.specs.declared.parts.Row.{Row}
-use Rattle.lf_floorplan.specs.Rows.{IsHeeded}
+use Rattle.lf_floorplan.specs.Rows.{IsCoreRow}
 use Rattle.lf_segments.specs.declared.segment.Segment.{Segment}
 use Rattle.lf_segments.specs.declared.rows_by_y.RowEntry.{RowEntry}
 use Rattle.lf_segments.specs.declared.strip.Strip.{Strip}
@@ -64,7 +64,7 @@ strip_placed f segments rows height same cut by_y k d within = record {
     stands : slice_get f.rows g.row ≡ Some row
     stands = slice_get-get_or f.rows g.row (some_row f.rows g.row known.row_known) known.row_known
 
-    heeded : IsHeeded f.pitch row
+    heeded : IsCoreRow f.pitch row
     heeded = f.rows_heeded g.row (some_row f.rows g.row known.row_known) known.row_known
 
     lies : LiesInSegment segments g.row g.team g.span

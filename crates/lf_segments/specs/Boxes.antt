@@ -2,10 +2,10 @@
 -- team's.
 use Rattle.std.specs.Prelude.{◌≡◌, ◌⊎◌, ◌↔◌, ℕ, ◌+◌, ◌<◌, ◌≤◌, ℤ, ◌≤ℤ◌, ◌<ℤ◌, List, [], ◌∷◌, ◌++◌, map, length, All, AllPairs, Any, Contains}
 use Rattle.std.specs.List.Sorted.{IsNonDecreasingBy}
-use Rattle.lf_units.specs.declared.area.Rect.{Rect}
+use Rattle.lf_units.specs.declared.geometry.Rect.{Rect}
 use Rattle.lf_units.specs.Area.{Covers, SharesPoint}
 use Rattle.lf_spans.specs.declared.span.Span.{Span}
-use Rattle.lf_spans.specs.Spans.{Holds, IsFilled, IsRising, LiesInOne, HeldByOne}
+use Rattle.lf_spans.specs.Spans.{Holds, IsFilled, IsRising, LiesInOneOf, HeldByOne}
 use Rattle.lf_rtree.specs.declared.placed.Placed.{Placed}
 use Rattle.lf_floorplan.specs.declared.frame.Frame.{Frame}
 use Rattle.lf_floorplan.specs.declared.parts.Row.{Row}
@@ -33,7 +33,7 @@ abbrev pub IsMetAt : List Placed → ℕ → ℤ → ℤ → Type 0
 IsMetAt boxes own x y = Any (λ p. (p.own ≡ own) × Covers p.rect x y) boxes
 
 -- the boxes determine which fences cover the point and whether one of the obstacles does
-pub record Tell (f : Frame) (obstacles : List Rect) (boxes : List Placed) (x y : ℤ) : Type 0 where
+pub record DetermineCover (f : Frame) (obstacles : List Rect) (boxes : List Placed) (x y : ℤ) : Type 0 where
   pub fence : (team : ℕ) → team < length f.teams → (InGround f team x y ↔ IsMetAt boxes team x y)
   pub obstacle : Any (λ r. Covers r x y) obstacles ↔ IsMetAt boxes (length f.teams) x y
 
@@ -41,7 +41,7 @@ pub record Tell (f : Frame) (obstacles : List Rect) (boxes : List Placed) (x y :
 pub record AreBoxesOf (f : Frame) (obstacles : List Rect) (r : Row) (boxes : List Placed) : Type 0 where
   pub known : All (λ p. p.own ≤ length f.teams) boxes
   pub near : All (λ p. SharesPoint (row_area f.pitch r) p.rect) boxes
-  pub tell : (x y : ℤ) → Covers (row_area f.pitch r) x y → Tell f obstacles boxes x y
+  pub tell : (x y : ℤ) → Covers (row_area f.pitch r) x y → DetermineCover f obstacles boxes x y
 
 -- boxes in order of their numbers
 abbrev pub AreSorted : List Placed → Type 0
@@ -54,8 +54,8 @@ pub record IsNextGroup (boxes : List Placed) (least : ℕ) (group : List Placed)
   pub others : All (λ p. (p.own < least) ⊎ (Contains group p ⊎ Any (λ q. q.own < p.own) group)) boxes
 
 -- the x range of a rectangle
-abbrev pub across : Rect → Span
-across r = record { lo = r.x1; hi = r.x2 }
+abbrev pub x_extent : Rect → Span
+x_extent r = record { lo = r.x1; hi = r.x2 }
 
 -- the spans hold exactly what the boxes cover at this y
 abbrev pub AreSpansAt : List Placed → ℤ → List Span → Type 0
@@ -68,12 +68,12 @@ AreUnder boxes y s = (x : ℤ) → Holds s x → Any (λ p. Covers p.rect x y) b
 -- the parts of the free spans that the boxes cover at this y
 pub record IsCoveredAt (boxes : List Placed) (y : ℤ) (free covered : List Span) : Type 0 where
   pub rising : IsRising covered
-  pub exact : (s : Span) → IsFilled s → (LiesInOne covered s ↔ (LiesInOne free s × AreUnder boxes y s))
+  pub exact : (s : Span) → IsFilled s → (LiesInOneOf covered s ↔ (LiesInOneOf free s × AreUnder boxes y s))
 
 -- the parts of the free spans that the boxes cover at each y from the lower one to the upper one
 pub record IsCoveredOver (boxes : List Placed) (lower upper : ℤ) (free covered : List Span) : Type 0 where
   pub rising : IsRising covered
-  pub exact : (s : Span) → IsFilled s → (LiesInOne covered s ↔ (LiesInOne free s × ((y : ℤ) → lower ≤ℤ y → y <ℤ upper → AreUnder boxes y s)))
+  pub exact : (s : Span) → IsFilled s → (LiesInOneOf covered s ↔ (LiesInOneOf free s × ((y : ℤ) → lower ≤ℤ y → y <ℤ upper → AreUnder boxes y s)))
 
 -- a span as a segment of a row and a team
 abbrev pub segment_of : ℕ → ℕ → Span → Segment
@@ -88,12 +88,12 @@ pub record IsCutOfRow (f : Frame) (obstacles : List Rect) (number : ℕ) (r : Ro
 -- the maximal spans of a row that are clear of obstacles
 pub record AreClear (f : Frame) (obstacles : List Rect) (r : Row) (spans : List Span) : Type 0 where
   pub rising : IsRising spans
-  pub exact : (s : Span) → IsFilled s → (LiesInOne spans s ↔ ((x : ℤ) → Holds s x → IsClearAt f obstacles r x))
+  pub exact : (s : Span) → IsFilled s → (LiesInOneOf spans s ↔ ((x : ℤ) → Holds s x → IsClearAt f obstacles r x))
 
 -- the maximal spans of a row that the team may use
 pub record AreOpen (f : Frame) (obstacles : List Rect) (r : Row) (team : ℕ) (spans : List Span) : Type 0 where
   pub rising : IsRising spans
-  pub exact : (s : Span) → IsFilled s → (LiesInOne spans s ↔ ((x : ℤ) → Holds s x → IsOpen f obstacles r team x))
+  pub exact : (s : Span) → IsFilled s → (LiesInOneOf spans s ↔ ((x : ℤ) → Holds s x → IsOpen f obstacles r team x))
 
 -- the row's segments of the teams below a number are appended
 pub record AddsRow (f : Frame) (obstacles : List Rect) (number : ℕ) (r : Row) (limit : ℕ) (old new : List Segment) : Type 0 where

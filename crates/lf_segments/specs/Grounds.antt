@@ -1,9 +1,9 @@
 -- What of a frame is looked up by where it lies: its rows, what each team may use of them, and the soft blockages over that.
 use Rattle.std.specs.Prelude.{◌≡◌, ◌↔◌, ℕ, ℤ, ◌≤ℤ◌, List, All, Some, length, map, slice_get, slice_index_or, []}
 use Rattle.std.specs.Int.{int_max, int_min}
-use Rattle.lf_units.specs.declared.area.Rect.{Rect}
+use Rattle.lf_units.specs.declared.geometry.Rect.{Rect}
 use Rattle.lf_spans.specs.declared.span.Span.{Span}
-use Rattle.lf_spans.specs.Spans.{Holds, IsFilled, IsRising, LiesIn, LiesInOne}
+use Rattle.lf_spans.specs.Spans.{Holds, IsFilled, IsRising, LiesIn, LiesInOneOf}
 use Rattle.lf_floorplan.specs.Bounds.{IsNearDefRect}
 use Rattle.lf_floorplan.specs.Rows.{row_area}
 use Rattle.lf_floorplan.specs.declared.frame.Frame.{Frame}
@@ -17,7 +17,7 @@ use Rattle.lf_segments.specs.Strips.{strip_of}
 
 -- what is looked up: the rows in order of y, the segments, the segments as if there were no obstacles, the areas of the segments, for
 -- each segment the spans under soft blockages, the rectangle that all rows lie in, and the height of a row
-pub record Lookups : Type 0 where
+pub record FrameIndexView : Type 0 where
   pub rows : List RowEntry
   pub segments : List Segment
   pub land : List Segment
@@ -45,7 +45,7 @@ hull a b = record { x1 = int_min a.x1 b.x1; y1 = int_min a.y1 b.y1; x2 = int_max
 -- the maximal spans of a segment's numbers at which a point of its strip lies in a soft blockage
 pub record AreSoftSpans (f : Frame) (g : Segment) (spans : List Span) : Type 0 where
   pub rising : IsRising spans
-  pub exact : (s : Span) → IsFilled s → (LiesInOne spans s ↔ (LiesIn s g.span × ((x : ℤ) → Holds s x → IsSoftAt f (strip_of f g).area x)))
+  pub exact : (s : Span) → IsFilled s → (LiesInOneOf spans s ↔ (LiesIn s g.span × ((x : ℤ) → Holds s x → IsSoftAt f (strip_of f g).area x)))
 
 -- the soft spans of each segment
 pub record AreSoft (f : Frame) (segments : List Segment) (soft : List (List Span)) : Type 0 where
@@ -53,7 +53,7 @@ pub record AreSoft (f : Frame) (segments : List Segment) (soft : List (List Span
   pub each : (n : ℕ) (g : Segment) → slice_get segments n ≡ Some g → AreSoftSpans f g (slice_index_or soft n [])
 
 -- the look-ups are those of the frame
-pub record IsGroundOf (f : Frame) (g : Lookups) : Type 0 where
+pub record IsIndexOf (f : Frame) (g : FrameIndexView) : Type 0 where
   pub rows : IsRowsByY f g.rows
   pub segments : IsCut f g.segments
   pub land : IsCutBeside f [] g.land

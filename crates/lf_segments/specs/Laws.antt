@@ -1,20 +1,20 @@
 -- Laws on segments: a wide box on rows stays in a team's ground and clear of obstacles iff it lies in the team's segments.
 use Rattle.std.specs.Prelude.{◌≡◌, ◌↔◌, ℕ, ℤ, ◌<◌, ◌<ℤ◌, All, List, Some, slice_get}
-use Rattle.lf_units.specs.declared.area.Rect.{Rect}
+use Rattle.lf_units.specs.declared.geometry.Rect.{Rect}
 use Rattle.lf_units.specs.Area.{SharesPoint}
 use Rattle.lf_floorplan.specs.declared.frame.Frame.{Frame}
 use Rattle.lf_floorplan.specs.declared.parts.Row.{Row}
 use Rattle.lf_floorplan.specs.Ground.{StaysInGround}
-use Rattle.lf_floorplan.specs.Standing.{ExtendsOver, IsSitesHigh, IsBottomRow, Carries, StandsOn}
+use Rattle.lf_floorplan.specs.Standing.{ExtendsOver, IsSitesHigh, IsBottomRow, Supports, RestsOnRows}
 use Rattle.lf_segments.specs.declared.segment.Segment.{Segment}
 use Rattle.lf_segments.specs.Segments.{IsCutBeside, LiesInSegment}
-use Rattle.lf_segments.specs.Boxes.{across}
+use Rattle.lf_segments.specs.Boxes.{x_extent}
 
 -- in each row that carries the box, its x range lies in one segment of the team
 abbrev pub LiesInSegments : Frame → List Segment → ℕ → Rect → Type 0
 LiesInSegments f segments team box =
     (k : ℕ) (bottom : Row) (j n : ℕ) (r : Row) → IsSitesHigh f box k → IsBottomRow f box bottom → j < k → slice_get f.rows n ≡ Some r →
-    Carries f box bottom j r → LiesInSegment segments n team (across box)
+    Supports f box bottom j r → LiesInSegment segments n team (x_extent box)
 
 -- a row at this y extends over the box's left edge, and the box's x range lies in one segment of the team in it
 pub record LiesAt (f : Frame) (segments : List Segment) (team : ℕ) (box : Rect) (y : ℤ) : Type 0 where
@@ -22,15 +22,15 @@ pub record LiesAt (f : Frame) (segments : List Segment) (team : ℕ) (box : Rect
   pub row : Row
   pub stands : slice_get f.rows number ≡ Some row
   pub extends : ExtendsOver f y box.x1 row
-  pub lies : LiesInSegment segments number team (across box)
+  pub lies : LiesInSegment segments number team (x_extent box)
 
 -- a wide box that stands on rows stays in the team's ground and clear of these obstacles iff it lies in the team's segments beside
 -- them
 abbrev pub SegmentsDecide : Type 0
 SegmentsDecide =
-    (f : Frame) (obstacles : List Rect) (segments : List Segment) (team : ℕ) (box : Rect) → IsCutBeside f obstacles segments → StandsOn f box →
+    (f : Frame) (obstacles : List Rect) (segments : List Segment) (team : ℕ) (box : Rect) → IsCutBeside f obstacles segments → RestsOnRows f box →
     box.x1 <ℤ box.x2 → ((StaysInGround f team box × All (λ o. SharesPoint box o → ⊥) obstacles) ↔ LiesInSegments f segments team box)
 
 -- a frame has only one list of segments beside the same obstacles
-abbrev pub CutIsOne : Type 0
-CutIsOne = (f : Frame) (obstacles : List Rect) (a b : List Segment) → IsCutBeside f obstacles a → IsCutBeside f obstacles b → a ≡ b
+abbrev pub CutIsUnique : Type 0
+CutIsUnique = (f : Frame) (obstacles : List Rect) (a b : List Segment) → IsCutBeside f obstacles a → IsCutBeside f obstacles b → a ≡ b

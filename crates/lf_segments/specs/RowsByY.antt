@@ -61,20 +61,20 @@ RunBetweenHasRows =
     slice_get f.rows n ≡ Some r → (Any (λ e. e.row ≡ n) run ↔ ((from ≤ℤ r.y) × (r.y <ℤ to)))
 
 -- the entry lies below y, or at y and not right of x
-abbrev pub ComesBy : ℤ → ℤ → RowEntry → Type 0
-ComesBy y x e = (e.y <ℤ y) ⊎ ((e.y ≡ y) × (e.x ≤ℤ x))
+abbrev pub IsUpToPoint : ℤ → ℤ → RowEntry → Type 0
+IsUpToPoint y x e = (e.y <ℤ y) ⊎ ((e.y ≡ y) × (e.x ≤ℤ x))
 
 -- whether it does
-abbrev pub comes_by : ℤ → ℤ → RowEntry → Bool
-comes_by y x e = if int_lt e.y y then true else (if int_lt y e.y then false else int_le e.x x)
+abbrev pub is_up_to_point : ℤ → ℤ → RowEntry → Bool
+is_up_to_point y x e = if int_lt e.y y then true else (if int_lt y e.y then false else int_le e.x x)
 
 -- the entry is at this y, and not right of x
-pub record BeginsBy (y x : ℤ) (e : RowEntry) : Type 0 where
+pub record BeginsUpTo (y x : ℤ) (e : RowEntry) : Type 0 where
   pub at_level : e.y ≡ y
   pub left : e.x ≤ℤ x
 
 -- of the entries at this y that are not right of x, the one farthest right
 pub record IsLastAt (entries : List RowEntry) (y x : ℤ) (e : RowEntry) : Type 0 where
   pub there : Contains entries e
-  pub begins : BeginsBy y x e
-  pub last : All (λ other. BeginsBy y x other → other.x ≤ℤ e.x) entries
+  pub begins : BeginsUpTo y x e
+  pub last : All (λ other. BeginsUpTo y x other → other.x ≤ℤ e.x) entries

@@ -1,14 +1,14 @@
 -- What soft blockages cover of strips; and lists of spans that stand one after the other in one list.
 use Rattle.std.specs.Prelude.{◌≡◌, ◌↔◌, ℕ, ℤ, ◌<◌, ◌≤◌, List, [], ◌∷◌, All, Any, length, map, slice_index_or, slice_range}
 use Rattle.std.specs.List.Sorted.{IsNonDecreasingBy}
-use Rattle.lf_units.specs.declared.area.Rect.{Rect}
+use Rattle.lf_units.specs.declared.geometry.Rect.{Rect}
 use Rattle.lf_units.specs.Area.{Covers}
 use Rattle.lf_spans.specs.declared.span.Span.{Span}
-use Rattle.lf_spans.specs.Spans.{Holds, IsFilled, IsRising, LiesIn, LiesInOne}
+use Rattle.lf_spans.specs.Spans.{Holds, IsFilled, IsRising, LiesIn, LiesInOneOf}
 use Rattle.lf_rtree.specs.declared.placed.Placed.{Placed}
 use Rattle.lf_floorplan.specs.declared.frame.Frame.{Frame}
 use Rattle.lf_segments.specs.declared.strip.Strip.{Strip}
-use Rattle.lf_segments.specs.Boxes.{across, numbered}
+use Rattle.lf_segments.specs.Boxes.{x_extent, numbered}
 
 -- the lists that begin at these positions, each up to where the next one begins
 abbrev pub pieces : List Span → List ℕ → List (List Span)
@@ -34,12 +34,12 @@ pub record IsSoftAt (f : Frame) (area : Rect) (x : ℤ) : Type 0 where
 pub record AreMetSpans (area : Rect) (boxes : List Placed) (spans : List Span) : Type 0 where
   pub rising : IsRising spans
   pub exact : (s : Span) → IsFilled s →
-      (LiesInOne spans s ↔ (LiesIn s (across area) × ((x : ℤ) → Holds s x → Any (λ p. Holds (across p.rect) x) boxes)))
+      (LiesInOneOf spans s ↔ (LiesIn s (x_extent area) × ((x : ℤ) → Holds s x → Any (λ p. Holds (x_extent p.rect) x) boxes)))
 
 -- the maximal spans of the area's x range at which a point of it lies in a soft blockage
 pub record AreSoftIn (f : Frame) (area : Rect) (spans : List Span) : Type 0 where
   pub rising : IsRising spans
-  pub exact : (s : Span) → IsFilled s → (LiesInOne spans s ↔ (LiesIn s (across area) × ((x : ℤ) → Holds s x → IsSoftAt f area x)))
+  pub exact : (s : Span) → IsFilled s → (LiesInOneOf spans s ↔ (LiesIn s (x_extent area) × ((x : ℤ) → Holds s x → IsSoftAt f area x)))
 
 -- those of each strip
 pub record AreSoftOver (f : Frame) (strips : List Strip) (soft : List (List Span)) : Type 0 where

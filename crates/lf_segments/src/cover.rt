@@ -3,16 +3,16 @@
 ghost use Rattle.std.specs.Prelude.{◌≡◌, ◌⊎◌, ◌↔◌, ◌≤ℤ◌, ◌<ℤ◌, All, IfOk, IsFalse, IsPermutation, IsSomeAnd, IsTrue, map};
 ghost use Rattle.lf_units.specs.Area.{SharesPoint};
 ghost use Rattle.lf_spans.specs.Spans.{IsFree, IsInOrder, IsRising};
-ghost use Rattle.lf_segments.specs.Boxes.{across, AreSpansAt, IsCoveredAt, IsCoveredOver};
+ghost use Rattle.lf_segments.specs.Boxes.{x_extent, AreSpansAt, IsCoveredAt, IsCoveredOver};
 
 use lf_rtree::Placed;
-use lf_spans::{spans_free, spans_join, spans_meet};
+use lf_spans::{free_spans_in, spans_join, spans_meet};
 use lf_units::{Rect, Span};
 use std::alloc::{AllocError, Global};
 
 /// The x range of a rectangle.
 pub(crate) fn span_of(rect: &Rect) -> Span
-    ensures { result ≡ across rect.now }
+    ensures { result ≡ x_extent rect.now }
 {
     Span {
         lo: rect.x1,
@@ -22,7 +22,7 @@ pub(crate) fn span_of(rect: &Rect) -> Span
 
 /// The x ranges of boxes.
 pub(crate) fn spans_of(alloc: Global, boxes: &[Placed]) -> Result<Vec<Span>, AllocError>
-    ensures { IfOk result (λ spans. spans.items ≡ map (λ p. across p.rect) boxes.now) }
+    ensures { IfOk result (λ spans. spans.items ≡ map (λ p. x_extent p.rect) boxes.now) }
 {
     let mut spans = Vec::new(alloc);
     for placed in boxes {
@@ -33,7 +33,7 @@ pub(crate) fn spans_of(alloc: Global, boxes: &[Placed]) -> Result<Vec<Span>, All
 
 /// The x ranges of boxes, in order of `lo`.
 fn spans_in_order(alloc: Global, boxes: &[Placed]) -> Result<Vec<Span>, AllocError>
-    ensures moved { IfOk result (λ spans. IsPermutation (map (λ p. across p.rect) boxes.now) spans.items) }
+    ensures moved { IfOk result (λ spans. IsPermutation (map (λ p. x_extent p.rect) boxes.now) spans.items) }
     ensures order { IfOk result (λ spans. IsInOrder spans.items) }
 {
     let mut spans = spans_of(alloc, boxes)?;
@@ -47,10 +47,10 @@ pub(crate) fn free_beside(
     area: &Rect,
     boxes: &[Placed],
 ) -> Result<Vec<Span>, AllocError>
-    ensures { IfOk result (λ free. IsFree (across area.now) (map (λ p. across p.rect) boxes.now) free.items) }
+    ensures { IfOk result (λ free. IsFree (x_extent area.now) (map (λ p. x_extent p.rect) boxes.now) free.items) }
 {
     let taken = spans_in_order(alloc, boxes)?;
-    spans_free(alloc, &span_of(area), taken.as_slice())
+    free_spans_in(alloc, &span_of(area), taken.as_slice())
 }
 
 /// Whether the rectangle covers this y.

@@ -1,6 +1,6 @@
 //! Laws on segments and on rows in order of y.
 
-ghost use Rattle.lf_segments.specs.Laws.{CutIsOne, SegmentsDecide};
+ghost use Rattle.lf_segments.specs.Laws.{CutIsUnique, SegmentsDecide};
 ghost use Rattle.lf_segments.specs.RowsByY.{RunAtHasRows, RunBetweenHasRows};
 
 /// A wide box that stands on rows stays in a team's ground and clear of a list of obstacles iff, in
@@ -11,8 +11,8 @@ pub fn lies_in_segments()
 {}
 
 /// A frame has only one list of segments beside a list of obstacles.
-pub fn cut_is_one()
-    ensures { CutIsOne }
+pub fn cut_is_unique()
+    ensures { CutIsUnique }
 {}
 
 /// If a frame's rows are in order of y, the run at a y has exactly the rows at that y, and the run

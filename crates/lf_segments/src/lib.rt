@@ -6,40 +6,40 @@
 //! - *Land*: the segments as if there were no obstacles. *Strips*: the areas of the segments, one for each.
 //! - *Soft spans* of a segment: the maximal spans of its numbers at which a point of its strip lies in a soft blockage.
 //! - `RowStarts`, `RowsByY`: where each row's segments begin in the list; the rows in order of y, then x.
-//! - `Ground` has all of these for one frame; a contract sees the lists. `Plan` is a frame together with its `Ground`; a
+//! - `FrameIndex` has all of these for one frame; a contract sees the lists. `IndexedFrame` is a frame together with its `FrameIndex`; a
 //!   contract sees the frame, of which it answers what legality asks (`Near` of `lf_floorplan`), by bisection and without
 //!   memory.
 //!
 //! ```
-//! let ground = Ground::build(Global, &frame)?;
-//! let plan = Plan::new(&frame, &ground);
+//! let ground = FrameIndex::build(Global, &frame)?;
+//! let plan = IndexedFrame::new(&frame, &ground);
 //! let rows = plan.rows_at(1400); // the rows at this y, in order of x
 //! ```
 #![tactic(auto)]
 
-mod boxes;
 mod cover;
+mod cut_row;
 mod extent;
-mod ground;
+mod frame_index;
+mod indexed_frame;
 mod laws;
-mod on_rows;
-mod plan;
-mod row;
+mod obstacle_boxes;
+mod row_lookup;
 mod row_starts;
 mod rows_by_y;
-mod runs;
 mod segment;
+mod segment_runs;
 mod segments;
-mod soft;
+mod soft_spans;
 mod strip;
 mod strips;
 
-pub use ground::Ground;
-pub use laws::{cut_is_one, lies_in_segments, runs_have_rows};
-pub use plan::Plan;
+pub use frame_index::FrameIndex;
+pub use indexed_frame::IndexedFrame;
+pub use laws::{cut_is_unique, lies_in_segments, runs_have_rows};
 pub use row_starts::{RowRange, RowStarts};
 pub use rows_by_y::{RowEntry, RowsByY};
 pub use segment::Segment;
 pub use segments::Segments;
 pub use strip::Strip;
-pub use strips::NearStrips;
+pub use strips::StripRange;

@@ -2,7 +2,7 @@
 
 ghost use Rattle.std.specs.Prelude.{◌≡◌, ◌<◌, ◌≤◌, ◌≤ℤ◌, ◌<ℤ◌, ℕ, All, AllPairs, IfOk, IsPermutation, IsTrue, MatchOption, length, slice_index_or};
 ghost use Rattle.lf_segments.specs.declared.rows_by_y.RowEntry.{RowEntry};
-ghost use Rattle.lf_segments.specs.RowsByY.{BeginsBy, ComesBy, comes_by, entry, entries_from, IsLastAt, IsRowsByY, IsRunAt, IsRunBetween, PrecedesByY};
+ghost use Rattle.lf_segments.specs.RowsByY.{BeginsUpTo, IsUpToPoint, is_up_to_point, entry, entries_from, IsLastAt, IsRowsByY, IsRunAt, IsRunBetween, PrecedesByY};
 
 use lf_floorplan::{Frame, Row};
 use std::alloc::{AllocError, Global};
@@ -168,7 +168,7 @@ fn run_between<'a>(entries: &'a [RowEntry], from: &i64, to: &i64) -> &'a [RowEnt
 
 /// Whether the row lies below y, or lies at y and does not begin right of x.
 fn comes_by(entry: &RowEntry, y: &i64, x: &i64) -> bool
-    ensures { result ≡ comes_by y.now x.now entry.now }
+    ensures { result ≡ is_up_to_point y.now x.now entry.now }
 {
     if entry.y < *y {
         return true;
@@ -183,8 +183,8 @@ fn comes_by(entry: &RowEntry, y: &i64, x: &i64) -> bool
 fn count_by(entries: &[RowEntry], y: &i64, x: &i64) -> usize
     requires { AllPairs PrecedesByY entries.now }
     ensures within { result ≤ length entries.now }
-    ensures by { (k : ℕ) → (d : RowEntry) → k < result → ComesBy y.now x.now (slice_index_or entries.now k d) }
-    ensures rest { (k : ℕ) → (d : RowEntry) → result ≤ k → k < length entries.now → ComesBy y.now x.now (slice_index_or entries.now k d) → ⊥ }
+    ensures by { (k : ℕ) → (d : RowEntry) → k < result → IsUpToPoint y.now x.now (slice_index_or entries.now k d) }
+    ensures rest { (k : ℕ) → (d : RowEntry) → result ≤ k → k < length entries.now → IsUpToPoint y.now x.now (slice_index_or entries.now k d) → ⊥ }
 {
     entries.partition_point(|entry| comes_by(entry, y, x))
 }
@@ -192,7 +192,7 @@ fn count_by(entries: &[RowEntry], y: &i64, x: &i64) -> usize
 /// The last of the rows at y that do not begin right of x.
 fn last_at<'a>(entries: &'a [RowEntry], y: &i64, x: &i64) -> Option<&'a RowEntry>
     requires { AllPairs PrecedesByY entries.now }
-    ensures { MatchOption result (All (λ e. BeginsBy y.now x.now e → ⊥) entries.now) (λ e. IsLastAt entries.now y.now x.now e.now) }
+    ensures { MatchOption result (All (λ e. BeginsUpTo y.now x.now e → ⊥) entries.now) (λ e. IsLastAt entries.now y.now x.now e.now) }
 {
     let count = count_by(entries, y, x);
     if count == 0 {
@@ -232,7 +232,7 @@ impl RowsByY {
     /// Of the rows at this y that do not begin right of x the one farthest right; none iff there is no such row. It is found by
     /// bisection.
     pub fn last_at(&self, y: &i64, x: &i64) -> Option<&RowEntry>
-        ensures { MatchOption result (All (λ e. BeginsBy y.now x.now e → ⊥) self.now) (λ e. IsLastAt self.now y.now x.now e.now) }
+        ensures { MatchOption result (All (λ e. BeginsUpTo y.now x.now e → ⊥) self.now) (λ e. IsLastAt self.now y.now x.now e.now) }
     {
         last_at(&self.entries, y, x)
     }

@@ -5,11 +5,11 @@ ghost use Rattle.std.specs.List.{HoldsAt};
 ghost use Rattle.lf_segments.specs.RowStarts.{IsRangeOf, rows_of};
 ghost use Rattle.lf_segments.specs.Segments.{ComesBefore, IsAt, IsCut, IsCutBeside, IsRunOf, IsSegment};
 
-use crate::boxes::{boxes_near, tree_of_frame};
-use crate::row::{push_land, push_row};
+use crate::cut_row::{push_land, push_row};
+use crate::obstacle_boxes::{boxes_near, tree_of_frame};
 use crate::row_starts::{RowRange, RowStarts};
-use crate::runs::{place_in, range_in, run_of};
 use crate::segment::Segment;
+use crate::segment_runs::{place_in, range_in, run_of};
 use lf_floorplan::Frame;
 use std::alloc::{AllocError, Global};
 use std::marker::Model;

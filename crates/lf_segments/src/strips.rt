@@ -18,7 +18,7 @@ const LOWEST: i64 = -2147483648;
 
 /// A run of numbers of strips, from `start` on and below `end`.
 #[derive(Clone, Copy, Debug, PartialEq, Eq)]
-pub struct NearStrips {
+pub struct StripRange {
     pub start: usize,
     pub end: usize,
 }
@@ -126,7 +126,7 @@ pub(crate) fn near_strips(
     team: usize,
     lo: &i64,
     hi: &i64,
-) -> NearStrips
+) -> StripRange
     requires order { AllPairs LiesBefore strips.now }
     requires wide { All (λ g. g.area.x1 <ℤ g.area.x2) strips.now }
     requires rows { rows_in strips.now ≡ rows_of segments.now }
@@ -136,7 +136,7 @@ pub(crate) fn near_strips(
     let in_row = &strips[range.start..range.end];
     let first = count_ended(in_row, row, team, lo);
     let end = end_of_begun(in_row, first, row, team, hi);
-    NearStrips {
+    StripRange {
         start: range.start + first,
         end: range.start + end,
     }

@@ -3,11 +3,11 @@ use Rattle.std.proofs.Common.{◌≡◌, ◌⊎◌, ◌∙◌, ℕ, ◌+◌, Lis
 use Rattle.std.proofs.lemmas.Bool.{false≢true}
 use Rattle.std.specs.Prelude.{unwrap_or}
 use Rattle.lf_rules.specs.Legalizer.{Legalizer}
-use Rattle.lf_teams.specs.States.{FloorState}
-use Rattle.lf_server.specs.Connections.{Accepted, Accepts, AreServed, Client, Closes, Connects, Passes, ServesNext, Standing}
+use Rattle.lf_floor_model.specs.States.{FloorState}
+use Rattle.lf_server.specs.Connections.{Accepted, Accepts, AreServed, ClientBytes, Closes, ServesConnections, AcceptsAndCloses, ServesNext, ConnectionState}
 
 -- no connection was accepted
-pub passes_none : (now : Option Accepted) → Passes now now [] []
+pub passes_none : (now : Option Accepted) → AcceptsAndCloses now now [] []
 passes_none None = tt
 passes_none (Some before) = refl
 
@@ -16,16 +16,16 @@ abbrev known : Option Accepted → Accepted
 known now = unwrap_or now (record { clients = []; closed = [] })
 
 -- a connection was accepted, and then closed
-pub passes_one : (before mid after : Option Accepted) (from : Client) (end : Standing)
-    → Accepts before mid from → Closes mid after end → Passes before after (from ∷ []) (end ∷ [])
+pub passes_one : (before mid after : Option Accepted) (from : ClientBytes) (end : ConnectionState)
+    → Accepts before mid from → Closes mid after end → AcceptsAndCloses before after (from ∷ []) (end ∷ [])
 passes_one None mid after from end accepts closes = tt
 passes_one (Some before) None after from end accepts closes = absurd (false≢true (ap is_some accepts))
 passes_one (Some before) (Some mid) after from end accepts closes =
     closes ∙ ap (λ (o : Option Accepted). Some (record { clients = (known o).clients; closed = end ∷ (known o).closed })) accepts
 
 -- one more was accepted and closed
-pub passes_more : (before mid after : Option Accepted) (clients : List Client) (closed : List Standing) (from : Client) (end : Standing)
-    → Passes before mid clients closed → Passes mid after (from ∷ []) (end ∷ []) → Passes before after (from ∷ clients) (end ∷ closed)
+pub passes_more : (before mid after : Option Accepted) (clients : List ClientBytes) (closed : List ConnectionState) (from : ClientBytes) (end : ConnectionState)
+    → AcceptsAndCloses before mid clients closed → AcceptsAndCloses mid after (from ∷ []) (end ∷ []) → AcceptsAndCloses before after (from ∷ clients) (end ∷ closed)
 passes_more None mid after clients closed from end earlier last = tt
 passes_more (Some before) None after clients closed from end earlier last = absurd (false≢true (ap is_some earlier))
 passes_more (Some before) (Some mid) after clients closed from end earlier last =

@@ -5,16 +5,16 @@ use Rattle.std.specs.Io.KnownBytes.{Consumes, IsAtEnd, Keeps}
 use Rattle.std.proofs.lemmas.List.Splits.{slice_split-cons_yes, slice_split-cons_no}
 use Rattle.lf_rules.specs.Legalizer.{Legalizer}
 use Rattle.lf_proto.specs.Stream.{is_line_feed, ended_line, lines_in, lines_of}
-use Rattle.lf_teams.specs.States.{FloorState}
+use Rattle.lf_floor_model.specs.States.{FloorState}
 use Rattle.lf_server.specs.Devices.{Writer}
 use Rattle.lf_server.specs.Exchanges.{Exchange, Line, lines}
-use Rattle.lf_server.specs.Endings.{ActedOn, Answered, Comes, Serves, ended_in, ended_lines}
-use Rattle.lf_server.specs.declared.serving.Ending.{Ending}
-use Rattle.lf_server.specs.declared.serving.Ending.TheVariants.{Done, Bye, ReadFault, WriteFault, TooManyLines, OutOfMemory}
-use Rattle.lf_server.specs.declared.serving.Served.{Served}
+use Rattle.lf_server.specs.Endings.{AreLinesActedOn, CountsAnswered, WritesReplies, ServesLines, ended_in, ended_lines}
+use Rattle.lf_server.specs.declared.serve_loop.Ending.{Ending}
+use Rattle.lf_server.specs.declared.serve_loop.Ending.TheVariants.{Done, Bye, ReadFault, WriteFault, TooManyLines, OutOfMemory}
+use Rattle.lf_server.specs.declared.serve_loop.Served.{Served}
 use Rattle.lf_proto.specs.Pieces.{lines_from, pieces}
-use Rattle.lf_server.specs.Progress.{Finishes, Goes, Stops, StopsAt, told_answered}
-use Rattle.lf_devices.proofs.Known.{Consumes-none, Consumes-more, Consumes-kept}
+use Rattle.lf_server.specs.Progress.{FinishesServing, ContinuesServing, StopsServing, StopsServingAt, answered_count}
+use Rattle.lf_io.proofs.Known.{Consumes-none, Consumes-more, Consumes-kept}
 use Rattle.lf_proto.proofs.Cuttings.{some_pieces, with_front-nil}
 use Rattle.lf_server.proofs.Steps.{goes_join, goes_none, goes_stop}
 
@@ -61,7 +61,7 @@ from_start : (bytes : List ℕ) → lines_from (Some []) (pieces bytes) ≡ line
 from_start bytes = ap lines_in (with_front-nil bytes)
 
 -- what was acted on is what has its line feed
-ended_are : (l : Legalizer) (w v : Writer) (p q : ℕ) (old mid : FloorState) (held : Option (List ℕ)) (read : List ℕ) (first : Goes l w v p q old mid (Some []) held read []) → lines first.done ≡ ended_lines read
+ended_are : (l : Legalizer) (w v : Writer) (p q : ℕ) (old mid : FloorState) (held : Option (List ℕ)) (read : List ℕ) (first : ContinuesServing l w v p q old mid (Some []) held read []) → lines first.done ≡ ended_lines read
 ended_are l w v p q old mid held read first =
     let a = held_ends held in
     let b = ended_lines-snoc read in
@@ -70,7 +70,7 @@ ended_are l w v p q old mid held read first =
 
 -- ---- the endings
 
-acted_is : (e : Ending) (limit : ℕ) (all whole acted : List Line) → StopsAt e limit all acted → ActedOn e limit all whole acted
+acted_is : (e : Ending) (limit : ℕ) (all whole acted : List Line) → StopsServingAt e limit all acted → AreLinesActedOn e limit all whole acted
 acted_is Done limit all whole acted stops = stops
 acted_is Bye limit all whole acted stops = stops
 acted_is TooManyLines limit all whole acted stops = stops
@@ -83,7 +83,7 @@ abbrev IsInput : Option (List ℕ) → List ℕ → List ℕ → Type 0
 IsInput input read rest = IfSome input (λ bytes. bytes ≡ read ++ rest)
 
 finishes_by : (l : Legalizer) (e : Ending) (a c : Option (List ℕ)) (w u : Writer) (p r : ℕ) (old new : FloorState) (read rest : List ℕ) → Consumes a c read → IsInput a read rest
-    → Stops l e w u p r old new (lines_from (Some []) (pieces (read ++ rest))) → Finishes l e a c w u p r old new
+    → StopsServing l e w u p r old new (lines_from (Some []) (pieces (read ++ rest))) → FinishesServing l e a c w u p r old new
 finishes_by l e a c w u p r old new read rest consumed input stops = record {
   read = read;
   reads = consumed;
@@ -93,30 +93,30 @@ finishes_by l e a c w u p r old new read rest consumed input stops = record {
   acted_on = by a input;
 }
   where
-    by : (o : Option (List ℕ)) → IsInput o read rest → IfSome o (λ bytes. ActedOn e p (lines_of bytes) (ended_lines read) (lines stops.done))
+    by : (o : Option (List ℕ)) → IsInput o read rest → IfSome o (λ bytes. AreLinesActedOn e p (lines_of bytes) (ended_lines read) (lines stops.done))
     by None is = tt
     by (Some bytes) is =
         acted_is e p (lines_of bytes) (ended_lines read) (lines stops.done)
-        (subst (λ (all : List Line). StopsAt e p all (lines stops.done)) (from_start (read ++ rest) ∙ ap lines_of (sym is)) stops.stops)
+        (subst (λ (all : List Line). StopsServingAt e p all (lines stops.done)) (from_start (read ++ rest) ∙ ap lines_of (sym is)) stops.stops)
 
 pub finishes_stop : (l : Legalizer) (e : Ending) (a c : Option (List ℕ)) (w u : Writer) (p r : ℕ) (old new : FloorState) (read : List ℕ) → Consumes a c read
-    → ((rest : List ℕ) → Stops l e w u p r old new (lines_from (Some []) (pieces (read ++ rest)))) → Finishes l e a c w u p r old new
+    → ((rest : List ℕ) → StopsServing l e w u p r old new (lines_from (Some []) (pieces (read ++ rest)))) → FinishesServing l e a c w u p r old new
 finishes_stop l e None c w u p r old new read consumed stops = finishes_by l e None c w u p r old new read [] consumed tt (stops [])
 finishes_stop l e (Some x) None w u p r old new read consumed stops = absurd consumed
 finishes_stop l e (Some x) (Some y) w u p r old new read consumed stops = finishes_by l e (Some x) (Some y) w u p r old new read y consumed consumed (stops y)
 
 -- the read that found a stop
 pub read_stop : (l : Legalizer) (e : Ending) (a b c : Option (List ℕ)) (w v u : Writer) (p q r : ℕ) (old mid new : FloorState) (held : Option (List ℕ)) (read piece : List ℕ) → Consumes a b read → Consumes b c piece
-    → Goes l w v p q old mid (Some []) held read [] → ((rest : List ℕ) → Stops l e v u q r mid new (lines_from held (pieces (piece ++ rest)))) → Finishes l e a c w u p r old new
+    → ContinuesServing l w v p q old mid (Some []) held read [] → ((rest : List ℕ) → StopsServing l e v u q r mid new (lines_from held (pieces (piece ++ rest)))) → FinishesServing l e a c w u p r old new
 read_stop l e a b c w v u p q r old mid new held read piece before now first second =
     finishes_stop l e a c w u p r old new (read ++ piece) (Consumes-more a b c read piece before now)
-    (λ rest. subst (λ (x : List ℕ). Stops l e w u p r old new (lines_from (Some []) (pieces x))) (sym (append_assoc read piece rest))
+    (λ rest. subst (λ (x : List ℕ). StopsServing l e w u p r old new (lines_from (Some []) (pieces x))) (sym (append_assoc read piece rest))
     (goes_stop l e w v u p q r old mid new (Some []) held read [] (piece ++ rest) first (second rest)))
 
 -- the read that found the end of the input
 pub read_end : (l : Legalizer) (e : Ending) (a b c : Option (List ℕ)) (w v u : Writer) (p q r : ℕ) (old mid new : FloorState) (held : Option (List ℕ)) (read buffer : List ℕ) (count : ℕ) → count ≡ 0
     → Consumes a b read → Consumes b c (take count buffer) → IsAtEnd c
-    → Goes l w v p q old mid (Some []) held read [] → Stops l e v u q r mid new (lines_from held ([] ∷ [])) → Finishes l e a c w u p r old new
+    → ContinuesServing l w v p q old mid (Some []) held read [] → StopsServing l e v u q r mid new (lines_from held ([] ∷ [])) → FinishesServing l e a c w u p r old new
 read_end l e a b c w v u p q r old mid new held read buffer count none before now end first second =
     let whole : Consumes a c read = subst (Consumes a c) (ap (λ (n : ℕ). read ++ take n buffer) none ∙ append-nil read) (Consumes-more a b c read (take count buffer) before now) in
     finishes_by l e a c w u p r old new read [] whole (all a c whole end) (goes_stop l e w v u p q r old mid new (Some []) held read [] [] first second)
@@ -128,7 +128,7 @@ read_end l e a b c w v u p q r old mid new held read buffer count none before no
 
 -- one more read
 pub read_on : (l : Legalizer) (a b c : Option (List ℕ)) (w v u : Writer) (p q r : ℕ) (old mid new : FloorState) (held held' : Option (List ℕ)) (read piece : List ℕ) → Consumes a b read → Consumes b c piece
-    → Goes l w v p q old mid (Some []) held read [] → Goes l v u q r mid new held held' piece [] → (x : List ℕ) × Consumes a c x × Goes l w u p r old new (Some []) held' x []
+    → ContinuesServing l w v p q old mid (Some []) held read [] → ContinuesServing l v u q r mid new held held' piece [] → (x : List ℕ) × Consumes a c x × ContinuesServing l w u p r old new (Some []) held' x []
 read_on l a b c w v u p q r old mid new held held' read piece before now first second = (
   read ++ piece,
   Consumes-more a b c read piece before now,
@@ -145,7 +145,7 @@ read_on l a b c w v u p q r old mid new held held' read piece before now first s
 
 -- no more can be read
 pub read_fault : (l : Legalizer) (a b c : Option (List ℕ)) (w v : Writer) (p q : ℕ) (old mid : FloorState) (held : Option (List ℕ)) (read : List ℕ) → Consumes a b read → Keeps b c
-    → Goes l w v p q old mid (Some []) held read [] → Finishes l ReadFault a c w v p q old mid
+    → ContinuesServing l w v p q old mid (Some []) held read [] → FinishesServing l ReadFault a c w v p q old mid
 read_fault l a b c w v p q old mid held read before kept first = record {
   read = read;
   reads = Consumes-kept a b c read before kept;
@@ -155,7 +155,7 @@ read_fault l a b c w v p q old mid held read before kept first = record {
   acted_on = by a;
 }
   where
-    by : (o : Option (List ℕ)) → IfSome o (λ bytes. ActedOn ReadFault p (lines_of bytes) (ended_lines read) (lines first.done))
+    by : (o : Option (List ℕ)) → IfSome o (λ bytes. AreLinesActedOn ReadFault p (lines_of bytes) (ended_lines read) (lines first.done))
     by None = tt
     by (Some bytes) = (ended_are l w v p q old mid held read first, first.no_bye)
 
@@ -163,12 +163,12 @@ pub keeps_itself : (a : Option (List ℕ)) → Keeps a a
 keeps_itself None = tt
 keeps_itself (Some x) = refl
 
-pub goes_start : (l : Legalizer) (w : Writer) (left : ℕ) (floor : FloorState) (held : Option (List ℕ)) → held ≡ Some [] → Goes l w w left left floor floor (Some []) held [] []
-goes_start l w left floor held fresh = subst (λ (h : Option (List ℕ)). Goes l w w left left floor floor (Some []) h [] []) (sym fresh) (goes_none l w left floor (Some []) [])
+pub goes_start : (l : Legalizer) (w : Writer) (left : ℕ) (floor : FloorState) (held : Option (List ℕ)) → held ≡ Some [] → ContinuesServing l w w left left floor floor (Some []) held [] []
+goes_start l w left floor held fresh = subst (λ (h : Option (List ℕ)). ContinuesServing l w w left left floor floor (Some []) h [] []) (sym fresh) (goes_none l w left floor (Some []) [])
 
 -- ---- what is written
 
-pub finishes_none : (l : Legalizer) (a : Option (List ℕ)) (w : Writer) (limit : ℕ) (floor : FloorState) → Finishes l OutOfMemory a a w w limit limit floor floor
+pub finishes_none : (l : Legalizer) (a : Option (List ℕ)) (w : Writer) (limit : ℕ) (floor : FloorState) → FinishesServing l OutOfMemory a a w w limit limit floor floor
 finishes_none l a w limit floor = record {
   read = [];
   reads = Consumes-none a;
@@ -178,12 +178,12 @@ finishes_none l a w limit floor = record {
   acted_on = by a;
 }
   where
-    by : (o : Option (List ℕ)) → IfSome o (λ bytes. ActedOn OutOfMemory limit (lines_of bytes) (ended_lines []) [])
+    by : (o : Option (List ℕ)) → IfSome o (λ bytes. AreLinesActedOn OutOfMemory limit (lines_of bytes) (ended_lines []) [])
     by None = tt
     by (Some bytes) = refl
 
-answered_is : (e : Ending) (l : Legalizer) (old new : FloorState) (w u : Writer) (done : List Exchange) (count answered : ℕ) → Comes e l old w done new u
-    → length done ≡ count → answered ≡ told_answered e count → Answered e count answered
+answered_is : (e : Ending) (l : Legalizer) (old new : FloorState) (w u : Writer) (done : List Exchange) (count answered : ℕ) → WritesReplies e l old w done new u
+    → length done ≡ count → answered ≡ answered_count e count → CountsAnswered e count answered
 answered_is Done l old new w u done count answered comes counts is = is
 answered_is Bye l old new w u done count answered comes counts is = is
 answered_is TooManyLines l old new w u done count answered comes counts is = is
@@ -193,12 +193,12 @@ answered_is WriteFault l old new w u done count answered comes counts is =
     let some : length done ≡ length comes.earlier + 1 = ap length comes.done_are ∙ length-append comes.earlier (comes.last ∷ []) in
     omega (arith, some, counts, is)
 
-pub served_as : (l : Legalizer) (e : Ending) (a c : Option (List ℕ)) (w u : Writer) (limit left count : ℕ) (old new : FloorState) (s : Served) → count ≡ limit - left → s.lines ≡ count → s.ending ≡ e → s.answered ≡ told_answered e count
-    → Finishes l e a c w u limit left old new → Serves l limit old a c w u s new
+pub served_as : (l : Legalizer) (e : Ending) (a c : Option (List ℕ)) (w u : Writer) (limit left count : ℕ) (old new : FloorState) (s : Served) → count ≡ limit - left → s.lines ≡ count → s.ending ≡ e → s.answered ≡ answered_count e count
+    → FinishesServing l e a c w u limit left old new → ServesLines l limit old a c w u s new
 served_as l e a c w u limit left count old new s is counted ending answered first =
-    let h : Finishes l s.ending a c w u limit left old new = subst (λ (x : Ending). Finishes l x a c w u limit left old new) (sym ending) first in
+    let h : FinishesServing l s.ending a c w u limit left old new = subst (λ (x : Ending). FinishesServing l x a c w u limit left old new) (sym ending) first in
     let same : s.lines ≡ length h.done = omega (arith, is, counted, h.counts) in
-    let told : s.answered ≡ told_answered s.ending s.lines = answered ∙ (ap (λ (x : Ending). told_answered x count) (sym ending) ∙ ap (told_answered s.ending) (sym counted)) in
+    let told : s.answered ≡ answered_count s.ending s.lines = answered ∙ (ap (λ (x : Ending). answered_count x count) (sym ending) ∙ ap (answered_count s.ending) (sym counted)) in
     record {
       read = h.read;
       reads = h.reads;

@@ -4,11 +4,11 @@ use Rattle.std.specs.Prelude.{OnErr, codes, decimal}
 use Rattle.std.specs.Io.KnownBytes.{Appends}
 use Rattle.std.proofs.Math.Seq.{take-append-add}
 use Rattle.std.proofs.lemmas.List.{take-append-le, take_min}
-use Rattle.lf_devices.proofs.Known.{Appends-more}
+use Rattle.lf_io.proofs.Known.{Appends-more}
 use Rattle.lf_proto.specs.declared.reply.Reply.{Reply}
 use Rattle.lf_proto.specs.declared.reply.Reply.TheVariants.{Report, Def}
 use Rattle.lf_proto.specs.ReplyText.{line_text}
-use Rattle.lf_teams.specs.States.{FloorState}
+use Rattle.lf_floor_model.specs.States.{FloorState}
 use Rattle.lf_floor.specs.Responses.{def_text, reply_in}
 use Rattle.lf_floor.specs.declared.response.Response.{Response}
 use Rattle.lf_floor.specs.declared.response.Response.TheVariants.{Def as Apart}

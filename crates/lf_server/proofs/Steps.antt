@@ -12,17 +12,17 @@ use Rattle.lf_proto.specs.declared.framer.Got.{Got}
 use Rattle.lf_proto.specs.declared.framer.Got.TheVariants.{More}
 use Rattle.lf_proto.specs.declared.reply.Reply.{Reply}
 use Rattle.lf_proto.specs.declared.request.Command.{Command}
-use Rattle.lf_proto.specs.Feeds.{Feeds, FinishesAt, given}
+use Rattle.lf_proto.specs.Feeds.{Feeds, FinishesAt, given_line}
 use Rattle.lf_proto.specs.Framing.{Framing}
-use Rattle.lf_teams.specs.States.{FloorState}
-use Rattle.lf_server.specs.Connections.{Stays}
-use Rattle.lf_server.specs.Devices.{Writer, writer, Sends, Breaks}
-use Rattle.lf_server.specs.Exchanges.{AnswersTo, BreaksOff, Exchange, Exchanges, Line, asked_on, is_bye, lines, text_of}
-use Rattle.lf_server.specs.Endings.{Comes, EndsAt, NoneIsBye}
-use Rattle.lf_server.specs.declared.serving.Ending.{Ending}
-use Rattle.lf_server.specs.declared.serving.Ending.TheVariants.{Done, Bye, ReadFault, WriteFault, TooManyLines, OutOfMemory}
+use Rattle.lf_floor_model.specs.States.{FloorState}
+use Rattle.lf_server.specs.Connections.{KeepsDesign}
+use Rattle.lf_server.specs.Devices.{Writer, writer, SendsText, BreaksText}
+use Rattle.lf_server.specs.Exchanges.{AnswersTo, BreaksOffLastReply, Exchange, AnswersLines, Line, asked_on, is_bye, lines, text_of}
+use Rattle.lf_server.specs.Endings.{WritesReplies, EndsAt, NoneIsBye}
+use Rattle.lf_server.specs.declared.serve_loop.Ending.{Ending}
+use Rattle.lf_server.specs.declared.serve_loop.Ending.TheVariants.{Done, Bye, ReadFault, WriteFault, TooManyLines, OutOfMemory}
 use Rattle.lf_proto.specs.Pieces.{lines_from, pieces}
-use Rattle.lf_server.specs.Progress.{ExchangeEnds, Given, Goes, IsAnswered, IsExchanged, Stops, StopsAt, team_asked}
+use Rattle.lf_server.specs.Progress.{ExchangeEnds, IsGivenLine, ContinuesServing, IsAnswered, IsExchanged, StopsServing, StopsServingAt, team_asked}
 use Rattle.lf_proto.proofs.Cuttings.{IsBounded, feed_step, finish_gives}
 
 -- ---- results
@@ -38,19 +38,19 @@ on_ok_no (Err x) e p = absurd (false≢true (sym e))
 -- ---- what is written
 
 pub sends_one : (a a' : Option (List ℕ)) (f f' h h' : Bool) (text : List ℕ) → Appends a a' text → f' ≡ true → h' ≡ h
-    → Sends (writer a f h) (writer a' f' h') text
+    → SendsText (writer a f h) (writer a' f' h') text
 sends_one a a' f f' h h' text appends flushed healthy = record { written = appends; flushed = flushed; healthy = healthy }
 
 pub breaks_one : (a a' : Option (List ℕ)) (f f' h h' : Bool) (text : List ℕ) → (n : ℕ) × Appends a a' (take n text) → h' ≡ true
-    → Breaks (writer a f h) (writer a' f' h') text
+    → BreaksText (writer a f h) (writer a' f' h') text
 breaks_one a a' f f' h h' text front failed = record { count = front.0; written = front.1; failed = failed }
 
 -- ---- what stays
 
-pub stays_none : (floor : FloorState) → Stays floor floor
+pub stays_none : (floor : FloorState) → KeepsDesign floor floor
 stays_none floor = record { frame = refl; components = refl; legal = λ legal. legal }
 
-pub stays_join : (old mid new : FloorState) → Stays old mid → Stays mid new → Stays old new
+pub stays_join : (old mid new : FloorState) → KeepsDesign old mid → KeepsDesign mid new → KeepsDesign old new
 stays_join old mid new first second = record {
   frame = second.frame ∙ first.frame;
   components = second.components ∙ first.components;
@@ -60,14 +60,14 @@ stays_join old mid new first second = record {
 -- ---- line after line
 
 pub exchanges_join : (l : Legalizer) (old mid new : FloorState) (w v u : Writer) (s t : List Exchange)
-    → Exchanges l old w s mid v → Exchanges l mid v t new u → Exchanges l old w (s ++ t) new u
+    → AnswersLines l old w s mid v → AnswersLines l mid v t new u → AnswersLines l old w (s ++ t) new u
 exchanges_join l old mid new w v u [] t (floor, same) second =
-    subst (λ (f : FloorState). Exchanges l f w t new u) floor (subst (λ (x : Writer). Exchanges l mid x t new u) same second)
+    subst (λ (f : FloorState). AnswersLines l f w t new u) floor (subst (λ (x : Writer). AnswersLines l mid x t new u) same second)
 exchanges_join l old mid new w v u (e ∷ s) t (middle, between, answers, sends, later) second =
     (middle, between, answers, sends, exchanges_join l middle mid new between v u s t later second)
 
 breaks_join : (l : Legalizer) (old mid new : FloorState) (w v u : Writer) (s t : List Exchange)
-    → Exchanges l old w s mid v → BreaksOff l mid v t new u → BreaksOff l old w (s ++ t) new u
+    → AnswersLines l old w s mid v → BreaksOffLastReply l mid v t new u → BreaksOffLastReply l old w (s ++ t) new u
 breaks_join l old mid new w v u s t first second = record {
   earlier = s ++ second.earlier;
   last = second.last;
@@ -80,7 +80,7 @@ breaks_join l old mid new w v u s t first second = record {
 }
 
 comes_after : (e : Ending) (l : Legalizer) (old mid new : FloorState) (w v u : Writer) (s t : List Exchange)
-    → Exchanges l old w s mid v → Comes e l mid v t new u → Comes e l old w (s ++ t) new u
+    → AnswersLines l old w s mid v → WritesReplies e l mid v t new u → WritesReplies e l old w (s ++ t) new u
 comes_after Done l old mid new w v u s t first second = exchanges_join l old mid new w v u s t first second
 comes_after Bye l old mid new w v u s t first second = exchanges_join l old mid new w v u s t first second
 comes_after TooManyLines l old mid new w v u s t first second = exchanges_join l old mid new w v u s t first second
@@ -100,8 +100,8 @@ ends_after a all acted none e = record {
   none_before = All-append (λ line. is_bye line ≡ false) a e.before none e.none_before;
 }
 
-acted_after : (e : Ending) (limit mid : ℕ) (a all acted : List Line) → limit ≡ length a + mid → NoneIsBye a → StopsAt e mid all acted
-    → StopsAt e limit (a ++ all) (a ++ acted)
+acted_after : (e : Ending) (limit mid : ℕ) (a all acted : List Line) → limit ≡ length a + mid → NoneIsBye a → StopsServingAt e mid all acted
+    → StopsServingAt e limit (a ++ all) (a ++ acted)
 acted_after Done limit mid a all acted counts none (is, rest) =
     (ap (λ (l : List Line). a ++ l) is, All-append (λ line. is_bye line ≡ false) a acted none rest)
 acted_after Bye limit mid a all acted counts none (ends, bye) = (ends_after a all acted none ends, bye)
@@ -144,7 +144,7 @@ told l stop w w' old new line e = record { line = line; reply = e.reply; text = 
 -- ---- going on
 
 pub goes_none : (l : Legalizer) (w : Writer) (left : ℕ) (floor : FloorState) (held : Option (List ℕ)) (bytes : List ℕ)
-    → Goes l w w left left floor floor held held bytes bytes
+    → ContinuesServing l w w left left floor floor held held bytes bytes
 goes_none l w left floor held bytes = record {
   done = [];
   exchanged = (refl, refl);
@@ -155,7 +155,7 @@ goes_none l w left floor held bytes = record {
 
 -- one part after another
 pub goes_join : (l : Legalizer) (w v u : Writer) (p q r : ℕ) (old mid new : FloorState) (a b c : Option (List ℕ)) (x y z : List ℕ)
-    → Goes l w v p q old mid a b x y → Goes l v u q r mid new b c y z → Goes l w u p r old new a c x z
+    → ContinuesServing l w v p q old mid a b x y → ContinuesServing l v u q r mid new b c y z → ContinuesServing l w u p r old new a c x z
 goes_join l w v u p q r old mid new a b c x y z first second = record {
   done = first.done ++ second.done;
   exchanged = exchanges_join l old mid new w v u first.done second.done first.exchanged second.exchanged;
@@ -169,46 +169,46 @@ goes_join l w v u p q r old mid new a b c x y z first second = record {
 
 -- then serving stops, at lines that follow
 stops_after : (l : Legalizer) (ending : Ending) (w v u : Writer) (p q r : ℕ) (old mid new : FloorState) (done : List Exchange) (all : List Line)
-    → Exchanges l old w done mid v → p ≡ length done + q → NoneIsBye (lines done) → Stops l ending v u q r mid new all
-    → Stops l ending w u p r old new (lines done ++ all)
+    → AnswersLines l old w done mid v → p ≡ length done + q → NoneIsBye (lines done) → StopsServing l ending v u q r mid new all
+    → StopsServing l ending w u p r old new (lines done ++ all)
 stops_after l ending w v u p q r old mid new done all exchanged counts none second = record {
   done = done ++ second.done;
   comes = comes_after ending l old mid new w v u done second.done exchanged second.comes;
   counts = omega (arith, length-append done second.done, counts, second.counts);
-  stops = subst (StopsAt ending p (lines done ++ all)) (sym (lines_join done second.done))
+  stops = subst (StopsServingAt ending p (lines done ++ all)) (sym (lines_join done second.done))
       (acted_after ending p q (lines done) all (lines second.done) (counts ∙ ap (λ n. n + q) (sym (lines_length done))) none second.stops);
 }
 
 pub goes_stop : (l : Legalizer) (ending : Ending) (w v u : Writer) (p q r : ℕ) (old mid new : FloorState) (a b : Option (List ℕ)) (x y rest : List ℕ)
-    → Goes l w v p q old mid a b x y → Stops l ending v u q r mid new (lines_from b (pieces (y ++ rest))) → Stops l ending w u p r old new (lines_from a (pieces (x ++ rest)))
+    → ContinuesServing l w v p q old mid a b x y → StopsServing l ending v u q r mid new (lines_from b (pieces (y ++ rest))) → StopsServing l ending w u p r old new (lines_from a (pieces (x ++ rest)))
 goes_stop l ending w v u p q r old mid new a b x y rest first second =
-    subst (Stops l ending w u p r old new) (sym (first.goes_on rest))
+    subst (StopsServing l ending w u p r old new) (sym (first.goes_on rest))
     (stops_after l ending w v u p q r old mid new first.done (lines_from b (pieces (y ++ rest))) first.exchanged first.counts first.no_bye second)
 
 -- ---- one line of a piece
 
-given_is : (got : Got) (bytes : List ℕ) (line : Line) → Given got bytes line → given got bytes ≡ line ∷ []
+given_is : (got : Got) (bytes : List ℕ) (line : Line) → IsGivenLine got bytes line → given_line got bytes ≡ line ∷ []
 given_is got bytes line (inl (is, same)) = rw (is, same) refl
 given_is got bytes line (inr (is, same)) = rw (is, same) refl
 
 pub goes_more : (l : Legalizer) (w : Writer) (left : ℕ) (floor : FloorState) (old new : Framing) (piece : List ℕ) (fed : Fed) → Feeds old piece fed new → fed.got ≡ More
-    → Goes l w w left left floor floor old.pending new.pending piece (drop fed.used piece)
+    → ContinuesServing l w w left left floor floor old.pending new.pending piece (drop fed.used piece)
 goes_more l w left floor old new piece fed feeds more = record {
   done = [];
   exchanged = (refl, refl);
   counts = omega arith;
   no_bye = All-nil (λ (line : Line). is_bye line ≡ false);
-  goes_on = λ rest. (feed_step old new piece rest fed feeds).0 ∙ ap (λ (got : Got). given got new.line ++ lines_from new.pending (pieces (drop fed.used piece ++ rest))) more;
+  goes_on = λ rest. (feed_step old new piece rest fed feeds).0 ∙ ap (λ (got : Got). given_line got new.line ++ lines_from new.pending (pieces (drop fed.used piece ++ rest))) more;
 }
 
 -- the line comes first of what is left
-next_line : (old new : Framing) (piece rest : List ℕ) (fed : Fed) (line : Line) → Feeds old piece fed new → Given fed.got new.line line
+next_line : (old new : Framing) (piece rest : List ℕ) (fed : Fed) (line : Line) → Feeds old piece fed new → IsGivenLine fed.got new.line line
     → lines_from old.pending (pieces (piece ++ rest)) ≡ line ∷ lines_from new.pending (pieces (drop fed.used piece ++ rest))
 next_line old new piece rest fed line feeds is =
     (feed_step old new piece rest fed feeds).0 ∙ ap (λ (t : List Line). t ++ lines_from new.pending (pieces (drop fed.used piece ++ rest))) (given_is fed.got new.line line is)
 
 pub stops_full : (l : Legalizer) (w : Writer) (left : ℕ) (floor : FloorState) (line : Line) (more : List Line) → left ≡ 0
-    → Stops l TooManyLines w w left left floor floor (line ∷ more)
+    → StopsServing l TooManyLines w w left left floor floor (line ∷ more)
 stops_full l w left floor line more none = record {
   done = [];
   comes = (refl, refl);
@@ -216,10 +216,10 @@ stops_full l w left floor line more none = record {
   stops = record { next = line; rest = more; all_are = refl; full = sym none; none = All-nil (λ (line : Line). is_bye line ≡ false) };
 }
 
-pub full_line : (l : Legalizer) (w : Writer) (left : ℕ) (floor : FloorState) (old new : Framing) (piece rest : List ℕ) (fed : Fed) (line : Line) → left ≡ 0 → Feeds old piece fed new → Given fed.got new.line line
-    → Stops l TooManyLines w w left left floor floor (lines_from old.pending (pieces (piece ++ rest)))
+pub full_line : (l : Legalizer) (w : Writer) (left : ℕ) (floor : FloorState) (old new : Framing) (piece rest : List ℕ) (fed : Fed) (line : Line) → left ≡ 0 → Feeds old piece fed new → IsGivenLine fed.got new.line line
+    → StopsServing l TooManyLines w w left left floor floor (lines_from old.pending (pieces (piece ++ rest)))
 full_line l w left floor old new piece rest fed line none feeds is =
-    subst (Stops l TooManyLines w w left left floor floor) (sym (next_line old new piece rest fed line feeds is))
+    subst (StopsServing l TooManyLines w w left left floor floor) (sym (next_line old new piece rest fed line feeds is))
     (stops_full l w left floor line (lines_from new.pending (pieces (drop fed.used piece ++ rest))) none)
 
 -- the line is the last one acted on
@@ -228,7 +228,7 @@ last_line line more =
     record { before = []; last = line; rest = more; all_are = refl; acted_are = refl; none_before = All-nil (λ (line : Line). is_bye line ≡ false) }
 
 stops_line : (l : Legalizer) (ending : Ending) (w w' : Writer) (left : ℕ) (old new : FloorState) (line : Line) (more : List Line) → left ≢ 0
-    → IsExchanged l (Some ending) w w' old new line → Stops l ending w w' left (left - 1) old new (line ∷ more)
+    → IsExchanged l (Some ending) w w' old new line → StopsServing l ending w w' left (left - 1) old new (line ∷ more)
 stops_line l Done w w' left old new line more some e = absurd e.ends
 stops_line l ReadFault w w' left old new line more some e = absurd e.ends
 stops_line l TooManyLines w w' left old new line more some e = absurd e.ends
@@ -256,9 +256,9 @@ stops_line l WriteFault w w' left old new line more some e = record {
 }
 
 pub after_exchange : (l : Legalizer) (stop : Option Ending) (w w' : Writer) (left : ℕ) (old new : FloorState) (from to : Framing) (piece : List ℕ) (fed : Fed) (line : Line)
-    → left ≢ 0 → Feeds from piece fed to → Given fed.got to.line line → IsExchanged l stop w w' old new line
-    → MatchOption stop (Goes l w w' left (left - 1) old new from.pending to.pending piece (drop fed.used piece))
-    (λ ending. (rest : List ℕ) → Stops l ending w w' left (left - 1) old new (lines_from from.pending (pieces (piece ++ rest))))
+    → left ≢ 0 → Feeds from piece fed to → IsGivenLine fed.got to.line line → IsExchanged l stop w w' old new line
+    → MatchOption stop (ContinuesServing l w w' left (left - 1) old new from.pending to.pending piece (drop fed.used piece))
+    (λ ending. (rest : List ℕ) → StopsServing l ending w w' left (left - 1) old new (lines_from from.pending (pieces (piece ++ rest))))
 after_exchange l None w w' left old new from to piece fed line some feeds is e = record {
   done = told l None w w' old new line e ∷ [];
   exchanged = (new, w', e.answers, e.ends.0, (refl, refl));
@@ -267,28 +267,28 @@ after_exchange l None w w' left old new from to piece fed line some feeds is e =
   goes_on = λ rest. next_line from to piece rest fed line feeds is;
 }
 after_exchange l (Some ending) w w' left old new from to piece fed line some feeds is e = λ rest.
-    subst (Stops l ending w w' left (left - 1) old new) (sym (next_line from to piece rest fed line feeds is))
+    subst (StopsServing l ending w w' left (left - 1) old new) (sym (next_line from to piece rest fed line feeds is))
     (stops_line l ending w w' left old new line (lines_from to.pending (pieces (drop fed.used piece ++ rest))) some e)
 
 -- ---- the end of the input
 
-last_is : (held : Option (List ℕ)) (got : Got) (bytes : List ℕ) (line : Line) → IsBounded held → FinishesAt held got bytes → Given got bytes line → lines_from held ([] ∷ []) ≡ line ∷ []
+last_is : (held : Option (List ℕ)) (got : Got) (bytes : List ℕ) (line : Line) → IsBounded held → FinishesAt held got bytes → IsGivenLine got bytes line → lines_from held ([] ∷ []) ≡ line ∷ []
 last_is held got bytes line within finishes is = finish_gives held got bytes within finishes ∙ given_is got bytes line is
 
-pub finish_full : (l : Legalizer) (w : Writer) (left : ℕ) (floor : FloorState) (held : Option (List ℕ)) (got : Got) (bytes : List ℕ) (line : Line) → left ≡ 0 → IsBounded held → FinishesAt held got bytes → Given got bytes line
-    → Stops l TooManyLines w w left left floor floor (lines_from held ([] ∷ []))
+pub finish_full : (l : Legalizer) (w : Writer) (left : ℕ) (floor : FloorState) (held : Option (List ℕ)) (got : Got) (bytes : List ℕ) (line : Line) → left ≡ 0 → IsBounded held → FinishesAt held got bytes → IsGivenLine got bytes line
+    → StopsServing l TooManyLines w w left left floor floor (lines_from held ([] ∷ []))
 finish_full l w left floor held got bytes line none within finishes is =
-    subst (Stops l TooManyLines w w left left floor floor) (sym (last_is held got bytes line within finishes is)) (stops_full l w left floor line [] none)
+    subst (StopsServing l TooManyLines w w left left floor floor) (sym (last_is held got bytes line within finishes is)) (stops_full l w left floor line [] none)
 
-pub finish_stop : (l : Legalizer) (ending : Ending) (w w' : Writer) (left : ℕ) (old new : FloorState) (held : Option (List ℕ)) (got : Got) (bytes : List ℕ) (line : Line) → left ≢ 0 → IsBounded held → FinishesAt held got bytes → Given got bytes line
-    → IsExchanged l (Some ending) w w' old new line → Stops l ending w w' left (left - 1) old new (lines_from held ([] ∷ []))
+pub finish_stop : (l : Legalizer) (ending : Ending) (w w' : Writer) (left : ℕ) (old new : FloorState) (held : Option (List ℕ)) (got : Got) (bytes : List ℕ) (line : Line) → left ≢ 0 → IsBounded held → FinishesAt held got bytes → IsGivenLine got bytes line
+    → IsExchanged l (Some ending) w w' old new line → StopsServing l ending w w' left (left - 1) old new (lines_from held ([] ∷ []))
 finish_stop l ending w w' left old new held got bytes line some within finishes is e =
-    subst (Stops l ending w w' left (left - 1) old new) (sym (last_is held got bytes line within finishes is)) (stops_line l ending w w' left old new line [] some e)
+    subst (StopsServing l ending w w' left (left - 1) old new) (sym (last_is held got bytes line within finishes is)) (stops_line l ending w w' left old new line [] some e)
 
-pub finish_done : (l : Legalizer) (w w' : Writer) (left : ℕ) (old new : FloorState) (held : Option (List ℕ)) (got : Got) (bytes : List ℕ) (line : Line) → left ≢ 0 → IsBounded held → FinishesAt held got bytes → Given got bytes line
-    → IsExchanged l None w w' old new line → Stops l Done w w' left (left - 1) old new (lines_from held ([] ∷ []))
+pub finish_done : (l : Legalizer) (w w' : Writer) (left : ℕ) (old new : FloorState) (held : Option (List ℕ)) (got : Got) (bytes : List ℕ) (line : Line) → left ≢ 0 → IsBounded held → FinishesAt held got bytes → IsGivenLine got bytes line
+    → IsExchanged l None w w' old new line → StopsServing l Done w w' left (left - 1) old new (lines_from held ([] ∷ []))
 finish_done l w w' left old new held got bytes line some within finishes is e =
-    subst (Stops l Done w w' left (left - 1) old new) (sym (last_is held got bytes line within finishes is)) (record {
+    subst (StopsServing l Done w w' left (left - 1) old new) (sym (last_is held got bytes line within finishes is)) (record {
       done = told l None w w' old new line e ∷ [];
       comes = (new, w', e.answers, e.ends.0, (refl, refl));
       counts = omega (arith, some);
@@ -305,25 +305,25 @@ rest_is : (at : ℕ) (piece : List ℕ) → rest_of at piece ≡ drop at piece
 rest_is at piece = take_all (length piece - at) (drop at piece) (omega (arith, length-drop at piece))
 
 pub piece_on : (l : Legalizer) (w v u : Writer) (p q r : ℕ) (old mid new : FloorState) (a b c : Option (List ℕ)) (piece : List ℕ) (at used : ℕ) (stop : Option Ending) → stop ≡ None
-    → Goes l w v p q old mid a b piece (drop at piece)
-    → MatchOption stop (Goes l v u q r mid new b c (rest_of at piece) (drop used (rest_of at piece))) (λ ending. (rest : List ℕ) → Stops l ending v u q r mid new (lines_from b (pieces (rest_of at piece ++ rest))))
-    → Goes l w u p r old new a c piece (drop (at + used) piece)
+    → ContinuesServing l w v p q old mid a b piece (drop at piece)
+    → MatchOption stop (ContinuesServing l v u q r mid new b c (rest_of at piece) (drop used (rest_of at piece))) (λ ending. (rest : List ℕ) → StopsServing l ending v u q r mid new (lines_from b (pieces (rest_of at piece ++ rest))))
+    → ContinuesServing l w u p r old new a c piece (drop (at + used) piece)
 piece_on l w v u p q r old mid new a b c piece at used (Some ending) is first second = cc
 piece_on l w v u p q r old mid new a b c piece at used None is first second =
-    subst (Goes l w u p r old new a c piece) (drop-drop used at piece)
+    subst (ContinuesServing l w u p r old new a c piece) (drop-drop used at piece)
     (goes_join l w v u p q r old mid new a b c piece (drop at piece) (drop used (drop at piece)) first
-    (subst (λ (x : List ℕ). Goes l v u q r mid new b c x (drop used x)) (rest_is at piece) second))
+    (subst (λ (x : List ℕ). ContinuesServing l v u q r mid new b c x (drop used x)) (rest_is at piece) second))
 
 pub piece_stop : (l : Legalizer) (w v u : Writer) (p q r : ℕ) (old mid new : FloorState) (a b c : Option (List ℕ)) (piece : List ℕ) (at used : ℕ) (stop : Option Ending) (ending : Ending) → stop ≡ Some ending
-    → Goes l w v p q old mid a b piece (drop at piece)
-    → MatchOption stop (Goes l v u q r mid new b c (rest_of at piece) (drop used (rest_of at piece))) (λ ending. (rest : List ℕ) → Stops l ending v u q r mid new (lines_from b (pieces (rest_of at piece ++ rest))))
-    → (rest : List ℕ) → Stops l ending w u p r old new (lines_from a (pieces (piece ++ rest)))
+    → ContinuesServing l w v p q old mid a b piece (drop at piece)
+    → MatchOption stop (ContinuesServing l v u q r mid new b c (rest_of at piece) (drop used (rest_of at piece))) (λ ending. (rest : List ℕ) → StopsServing l ending v u q r mid new (lines_from b (pieces (rest_of at piece ++ rest))))
+    → (rest : List ℕ) → StopsServing l ending w u p r old new (lines_from a (pieces (piece ++ rest)))
 piece_stop l w v u p q r old mid new a b c piece at used None ending is first second rest = cc
 piece_stop l w v u p q r old mid new a b c piece at used (Some found) ending is first second rest =
     let same : found ≡ ending = cc in
     goes_stop l ending w v u p q r old mid new a b piece (drop at piece) rest first
-    (subst (λ (x : List ℕ). Stops l ending v u q r mid new (lines_from b (pieces (x ++ rest)))) (rest_is at piece)
-    (subst (λ (e : Ending). Stops l e v u q r mid new (lines_from b (pieces (rest_of at piece ++ rest)))) same (second rest)))
+    (subst (λ (x : List ℕ). StopsServing l ending v u q r mid new (lines_from b (pieces (x ++ rest)))) (rest_is at piece)
+    (subst (λ (e : Ending). StopsServing l e v u q r mid new (lines_from b (pieces (rest_of at piece ++ rest)))) same (second rest)))
 
-pub piece_done : (l : Legalizer) (w v : Writer) (p q : ℕ) (old mid : FloorState) (a b : Option (List ℕ)) (piece : List ℕ) (at : ℕ) → length piece ≤ at → Goes l w v p q old mid a b piece (drop at piece) → Goes l w v p q old mid a b piece []
-piece_done l w v p q old mid a b piece at past first = subst (Goes l w v p q old mid a b piece) (drop_all at piece past) first
+pub piece_done : (l : Legalizer) (w v : Writer) (p q : ℕ) (old mid : FloorState) (a b : Option (List ℕ)) (piece : List ℕ) (at : ℕ) → length piece ≤ at → ContinuesServing l w v p q old mid a b piece (drop at piece) → ContinuesServing l w v p q old mid a b piece []
+piece_done l w v p q old mid a b piece at past first = subst (ContinuesServing l w v p q old mid a b piece) (drop_all at piece past) first

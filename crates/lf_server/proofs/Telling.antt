@@ -7,23 +7,23 @@ use Rattle.lf_floorplan.specs.declared.place.Place.{Place}
 use Rattle.lf_rules.specs.Legalizer.{Legalizer}
 use Rattle.lf_proto.specs.declared.request.Command.{Command}
 use Rattle.lf_proto.specs.declared.request.Command.TheVariants.{Bye, To}
-use Rattle.lf_proto.specs.declared.request.Order.{Order}
+use Rattle.lf_proto.specs.declared.request.TeamCommand.{TeamCommand}
 use Rattle.lf_proto.specs.declared.reply.Reply.{Reply}
 use Rattle.lf_proto.specs.ReplyText.{reply_text}
-use Rattle.lf_teams.specs.States.{TeamState, FloorState}
-use Rattle.lf_teams.specs.Teams.{team_number, state_of}
-use Rattle.lf_teams.specs.Outcomes.{is_short, name_at}
-use Rattle.lf_teams.specs.Steps.{ruled, Answers, RunsShort, IsTo}
-use Rattle.lf_teams.specs.Runs.{Run, asked}
-use Rattle.lf_teams.proofs.Answering.{own_answer, others_kept}
-use Rattle.lf_teams.proofs.Isolation.{step_frame}
+use Rattle.lf_floor_model.specs.States.{TeamState, FloorState}
+use Rattle.lf_floor_model.specs.Teams.{team_number, state_of}
+use Rattle.lf_floor_model.specs.Outcomes.{is_short, name_at}
+use Rattle.lf_floor_model.specs.Steps.{outcome_by_rules, IsAnswerOf, MayRunOutOfMemory, IsTo}
+use Rattle.lf_floor_model.specs.Runs.{Run, own_commands}
+use Rattle.lf_floor_model.proofs.Answering.{own_answer, others_kept}
+use Rattle.lf_floor_model.proofs.Isolation.{step_frame}
 use Rattle.lf_server.specs.Devices.{Writer}
 use Rattle.lf_floor.specs.Responses.{team_of}
-use Rattle.lf_server.specs.Exchanges.{AnswersTo, Exchange, Exchanges, asked_on, cells_in, name_in, text_of}
-use Rattle.lf_server.specs.Endings.{Comes}
-use Rattle.lf_server.specs.Laws.{commands, replies, told_before, texts_told, with_command, with_reply}
-use Rattle.lf_server.specs.declared.serving.Ending.{Ending}
-use Rattle.lf_server.specs.declared.serving.Ending.TheVariants.{Done, Bye as Parted, ReadFault, WriteFault, TooManyLines, OutOfMemory}
+use Rattle.lf_server.specs.Exchanges.{AnswersTo, Exchange, AnswersLines, asked_on, cells_in, name_in, text_of}
+use Rattle.lf_server.specs.Endings.{WritesReplies}
+use Rattle.lf_server.specs.Laws.{commands, replies, reply_before, reply_texts, with_command, with_reply}
+use Rattle.lf_server.specs.declared.serve_loop.Ending.{Ending}
+use Rattle.lf_server.specs.declared.serve_loop.Ending.TheVariants.{Done, Bye as Parted, ReadFault, WriteFault, TooManyLines, OutOfMemory}
 
 -- ---- the floor alone
 
@@ -32,7 +32,7 @@ abbrev pub Acts : Legalizer → FloorState → List Exchange → FloorState → 
 Acts l old [] new = new ≡ old
 Acts l old (e ∷ later) new = (mid : FloorState) × AnswersTo l old (asked_on e.line) e.reply e.text mid × Acts l mid later new
 
-acts_of : (l : Legalizer) (old new : FloorState) (before after : Writer) (done : List Exchange) → Exchanges l old before done new after → Acts l old done new
+acts_of : (l : Legalizer) (old new : FloorState) (before after : Writer) (done : List Exchange) → AnswersLines l old before done new after → Acts l old done new
 acts_of l old new before after [] (floor, same) = floor
 acts_of l old new before after (e ∷ later) (mid, between, answers, sends, rest) = (mid, answers, acts_of l mid new between after later rest)
 
@@ -43,7 +43,7 @@ acts_last l old mid new [] last floor answers =
 acts_last l old mid new (e ∷ earlier) last (next, first, rest) answers = (next, first, acts_last l next mid new earlier last rest answers)
 
 pub acts_at : (ending : Ending) (l : Legalizer) (old new : FloorState) (before after : Writer) (done : List Exchange)
-    → Comes ending l old before done new after → Acts l old done new
+    → WritesReplies ending l old before done new after → Acts l old done new
 acts_at Done l old new before after done comes = acts_of l old new before after done comes
 acts_at Parted l old new before after done comes = acts_of l old new before after done comes
 acts_at TooManyLines l old new before after done comes = acts_of l old new before after done comes
@@ -56,9 +56,9 @@ acts_at WriteFault l old new before after done comes =
 
 -- ---- a run
 
-run_line : (l : Legalizer) (old mid new : FloorState) (asked : Option (Command (List ℕ) Place)) (reply : Reply) (text : List ℕ)
-    (cs : List (Command (List ℕ) Place)) (rs : List Reply) → AnswersTo l old asked reply text mid → Run l mid cs rs new
-    → Run l old (with_command asked cs) (with_reply asked reply rs) new
+run_line : (l : Legalizer) (old mid new : FloorState) (own_commands : Option (Command (List ℕ) Place)) (reply : Reply) (text : List ℕ)
+    (cs : List (Command (List ℕ) Place)) (rs : List Reply) → AnswersTo l old own_commands reply text mid → Run l mid cs rs new
+    → Run l old (with_command own_commands cs) (with_reply own_commands reply rs) new
 run_line l old mid new None reply text cs rs refuses run = subst (λ (f : FloorState). Run l f cs rs new) refuses.kept run
 run_line l old mid new (Some command) reply text cs rs steps run = (mid, steps.step, run)
 
@@ -89,10 +89,10 @@ text_for_is floor team s there reply =
     ∙ ap (λ (n : List ℕ). reply_text reply (name_for s (cells_in reply).0) n) (name_for_is floor team s there (cells_in reply).1)
 
 -- the texts of the replies to a team's own orders
-abbrev pub own_texts : Legalizer → Frame → ℕ → List (Order (List ℕ) Place) → TeamState → List (List ℕ)
+abbrev pub own_texts : Legalizer → Frame → ℕ → List (TeamCommand (List ℕ) Place) → TeamState → List (List ℕ)
 own_texts l f number [] s = []
 own_texts l f number (order ∷ orders) s =
-    text_for (ruled l f number order s).team (ruled l f number order s).reply ∷ own_texts l f number orders (ruled l f number order s).team
+    text_for (outcome_by_rules l f number order s).team (outcome_by_rules l f number order s).reply ∷ own_texts l f number orders (outcome_by_rules l f number order s).team
 
 false_true : false ≡ true → ⊥
 false_true e = cc
@@ -102,66 +102,66 @@ and_false true = refl
 and_false false = refl
 
 -- the orders of a line and of those after it
-abbrev orders_with : List ℕ → Option (Command (List ℕ) Place) → Reply → List (Command (List ℕ) Place) → List Reply → List (Order (List ℕ) Place)
-orders_with team asked_now reply cs rs = asked team (with_command asked_now cs) (with_reply asked_now reply rs)
+abbrev orders_with : List ℕ → Option (Command (List ℕ) Place) → Reply → List (Command (List ℕ) Place) → List Reply → List (TeamCommand (List ℕ) Place)
+orders_with team asked_now reply cs rs = own_commands team (with_command asked_now cs) (with_reply asked_now reply rs)
 
 -- one line, and those after it, to which the team got the replies to its own orders
 module _ (l : Legalizer) (frame : Frame) (team : List ℕ) (number : ℕ) (named : team_number frame team ≡ Some number) (old mid : FloorState)
     (same_frame : old.frame ≡ frame) (e : Exchange) (cs : List (Command (List ℕ) Place)) (rs : List Reply) (texts : List (List ℕ))
-    (later : (s : TeamState) → state_of mid team ≡ Some s → texts ≡ own_texts l frame number (asked team cs rs) s) where
+    (later : (s : TeamState) → state_of mid team ≡ Some s → texts ≡ own_texts l frame number (own_commands team cs rs) s) where
   -- the team gets the replies to the line and those after it
   abbrev Told : Option (Command (List ℕ) Place) → TeamState → Type 0
-  Told now s = told_before team now e texts ≡ own_texts l frame number (orders_with team now e.reply cs rs) s
+  Told now s = reply_before team now e texts ≡ own_texts l frame number (orders_with team now e.reply cs rs) s
 
-  counted : (name : List ℕ) (order : Order (List ℕ) Place) (b : Bool) → (bytes_eq name team && not (is_short e.reply)) ≡ b
-      → (told_before team (Some (To name order)) e texts ≡ cond b (e.text ∷ texts) texts)
-      × (orders_with team (Some (To name order)) e.reply cs rs ≡ cond b (order ∷ asked team cs rs) (asked team cs rs))
+  counted : (name : List ℕ) (order : TeamCommand (List ℕ) Place) (b : Bool) → (bytes_eq name team && not (is_short e.reply)) ≡ b
+      → (reply_before team (Some (To name order)) e texts ≡ cond b (e.text ∷ texts) texts)
+      × (orders_with team (Some (To name order)) e.reply cs rs ≡ cond b (order ∷ own_commands team cs rs) (own_commands team cs rs))
   counted name order b is =
-      (ap (λ (b : Bool). cond b (e.text ∷ texts) texts) is, ap (λ (b : Bool). cond b (order ∷ asked team cs rs) (asked team cs rs)) is)
+      (ap (λ (b : Bool). cond b (e.text ∷ texts) texts) is, ap (λ (b : Bool). cond b (order ∷ own_commands team cs rs) (own_commands team cs rs)) is)
 
   -- the line leaves the team alone
   skip : (now : Option (Command (List ℕ) Place)) (s : TeamState) → state_of old team ≡ Some s → state_of mid team ≡ state_of old team
-      → told_before team now e texts ≡ texts → orders_with team now e.reply cs rs ≡ asked team cs rs → Told now s
+      → reply_before team now e texts ≡ texts → orders_with team now e.reply cs rs ≡ own_commands team cs rs → Told now s
   skip now s there kept told_same asked_same =
-      told_same ∙ (later s (kept ∙ there) ∙ ap (λ (os : List (Order (List ℕ) Place)). own_texts l frame number os s) (sym asked_same))
+      told_same ∙ (later s (kept ∙ there) ∙ ap (λ (os : List (TeamCommand (List ℕ) Place)). own_texts l frame number os s) (sym asked_same))
 
-  skip_to : (name : List ℕ) (order : Order (List ℕ) Place) (s : TeamState) → state_of old team ≡ Some s → state_of mid team ≡ state_of old team
+  skip_to : (name : List ℕ) (order : TeamCommand (List ℕ) Place) (s : TeamState) → state_of old team ≡ Some s → state_of mid team ≡ state_of old team
       → (bytes_eq name team && not (is_short e.reply)) ≡ false → Told (Some (To name order)) s
   skip_to name order s there kept none =
       let is = counted name order false none in
       skip (Some (To name order)) s there kept is.0 is.1
 
   -- the line is the team's own
-  turn : (order : Order (List ℕ) Place) (s : TeamState) → state_of old team ≡ Some s → is_short e.reply ≡ false
-      → Answers l old (To team order) e.reply mid → e.text ≡ text_of mid team e.reply → Told (Some (To team order)) s
+  turn : (order : TeamCommand (List ℕ) Place) (s : TeamState) → state_of old team ≡ Some s → is_short e.reply ≡ false
+      → IsAnswerOf l old (To team order) e.reply mid → e.text ≡ text_of mid team e.reply → Told (Some (To team order)) s
   turn order s there plain answers text_is =
       let mine = own_answer l old team number order s (ap (λ (f : Frame). team_number f team) same_frame ∙ named) there in
-      let next = (ruled l frame number order s).team in
-      let reply_is : e.reply ≡ (ruled l frame number order s).reply =
-      answers.reply_is ∙ (mine.0 ∙ ap (λ (f : Frame). (ruled l f number order s).reply) same_frame) in
+      let next = (outcome_by_rules l frame number order s).team in
+      let reply_is : e.reply ≡ (outcome_by_rules l frame number order s).reply =
+      answers.reply_is ∙ (mine.0 ∙ ap (λ (f : Frame). (outcome_by_rules l f number order s).reply) same_frame) in
       let here : state_of mid team ≡ Some next =
-      ap (λ (f : FloorState). state_of f team) answers.floor_is ∙ (mine.1 ∙ ap (λ (f : Frame). Some (ruled l f number order s).team) same_frame) in
-      let text : e.text ≡ text_for next (ruled l frame number order s).reply =
+      ap (λ (f : FloorState). state_of f team) answers.floor_is ∙ (mine.1 ∙ ap (λ (f : Frame). Some (outcome_by_rules l f number order s).team) same_frame) in
+      let text : e.text ≡ text_for next (outcome_by_rules l frame number order s).reply =
       text_is ∙ (text_for_is mid team next here e.reply ∙ ap (text_for next) reply_is) in
       let mark : (bytes_eq team team && not (is_short e.reply)) ≡ true =
       ap (λ (b : Bool). bytes_eq team team && not b) plain ∙ ap (λ (b : Bool). b && true) ((bytes_eq-Decides team team).1 refl) in
       let is = counted team order true mark in
       is.0 ∙ (ap (λ (t : List ℕ). t ∷ texts) text
-      ∙ (ap (λ (ts : List (List ℕ)). text_for next (ruled l frame number order s).reply ∷ ts) (later next here)
-      ∙ ap (λ (os : List (Order (List ℕ) Place)). own_texts l frame number os s) (sym is.1)))
+      ∙ (ap (λ (ts : List (List ℕ)). text_for next (outcome_by_rules l frame number order s).reply ∷ ts) (later next here)
+      ∙ ap (λ (os : List (TeamCommand (List ℕ) Place)). own_texts l frame number os s) (sym is.1)))
 
-  short_line : (command : Command (List ℕ) Place) (s : TeamState) → state_of old team ≡ Some s → is_short e.reply ≡ true → RunsShort l old command mid
+  short_line : (command : Command (List ℕ) Place) (s : TeamState) → state_of old team ≡ Some s → is_short e.reply ≡ true → MayRunOutOfMemory l old command mid
       → Told (Some command) s
   short_line Bye s there is step = skip (Some Bye) s there (ap (λ (f : FloorState). state_of f team) step.short.kept) refl refl
   short_line (To name order) s there is step =
       skip_to name order s there (ap (λ (f : FloorState). state_of f team) step.short.kept)
       (ap (λ (b : Bool). bytes_eq name team && not b) is ∙ and_false (bytes_eq name team))
 
-  kept : (command : Command (List ℕ) Place) → Answers l old command e.reply mid → ¬ IsTo team command → state_of mid team ≡ state_of old team
+  kept : (command : Command (List ℕ) Place) → IsAnswerOf l old command e.reply mid → ¬ IsTo team command → state_of mid team ≡ state_of old team
   kept command answers other = ap (λ (f : FloorState). state_of f team) answers.floor_is ∙ others_kept l old command team other
 
-  plain_to : (name : List ℕ) (order : Order (List ℕ) Place) (s : TeamState) → state_of old team ≡ Some s → is_short e.reply ≡ false
-      → Answers l old (To name order) e.reply mid → e.text ≡ text_of mid name e.reply → (mine : Bool) → bytes_eq name team ≡ mine
+  plain_to : (name : List ℕ) (order : TeamCommand (List ℕ) Place) (s : TeamState) → state_of old team ≡ Some s → is_short e.reply ≡ false
+      → IsAnswerOf l old (To name order) e.reply mid → e.text ≡ text_of mid name e.reply → (mine : Bool) → bytes_eq name team ≡ mine
       → Told (Some (To name order)) s
   plain_to name order s there plain answers text_is false other =
       skip_to name order s there (kept (To name order) answers (λ is. false_true (sym other ∙ (bytes_eq-Decides name team).1 is)))
@@ -169,16 +169,16 @@ module _ (l : Legalizer) (frame : Frame) (team : List ℕ) (number : ℕ) (named
   plain_to name order s there plain answers text_is true same =
       let is : name ≡ team = (bytes_eq-Decides name team).0 same in
       subst (λ (n : List ℕ). Told (Some (To n order)) s) (sym is)
-      (turn order s there plain (subst (λ (n : List ℕ). Answers l old (To n order) e.reply mid) is answers)
+      (turn order s there plain (subst (λ (n : List ℕ). IsAnswerOf l old (To n order) e.reply mid) is answers)
       (subst (λ (n : List ℕ). e.text ≡ text_of mid n e.reply) is text_is))
 
   plain_line : (command : Command (List ℕ) Place) (s : TeamState) → state_of old team ≡ Some s → is_short e.reply ≡ false
-      → Answers l old command e.reply mid → e.text ≡ text_of mid (team_of command) e.reply → Told (Some command) s
+      → IsAnswerOf l old command e.reply mid → e.text ≡ text_of mid (team_of command) e.reply → Told (Some command) s
   plain_line Bye s there plain answers text_is = skip (Some Bye) s there (kept Bye answers (λ to. to)) refl refl
   plain_line (To name order) s there plain answers text_is = plain_to name order s there plain answers text_is (bytes_eq name team) refl
 
   step_line : (command : Command (List ℕ) Place) (s : TeamState) → state_of old team ≡ Some s → e.text ≡ text_of mid (team_of command) e.reply
-      → (short : Bool) → is_short e.reply ≡ short → MatchBool short (RunsShort l old command mid) (Answers l old command e.reply mid)
+      → (short : Bool) → is_short e.reply ≡ short → MatchBool short (MayRunOutOfMemory l old command mid) (IsAnswerOf l old command e.reply mid)
       → Told (Some command) s
   step_line command s there text_is true is step = short_line command s there is step
   step_line command s there text_is false is step = plain_line command s there is step text_is
@@ -195,9 +195,9 @@ answered_frame l old mid (Some command) reply text steps = step_frame l old mid 
 -- the team gets the replies to its own orders, byte for byte
 pub told_own : (l : Legalizer) (frame : Frame) (team : List ℕ) (number : ℕ) → team_number frame team ≡ Some number
     → (done : List Exchange) (old new : FloorState) → old.frame ≡ frame → Acts l old done new → (s : TeamState) → state_of old team ≡ Some s
-    → texts_told team done ≡ own_texts l frame number (asked team (commands done) (replies done)) s
+    → reply_texts team done ≡ own_texts l frame number (own_commands team (commands done) (replies done)) s
 told_own l frame team number named [] old new same acts s there = refl
 told_own l frame team number named (e ∷ later) old new same (mid, answers, rest) s there =
-    told_line l frame team number named old mid same e (commands later) (replies later) (texts_told team later)
+    told_line l frame team number named old mid same e (commands later) (replies later) (reply_texts team later)
     (told_own l frame team number named later mid new (answered_frame l old mid (asked_on e.line) e.reply e.text answers ∙ same) rest)
     (asked_on e.line) s there answers

@@ -2,7 +2,7 @@
 use Rattle.std.proofs.Common.{◌≡◌, ℕ, Bool, true, false, List, [], ◌++◌, Option, Some, None, sym, ap, ◌∙◌, subst, append_assoc, append-nil, Result, Ok, Err}
 use Rattle.std.specs.Prelude.{OnErr, OnOk, is_err}
 use Rattle.std.specs.Io.KnownBytes.{Appends}
-use Rattle.lf_devices.proofs.Known.{Appends-more}
+use Rattle.lf_io.proofs.Known.{Appends-more}
 use Rattle.lf_server.specs.Pieces.{IsUnderWay, has_failed_since}
 use Rattle.lf_server.proofs.Parts.{Front, first_front, front_after, front_behind}
 

@@ -12,13 +12,13 @@ abbrev pub writer : Option (List ℕ) → Bool → Bool → Writer
 writer contents flushed failed = record { contents = contents; flushed = flushed; failed = failed }
 
 -- the text was written whole, after what was there, and everything is flushed; no call failed
-pub record Sends (old new : Writer) (text : List ℕ) : Type 0 where
+pub record SendsText (old new : Writer) (text : List ℕ) : Type 0 where
   pub written : Appends old.contents new.contents text
   pub flushed : new.flushed ≡ true
   pub healthy : new.failed ≡ old.failed
 
 -- a front of the text was written, perhaps nothing or all of it, and then a call failed
-pub record Breaks (old new : Writer) (text : List ℕ) : Type 0 where
+pub record BreaksText (old new : Writer) (text : List ℕ) : Type 0 where
   pub count : ℕ
   pub written : Appends old.contents new.contents (take count text)
   pub failed : new.failed ≡ true

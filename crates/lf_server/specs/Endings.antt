@@ -4,12 +4,12 @@ use Rattle.std.specs.List.{slice_split}
 use Rattle.std.specs.Io.KnownBytes.{Consumes}
 use Rattle.lf_rules.specs.Legalizer.{Legalizer}
 use Rattle.lf_proto.specs.Stream.{ended_line, is_line_feed, lines_of}
-use Rattle.lf_teams.specs.States.{FloorState}
+use Rattle.lf_floor_model.specs.States.{FloorState}
 use Rattle.lf_server.specs.Devices.{Writer}
-use Rattle.lf_server.specs.Exchanges.{BreaksOff, Exchange, Exchanges, Line, is_bye, lines}
-use Rattle.lf_server.specs.declared.serving.Ending.{Ending}
-use Rattle.lf_server.specs.declared.serving.Ending.TheVariants.{Done, Bye, ReadFault, WriteFault, TooManyLines, OutOfMemory}
-use Rattle.lf_server.specs.declared.serving.Served.{Served}
+use Rattle.lf_server.specs.Exchanges.{BreaksOffLastReply, Exchange, AnswersLines, Line, is_bye, lines}
+use Rattle.lf_server.specs.declared.serve_loop.Ending.{Ending}
+use Rattle.lf_server.specs.declared.serve_loop.Ending.TheVariants.{Done, Bye, ReadFault, WriteFault, TooManyLines, OutOfMemory}
+use Rattle.lf_server.specs.declared.serve_loop.Served.{Served}
 
 -- ---- the lines
 
@@ -45,33 +45,33 @@ pub record StopsShort (limit : ℕ) (all acted : List Line) : Type 0 where
 
 -- The lines acted on, of all lines of the input, of which `whole` were read with their line feed: all lines; those up to the
 -- first bye; those that were read whole; those up to one whose reply was not written; as many as are allowed; or none.
-abbrev pub ActedOn : Ending → ℕ → List Line → List Line → List Line → Type 0
-ActedOn Done limit all whole acted = (acted ≡ all) × NoneIsBye acted
-ActedOn Bye limit all whole acted = (e : EndsAt all acted) × (is_bye e.last ≡ true)
-ActedOn ReadFault limit all whole acted = (acted ≡ whole) × NoneIsBye acted
-ActedOn WriteFault limit all whole acted = EndsAt all acted
-ActedOn TooManyLines limit all whole acted = StopsShort limit all acted
-ActedOn OutOfMemory limit all whole acted = acted ≡ []
+abbrev pub AreLinesActedOn : Ending → ℕ → List Line → List Line → List Line → Type 0
+AreLinesActedOn Done limit all whole acted = (acted ≡ all) × NoneIsBye acted
+AreLinesActedOn Bye limit all whole acted = (e : EndsAt all acted) × (is_bye e.last ≡ true)
+AreLinesActedOn ReadFault limit all whole acted = (acted ≡ whole) × NoneIsBye acted
+AreLinesActedOn WriteFault limit all whole acted = EndsAt all acted
+AreLinesActedOn TooManyLines limit all whole acted = StopsShort limit all acted
+AreLinesActedOn OutOfMemory limit all whole acted = acted ≡ []
 
 -- ---- the floor and the writer
 
 -- each line acted on was answered, and each reply's text written and flushed; at a fault of the writer all but the last
-abbrev pub Comes : Ending → Legalizer → FloorState → Writer → List Exchange → FloorState → Writer → Type 0
-Comes WriteFault l old before done new after = BreaksOff l old before done new after
-Comes _ l old before done new after = Exchanges l old before done new after
+abbrev pub WritesReplies : Ending → Legalizer → FloorState → Writer → List Exchange → FloorState → Writer → Type 0
+WritesReplies WriteFault l old before done new after = BreaksOffLastReply l old before done new after
+WritesReplies _ l old before done new after = AnswersLines l old before done new after
 
 -- the replies that were written and flushed, of this many lines acted on
-abbrev pub Answered : Ending → ℕ → ℕ → Type 0
-Answered WriteFault acted answered = acted ≡ answered + 1
-Answered _ acted answered = answered ≡ acted
+abbrev pub CountsAnswered : Ending → ℕ → ℕ → Type 0
+CountsAnswered WriteFault acted answered = acted ≡ answered + 1
+CountsAnswered _ acted answered = answered ≡ acted
 
 -- Serving acted on lines of the input, one step each, and wrote the replies' texts.
-pub record Serves (l : Legalizer) (limit : ℕ) (old : FloorState) (input left : Option (List ℕ)) (before after : Writer) (served : Served) (new : FloorState) : Type 0 where
+pub record ServesLines (l : Legalizer) (limit : ℕ) (old : FloorState) (input left : Option (List ℕ)) (before after : Writer) (served : Served) (new : FloorState) : Type 0 where
   pub read : List ℕ
   pub reads : Consumes input left read
   pub done : List Exchange
-  pub comes : Comes served.ending l old before done new after
-  pub acted_on : IfSome input (λ bytes. ActedOn served.ending limit (lines_of bytes) (ended_lines read) (lines done))
+  pub comes : WritesReplies served.ending l old before done new after
+  pub acted_on : IfSome input (λ bytes. AreLinesActedOn served.ending limit (lines_of bytes) (ended_lines read) (lines done))
   pub counted : served.lines ≡ length done
-  pub answered : Answered served.ending served.lines served.answered
+  pub answered : CountsAnswered served.ending served.lines served.answered
   pub within : served.lines ≤ limit

@@ -9,12 +9,12 @@ use Rattle.lf_proto.specs.declared.reply.Reply.TheVariants.{Report, Def, Refused
 use Rattle.lf_proto.specs.declared.reply.Refusal.TheVariants.{BadRequest, Unplaced, NoPlace, Illegal}
 use Rattle.lf_proto.specs.ReplyText.{reply_text}
 use Rattle.lf_proto.specs.Requests.{command_on}
-use Rattle.lf_teams.specs.States.{FloorState}
-use Rattle.lf_teams.specs.Teams.{state_of}
-use Rattle.lf_teams.specs.Outcomes.{name_at}
-use Rattle.lf_teams.specs.Steps.{Step}
+use Rattle.lf_floor_model.specs.States.{FloorState}
+use Rattle.lf_floor_model.specs.Teams.{state_of}
+use Rattle.lf_floor_model.specs.Outcomes.{name_at}
+use Rattle.lf_floor_model.specs.Steps.{Step}
 use Rattle.lf_floor.specs.Responses.{team_of}
-use Rattle.lf_server.specs.Devices.{Writer, Sends, Breaks}
+use Rattle.lf_server.specs.Devices.{Writer, SendsText, BreaksText}
 
 -- a line without its line end, or None if it is over the limit
 abbrev pub Line : Type 0
@@ -84,22 +84,22 @@ AnswersTo l old asked reply text new = MatchOption asked (RefusesLine old reply 
 
 -- line after line: each is answered, and its reply's text is written whole and flushed before the next line is acted on; so the
 -- floor and the writer go from old to new
-abbrev pub Exchanges : Legalizer → FloorState → Writer → List Exchange → FloorState → Writer → Type 0
-Exchanges l old before [] new after = (new ≡ old) × (after ≡ before)
-Exchanges l old before (e ∷ later) new after =
-    (mid : FloorState) × (between : Writer) × AnswersTo l old (asked_on e.line) e.reply e.text mid × Sends before between e.text
-    × Exchanges l mid between later new after
+abbrev pub AnswersLines : Legalizer → FloorState → Writer → List Exchange → FloorState → Writer → Type 0
+AnswersLines l old before [] new after = (new ≡ old) × (after ≡ before)
+AnswersLines l old before (e ∷ later) new after =
+    (mid : FloorState) × (between : Writer) × AnswersTo l old (asked_on e.line) e.reply e.text mid × SendsText before between e.text
+    × AnswersLines l mid between later new after
 
 -- the same, but of the last text only a front was written
-pub record BreaksOff (l : Legalizer) (old : FloorState) (before : Writer) (done : List Exchange) (new : FloorState) (after : Writer) : Type 0 where
+pub record BreaksOffLastReply (l : Legalizer) (old : FloorState) (before : Writer) (done : List Exchange) (new : FloorState) (after : Writer) : Type 0 where
   pub earlier : List Exchange
   pub last : Exchange
   pub mid : FloorState
   pub between : Writer
   pub done_are : done ≡ earlier ++ last ∷ []
-  pub exchanged : Exchanges l old before earlier mid between
+  pub exchanged : AnswersLines l old before earlier mid between
   pub answers : AnswersTo l mid (asked_on last.line) last.reply last.text new
-  pub breaks : Breaks between after last.text
+  pub breaks : BreaksText between after last.text
 
 abbrev pub lines : List Exchange → List Line
 lines done = map (λ e. e.line) done

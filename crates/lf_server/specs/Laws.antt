@@ -6,15 +6,15 @@ use Rattle.lf_rules.specs.Legalizer.{Legalizer}
 use Rattle.lf_proto.specs.declared.request.Command.{Command}
 use Rattle.lf_proto.specs.declared.request.Command.TheVariants.{Bye, To}
 use Rattle.lf_proto.specs.declared.reply.Reply.{Reply}
-use Rattle.lf_teams.specs.States.{TeamState, FloorState}
-use Rattle.lf_teams.specs.Teams.{state_of}
-use Rattle.lf_teams.specs.Designs.{AgreeFor, opening}
-use Rattle.lf_teams.specs.Outcomes.{is_short}
-use Rattle.lf_teams.specs.Runs.{Run, asked}
+use Rattle.lf_floor_model.specs.States.{TeamState, FloorState}
+use Rattle.lf_floor_model.specs.Teams.{state_of}
+use Rattle.lf_floor_model.specs.Designs.{AgreeFor, initial_floor}
+use Rattle.lf_floor_model.specs.Outcomes.{is_short}
+use Rattle.lf_floor_model.specs.Runs.{Run, own_commands}
 use Rattle.lf_server.specs.Devices.{Writer}
 use Rattle.lf_server.specs.Exchanges.{Exchange, asked_on}
-use Rattle.lf_server.specs.Endings.{Comes}
-use Rattle.lf_server.specs.declared.serving.Ending.{Ending}
+use Rattle.lf_server.specs.Endings.{WritesReplies}
+use Rattle.lf_server.specs.declared.serve_loop.Ending.{Ending}
 
 -- ---- lines as commands
 
@@ -40,36 +40,36 @@ replies (e ∷ later) = with_reply (asked_on e.line) e.reply (replies later)
 abbrev pub ServingRuns : Type 0
 ServingRuns =
     (l : Legalizer) (ending : Ending) (old new : FloorState) (before after : Writer) (done : List Exchange)
-    → Comes ending l old before done new after → Run l old (commands done) (replies done) new
+    → WritesReplies ending l old before done new after → Run l old (commands done) (replies done) new
 
 -- ---- what a team gets, byte for byte
 
 -- the text of a reply to the team of that name, other than OutOfMemory, in front of the later ones
-abbrev pub told_before : List ℕ → Option (Command (List ℕ) Place) → Exchange → List (List ℕ) → List (List ℕ)
-told_before team None e later = later
-told_before team (Some Bye) e later = later
-told_before team (Some (To name order)) e later = if bytes_eq name team && not (is_short e.reply) then e.text ∷ later else later
+abbrev pub reply_before : List ℕ → Option (Command (List ℕ) Place) → Exchange → List (List ℕ) → List (List ℕ)
+reply_before team None e later = later
+reply_before team (Some Bye) e later = later
+reply_before team (Some (To name order)) e later = if bytes_eq name team && not (is_short e.reply) then e.text ∷ later else later
 
 -- the texts of the replies to the team of that name, without OutOfMemory
-abbrev pub texts_told : List ℕ → List Exchange → List (List ℕ)
-texts_told team [] = []
-texts_told team (e ∷ later) = told_before team (asked_on e.line) e (texts_told team later)
+abbrev pub reply_texts : List ℕ → List Exchange → List (List ℕ)
+reply_texts team [] = []
+reply_texts team (e ∷ later) = reply_before team (asked_on e.line) e (reply_texts team later)
 
 -- in two servings of floors of one frame, a team that begins in the same state and sends the same commands gets the same texts,
 -- byte for byte, whatever the other teams have and send; commands answered OutOfMemory are left out
-abbrev pub TextsAreOwn : Type 0
-TextsAreOwn =
+abbrev pub RepliesAreOwn : Type 0
+RepliesAreOwn =
     (l : Legalizer) (team : List ℕ) (end end' : Ending) (a a' b b' : FloorState) (v v' w w' : Writer) (done others : List Exchange) (s : TeamState)
-    → Comes end l a v done a' v' → Comes end' l b w others b' w'
+    → WritesReplies end l a v done a' v' → WritesReplies end' l b w others b' w'
     → a.frame ≡ b.frame → state_of a team ≡ Some s → state_of b team ≡ Some s
-    → asked team (commands done) (replies done) ≡ asked team (commands others) (replies others)
-    → texts_told team done ≡ texts_told team others
+    → own_commands team (commands done) (replies done) ≡ own_commands team (commands others) (replies others)
+    → reply_texts team done ≡ reply_texts team others
 
 -- the same from two loaded designs that agree for the team
-abbrev pub TextsOfDesigns : Type 0
-TextsOfDesigns =
+abbrev pub RepliesFollowDesign : Type 0
+RepliesFollowDesign =
     (l : Legalizer) (team : List ℕ) (end end' : Ending) (a b : Loaded) (a' b' : FloorState) (v v' w w' : Writer) (done others : List Exchange)
     → AgreeFor team a b
-    → Comes end l (opening a) v done a' v' → Comes end' l (opening b) w others b' w'
-    → asked team (commands done) (replies done) ≡ asked team (commands others) (replies others)
-    → texts_told team done ≡ texts_told team others
+    → WritesReplies end l (initial_floor a) v done a' v' → WritesReplies end' l (initial_floor b) w others b' w'
+    → own_commands team (commands done) (replies done) ≡ own_commands team (commands others) (replies others)
+    → reply_texts team done ≡ reply_texts team others

@@ -9,17 +9,17 @@ use Rattle.lf_proto.specs.declared.framer.Got.TheVariants.{Line as IsLine, TooLo
 use Rattle.lf_proto.specs.declared.request.Command.{Command}
 use Rattle.lf_proto.specs.Stream.{lines_of}
 use Rattle.lf_proto.specs.Pieces.{lines_from, pieces}
-use Rattle.lf_teams.specs.States.{FloorState}
-use Rattle.lf_server.specs.Devices.{Writer, Sends, Breaks}
+use Rattle.lf_floor_model.specs.States.{FloorState}
+use Rattle.lf_server.specs.Devices.{Writer, SendsText, BreaksText}
 use Rattle.lf_floor.specs.Responses.{team_of}
-use Rattle.lf_server.specs.Exchanges.{AnswersTo, Exchange, Exchanges, Line, asked_on, is_bye, lines, text_of}
-use Rattle.lf_server.specs.Endings.{ActedOn, Comes, NoneIsBye, ended_lines}
-use Rattle.lf_server.specs.declared.serving.Ending.{Ending}
-use Rattle.lf_server.specs.declared.serving.Ending.TheVariants.{Bye, ReadFault, WriteFault, OutOfMemory}
+use Rattle.lf_server.specs.Exchanges.{AnswersTo, Exchange, AnswersLines, Line, asked_on, is_bye, lines, text_of}
+use Rattle.lf_server.specs.Endings.{AreLinesActedOn, WritesReplies, NoneIsBye, ended_lines}
+use Rattle.lf_server.specs.declared.serve_loop.Ending.{Ending}
+use Rattle.lf_server.specs.declared.serve_loop.Ending.TheVariants.{Bye, ReadFault, WriteFault, OutOfMemory}
 
 -- what the framer gave
-abbrev pub Given : Got → List ℕ → Line → Type 0
-Given got bytes line = ((got ≡ IsLine) × (line ≡ Some bytes)) ⊎ ((got ≡ TooLong) × (line ≡ None))
+abbrev pub IsGivenLine : Got → List ℕ → Line → Type 0
+IsGivenLine got bytes line = ((got ≡ IsLine) × (line ≡ Some bytes)) ⊎ ((got ≡ TooLong) × (line ≡ None))
 
 -- ---- one line
 
@@ -34,9 +34,9 @@ IsAnswered l old asked reply new = AnswersTo l old asked reply (text_of new (tea
 
 -- what was written of the one reply, by how the connection goes on
 abbrev pub ExchangeEnds : Option Ending → Writer → Writer → Line → List ℕ → Type 0
-ExchangeEnds None w w' line text = Sends w w' text × (is_bye line ≡ false)
-ExchangeEnds (Some Bye) w w' line text = Sends w w' text × (is_bye line ≡ true)
-ExchangeEnds (Some WriteFault) w w' line text = Breaks w w' text
+ExchangeEnds None w w' line text = SendsText w w' text × (is_bye line ≡ false)
+ExchangeEnds (Some Bye) w w' line text = SendsText w w' text × (is_bye line ≡ true)
+ExchangeEnds (Some WriteFault) w w' line text = BreaksText w w' text
 ExchangeEnds (Some _) w w' line text = ⊥
 
 -- a line was acted on
@@ -49,41 +49,41 @@ pub record IsExchanged (l : Legalizer) (stop : Option Ending) (w w' : Writer) (o
 -- ---- many
 
 -- the bytes held became these, lines were acted on, and serving goes on
-pub record Goes (l : Legalizer) (w w' : Writer) (left left' : ℕ) (old new : FloorState) (held held' : Option (List ℕ)) (from to : List ℕ) : Type 0 where
+pub record ContinuesServing (l : Legalizer) (w w' : Writer) (left left' : ℕ) (old new : FloorState) (held held' : Option (List ℕ)) (from to : List ℕ) : Type 0 where
   pub done : List Exchange
-  pub exchanged : Exchanges l old w done new w'
+  pub exchanged : AnswersLines l old w done new w'
   pub counts : left ≡ length done + left'
   pub no_bye : NoneIsBye (lines done)
   pub goes_on : (rest : List ℕ) → lines_from held (pieces (from ++ rest)) ≡ lines done ++ lines_from held' (pieces (to ++ rest))
 
 -- the lines acted on if serving stops in the middle of the input, or at its end
-abbrev pub StopsAt : Ending → ℕ → List Line → List Line → Type 0
-StopsAt ReadFault limit all acted = ⊥
-StopsAt OutOfMemory limit all acted = ⊥
-StopsAt ending limit all acted = ActedOn ending limit all [] acted
+abbrev pub StopsServingAt : Ending → ℕ → List Line → List Line → Type 0
+StopsServingAt ReadFault limit all acted = ⊥
+StopsServingAt OutOfMemory limit all acted = ⊥
+StopsServingAt ending limit all acted = AreLinesActedOn ending limit all [] acted
 
 -- of these lines some were acted on, and serving stops
-pub record Stops (l : Legalizer) (ending : Ending) (w w' : Writer) (left left' : ℕ) (old new : FloorState) (all : List Line) : Type 0 where
+pub record StopsServing (l : Legalizer) (ending : Ending) (w w' : Writer) (left left' : ℕ) (old new : FloorState) (all : List Line) : Type 0 where
   pub done : List Exchange
-  pub comes : Comes ending l old w done new w'
+  pub comes : WritesReplies ending l old w done new w'
   pub counts : left ≡ length done + left'
-  pub stops : StopsAt ending left all (lines done)
+  pub stops : StopsServingAt ending left all (lines done)
 
 -- the input was served to an ending
-pub record Finishes (l : Legalizer) (ending : Ending) (input rest : Option (List ℕ)) (w w' : Writer) (left left' : ℕ) (old new : FloorState) : Type 0 where
+pub record FinishesServing (l : Legalizer) (ending : Ending) (input rest : Option (List ℕ)) (w w' : Writer) (left left' : ℕ) (old new : FloorState) : Type 0 where
   pub read : List ℕ
   pub reads : Consumes input rest read
   pub done : List Exchange
-  pub comes : Comes ending l old w done new w'
+  pub comes : WritesReplies ending l old w done new w'
   pub counts : left ≡ length done + left'
-  pub acted_on : IfSome input (λ bytes. ActedOn ending left (lines_of bytes) (ended_lines read) (lines done))
+  pub acted_on : IfSome input (λ bytes. AreLinesActedOn ending left (lines_of bytes) (ended_lines read) (lines done))
 
 -- the replies counted as answered
-abbrev pub told_answered : Ending → ℕ → ℕ
-told_answered WriteFault lines = lines - 1
-told_answered _ lines = lines
+abbrev pub answered_count : Ending → ℕ → ℕ
+answered_count WriteFault lines = lines - 1
+answered_count _ lines = lines
 
 -- whether a call of the writer has failed, by how serving ends: only at a fault of the writer has one
-abbrev pub SinkAt : Ending → Bool → Bool → Type 0
-SinkAt WriteFault old new = new ≡ true
-SinkAt _ old new = new ≡ old
+abbrev pub SinkFailsAtWriteFault : Ending → Bool → Bool → Type 0
+SinkFailsAtWriteFault WriteFault old new = new ≡ true
+SinkFailsAtWriteFault _ old new = new ≡ old

@@ -3,7 +3,7 @@
 //! `serve` serves one connection, over any source and sink; `serve_connections` takes connections from any `Acceptor` and serves
 //! each to its end before the next, and `serve_tcp` those of a TCP listener. Each line is one step of the floor, or answered
 //! `BadRequest` with the floor unchanged. A DEF text is written in pieces, and is never in memory as a whole. The devices of
-//! `lf_devices` are named here again.
+//! `lf_io` are named here again.
 //!
 //! Contracts see of a connection its lines, the reply to each with its text, and the floor after it (`Serves`), where the bytes of
 //! the input and of the output are known; how it ended says which lines were acted on (`Ending`). However it ended, the frame and
@@ -17,18 +17,18 @@
 //! ```
 #![tactic(auto)]
 
-mod accepting;
-mod client;
+mod acceptor;
+mod answer;
+mod buffered_output;
 mod laws;
-mod pieces;
-mod reply;
-mod sending;
-mod serving;
+mod responses;
+mod serve_loop;
 mod tcp;
+mod tcp_client;
 
-pub use accepting::{Acceptor, Connection, Offer, accept_from};
-pub use client::{ClientReader, ClientWriter};
-pub use laws::{serving_runs, texts_are_own, texts_of_designs};
-pub use lf_devices::{DeviceFault, FromRead, Sink, Source, ToWrite, send};
-pub use serving::{Ending, ServeLimits, Served, serve};
+pub use acceptor::{Acceptor, Connection, ServiceConfig, accept_from};
+pub use laws::{replies_are_own, replies_follow_design, serving_runs};
+pub use lf_io::{DeviceFault, FromRead, Sink, Source, ToWrite, send};
+pub use serve_loop::{Ending, ServeLimits, Served, serve};
 pub use tcp::{TcpServed, serve_connections, serve_tcp};
+pub use tcp_client::{ClientReader, ClientWriter};

@@ -2,13 +2,13 @@
 
 ghost use Rattle.std.specs.Prelude.{◌≡◌, ◌↔◌, ◌≤◌, ◌||◌, List, OnErr, OnOk, false, is_err, length};
 ghost use Rattle.lf_rules.specs.Legalizer.{Legalizer};
-ghost use Rattle.lf_server.specs.Connections.{AreServed, Client, Connects, IsUnused, ServesClient, ServesNext, Standing, Stays, client, standing};
+ghost use Rattle.lf_server.specs.Connections.{AreServed, ClientBytes, ServesConnections, IsUnused, ServesClient, ServesNext, ConnectionState, KeepsDesign, client, connection_state};
 ghost use Rattle.lf_server.specs.Devices.{writer};
 
-use crate::accepting::{Acceptor, Connection, FromListener};
-use crate::serving::{ServeLimits, serve};
-use lf_devices::{DeviceFault, Sink, Source};
+use crate::acceptor::{Acceptor, Connection, FromListener};
+use crate::serve_loop::{ServeLimits, serve};
 use lf_floor::Floor;
+use lf_io::{DeviceFault, Sink, Source};
 use lf_legalize::Seeker;
 use std::alloc::Global;
 use std::net::Net;
@@ -33,10 +33,10 @@ fn serve_connection<R: Source + Drop, W: Sink + Drop, K: Seeker + Drop>(
         (W.has_failed connection.writer) }
     ensures served { (l : Legalizer) → ServesClient l limits.lines limits.reads
         (client (R.remaining connection.reader) (W.contents connection.writer))
-        (standing (R.remaining result.reader) (R.reads result.reader) (R.has_failed result.reader)
+        (connection_state (R.remaining result.reader) (R.reads result.reader) (R.has_failed result.reader)
         (writer (W.contents result.writer) (W.is_flushed result.writer) (W.has_failed result.writer)))
         floor.old floor.new }
-    ensures stays { Stays floor.old floor.new }
+    ensures stays { KeepsDesign floor.old floor.new }
 {
     let Connection {
         mut reader,
@@ -58,7 +58,7 @@ fn serve_next<A: Acceptor, K: Seeker + Drop>(
     ensures unaccepted { OnErr result (A.accepted acceptor.new ≡ A.accepted acceptor.old) }
     ensures offers { A.offers acceptor.new ≡ A.offers acceptor.old }
     ensures failed { A.has_failed acceptor.new ≡ (is_err result || A.has_failed acceptor.old) }
-    ensures stays { Stays floor.old floor.new }
+    ensures stays { KeepsDesign floor.old floor.new }
 {
     let connection = acceptor.accept()?;
     let served = serve_connection(alloc, floor, connection, limits);
@@ -87,7 +87,7 @@ pub fn serve_connections<A: Acceptor, K: Seeker + Drop>(
     ensures failed { A.has_failed acceptor.new ≡ (result.accept_fault || A.has_failed acceptor.old) }
     ensures served { AreServed limits.lines limits.reads result.connections (A.accepted acceptor.old) (A.accepted acceptor.new)
         floor.old floor.new }
-    ensures stays { Stays floor.old floor.new }
+    ensures stays { KeepsDesign floor.old floor.new }
 {
     for served in 0..connections {
         match serve_next(alloc, floor, acceptor, limits) {
@@ -117,9 +117,9 @@ pub fn serve_tcp<T: Net + AllocGlobal, K: Seeker + Drop>(
 ) -> TcpServed
     ensures most { result.connections ≤ connections }
     ensures all { (result.connections ≡ connections) ↔ (result.accept_fault ≡ false) }
-    ensures served { (clients : List Client) × (closed : List Standing) × (length clients ≡ result.connections)
-        × ((l : Legalizer) → Connects l limits.lines limits.reads clients closed floor.old floor.new) }
-    ensures stays { Stays floor.old floor.new }
+    ensures served { (clients : List ClientBytes) × (closed : List ConnectionState) × (length clients ≡ result.connections)
+        × ((l : Legalizer) → ServesConnections l limits.lines limits.reads clients closed floor.old floor.new) }
+    ensures stays { KeepsDesign floor.old floor.new }
 {
     let mut acceptor = FromListener::<T>::new(listener);
     serve_connections(rt.alloc(), floor, &mut acceptor, connections, limits)

@@ -4,7 +4,7 @@ use Rattle.std.specs.Int.RustNames.{int_rem}
 use Rattle.std.proofs.lemmas.Int.{ints}
 use Rattle.std.proofs.Math.Nat.{lt_of_mul-lt-mul_right, mul-le-mul_right}
 use Rattle.lf_spans.specs.declared.span.Span.{Span}
-use Rattle.lf_spans.specs.declared.grid.Grid.{Grid}
+use Rattle.lf_spans.specs.declared.grid.SiteGrid.{SiteGrid}
 use Rattle.lf_spans.specs.Grids.{FitsSpan, IsNearest, IsNoFarther, IsOnGrid, distance}
 use Rattle.lf_spans.specs.GridSteps.{AreEnds, IsNearer}
 
@@ -19,7 +19,7 @@ before_rest at o m n above e =
     let split : (suc m / n) * n + suc m % n ≡ suc m = omega arith in
     omega (arith, ints, split)
 
-pub rem_on_grid : (g : Grid) (at : ℤ) → pos 0 <ℤ g.step → IsOnGrid g (at -ℤ int_rem (at -ℤ g.origin) g.step)
+pub rem_on_grid : (g : SiteGrid) (at : ℤ) → pos 0 <ℤ g.step → IsOnGrid g (at -ℤ int_rem (at -ℤ g.origin) g.step)
 rem_on_grid g at rising = by_cases (at -ℤ g.origin) g.step refl refl rising
   where
     by_cases : (a s : ℤ) → a ≡ (at -ℤ g.origin) → s ≡ g.step → pos 0 <ℤ s → IsOnGrid g (at -ℤ int_rem a s)
@@ -37,10 +37,10 @@ left_by : (s x o : ℤ) (l r : ℕ) → pos 0 <ℤ s → (x +ℤ (pos l *ℤ s))
 left_by (pos n) x o l r rising e = omega (arith, ints)
 left_by (negsuc n) x o l r rising e = absurd (omega (arith, ints))
 
-pub step_right : (g : Grid) (x y : ℤ) → pos 0 <ℤ g.step → IsOnGrid g x → y ≡ (x +ℤ g.step) → IsOnGrid g y
+pub step_right : (g : SiteGrid) (x y : ℤ) → pos 0 <ℤ g.step → IsOnGrid g x → y ≡ (x +ℤ g.step) → IsOnGrid g y
 step_right g x y rising on e = rw e record { left = on.left; right = on.right + 1; level = right_by g.step x g.origin on.left on.right rising on.level }
 
-pub step_left : (g : Grid) (x y : ℤ) → pos 0 <ℤ g.step → IsOnGrid g x → y ≡ (x -ℤ g.step) → IsOnGrid g y
+pub step_left : (g : SiteGrid) (x y : ℤ) → pos 0 <ℤ g.step → IsOnGrid g x → y ≡ (x -ℤ g.step) → IsOnGrid g y
 step_left g x y rising on e = rw e record { left = on.left + 1; right = on.right; level = left_by g.step x g.origin on.left on.right rising on.level }
 
 -- of two numbers of a grid the lesser lies a step below
@@ -56,10 +56,10 @@ apart_at : (s : ℤ) (la ra lb rb : ℕ) (a b o : ℤ) → pos 0 <ℤ s → (a +
 apart_at (pos n) la ra lb rb a b o rising e f less = apart_by n la ra lb rb a b o e f less
 apart_at (negsuc n) la ra lb rb a b o rising e f less = absurd (omega (arith, ints))
 
-pub apart : (g : Grid) (a b : ℤ) → pos 0 <ℤ g.step → IsOnGrid g a → IsOnGrid g b → a <ℤ b → (a +ℤ g.step) ≤ℤ b
+pub apart : (g : SiteGrid) (a b : ℤ) → pos 0 <ℤ g.step → IsOnGrid g a → IsOnGrid g b → a <ℤ b → (a +ℤ g.step) ≤ℤ b
 apart g a b rising p q less = apart_at g.step p.left p.right q.left q.right a b g.origin rising p.level q.level less
 
-pub moved : (g : Grid) (x y : ℤ) → x ≡ y → IsOnGrid g x → IsOnGrid g y
+pub moved : (g : SiteGrid) (x y : ℤ) → x ≡ y → IsOnGrid g x → IsOnGrid g y
 moved g x y e on = subst (IsOnGrid g) e on
 
 -- ---- nearness
@@ -101,7 +101,7 @@ not_at_most_from a b t = grind (arith, ints)
 
 -- ---- the first and the last number of the grid at which the width fits
 
-after_first : (span : Span) (g : Grid) (width first last y : ℤ) → AreEnds span g width first last → FitsSpan span g width y → first ≤ℤ y
+after_first : (span : Span) (g : SiteGrid) (width first last y : ℤ) → AreEnds span g width first last → FitsSpan span g width y → first ≤ℤ y
 after_first span g width first last y e f = elim order [
   | inl at_most ↦ at_most
   | inr less ↦ let gap = apart g y first e.rising f.on_grid e.first_on less in let low = f.within.low in absurd (omega (arith, ints, gap, e.first_near, low))
@@ -110,7 +110,7 @@ after_first span g width first last y e f = elim order [
     order : (first ≤ℤ y) ⊎ (y <ℤ first)
     order = grind (arith, ints)
 
-before_last : (span : Span) (g : Grid) (width first last y : ℤ) → AreEnds span g width first last → FitsSpan span g width y → y ≤ℤ last
+before_last : (span : Span) (g : SiteGrid) (width first last y : ℤ) → AreEnds span g width first last → FitsSpan span g width y → y ≤ℤ last
 before_last span g width first last y e f = elim order [
   | inl at_most ↦ at_most
   | inr less ↦ let gap = apart g last y e.rising e.last_on f.on_grid less in let high = f.within.high in absurd (omega (arith, ints, gap, e.last_near, high))
@@ -119,27 +119,27 @@ before_last span g width first last y e f = elim order [
     order : (y ≤ℤ last) ⊎ (last <ℤ y)
     order = grind (arith, ints)
 
-pub none_fits : (span : Span) (g : Grid) (width first last y : ℤ) → AreEnds span g width first last → last <ℤ first → FitsSpan span g width y → ⊥
+pub none_fits : (span : Span) (g : SiteGrid) (width first last y : ℤ) → AreEnds span g width first last → last <ℤ first → FitsSpan span g width y → ⊥
 none_fits span g width first last y e less f =
     let a = after_first span g width first last y e f in
     let b = before_last span g width first last y e f in
     omega (arith, ints, a, b)
 
-between_fits : (span : Span) (g : Grid) (width first last x : ℤ) → AreEnds span g width first last → IsOnGrid g x → first ≤ℤ x → x ≤ℤ last →
+between_fits : (span : Span) (g : SiteGrid) (width first last x : ℤ) → AreEnds span g width first last → IsOnGrid g x → first ≤ℤ x → x ≤ℤ last →
     FitsSpan span g width x
 between_fits span g width first last x e on a b =
     let low = e.first_in in
     let high = e.last_in in
     record { on_grid = on; within = record { low = omega (arith, ints, low, a); high = omega (arith, ints, high, b) } }
 
-pub first_nearest : (span : Span) (g : Grid) (width first last t : ℤ) → AreEnds span g width first last → first ≤ℤ last → t ≤ℤ first →
+pub first_nearest : (span : Span) (g : SiteGrid) (width first last t : ℤ) → AreEnds span g width first last → first ≤ℤ last → t ≤ℤ first →
     IsNearest (λ x. FitsSpan span g width x) t first
 first_nearest span g width first last t e some before = record {
   fit = between_fits span g width first last first e e.first_on (omega (arith, ints)) some;
   least = λ y f. near_right t first y before (after_first span g width first last y e f);
 }
 
-pub last_nearest : (span : Span) (g : Grid) (width first last t : ℤ) → AreEnds span g width first last → first ≤ℤ last → last ≤ℤ t →
+pub last_nearest : (span : Span) (g : SiteGrid) (width first last t : ℤ) → AreEnds span g width first last → first ≤ℤ last → last ≤ℤ t →
     IsNearest (λ x. FitsSpan span g width x) t last
 last_nearest span g width first last t e some after = record {
   fit = between_fits span g width first last last e e.last_on some (omega (arith, ints));
@@ -147,27 +147,27 @@ last_nearest span g width first last t e some after = record {
 }
 
 -- a number of the grid is not right of the left neighbour, or not left of the right one
-either_side : (g : Grid) (left y : ℤ) → pos 0 <ℤ g.step → IsOnGrid g left → IsOnGrid g y → (y ≤ℤ left) ⊎ ((left +ℤ g.step) ≤ℤ y)
+either_side : (g : SiteGrid) (left y : ℤ) → pos 0 <ℤ g.step → IsOnGrid g left → IsOnGrid g y → (y ≤ℤ left) ⊎ ((left +ℤ g.step) ≤ℤ y)
 either_side g left y rising p q = elim order [ inl at_most ↦ inl at_most | inr less ↦ inr (apart g left y rising p q less) ]
   where
     order : (y ≤ℤ left) ⊎ (left <ℤ y)
     order = grind (arith, ints)
 
-left_least : (g : Grid) (left t y : ℤ) → pos 0 <ℤ g.step → IsOnGrid g left → left ≤ℤ t → t <ℤ (left +ℤ g.step) →
+left_least : (g : SiteGrid) (left t y : ℤ) → pos 0 <ℤ g.step → IsOnGrid g left → left ≤ℤ t → t <ℤ (left +ℤ g.step) →
     (t -ℤ left) ≤ℤ ((left +ℤ g.step) -ℤ t) → IsOnGrid g y → IsNoFarther t left y
 left_least g left t y rising on below above near q = elim (either_side g left y rising on q) [
   | inl a ↦ near_left t left y below a
   | inr b ↦ near_across t left y below (omega (arith, ints, above, b)) (omega (arith, ints, near, b))
 ]
 
-right_least : (g : Grid) (left t y : ℤ) → pos 0 <ℤ g.step → IsOnGrid g left → left ≤ℤ t → t <ℤ (left +ℤ g.step) →
+right_least : (g : SiteGrid) (left t y : ℤ) → pos 0 <ℤ g.step → IsOnGrid g left → left ≤ℤ t → t <ℤ (left +ℤ g.step) →
     ((left +ℤ g.step) -ℤ t) <ℤ (t -ℤ left) → IsOnGrid g y → IsNoFarther t (left +ℤ g.step) y
 right_least g left t y rising on below above near q = elim (either_side g left y rising on q) [
   | inl a ↦ near_back t (left +ℤ g.step) y (omega (arith, ints, below, a)) (omega (arith, ints, above)) (omega (arith, ints, near, a))
   | inr b ↦ near_right t (left +ℤ g.step) y (omega (arith, ints, above)) b
 ]
 
-pub between_nearest : (span : Span) (g : Grid) (width first last t left x : ℤ) → AreEnds span g width first last → first <ℤ t → t <ℤ last →
+pub between_nearest : (span : Span) (g : SiteGrid) (width first last t left x : ℤ) → AreEnds span g width first last → first <ℤ t → t <ℤ last →
     IsOnGrid g left → left ≤ℤ t → t <ℤ (left +ℤ g.step) → IsNearer left (left +ℤ g.step) t x → IsNearest (λ x. FitsSpan span g width x) t x
 between_nearest span g width first last t left x e after before on below above pick = by_pick pick
   where

@@ -1,7 +1,7 @@
 -- What the steps of the search for the nearest grid number return.
 use Rattle.std.specs.Prelude.{◌≡◌, ◌⊎◌, ℤ, pos, negsuc, ◌+ℤ◌, ◌-ℤ◌, ◌≤ℤ◌, ◌<ℤ◌}
 use Rattle.lf_spans.specs.declared.span.Span.{Span}
-use Rattle.lf_spans.specs.declared.grid.Grid.{Grid}
+use Rattle.lf_spans.specs.declared.grid.SiteGrid.{SiteGrid}
 use Rattle.lf_spans.specs.Grids.{IsOnGrid}
 
 -- at most 2^42 either way
@@ -15,7 +15,7 @@ IsNearer left right target x =
     ((x ≡ left) × ((target -ℤ left) ≤ℤ (right -ℤ target))) ⊎ ((x ≡ right) × ((right -ℤ target) <ℤ (target -ℤ left)))
 
 -- the first and the last number of the grid at which the width may lie in the span
-pub record AreEnds (span : Span) (g : Grid) (width first last : ℤ) : Type 0 where
+pub record AreEnds (span : Span) (g : SiteGrid) (width first last : ℤ) : Type 0 where
   pub rising : pos 0 <ℤ g.step
   pub first_on : IsOnGrid g first
   pub first_in : span.lo ≤ℤ first

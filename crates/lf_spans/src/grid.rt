@@ -9,13 +9,13 @@ use crate::span::Span;
 /// The numbers a whole number of steps from the origin, in database units, as the sites of a row.
 /// The contracts ask for a step above 0, and for both numbers within 2^40 either way.
 #[derive(Clone, Copy, Debug, PartialEq, Eq)]
-pub struct Grid {
+pub struct SiteGrid {
     pub origin: i64,
     pub step: i64,
 }
 
 /// The remainder of the number on the grid, less than one step either way.
-fn beyond(grid: &Grid, at: i64) -> i64
+fn beyond(grid: &SiteGrid, at: i64) -> i64
     requires grid { IsGrid grid.now }
     requires small { IsSmall at }
     ensures on_grid { IsOnGrid grid.now (at -ℤ result) }
@@ -26,7 +26,7 @@ fn beyond(grid: &Grid, at: i64) -> i64
 }
 
 /// The greatest grid number not above this one.
-fn last_to(grid: &Grid, at: i64) -> i64
+fn last_to(grid: &SiteGrid, at: i64) -> i64
     requires grid { IsGrid grid.now }
     requires small { IsSmall at }
     ensures on_grid { IsOnGrid grid.now result }
@@ -41,7 +41,7 @@ fn last_to(grid: &Grid, at: i64) -> i64
 }
 
 /// The least grid number not below this one.
-fn first_from(grid: &Grid, at: i64) -> i64
+fn first_from(grid: &SiteGrid, at: i64) -> i64
     requires grid { IsGrid grid.now }
     requires small { IsSmall at }
     ensures on_grid { IsOnGrid grid.now result }
@@ -61,7 +61,7 @@ struct Ends {
     last: i64,
 }
 
-fn ends_of(span: &Span, grid: &Grid, width: i64) -> Ends
+fn ends_of(span: &Span, grid: &SiteGrid, width: i64) -> Ends
     requires grid { IsGrid grid.now }
     requires span { IsBoundedSpan span.now }
     requires width { IsBounded width }
@@ -73,7 +73,7 @@ fn ends_of(span: &Span, grid: &Grid, width: i64) -> Ends
 }
 
 /// The nearer of two neighboring grid numbers around the target; the left one if equally near.
-fn nearer(grid: &Grid, left: i64, target: i64) -> i64
+fn nearer(grid: &SiteGrid, left: i64, target: i64) -> i64
     requires grid { IsGrid grid.now }
     requires target { IsBounded target }
     requires below { left ≤ℤ target }
@@ -91,7 +91,7 @@ fn nearer(grid: &Grid, left: i64, target: i64) -> i64
 
 /// The grid number nearest to the target at which the width lies in the span; the lesser of two equally near ones; none iff
 /// there is none. All lengths are in database units and within 2^40 either way; the step is above 0.
-pub fn nearest_fit(span: &Span, grid: &Grid, width: i64, target: i64) -> Option<i64>
+pub fn nearest_fit(span: &Span, grid: &SiteGrid, width: i64, target: i64) -> Option<i64>
     requires grid { IsGrid grid.now }
     requires span { IsBoundedSpan span.now }
     requires width { IsBounded width }
@@ -112,10 +112,10 @@ pub fn nearest_fit(span: &Span, grid: &Grid, width: i64, target: i64) -> Option<
     Some(nearer(grid, left, target))
 }
 
-fn grid_from(origin: i64, step: i64) -> Grid
+fn grid_from(origin: i64, step: i64) -> SiteGrid
     ensures { result ≡ grid_of origin step }
 {
-    Grid { origin, step }
+    SiteGrid { origin, step }
 }
 
 /// `nearest_fit` on the grid of this origin and step, with its conditions.

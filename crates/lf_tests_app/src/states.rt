@@ -2,8 +2,8 @@
 
 use crate::tasks::{Kept, Run, done, exporting, files_of, only_lef, with_entries};
 use lf_app::{Slots, Task};
-use lf_def::W_DEF;
-use lf_lef::W_LEF;
+use lf_def::DEMO_DEF;
+use lf_lef::DEMO_LEF;
 use std::alloc::{AllocError, Global};
 use std::test::Fail;
 
@@ -48,8 +48,8 @@ fn replay_of<'a>(
 /// The files of the sample, and this text as a state.
 fn files_with<'a>(state: &'a [u8]) -> [(&'a str, Option<&'a [u8]>); 3] {
     [
-        ("w.lef", Some(W_LEF)),
-        ("w.def", Some(W_DEF)),
+        ("w.lef", Some(DEMO_LEF)),
+        ("w.def", Some(DEMO_DEF)),
         (STATE, Some(state)),
     ]
 }
@@ -58,7 +58,7 @@ fn files_with<'a>(state: &'a [u8]) -> [(&'a str, Option<&'a [u8]>); 3] {
 fn saved_behind(rt: &HostRuntime, lines: &str) -> Result<Vec<u8>, AllocError> {
     let task = replay_of(rt.alloc(), None, Some(STATE))?;
     let mut exports = Kept::at(rt.alloc(), Some(STATE));
-    let files = files_of(W_DEF);
+    let files = files_of(DEMO_DEF);
     let mut reader = lines.as_bytes();
     exporting(rt, files.as_slice(), &mut exports, &task, &mut reader);
     match exports.text {
@@ -77,7 +77,7 @@ fn gone_on(rt: &HostRuntime, state: &[u8], lines: &str) -> Result<Run, AllocErro
 /// The replay of these lines that begins in no state.
 fn begun(rt: &HostRuntime, lines: &str) -> Result<Run, AllocError> {
     let task = replay_of(rt.alloc(), None, None)?;
-    let files = files_of(W_DEF);
+    let files = files_of(DEMO_DEF);
     Ok(done(rt, files.as_slice(), &task, lines))
 }
 
@@ -90,7 +90,7 @@ fn a_state_and_the_lines_behind_it_answer_as_all_lines(rt: HostRuntime) -> Resul
     lines.extend_from_slice(BEHIND.as_bytes())?;
     let mut exports = Kept::at(rt.alloc(), None);
     let task = replay_of(rt.alloc(), None, None)?;
-    let files = files_of(W_DEF);
+    let files = files_of(DEMO_DEF);
     let mut reader = lines.as_slice();
     let all = exporting(&rt, files.as_slice(), &mut exports, &task, &mut reader);
     let mut replies = before.written;
@@ -119,7 +119,7 @@ fn nine_opened(rt: &HostRuntime, slots: Slots) -> Result<(Run, Vec<u8>), AllocEr
     let task = replay_with(rt.alloc(), slots, None, Some(STATE))?;
     let mut exports = Kept::at(rt.alloc(), Some(STATE));
     let mut reader = NINE.as_bytes();
-    let files = files_of(W_DEF);
+    let files = files_of(DEMO_DEF);
     let run = exporting(rt, files.as_slice(), &mut exports, &task, &mut reader);
     match exports.text {
         Some(text) => Ok((run, text)),
@@ -213,7 +213,7 @@ fn a_text_that_tells_no_state_is_refused(rt: HostRuntime) -> Result<(), Fail> {
 #[test]
 fn a_state_whose_file_is_not_there_is_refused(rt: HostRuntime) -> Result<(), Fail> {
     let task = replay_of(rt.alloc(), Some(STATE), None)?;
-    let files = files_of(W_DEF);
+    let files = files_of(DEMO_DEF);
     let run = done(&rt, files.as_slice(), &task, "open A\n");
     let faults = "lefence: File\n\
         lefence: state file w.state cannot be read: there is no such file\n";
@@ -224,7 +224,7 @@ fn a_state_whose_file_is_not_there_is_refused(rt: HostRuntime) -> Result<(), Fai
 #[test]
 fn a_path_that_takes_no_state_is_told_before_the_first_line(rt: HostRuntime) -> Result<(), Fail> {
     let task = replay_of(rt.alloc(), None, Some(STATE))?;
-    let files = files_of(W_DEF);
+    let files = files_of(DEMO_DEF);
     let run = done(&rt, files.as_slice(), &task, "open A\n");
     assert!(rt;
         run.is(

@@ -1,20 +1,21 @@
 //! Tasks over files in memory.
 
 ghost use Rattle.std.specs.Prelude.{◌≡◌};
-ghost use Rattle.lf_server.specs.Connections.{Closes, standing};
+ghost use Rattle.lf_server.specs.Connections.{Closes, connection_state};
 ghost use Rattle.lf_server.specs.Devices.{writer};
 
 use crate::shelf::Shelf;
 use lf_app::{
-    Acceptor, ClientReader, ClientWriter, Connection, Exit, FileTexts, NetServices, Offer,
-    Services, Silent, Slots, Surroundings, Task, Unbound, perform, perform_over,
+    Acceptor, BindFailure, ClientReader, ClientWriter, Connection, Environment, FsInputFiles,
+    NetListener, NoProgress, PortListener, ServiceConfig, Slots, Task, TaskExit, perform,
+    perform_over,
 };
-use lf_def::W_DEF;
-use lf_devices::{DeviceFault, FromRead, ToWrite};
-use lf_files::{Exports, Pieces, Unwritable, Unwritten};
-use lf_lef::W_LEF;
+use lf_def::DEMO_DEF;
+use lf_io::{DeviceFault, FromRead, ToWrite};
+use lf_io_files::{OutputFiles, TextSource, WriteFailure, WriteFailureKind};
+use lf_lef::DEMO_LEF;
 use lf_server::ServeLimits;
-use lf_tests_texts::with_line;
+use lf_tests_support::with_line;
 use lf_units::Sequence;
 use std::alloc::{AllocError, Global};
 use std::io;
@@ -58,22 +59,22 @@ impl<'a> Kept<'a> {
     }
 }
 
-impl<'a> Exports for Kept<'a> {
+impl<'a> OutputFiles for Kept<'a> {
     ghost has_failed = { λ k. k.failed };
 
-    fn try_path(&mut self, path: &str) -> Result<(), Unwritten> {
+    fn try_path(&mut self, path: &str) -> Result<(), WriteFailure> {
         if self.path != Some(path) {
             self.failed = true;
-            return Err(Unwritten::File(Unwritable::Denied));
+            return Err(WriteFailure::File(WriteFailureKind::Denied));
         }
         Ok(())
     }
 
-    fn put<P: Pieces>(&mut self, path: &str, text: &P) -> Result<(), Unwritten> {
+    fn put<P: TextSource>(&mut self, path: &str, text: &P) -> Result<(), WriteFailure> {
         self.asked = self.asked.saturating_add(1);
         if self.is_full || self.path != Some(path) {
             self.failed = true;
-            return Err(Unwritten::File(Unwritable::Denied));
+            return Err(WriteFailure::File(WriteFailureKind::Denied));
         }
         let mut kept = Vec::new(self.alloc);
         match text.write_to(&mut kept) {
@@ -81,7 +82,7 @@ impl<'a> Exports for Kept<'a> {
                 self.text = Some(kept);
                 Ok(())
             }
-            Err(_) => Err(Unwritten::OutOfMemory),
+            Err(_) => Err(WriteFailure::OutOfMemory),
         }
     }
 }
@@ -90,7 +91,7 @@ impl<'a> Exports for Kept<'a> {
 #[derive(Clone, Copy, Debug, PartialEq, Eq)]
 struct Noted {
     /// The last one.
-    offer: Option<Offer>,
+    offer: Option<ServiceConfig>,
     failed: bool,
 }
 
@@ -125,11 +126,11 @@ impl Acceptor for Noted {
     }
 }
 
-impl Services for Noted {
-    fn listen(&mut self, offer: &Offer) -> Result<(), Unbound> {
+impl PortListener for Noted {
+    fn listen(&mut self, offer: &ServiceConfig) -> Result<(), BindFailure> {
         self.offer = Some(*offer);
         self.failed = true;
-        Err(Unbound::InUse)
+        Err(BindFailure::InUse)
     }
 }
 
@@ -139,14 +140,14 @@ struct KeptThere<'a, 'b> {
     kept: &'a mut Kept<'b>,
 }
 
-impl<'a, 'b> Exports for KeptThere<'a, 'b> {
+impl<'a, 'b> OutputFiles for KeptThere<'a, 'b> {
     ghost has_failed = { λ k. k.kept.now.failed };
 
-    fn try_path(&mut self, path: &str) -> Result<(), Unwritten> {
+    fn try_path(&mut self, path: &str) -> Result<(), WriteFailure> {
         self.kept.try_path(path)
     }
 
-    fn put<P: Pieces>(&mut self, path: &str, text: &P) -> Result<(), Unwritten> {
+    fn put<P: TextSource>(&mut self, path: &str, text: &P) -> Result<(), WriteFailure> {
         self.kept.put(path, text)
     }
 }
@@ -174,7 +175,7 @@ impl<'a, V: Acceptor> Acceptor for OfferedThere<'a, V> {
 
     fn close(&mut self, connection: Connection<V::Reader, V::Writer>)
         ensures closed { Closes (V.accepted self.old.services.now) (V.accepted self.new.services.now)
-            (standing (V.Reader.remaining connection.reader) (V.Reader.reads connection.reader) (V.Reader.has_failed connection.reader)
+            (connection_state (V.Reader.remaining connection.reader) (V.Reader.reads connection.reader) (V.Reader.has_failed connection.reader)
             (writer (V.Writer.contents connection.writer) (V.Writer.is_flushed connection.writer) (V.Writer.has_failed connection.writer))) }
         ensures offers { V.offers self.new.services.now ≡ V.offers self.old.services.now }
         ensures failed { V.has_failed self.new.services.now ≡ V.has_failed self.old.services.now }
@@ -183,8 +184,8 @@ impl<'a, V: Acceptor> Acceptor for OfferedThere<'a, V> {
     }
 }
 
-impl<'a, V: Services> Services for OfferedThere<'a, V> {
-    fn listen(&mut self, offer: &Offer) -> Result<(), Unbound> {
+impl<'a, V: PortListener> PortListener for OfferedThere<'a, V> {
+    fn listen(&mut self, offer: &ServiceConfig) -> Result<(), BindFailure> {
         self.services.listen(offer)
     }
 }
@@ -192,7 +193,7 @@ impl<'a, V: Services> Services for OfferedThere<'a, V> {
 /// How a task ends, and how often a text was to be put into a file.
 #[derive(Clone, Copy, Debug, PartialEq, Eq)]
 struct End {
-    exit: Exit,
+    exit: TaskExit,
     asked: u32,
 }
 
@@ -220,7 +221,7 @@ fn demo<R: Read, W: Write, F: Write>(
 /// The end of a task with this status, of which all was told, and that was to put no text.
 fn told(status: u8) -> End {
     End {
-        exit: Exit {
+        exit: TaskExit {
             status,
             is_told: true,
         },
@@ -338,7 +339,7 @@ fn a_fault_that_cannot_be_told_is_no_further_fault(rt: HostRuntime) {
     let mut written = Vec::new(rt.alloc());
     let end = demo(&rt, &mut Failing, &mut written, &mut Failing);
     let untold = End {
-        exit: Exit {
+        exit: TaskExit {
             status: 3,
             is_told: false,
         },
@@ -348,7 +349,7 @@ fn a_fault_that_cannot_be_told_is_no_further_fault(rt: HostRuntime) {
 }
 
 /// Does the task over the files on the shelf, with these services and devices, and exported texts kept in memory.
-fn with_devices<V: Services, R: Read, W: Write, F: Write>(
+fn with_devices<V: PortListener, R: Read, W: Write, F: Write>(
     rt: &HostRuntime,
     files: &[(&str, Option<&[u8]>)],
     exports: &mut Kept<'_>,
@@ -362,14 +363,14 @@ fn with_devices<V: Services, R: Read, W: Write, F: Write>(
         alloc: rt.alloc(),
         files,
     };
-    let mut around = Surroundings {
-        texts: FileTexts::new(&shelf),
+    let mut around = Environment {
+        texts: FsInputFiles::new(&shelf),
         exports: KeptThere { kept: exports },
         services: OfferedThere { services },
         reader: FromRead::new(reader),
         writer: ToWrite::new(writer),
         faults: ToWrite::new(faults),
-        progress: Silent,
+        progress: NoProgress,
     };
     let exit = perform_over(rt.alloc(), &mut around, task);
     End {
@@ -379,7 +380,7 @@ fn with_devices<V: Services, R: Read, W: Write, F: Write>(
 }
 
 /// Does the task over the files on the shelf, with these services, and exported texts kept in memory.
-fn offering<V: Services, R: Read>(
+fn offering<V: PortListener, R: Read>(
     rt: &HostRuntime,
     files: &[(&str, Option<&[u8]>)],
     exports: &mut Kept<'_>,
@@ -472,7 +473,7 @@ fn check_of_w<'a>(alloc: Global) -> Result<Task<'a>, AllocError> {
 
 /// The sample LEF text as `w.lef`, and this DEF text as `w.def`.
 pub(crate) fn files_of<'a>(def: &'a [u8]) -> [(&'a str, Option<&'a [u8]>); 2] {
-    [("w.lef", Some(W_LEF)), ("w.def", Some(def))]
+    [("w.lef", Some(DEMO_LEF)), ("w.def", Some(def))]
 }
 
 /// Whether the check over these files ends with this status, writes this report and tells this of faults.
@@ -502,7 +503,7 @@ fn ends(
 #[test]
 fn a_design_of_files_is_replayed(rt: HostRuntime) -> Result<(), Fail> {
     let input = "open A\nplace A 0 a1 0 0 N\nwhere A 0 a1\n";
-    let run = replayed(&rt, &files_of(W_DEF), LEFS, input)?;
+    let run = replayed(&rt, &files_of(DEMO_DEF), LEFS, input)?;
     assert!(rt; run.is(0, "ok 0 0\nok 1\nok 0 0 N\n", ""));
     Ok(())
 }
@@ -524,7 +525,7 @@ fn answers_at_most(
         save: None,
         export: None,
     };
-    let run = done(rt, &files_of(W_DEF), &task, "open A\nopen A\nopen A\n");
+    let run = done(rt, &files_of(DEMO_DEF), &task, "open A\nopen A\nopen A\n");
     Ok(run.is(status, replies, fault))
 }
 
@@ -541,7 +542,7 @@ fn a_replay_answers_as_many_lines_as_it_says(rt: HostRuntime) -> Result<(), Fail
 #[test]
 fn fences_that_overlap_are_refused(rt: HostRuntime) -> Result<(), Fail> {
     let fence = b"- B ( 3999 0 ) ( 10000 8000 ) + TYPE FENCE ;";
-    let def = with_line(rt.alloc(), W_DEF, 12, fence)?;
+    let def = with_line(rt.alloc(), DEMO_DEF, 12, fence)?;
     let fault = "lefence: 21 FencesOverlap B\n\
         lefence: DEF file w.def, line 12 (meets fence A of line 11): - B ( 3999 0 ) ( 10000 8000 ) + TYPE FENCE ;\n";
     assert!(rt; ends(&rt, &files_of(&def), LEFS, 1, fault)?);
@@ -551,7 +552,7 @@ fn fences_that_overlap_are_refused(rt: HostRuntime) -> Result<(), Fail> {
 
 #[test]
 fn a_text_that_is_none_is_refused_with_its_line(rt: HostRuntime) -> Result<(), Fail> {
-    let def = with_line(rt.alloc(), W_DEF, 20, b"END REGIONS")?;
+    let def = with_line(rt.alloc(), DEMO_DEF, 20, b"END REGIONS")?;
     let fault = "lefence: 5 WrongEnd line 20\nlefence: DEF file w.def, line 20: END REGIONS\n";
     assert!(rt; ends(&rt, &files_of(&def), LEFS, 1, fault)?);
     Ok(())
@@ -560,7 +561,7 @@ fn a_text_that_is_none_is_refused_with_its_line(rt: HostRuntime) -> Result<(), F
 #[test]
 fn lef_files_are_read_in_order_up_to_the_first_fault(rt: HostRuntime) -> Result<(), Fail> {
     let files = [
-        ("w.lef", Some(W_LEF)),
+        ("w.lef", Some(DEMO_LEF)),
         ("bad.lef", Some(b"SITE\t; \xff\n".as_slice())),
         ("cut.lef", Some(b"SITE core\n".as_slice())),
     ];
@@ -577,7 +578,7 @@ fn lef_files_are_read_in_order_up_to_the_first_fault(rt: HostRuntime) -> Result<
 /// The built-in LEF text is no part of a replay.
 #[test]
 fn a_replay_reads_its_own_lef_files_alone(rt: HostRuntime) -> Result<(), Fail> {
-    let files = [("x.lef", Some(b"".as_slice())), ("w.def", Some(W_DEF))];
+    let files = [("x.lef", Some(b"".as_slice())), ("w.def", Some(DEMO_DEF))];
     let fault = "lefence: 8 NoSite core\n\
         lefence: DEF file w.def, line 6: ROW r0 core 0 0 N DO 50 BY 1 STEP 200 0 ;\n";
     assert!(rt; ends(&rt, files.as_slice(), ["x.lef"].as_slice(), 1, fault)?);
@@ -586,7 +587,7 @@ fn a_replay_reads_its_own_lef_files_alone(rt: HostRuntime) -> Result<(), Fail> {
 
 #[test]
 fn a_file_that_cannot_be_read_is_a_fault(rt: HostRuntime) -> Result<(), Fail> {
-    let files = [("w.lef", Some(W_LEF)), ("folder", None)];
+    let files = [("w.lef", Some(DEMO_LEF)), ("folder", None)];
     let fault = "lefence: File\nlefence: DEF file w.def cannot be read: there is no such file\n";
     assert!(rt; ends(&rt, files.as_slice(), LEFS, 3, fault)?);
     let fault = "lefence: File\nlefence: LEF file x.lef cannot be read: there is no such file\n";
@@ -598,7 +599,7 @@ fn a_file_that_cannot_be_read_is_a_fault(rt: HostRuntime) -> Result<(), Fail> {
 
 /// The sample DEF text, whose first components have these entries; the first of all stands in line 15.
 pub(crate) fn with_entries(alloc: Global, entries: &[&[u8]]) -> Result<Vec<u8>, AllocError> {
-    let mut text = Vec::from_slice(alloc, W_DEF)?;
+    let mut text = Vec::from_slice(alloc, DEMO_DEF)?;
     for (i, entry) in entries.iter().enumerate() {
         text = with_line(alloc, &text, 15 + i, entry)?;
     }
@@ -626,7 +627,7 @@ fn checks_placed(
 #[test]
 fn a_design_is_checked(rt: HostRuntime) -> Result<(), Fail> {
     let report = "{\"cells\":5,\"unplaced\":5,\"violations\":[]}\n";
-    assert!(rt; checks(&rt, &files_of(W_DEF), 4, report, "")?);
+    assert!(rt; checks(&rt, &files_of(DEMO_DEF), 4, report, "")?);
     let report = "{\"cells\":5,\"unplaced\":0,\"violations\":[]}\n";
     assert!(rt; checks_placed(&rt, b"- a2 INV + PLACED ( 400 0 ) N ;", 0, report)?);
     let report = "{\"cells\":5,\"unplaced\":0,\"violations\":\
@@ -660,13 +661,13 @@ fn a_design_is_described(rt: HostRuntime) -> Result<(), Fail> {
         state: None,
         slots: Slots::standard(),
     };
-    assert!(rt; done(&rt, &files_of(W_DEF), &task, "open A\n").is(4, DESCRIPTION, ""));
+    assert!(rt; done(&rt, &files_of(DEMO_DEF), &task, "open A\n").is(4, DESCRIPTION, ""));
     Ok(())
 }
 
 #[test]
 fn a_check_without_its_file_is_a_fault(rt: HostRuntime) -> Result<(), Fail> {
-    let files = [("w.lef", Some(W_LEF))];
+    let files = [("w.lef", Some(DEMO_LEF))];
     let fault = "lefence: File\nlefence: DEF file w.def cannot be read: there is no such file\n";
     assert!(rt; checks(&rt, files.as_slice(), 3, "", fault)?);
     Ok(())
@@ -741,7 +742,7 @@ fn each_reply_is_flushed(rt: HostRuntime) {
 
 /// Whether the task over the sample, which reads nothing and writes to this, ends with a fault of its output.
 fn is_output_fault<W: Write>(rt: &HostRuntime, task: &Task<'_>, writer: &mut W) -> bool {
-    let files = files_of(W_DEF);
+    let files = files_of(DEMO_DEF);
     let mut exports = Kept::at(rt.alloc(), None);
     let mut services = Noted::new();
     let mut faults = Vec::new(rt.alloc());
@@ -793,7 +794,7 @@ fn exports_text(
     let task = exporting_replay(rt.alloc())?;
     let mut exports = Kept::at(rt.alloc(), Some("new.def"));
     let mut reader = lines.as_bytes();
-    let run = exporting(rt, &files_of(W_DEF), &mut exports, &task, &mut reader);
+    let run = exporting(rt, &files_of(DEMO_DEF), &mut exports, &task, &mut reader);
     Ok(run.is_put(0, replies, "") && exports.holds(text))
 }
 
@@ -813,7 +814,7 @@ fn what_is_committed_is_exported(rt: HostRuntime) -> Result<(), Fail> {
 #[test]
 fn what_works_alone_is_not_exported(rt: HostRuntime) -> Result<(), Fail> {
     let lines = "open A\nplace A 0 a1 0 0 N\nbye\nplace A 0 a2 400 0 N\n";
-    assert!(rt; exports_text(&rt, lines, "ok 0 0\nok 1\nok\n", W_DEF)?);
+    assert!(rt; exports_text(&rt, lines, "ok 0 0\nok 1\nok\n", DEMO_DEF)?);
     Ok(())
 }
 
@@ -823,7 +824,7 @@ fn an_export_that_cannot_be_written_is_a_fault(rt: HostRuntime) -> Result<(), Fa
     let mut exports = Kept::at(rt.alloc(), Some("new.def"));
     exports.is_full = true;
     let mut reader = b"open A\n".as_slice();
-    let run = exporting(&rt, &files_of(W_DEF), &mut exports, &task, &mut reader);
+    let run = exporting(&rt, &files_of(DEMO_DEF), &mut exports, &task, &mut reader);
     let fault =
         "lefence: File\nlefence: export file new.def cannot be written: permission denied\n";
     assert!(rt; run.is_put(3, "ok 0 0\n", fault));
@@ -835,7 +836,7 @@ fn a_path_that_takes_no_export_is_a_fault_before_the_first_line(
     rt: HostRuntime,
 ) -> Result<(), Fail> {
     let task = exporting_replay(rt.alloc())?;
-    let run = done(&rt, &files_of(W_DEF), &task, "open A\n");
+    let run = done(&rt, &files_of(DEMO_DEF), &task, "open A\n");
     let fault =
         "lefence: File\nlefence: export file new.def cannot be written: permission denied\n";
     assert!(rt; run.is(3, "", fault));
@@ -848,7 +849,7 @@ fn exports_nothing(rt: &HostRuntime, task: &Task<'_>) -> bool {
     let mut reader = Cut {
         bytes: COMMITTED.as_bytes(),
     };
-    let run = exporting(rt, &files_of(W_DEF), &mut exports, task, &mut reader);
+    let run = exporting(rt, &files_of(DEMO_DEF), &mut exports, task, &mut reader);
     run.end == told(3)
         && run.faults.as_slice() == b"lefence: ReadFault\n".as_slice()
         && exports.text.is_none()
@@ -882,11 +883,11 @@ const BIND: &[u8] = b"lefence: Bind\nlefence: port ";
 fn is_taken(rt: &HostRuntime, port: u16) -> Result<bool, AllocError> {
     let task = service(rt.alloc(), port)?;
     let mut exports = Kept::at(rt.alloc(), None);
-    let mut services = NetServices::new(rt);
+    let mut services = NetListener::new(rt);
     let mut reader = b"".as_slice();
     let run = offering(
         rt,
-        &files_of(W_DEF),
+        &files_of(DEMO_DEF),
         &mut exports,
         &mut services,
         &task,
@@ -896,14 +897,14 @@ fn is_taken(rt: &HostRuntime, port: u16) -> Result<bool, AllocError> {
 }
 
 /// What is offered for the service of the sample to port 5800, where none can be.
-fn offered(rt: &HostRuntime) -> Result<Option<Offer>, AllocError> {
+fn offered(rt: &HostRuntime) -> Result<Option<ServiceConfig>, AllocError> {
     let task = service(rt.alloc(), 5800)?;
     let mut exports = Kept::at(rt.alloc(), None);
     let mut services = Noted::new();
     let mut reader = b"".as_slice();
     let run = offering(
         rt,
-        &files_of(W_DEF),
+        &files_of(DEMO_DEF),
         &mut exports,
         &mut services,
         &task,
@@ -919,7 +920,7 @@ fn offered(rt: &HostRuntime) -> Result<Option<Offer>, AllocError> {
 
 #[test]
 fn a_service_is_offered_at_a_port_of_this_machine(rt: HostRuntime) -> Result<(), Fail> {
-    let wanted = Offer {
+    let wanted = ServiceConfig {
         ip: Ipv4Addr::LOCALHOST,
         port: 5800,
         connections: 1,

@@ -2,11 +2,11 @@
 
 ghost use Rattle.std.specs.Prelude.{◌≡◌, ◌≤◌, ◌+◌, false};
 ghost use Rattle.lf_rules.specs.Legalizer.{Legalizer};
-ghost use Rattle.lf_teams.specs.Committed.{IsCommittedLegal};
-ghost use Rattle.lf_teams.specs.CommittedRuns.{LegalRun};
-ghost use Rattle.lf_teams.specs.Journals.{IsBackup, lasting, lasting_replies};
+ghost use Rattle.lf_floor_model.specs.Committed.{IsCommittedLegal};
+ghost use Rattle.lf_floor_model.specs.CommittedRuns.{LegalRun};
+ghost use Rattle.lf_floor_model.specs.Journals.{IsBackup, lasting, lasting_replies};
 ghost use Rattle.lf_server.specs.Devices.{writer};
-ghost use Rattle.lf_server.specs.Endings.{Serves};
+ghost use Rattle.lf_server.specs.Endings.{ServesLines};
 ghost use Rattle.lf_server.specs.Laws.{commands, replies};
 
 use crate::devices::{Log, Pieces};
@@ -68,18 +68,18 @@ fn serve_safely<K: Seeker + Drop, S: Source, W: Sink>(
     requires writable { W.has_failed sink.old ≡ false }
     requires countable { S.reads source.old + limits.reads ≤ 18446744073709551615 }
     ensures legal { (l : Legalizer) → IsCommittedLegal floor.old
-        → (served : Serves l limits.lines floor.old (S.remaining source.old) (S.remaining source.new)
+        → (served : ServesLines l limits.lines floor.old (S.remaining source.old) (S.remaining source.new)
         (writer (W.contents sink.old) (W.is_flushed sink.old) (W.has_failed sink.old))
         (writer (W.contents sink.new) (W.is_flushed sink.new) (W.has_failed sink.new)) result floor.new)
         × LegalRun l floor.old (commands served.done) (replies served.done) floor.new }
     ensures backed_up { (l : Legalizer)
-        → (served : Serves l limits.lines floor.old (S.remaining source.old) (S.remaining source.new)
+        → (served : ServesLines l limits.lines floor.old (S.remaining source.old) (S.remaining source.new)
         (writer (W.contents sink.old) (W.is_flushed sink.old) (W.has_failed sink.old))
         (writer (W.contents sink.new) (W.is_flushed sink.new) (W.has_failed sink.new)) result floor.new)
         × IsBackup l floor.old (lasting (commands served.done) (replies served.done))
         (lasting_replies (commands served.done) (replies served.done)) floor.new }
 {
-    floor.teams_are_of_the_frame();
+    floor.teams_match_frame();
     serving_runs();
     run_stays_legal();
     journal_restores();

@@ -3,20 +3,22 @@
 ghost use Rattle.std.specs.Prelude.{⊤};
 
 use crate::starts::floor_of;
-use lf_def::W_DEF;
+use lf_def::DEMO_DEF;
 use lf_floor::{Floor, Response};
 use lf_frame::Place;
 use lf_legalize::PlainSeeker;
 use lf_orient::Orient;
-use lf_proto::{Action, Change, Command, Order, Refusal, Reply, Request, RequestList, reply_text};
-use lf_tests_texts::with_line;
-use lf_texts::Output;
+use lf_proto::{
+    Action, Change, Command, Refusal, Reply, Request, RequestList, TeamCommand, reply_text,
+};
+use lf_team_def::Output;
+use lf_tests_support::with_line;
 use std::alloc::{AllocError, Global};
 use std::test::Fail;
 
 /// The floor of the built-in design with a1 and b1 at the lower left corners of their fences.
 pub(crate) fn floor(alloc: Global) -> Result<Floor<PlainSeeker>, Fail> {
-    let def = with_line(alloc, W_DEF, 15, b"- a1 INV + PLACED ( 0 0 ) N ;")?;
+    let def = with_line(alloc, DEMO_DEF, 15, b"- a1 INV + PLACED ( 0 0 ) N ;")?;
     let def = with_line(alloc, &def, 18, b"- b1 INV + PLACED ( 6000 0 ) N ;")?;
     floor_of(alloc, &def)
 }
@@ -26,7 +28,7 @@ fn unplace<'a>(team: &'a [u8], cell: &'a [u8]) -> Request<'a> {
     let action = Action::Change(Change::Unplace { cell });
     Command::To {
         team,
-        order: Order::Within { session: 0, action },
+        order: TeamCommand::Within { session: 0, action },
     }
 }
 
@@ -35,7 +37,7 @@ fn requests(alloc: Global) -> Result<RequestList, AllocError> {
     let mut list = RequestList::new(alloc);
     list.push(&Command::To {
         team: b"B",
-        order: Order::Open,
+        order: TeamCommand::Open,
     })?;
     list.push(&unplace(b"B", b"b1"))?;
     list.push(&unplace(b"B", b"b1"))?;
@@ -116,7 +118,7 @@ impl Output for Kept {
 fn def_for(session: u32) -> Request<'static> {
     Command::To {
         team: b"A",
-        order: Order::Within {
+        order: TeamCommand::Within {
             session,
             action: Action::Def,
         },
@@ -128,7 +130,7 @@ fn put_text(alloc: Global, floor: &Floor<PlainSeeker>) -> Vec<u8> {
     let mut kept = Kept {
         text: Vec::new(alloc),
     };
-    floor.put_def(b"A", &mut kept);
+    floor.write_def(b"A", &mut kept);
     kept.text
 }
 
@@ -136,7 +138,7 @@ fn put_text(alloc: Global, floor: &Floor<PlainSeeker>) -> Vec<u8> {
 fn responds(alloc: Global, floor: &mut Floor<PlainSeeker>) -> bool {
     let opened = floor.respond(&Command::To {
         team: b"A",
-        order: Order::Open,
+        order: TeamCommand::Open,
     });
     let Response::Whole(Reply::Opened { .. }) = opened else {
         return false;

@@ -5,7 +5,7 @@ ghost use Rattle.std.specs.Prelude.{◌<◌};
 use crate::floors::{Kept, floor};
 use lf_floor::Floor;
 use lf_legalize::PlainSeeker;
-use lf_state::{FaultNumber, PiecesError, StateFault};
+use lf_state_text::{ChunkError, FaultNumber, StateFault};
 use std::alloc::{AllocError, Global};
 use std::collections::VecDeque;
 use std::test::Fail;
@@ -18,7 +18,7 @@ fn state_of(alloc: Global, floor: &Floor<PlainSeeker>) -> Vec<u8> {
     let mut kept = Kept {
         text: Vec::new(alloc),
     };
-    floor.put_state(&mut kept);
+    floor.write_state(&mut kept);
     kept.text
 }
 
@@ -42,10 +42,10 @@ fn is_restored(
 ) -> Result<bool, AllocError>
     requires { 0 < size }
 {
-    let Ok(rows) = floor.read_pieces(cut(alloc, text, size)?) else {
+    let Ok(rows) = floor.read_state_chunks(cut(alloc, text, size)?) else {
         return Ok(false);
     };
-    match floor.restore_rows(rows) {
+    match floor.restore_saved(rows) {
         Ok(restored) => Ok(state_of(alloc, &restored).as_slice() == text),
         Err(error) => Err(error),
     }
@@ -67,7 +67,8 @@ fn a_state_in_pieces_of_each_size_is_restored(rt: HostRuntime) -> Result<(), Fai
 fn is_refused(alloc: Global, floor: &Floor<PlainSeeker>, size: usize) -> Result<bool, AllocError>
     requires { 0 < size }
 {
-    let Err(PiecesError::Refused(refused)) = floor.read_pieces(cut(alloc, FAULTY, size)?) else {
+    let Err(ChunkError::Refused(refused)) = floor.read_state_chunks(cut(alloc, FAULTY, size)?)
+    else {
         return Ok(false);
     };
     let fault = StateFault {

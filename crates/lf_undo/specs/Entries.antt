@@ -9,14 +9,14 @@ Places = List (Option Place)
 
 -- The places before the moves, from those after them: the last move is taken back first, so that
 -- a cell that moved twice gets its first place.
-abbrev pub taken_back : List Move → Places → Places
-taken_back [] places = places
-taken_back (m ∷ ms) places = slice_set (taken_back ms places) m.own m.old
+abbrev pub moves_taken_back : List Move → Places → Places
+moves_taken_back [] places = places
+moves_taken_back (m ∷ ms) places = slice_set (moves_taken_back ms places) m.own m.old
 
 -- The places before each entry, newest first, from the present ones.
 abbrev pub entries_of : Places → List (List Move) → List Places
 entries_of places [] = []
-entries_of places (ms ∷ entries) = taken_back ms places ∷ entries_of (taken_back ms places) entries
+entries_of places (ms ∷ entries) = moves_taken_back ms places ∷ entries_of (moves_taken_back ms places) entries
 
 -- The moves, where the one of this position has another place.
 abbrev pub replaced : List Move → ℕ → Option Place → List Move

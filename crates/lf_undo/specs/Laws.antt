@@ -2,26 +2,26 @@
 use Rattle.std.specs.Prelude.{◌≡◌, ℕ, List, [], ◌∷◌, Some, None, All, length, take, drop, slice_get, slice_set, Option}
 use Rattle.lf_floorplan.specs.declared.place.Place.{Place}
 use Rattle.lf_undo.specs.declared.moves.Move.{Move}
-use Rattle.lf_undo.specs.Entries.{Places, taken_back, entries_of, moves_with, places_set, moves_of}
+use Rattle.lf_undo.specs.Entries.{Places, moves_taken_back, entries_of, moves_with, places_set, moves_of}
 
 -- The moves of settings, taken back from the places after them, give the places before them.
 abbrev pub MovesUndoSettings : Type 0
-MovesUndoSettings = (places : Places) (settings : List (ℕ × Option Place)) → taken_back (moves_of places settings) (places_set places settings) ≡ places
+MovesUndoSettings = (places : Places) (settings : List (ℕ × Option Place)) → moves_taken_back (moves_of places settings) (places_set places settings) ≡ places
 
 -- The same one setting at a time: a cell gets a place, and its old one is appended to the moves so far.
 abbrev pub MovesUndoOneMore : Type 0
 MovesUndoOneMore = (before now : Places) (moves : List Move) (cell : ℕ) (to : Option Place) →
-    taken_back moves now ≡ before → taken_back (moves_with moves now cell) (slice_set now cell to) ≡ before
+    moves_taken_back moves now ≡ before → moves_taken_back (moves_with moves now cell) (slice_set now cell to) ≡ before
 
 -- A change whose moves are pushed puts the old places in front of the entries, and drops what is past the limit.
 abbrev pub EntriesGrow : Type 0
 EntriesGrow = (before now : Places) (moves : List Move) (entries : List (List Move)) (limit : ℕ) →
-    taken_back moves now ≡ before → entries_of now (take limit (moves ∷ entries)) ≡ take limit (before ∷ entries_of before entries)
+    moves_taken_back moves now ≡ before → entries_of now (take limit (moves ∷ entries)) ≡ take limit (before ∷ entries_of before entries)
 
 -- The front entry, taken off and taken back, gives the newest places, and the others stay entries.
 abbrev pub EntriesShrink : Type 0
 EntriesShrink = (now : Places) (moves : List Move) (entries : List (List Move)) →
-    slice_get entries 0 ≡ Some moves → entries_of now entries ≡ taken_back moves now ∷ entries_of (taken_back moves now) (drop 1 entries)
+    slice_get entries 0 ≡ Some moves → entries_of now entries ≡ moves_taken_back moves now ∷ entries_of (moves_taken_back moves now) (drop 1 entries)
 
 -- Without a front entry there is no list of places.
 abbrev pub EntriesKeep : Type 0

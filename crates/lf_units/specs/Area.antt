@@ -1,6 +1,6 @@
 -- Rectangles as sets of whole points: what they cover is defined by points, never by comparing edges.
 use Rattle.std.specs.Prelude.{ℤ, ◌≤ℤ◌, ◌<ℤ◌, List, Any}
-use Rattle.lf_units.specs.declared.area.Rect.{Rect}
+use Rattle.lf_units.specs.declared.geometry.Rect.{Rect}
 
 -- the point (x, y) lies in the rectangle: lower and left edges count, upper and right ones do not
 pub record Covers (r : Rect) (x y : ℤ) : Type 0 where

@@ -12,11 +12,11 @@
 //! ```
 #![tactic(auto)]
 
-mod area;
+mod geometry;
 mod number;
 mod sequence;
 
-pub use area::{Point, Rect};
+pub use geometry::{Point, Rect};
 pub use lf_spans::{Span, nearest_on_grid, spans_join, spans_meet, spans_minus};
 pub use number::{NumberFault, micros_to_dbu, read_fixed};
 pub use sequence::{Name, Sequence};

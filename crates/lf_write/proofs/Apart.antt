@@ -5,7 +5,7 @@ use Rattle.std.specs.List.{cons_option}
 use Rattle.lf_lex.specs.Splices.{Splice, Rising}
 use Rattle.lf_floorplan.specs.declared.place.Place.{Place}
 use Rattle.lf_def.specs.declared.components.Component.{Component}
-use Rattle.lf_def.specs.declared.components.Placement.{Placement}
+use Rattle.lf_def.specs.declared.components.PlacementClause.{PlacementClause}
 use Rattle.lf_def.specs.Laws.{ClauseWithin}
 use Rattle.lf_def.specs.Laws as def
 use Rattle.lf_write.specs.Export.{Rise, clause_splice, splice_of}
@@ -17,7 +17,7 @@ pub record Stands (at len : ℕ) (c : Component) : Type 0 where
   pub clause : ClauseWithin at c.semicolon c.placement
   pub below : c.semicolon ≤ len
 
-clause_on : (from more to : ℕ) (p : Option Placement) → more ≤ from → ClauseWithin from to p → ClauseWithin more to p
+clause_on : (from more to : ℕ) (p : Option PlacementClause) → more ≤ from → ClauseWithin from to p → ClauseWithin more to p
 clause_on from more to None le h = tt
 clause_on from more to (Some p) le h = (omega (arith, le, h.0), h.1, h.2)
 
@@ -64,7 +64,7 @@ pub record Within (from to : ℕ) (s : Splice) : Type 0 where
   pub order : s.start ≤ s.stop
   pub stop : s.stop ≤ to
 
-splice_within : (from semicolon : ℕ) (p : Option Placement) (given : Option Place) → from ≤ semicolon → ClauseWithin from semicolon p
+splice_within : (from semicolon : ℕ) (p : Option PlacementClause) (given : Option Place) → from ≤ semicolon → ClauseWithin from semicolon p
     → Within from semicolon (clause_splice p semicolon given)
 splice_within from semicolon None given le h = record { start = le; order = omega arith; stop = omega arith }
 splice_within from semicolon (Some p) given le h = record { start = h.0; order = omega (arith, h.1); stop = h.2 }

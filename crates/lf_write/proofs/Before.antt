@@ -9,15 +9,15 @@ use Rattle.lf_orient.specs.declared.Orient.{Orient}
 use Rattle.lf_orient.specs.declared.Orient.TheVariants.{N, W, S, E, FN, FW, FS, FE}
 use Rattle.lf_lex.specs.declared.fault.FaultNumber.TheVariants.{Unexpected}
 use Rattle.lf_lex.specs.declared.fault.ReadFault.{ReadFault}
-use Rattle.lf_lex.specs.Tokens.{Lexed, Lexeme, Plain, plain, with_token, with_tokens}
+use Rattle.lf_lex.specs.Tokens.{Lexed, Lexeme, PlainToken, plain, with_token, with_tokens}
 use Rattle.lf_lex.specs.Splices.{LastIs, is_word_text}
-use Rattle.lf_lex.specs.Reading.{◌>>=◌, Taken, Turn, taken, turn, fault_at, is, keyword, statements}
+use Rattle.lf_lex.specs.Reading.{◌>>=◌, ReadValue, Turn, taken, turn, fault_at, is, keyword, statements}
 use Rattle.lf_lex.proofs.Runs.{turn_bare, ok_is, with_both, same_run, turns_follow}
 use Rattle.lf_lex.proofs.Back.{BackAt, TurnsAt, at_more}
-use Rattle.lf_def.specs.declared.entries.Due.{Due}
-use Rattle.lf_def.specs.declared.entries.Due.TheVariants.{Item, Keyword, Rest, Separator}
+use Rattle.lf_def.specs.declared.section.Due.{Due}
+use Rattle.lf_def.specs.declared.section.Due.TheVariants.{Item, Keyword, Rest, Separator}
 use Rattle.lf_def.specs.declared.components.ComponentParts.{ComponentParts}
-use Rattle.lf_def.specs.declared.components.Placement.{Placement}
+use Rattle.lf_def.specs.declared.components.PlacementClause.{PlacementClause}
 use Rattle.lf_def.specs.declared.components.PlacementKind.{PlacementKind}
 use Rattle.lf_def.specs.declared.components.PlacementKind.TheVariants.{Fixed, Cover, Placed}
 use Rattle.lf_def.specs.Coordinates.{orient_of}
@@ -39,7 +39,7 @@ keyword_ok w l m u e =
     let c = ok_is tt a.1 u m b.1 in
     (a.0, a.2 ∙ ap (λ (z : Lexed). with_token a.0 z) c.1, b.0)
 
-placed_ok : (kind : PlacementKind) (plus : ℕ) (t : Lexeme) (l m : Lexed) (p : Placement) → (is (codes "UNPLACED") t ≡ true → ⊥) → placed kind plus l ≡ taken p m
+placed_ok : (kind : PlacementKind) (plus : ℕ) (t : Lexeme) (l m : Lexed) (p : PlacementClause) → (is (codes "UNPLACED") t ≡ true → ⊥) → placed kind plus l ≡ taken p m
     → MoreRun plus t l m p
 unfolding placed
 placed_ok kind plus t l m p u e =
@@ -53,12 +53,12 @@ placed_ok kind plus t l m p u e =
       whole = a1.1 ∙ ap (λ (z : Lexed). with_token a1.0 z) (r.whole ∙ ap (λ (z : Lexed). with_tokens (r.x ∷ r.y ∷ r.closing ∷ r.orient ∷ []) z) d.1);
       more_is = inr (a1.2, r.closing_is, r.named);
       bare = λ h. absurd (u h);
-      start = sym (ap (λ (z : Placement). z.start) d.0);
-      stop = r.stop ∙ ap (λ (z : Placement). z.stop) d.0;
+      start = sym (ap (λ (z : PlacementClause). z.start) d.0);
+      stop = r.stop ∙ ap (λ (z : PlacementClause). z.stop) d.0;
     }
 
-unplaced_ok : (plus : ℕ) (t : Lexeme) (l m : Lexed) (p : Placement) → is (codes "UNPLACED") t ≡ true
-    → ◌≡◌ {A = Result (Taken Placement) ReadFault} (taken (unplaced plus t) l) (taken p m) → MoreRun plus t l m p
+unplaced_ok : (plus : ℕ) (t : Lexeme) (l m : Lexed) (p : PlacementClause) → is (codes "UNPLACED") t ≡ true
+    → ◌≡◌ {A = Result (ReadValue PlacementClause) ReadFault} (taken (unplaced plus t) l) (taken p m) → MoreRun plus t l m p
 unplaced_ok plus t l m p u e =
     let d = ok_is (unplaced plus t) l p m e in
     record {
@@ -66,8 +66,8 @@ unplaced_ok plus t l m p u e =
       whole = d.1;
       more_is = inl (u, refl);
       bare = λ h. refl;
-      start = sym (ap (λ (z : Placement). z.start) d.0);
-      stop = ap (λ (z : Placement). z.stop) d.0;
+      start = sym (ap (λ (z : PlacementClause). z.start) d.0);
+      stop = ap (λ (z : PlacementClause). z.stop) d.0;
     }
 
 text_is : (w : List ℕ) (t : Lexeme) → is w t ≡ true → t.text ≡ w
@@ -82,7 +82,7 @@ not_either e = cc
 not_two : (v w : List ℕ) (t : Lexeme) → bytes_eq v w ≡ false → is v t ≡ true → is w t ≡ true → ⊥
 not_two v w t other h k = let e : bytes_eq v w ≡ true = rw (text_is v t h) at k in absurd (not_both (sym e ∙ other))
 
-kind_ok : (a b c d : Bool) (plus : ℕ) (t : Lexeme) (l m : Lexed) (p : Placement) → is (codes "FIXED") t ≡ a → is (codes "COVER") t ≡ b
+kind_ok : (a b c d : Bool) (plus : ℕ) (t : Lexeme) (l m : Lexed) (p : PlacementClause) → is (codes "FIXED") t ≡ a → is (codes "COVER") t ≡ b
     → is (codes "PLACED") t ≡ c → is (codes "UNPLACED") t ≡ d → (a || b || c || d) ≡ true
     → cond a (placed Fixed plus l) (cond b (placed Cover plus l) (cond c (placed Placed plus l) (taken (unplaced plus t) l))) ≡ taken p m → MoreRun plus t l m p
 kind_ok true b c d plus t l m p x y z u w e = placed_ok Fixed plus t l m p (not_two (codes "FIXED") (codes "UNPLACED") t refl x) e
@@ -91,7 +91,7 @@ kind_ok false false true d plus t l m p x y z u w e = placed_ok Placed plus t l 
 kind_ok false false false true plus t l m p x y z u w e = unplaced_ok plus t l m p u e
 kind_ok false false false false plus t l m p x y z u w e = absurd cc
 
-only_ok : (first : Option Placement) (plus : ℕ) (t : Lexeme) (l m : Lexed) (p : Placement) → is_placement_word t ≡ true
+only_ok : (first : Option PlacementClause) (plus : ℕ) (t : Lexeme) (l m : Lexed) (p : PlacementClause) → is_placement_word t ≡ true
     → only_placement first plus t l ≡ taken p m → MoreRun plus t l m p
 unfolding only_placement placement
 only_ok None plus t l m p w e = kind_ok (is (codes "FIXED") t) (is (codes "COVER") t) (is (codes "PLACED") t)
@@ -141,7 +141,7 @@ clause_ends stop word more (inr h) e = place_ends stop word more h e
 
 -- tokens like these lead from the beginning to what is known then
 abbrev pub Reaches : List Lexeme → ComponentParts → Type 0
-Reaches r s = (y : ComponentParts) (rest : List Plain)
+Reaches r s = (y : ComponentParts) (rest : List PlainToken)
     → ((s' : ComponentParts) → bare_parts s' ≡ bare_parts s → TurnsAt bare_parts component_token s' rest y)
     → TurnsAt bare_parts component_token no_component (map plain r ++ rest) y
 
@@ -160,7 +160,7 @@ one_more : (r : List Lexeme) (s : ComponentParts) (l m : Lexed) (t : Turn Compon
 one_more r s l m t u more reached h w goes y rest next =
     let run = u ∷ more in
     let split : map plain (r ++ u ∷ more) ++ rest ≡ map plain r ++ (map plain (u ∷ more) ++ rest) =
-    ap (λ (z : List Plain). z ++ rest) (map-append plain r (u ∷ more)) ∙ append_assoc (map plain r) (map plain (u ∷ more)) rest in
+    ap (λ (z : List PlainToken). z ++ rest) (map-append plain r (u ∷ more)) ∙ append_assoc (map plain r) (map plain (u ∷ more)) rest in
     let goes_on : t ≡ turn t.state true = ap (λ (b : Bool). turn t.state b) goes in
     rw split (reached y (map plain (u ∷ more) ++ rest) (λ s' a.
     at_more bare_parts component_token s' t.state y (map plain (u ∷ more)) rest (omega arith)
@@ -203,7 +203,7 @@ record StopsAt (l m : Lexed) (s : ComponentParts) (t : Turn ComponentParts) : Ty
 record PlacesAt (r : List Lexeme) (l m : Lexed) (s : ComponentParts) (t : Turn ComponentParts) : Type 0 where
   pub word : Lexeme
   pub next : Lexed
-  pub p : Placement
+  pub p : PlacementClause
   pub whole : l ≡ with_token word next
   pub read : MoreRun s.plus word next m p
   pub plus : EndsPlus r s.plus
@@ -230,7 +230,7 @@ keyword_not_separator e = cc
 -- a turn that takes one token and goes on
 passes : (r : List Lexeme) (l m n : Lexed) (s s1 : ComponentParts) (u : Lexeme) (t : Turn ComponentParts) → Before r s → component_token s l ≡ taken t m
     → l ≡ with_token u n → s1.placement ≡ None → (s1.due ≡ Keyword → EndsPlus (r ++ u ∷ []) s1.plus) → (s1.due ≡ Separator → ⊥)
-    → ◌≡◌ {A = Result (Taken (Turn ComponentParts)) ReadFault} (taken (turn s1 true) n) (taken t m) → TurnBefore r l m s t
+    → ◌≡◌ {A = Result (ReadValue (Turn ComponentParts)) ReadFault} (taken (turn s1 true) n) (taken t m) → TurnBefore r l m s t
 passes r l m n s s1 u t b h w none plus due e =
     let d = ok_is (turn s1 true) n t m e in
     let whole : l ≡ with_tokens (u ∷ []) m = w ∙ ap (λ (z : Lexed). with_token u z) d.1 in
@@ -251,7 +251,7 @@ passes r l m n s s1 u t b h w none plus due e =
 at_clause : (c : Bool) (r : List Lexeme) (l m n : Lexed) (s : ComponentParts) (u : Lexeme) (t : Turn ComponentParts) → Before r s
     → component_token s l ≡ taken t m
     → l ≡ with_token u n → s.due ≡ Keyword → is_placement_word u ≡ c
-    → cond {A = Result (Taken (Turn ComponentParts)) ReadFault} c
+    → cond {A = Result (ReadValue (Turn ComponentParts)) ReadFault} c
     (only_placement s.placement s.plus u n >>= λ x. taken (turn (placed_state s u x.value) true) x.rest)
     (taken (turn (record s { due = Rest }) true) n) ≡ taken t m
     → TurnBefore r l m s t
@@ -286,7 +286,7 @@ at_part Separator r l m n s u t b h w due e = absurd (b.due due)
 at_from : (c d : Bool) (r : List Lexeme) (l m n : Lexed) (s : ComponentParts) (u : Lexeme) (t : Turn ComponentParts) → Before r s
     → component_token s l ≡ taken t m
     → l ≡ with_token u n → is (codes ";") u ≡ c
-    → cond {A = Result (Taken (Turn ComponentParts)) ReadFault} c (taken (turn (record s { semicolon = u.start }) false) n)
+    → cond {A = Result (ReadValue (Turn ComponentParts)) ReadFault} c (taken (turn (record s { semicolon = u.start }) false) n)
     (cond d (taken (turn (record s { due = Keyword; plus = u.start }) true) n) (component_part s.due s u n)) ≡ taken t m → TurnBefore r l m s t
 at_from true d r l m n s u t b h w last e =
     let g = ok_is (turn (record s { semicolon = u.start }) false) n t m e in
@@ -324,7 +324,7 @@ pub record Bare (r : List Lexeme) (l m : Lexed) (y : ComponentParts) : Type 0 wh
   pub reached : Reaches (r ++ front) old
 
 -- a clause: what was read leads on from before its plus, and what stands behind it is read behind any clause
-pub record Found (r : List Lexeme) (l m : Lexed) (y : ComponentParts) (p : Placement) : Type 0 where
+pub record Found (r : List Lexeme) (l m : Lexed) (y : ComponentParts) (p : PlacementClause) : Type 0 where
   pub run : List Lexeme
   pub whole : l ≡ with_tokens run m
   pub front : List Lexeme
@@ -340,11 +340,11 @@ pub record Found (r : List Lexeme) (l m : Lexed) (y : ComponentParts) (p : Place
   pub reached : Reaches front old
   pub state : ComponentParts
   pub due : state.due ≡ Separator
-  pub behind : (q : Placement) (b : Bool) (s' : ComponentParts) → bare_parts s' ≡ bare_parts (swap q b state)
+  pub behind : (q : PlacementClause) (b : Bool) (s' : ComponentParts) → bare_parts s' ≡ bare_parts (swap q b state)
       → TurnsAt bare_parts component_token s' (map plain after) (swap q b y)
 
 abbrev pub Outcome : List Lexeme → Lexed → Lexed → ComponentParts → Type 0
-Outcome r l m y = ((y.placement ≡ None) × Bare r l m y) ⊎ ((p : Placement) × (y.placement ≡ Some p) × Found r l m y p)
+Outcome r l m y = ((y.placement ≡ None) × Bare r l m y) ⊎ ((p : PlacementClause) × (y.placement ≡ Some p) × Found r l m y p)
 
 outcome_behind : (r run : List Lexeme) (l n m : Lexed) (y : ComponentParts) → l ≡ with_tokens run n → Outcome (r ++ run) n m y → Outcome r l m y
 outcome_behind r run l n m y w (inl o) =
@@ -394,16 +394,16 @@ nil_behind more point e = rw e (append-nil more)
 nil_before : (more point : List Lexeme) → more ≡ [] → more ++ point ≡ point
 nil_before more point e = rw e refl
 
-all_ends : (word : Lexeme) (more point : List Lexeme) (p placed : Placement) (unplaced_word : Bool)
+all_ends : (word : Lexeme) (more point : List Lexeme) (p placed : PlacementClause) (unplaced_word : Bool)
     → ((is (codes "UNPLACED") word ≡ true) × (more ≡ [])) ⊎ IsPlace more
     → LastEnds p.stop word more → (unplaced_word ≡ true → more ≡ [])
     → ((point ≡ []) × (placed ≡ p)) ⊎ ((unplaced_word ≡ true) × IsPlace point × (placed ≡ up_to_stop placed.stop p)
     × ((u : Lexeme) → LastEnds placed.stop u point))
     → (LastIs placed.stop word (more ++ point)) × (placed.start ≡ p.start)
 all_ends word more point p placed unplaced_word is_more ends bare (inl h) =
-    (rw (h.1, nil_behind more point h.0) (clause_ends p.stop word more is_more ends), ap (λ (z : Placement). z.start) h.1)
+    (rw (h.1, nil_behind more point h.0) (clause_ends p.stop word more is_more ends), ap (λ (z : PlacementClause). z.start) h.1)
 all_ends word more point p placed unplaced_word is_more ends bare (inr h) =
-    (rw (nil_before more point (bare h.0)) (place_ends placed.stop word point h.1 (h.3 word)), ap (λ (z : Placement). z.start) h.2)
+    (rw (nil_before more point (bare h.0)) (place_ends placed.stop word point h.1 (h.3 word)), ap (λ (z : PlacementClause). z.start) h.2)
 
 found : (n : ℕ) (r : List Lexeme) (l rest m : Lexed) (s y : ComponentParts) (t : Turn ComponentParts) → PlacesAt r l rest s t
     → statements component_token n t.state rest ≡ taken y m → Outcome r l m y

@@ -7,36 +7,36 @@ use Rattle.std.specs.Option.{option_map}
 use Rattle.std.proofs.lemmas.Slice.Eq.{bytes_eq-Decides}
 use Rattle.lf_lex.specs.declared.fault.ReadFault.{ReadFault}
 use Rattle.lf_lex.specs.Tokens.{Lexed, Lexeme, with_token, with_tokens}
-use Rattle.lf_lex.specs.Reading.{◌>>=◌, Taken, Turn, taken, turn, is, statements}
+use Rattle.lf_lex.specs.Reading.{◌>>=◌, ReadValue, Turn, taken, turn, is, statements}
 use Rattle.lf_lex.proofs.Runs.{ok_is}
 use Rattle.lf_lex.proofs.Splicing.{and_true}
-use Rattle.lf_def.specs.declared.entries.Due.{Due}
-use Rattle.lf_def.specs.declared.entries.Due.TheVariants.{Item, Keyword, Rest, Separator}
+use Rattle.lf_def.specs.declared.section.Due.{Due}
+use Rattle.lf_def.specs.declared.section.Due.TheVariants.{Item, Keyword, Rest, Separator}
 use Rattle.lf_def.specs.declared.components.ComponentParts.{ComponentParts}
-use Rattle.lf_def.specs.declared.components.Placement.{Placement}
+use Rattle.lf_def.specs.declared.components.PlacementClause.{PlacementClause}
 use Rattle.lf_def.specs.Components.{is_placement_word, only_placement, clause, up_to_stop, unplaced_point, component_part, component_from, component_token}
 use Rattle.lf_def.specs.Laws.{IsPlace, LastEnds}
 use Rattle.lf_def.proofs.Clauses.{bind_ok, token_ok, if_ok, located_ok}
 
 -- what is known of a component, with another clause
-abbrev pub swap : Placement → Bool → ComponentParts → ComponentParts
+abbrev pub swap : PlacementClause → Bool → ComponentParts → ComponentParts
 swap q b s = record s { placement = Some q; point = b }
 
 -- what is known behind the word and the place of the clause
-abbrev pub placed_state : ComponentParts → Lexeme → Placement → ComponentParts
+abbrev pub placed_state : ComponentParts → Lexeme → PlacementClause → ComponentParts
 placed_state s u p = record s { placement = Some p; due = Separator; point = is (codes "UNPLACED") u }
 
 -- one turn behind the clause: with another clause the turn is the same
-pub record Swaps (q : Placement) (b : Bool) (s : ComponentParts) (t : Turn ComponentParts) : Type 0 where
+pub record Swaps (q : PlacementClause) (b : Bool) (s : ComponentParts) (t : Turn ComponentParts) : Type 0 where
   pub kept : t.state.placement ≡ s.placement
   pub due : t.more ≡ true → t.state.due ≡ Separator → ⊥
 
-abbrev Same : Placement → Bool → Result (Taken (Turn ComponentParts)) ReadFault → ComponentParts → Turn ComponentParts → Lexed → Type 0
+abbrev Same : PlacementClause → Bool → Result (ReadValue (Turn ComponentParts)) ReadFault → ComponentParts → Turn ComponentParts → Lexed → Type 0
 Same q b reading s t m = (reading ≡ taken (turn (swap q b t.state) t.more) m) × Swaps q b s t
 
 -- a turn that makes of what is known something of which the clause is no part
-same : (q : Placement) (b : Bool) (s s1 : ComponentParts) (more : Bool) (n m : Lexed) (t : Turn ComponentParts) → s1.placement ≡ s.placement
-    → (more ≡ true → s1.due ≡ Separator → ⊥) → ◌≡◌ {A = Result (Taken (Turn ComponentParts)) ReadFault} (taken (turn s1 more) n) (taken t m)
+same : (q : PlacementClause) (b : Bool) (s s1 : ComponentParts) (more : Bool) (n m : Lexed) (t : Turn ComponentParts) → s1.placement ≡ s.placement
+    → (more ≡ true → s1.due ≡ Separator → ⊥) → ◌≡◌ {A = Result (ReadValue (Turn ComponentParts)) ReadFault} (taken (turn s1 more) n) (taken t m)
     → Same q b (taken (turn (swap q b s1) more) n) s t m
 same q b s s1 more n m t kept due e =
     let d = ok_is (turn s1 more) n t m e in (
@@ -60,25 +60,25 @@ keyword_not : Keyword ≡ Separator → ⊥
 keyword_not e = cc
 
 -- a second placement clause is a fault
-no_second : (first : Option Placement) (p : Placement) (plus : ℕ) (u : Lexeme) (l : Lexed) (x : Taken Placement) → first ≡ Some p
+no_second : (first : Option PlacementClause) (p : PlacementClause) (plus : ℕ) (u : Lexeme) (l : Lexed) (x : ReadValue PlacementClause) → first ≡ Some p
     → only_placement first plus u l ≡ Ok x → ⊥
 unfolding only_placement
 no_second None p plus u l x e h = cc
 no_second (Some first) p plus u l x e h = cc
 
-swap_clause : (c : Bool) (q : Placement) (b : Bool) (n m : Lexed) (s : ComponentParts) (u : Lexeme) (t : Turn ComponentParts) (p : Placement)
+swap_clause : (c : Bool) (q : PlacementClause) (b : Bool) (n m : Lexed) (s : ComponentParts) (u : Lexeme) (t : Turn ComponentParts) (p : PlacementClause)
     → s.placement ≡ Some p
-    → cond {A = Result (Taken (Turn ComponentParts)) ReadFault} c
+    → cond {A = Result (ReadValue (Turn ComponentParts)) ReadFault} c
     (only_placement s.placement s.plus u n >>= λ x. taken (turn (placed_state s u x.value) true) x.rest)
     (taken (turn (record s { due = Rest }) true) n) ≡ taken t m
-    → Same q b (cond {A = Result (Taken (Turn ComponentParts)) ReadFault} c
+    → Same q b (cond {A = Result (ReadValue (Turn ComponentParts)) ReadFault} c
     (only_placement (Some q) s.plus u n >>= λ x. taken (turn (placed_state (swap q b s) u x.value) true) x.rest)
     (taken (turn (record (swap q b s) { due = Rest }) true) n)) s t m
 swap_clause true q b n m s u t p has e = let a = bind_ok (only_placement s.placement s.plus u n) _ _ e in absurd
     (no_second s.placement p s.plus u n a.0 has a.1)
 swap_clause false q b n m s u t p has e = same q b s (record s { due = Rest }) true n m t refl (λ x y. rest_not y) e
 
-swap_part : (due : Due) (q : Placement) (b : Bool) (n m : Lexed) (s : ComponentParts) (u : Lexeme) (t : Turn ComponentParts) (p : Placement)
+swap_part : (due : Due) (q : PlacementClause) (b : Bool) (n m : Lexed) (s : ComponentParts) (u : Lexeme) (t : Turn ComponentParts) (p : PlacementClause)
     → s.placement ≡ Some p
     → (due ≡ Separator → (s.point && is (codes "(") u) ≡ false) → s.due ≡ due → component_part due s u n ≡ taken t m
     → Same q b (component_part due (swap q b s) u n) s t m
@@ -88,28 +88,28 @@ swap_part Keyword q b n m s u t p has point d e = swap_clause (is_placement_word
 swap_part Rest q b n m s u t p has point d e = same q b s s true n m t refl (λ x y. rest_not (sym d ∙ y)) e
 swap_part Separator q b n m s u t p has point d e = let a = if_ok (s.point && is (codes "(") u) _ _ _ e in absurd (not_either (sym (point refl) ∙ a.0))
 
-swap_from : (c d : Bool) (q : Placement) (b : Bool) (n m : Lexed) (s : ComponentParts) (u : Lexeme) (t : Turn ComponentParts) (p : Placement)
+swap_from : (c d : Bool) (q : PlacementClause) (b : Bool) (n m : Lexed) (s : ComponentParts) (u : Lexeme) (t : Turn ComponentParts) (p : PlacementClause)
     → s.placement ≡ Some p
     → (s.due ≡ Separator → (s.point && is (codes "(") u) ≡ false)
-    → cond {A = Result (Taken (Turn ComponentParts)) ReadFault} c (taken (turn (record s { semicolon = u.start }) false) n)
+    → cond {A = Result (ReadValue (Turn ComponentParts)) ReadFault} c (taken (turn (record s { semicolon = u.start }) false) n)
     (cond d (taken (turn (record s { due = Keyword; plus = u.start }) true) n) (component_part s.due s u n)) ≡ taken t m
-    → Same q b (cond {A = Result (Taken (Turn ComponentParts)) ReadFault} c (taken (turn (record (swap q b s) { semicolon = u.start }) false) n)
+    → Same q b (cond {A = Result (ReadValue (Turn ComponentParts)) ReadFault} c (taken (turn (record (swap q b s) { semicolon = u.start }) false) n)
     (cond d (taken (turn (record (swap q b s) { due = Keyword; plus = u.start }) true) n) (component_part s.due (swap q b s) u n))) s t m
 swap_from true d q b n m s u t p has point e = same q b s (record s { semicolon = u.start }) false n m t refl (λ x y. not_either x) e
 swap_from false true q b n m s u t p has point e = same q b s (record s { due = Keyword; plus = u.start }) true n m t refl (λ x y. keyword_not y) e
 swap_from false false q b n m s u t p has point e = swap_part s.due q b n m s u t p has point refl e
 
-swap_first : (q : Placement) (b : Bool) (n m : Lexed) (s : ComponentParts) (u : Lexeme) (t : Turn ComponentParts) (p : Placement) → s.placement ≡ Some p
+swap_first : (q : PlacementClause) (b : Bool) (n m : Lexed) (s : ComponentParts) (u : Lexeme) (t : Turn ComponentParts) (p : PlacementClause) → s.placement ≡ Some p
     → (s.due ≡ Separator → (s.point && is (codes "(") u) ≡ false) → component_from s u n ≡ taken t m
     → Same q b (component_from (swap q b s) u n) s t m
 unfolding component_from
 swap_first q b n m s u t p has point e = swap_from (is (codes ";") u) (is (codes "+") u) q b n m s u t p has point e
 
 -- all turns behind the clause
-abbrev SameTurns : Placement → Bool → ℕ → Lexed → Lexed → ComponentParts → ComponentParts → Placement → Type 0
+abbrev SameTurns : PlacementClause → Bool → ℕ → Lexed → Lexed → ComponentParts → ComponentParts → PlacementClause → Type 0
 SameTurns q b n l m s y p = (statements component_token n (swap q b s) l ≡ taken (swap q b y) m) × (y.placement ≡ Some p)
 
-swap_next : (n : ℕ) (q : Placement) (b : Bool) (m rest : Lexed) (s y : ComponentParts) (p : Placement) (t : Turn ComponentParts) → Swaps q b s t
+swap_next : (n : ℕ) (q : PlacementClause) (b : Bool) (m rest : Lexed) (s y : ComponentParts) (p : PlacementClause) (t : Turn ComponentParts) → Swaps q b s t
     → s.placement ≡ Some p
     → (t.state.placement ≡ Some p → (t.state.due ≡ Separator → ⊥) → statements component_token n t.state rest ≡ taken y m → SameTurns q b n rest m t.state y p)
     → (more : Bool) → t.more ≡ more → cond more (statements component_token n t.state rest) (taken t.state rest) ≡ taken y m
@@ -122,7 +122,7 @@ swap_next n q b m rest s y p t f has next false more_is e =
     )
 
 -- a turn, and what is read behind it
-turn_then : (n : ℕ) (s s1 : ComponentParts) (l rest : Lexed) (more : Bool) (r : Result (Taken ComponentParts) ReadFault)
+turn_then : (n : ℕ) (s s1 : ComponentParts) (l rest : Lexed) (more : Bool) (r : Result (ReadValue ComponentParts) ReadFault)
     → component_token s l ≡ taken (turn s1 more) rest
     → cond more (statements component_token n s1 rest) (taken s1 rest) ≡ r → statements component_token (suc n) s l ≡ r
 unfolding statements
@@ -133,7 +133,7 @@ first_turn : (s : ComponentParts) (l n m : Lexed) (u : Lexeme) (t : Turn Compone
 unfolding component_token
 first_turn s l n m u t w e = rw w e
 
-swap_all : (n : ℕ) (q : Placement) (b : Bool) (l m : Lexed) (s y : ComponentParts) (p : Placement) → s.placement ≡ Some p
+swap_all : (n : ℕ) (q : PlacementClause) (b : Bool) (l m : Lexed) (s y : ComponentParts) (p : PlacementClause) → s.placement ≡ Some p
     → (s.due ≡ Separator → s.point ≡ false)
     → statements component_token n s l ≡ taken y m → SameTurns q b n l m s y p
 unfolding statements component_token
@@ -151,21 +151,21 @@ swap_all (suc n) q b l m s y p has point e =
 
 -- What stands directly behind the clause: perhaps the point of UNPLACED, and then other clauses up to the semicolon.
 
-pub record Behind (l m : Lexed) (s y : ComponentParts) (p : Placement) : Type 0 where
+pub record Behind (l m : Lexed) (s y : ComponentParts) (p : PlacementClause) : Type 0 where
   pub point : List Lexeme
   pub rest : Lexed
   pub whole : l ≡ with_tokens point rest
-  pub placed : Placement
+  pub placed : PlacementClause
   pub point_is : ((point ≡ []) × (placed ≡ p)) ⊎ ((s.point ≡ true) × IsPlace point × (placed ≡ up_to_stop placed.stop p)
       × ((u : Lexeme) → LastEnds placed.stop u point))
   pub placement : y.placement ≡ Some placed
   pub turns : ℕ
-  pub same : (q : Placement) (b : Bool) → statements component_token turns (swap q b s) rest ≡ taken (swap q b y) m
+  pub same : (q : PlacementClause) (b : Bool) → statements component_token turns (swap q b s) rest ≡ taken (swap q b y) m
 
 abbrev after_point : ComponentParts → ℕ → ComponentParts
 after_point s stop = record s { placement = option_map (up_to_stop stop) s.placement; point = false }
 
-point_stops : (stop : ℕ) (p : Placement) (o : Option Placement) → o ≡ Some p → option_map (up_to_stop stop) o ≡ Some (up_to_stop stop p)
+point_stops : (stop : ℕ) (p : PlacementClause) (o : Option PlacementClause) → o ≡ Some p → option_map (up_to_stop stop) o ≡ Some (up_to_stop stop p)
 point_stops stop p o e = rw e refl
 
 not_both : (v w : List ℕ) (u : Lexeme) → bytes_eq v w ≡ false → is v u ≡ true → is w u ≡ false
@@ -218,7 +218,7 @@ point_turn s n m t e =
       ends = f.stop;
     }
 
-with_point : (n : ℕ) (l n1 m : Lexed) (s y : ComponentParts) (p : Placement) (u : Lexeme) (rest : Lexed) (t : Turn ComponentParts) → s.placement ≡ Some p
+with_point : (n : ℕ) (l n1 m : Lexed) (s y : ComponentParts) (p : PlacementClause) (u : Lexeme) (rest : Lexed) (t : Turn ComponentParts) → s.placement ≡ Some p
     → s.due ≡ Separator → l ≡ with_token u n1 → (s.point && is (codes "(") u) ≡ true → PointTurn s n1 rest t
     → cond t.more (statements component_token n t.state rest) (taken t.state rest) ≡ taken y m → Behind l m s y p
 with_point n l n1 m s y p u rest t has due w h f e =
@@ -238,15 +238,15 @@ with_point n l n1 m s y p u rest t has due w h f e =
       same = λ q c. (swap_all n q c rest m (after_point s f.stop) y (up_to_stop f.stop p) has' (λ z. refl) e').0;
     }
 
-no_point_here : (n : ℕ) (l n1 m : Lexed) (s y : ComponentParts) (p : Placement) (u : Lexeme) (rest : Lexed) (t : Turn ComponentParts) → s.placement ≡ Some p
+no_point_here : (n : ℕ) (l n1 m : Lexed) (s y : ComponentParts) (p : PlacementClause) (u : Lexeme) (rest : Lexed) (t : Turn ComponentParts) → s.placement ≡ Some p
     → l ≡ with_token u n1 → (s.point && is (codes "(") u) ≡ false → component_from s u n1 ≡ taken t rest
-    → cond t.more (statements component_token n t.state rest) (taken t.state rest) ≡ taken y m → (q : Placement) (b : Bool) → SameTurns q b (suc n) l m s y p
+    → cond t.more (statements component_token n t.state rest) (taken t.state rest) ≡ taken y m → (q : PlacementClause) (b : Bool) → SameTurns q b (suc n) l m s y p
 no_point_here n l n1 m s y p u rest t has w h e k q b =
     let f = swap_first q b n1 rest s u t p has (λ z. h) e in
     let g = swap_next n q b m rest s y p t f.1 has (λ h d x. swap_all n q b rest m t.state y p h (λ z. absurd (d z)) x) t.more refl k in
     (turn_then n (swap q b s) (swap q b t.state) l rest t.more _ (first_turn (swap q b s) l n1 rest u _ w f.0) g.0, g.1)
 
-behind_by : (n : ℕ) (l n1 m : Lexed) (s y : ComponentParts) (p : Placement) (u : Lexeme) (rest : Lexed) (t : Turn ComponentParts) → s.placement ≡ Some p
+behind_by : (n : ℕ) (l n1 m : Lexed) (s y : ComponentParts) (p : PlacementClause) (u : Lexeme) (rest : Lexed) (t : Turn ComponentParts) → s.placement ≡ Some p
     → s.due ≡ Separator → l ≡ with_token u n1 → component_from s u n1 ≡ taken t rest
     → cond t.more (statements component_token n t.state rest) (taken t.state rest) ≡ taken y m
     → (test : Bool) → (s.point && is (codes "(") u) ≡ test → Behind l m s y p
@@ -263,7 +263,7 @@ behind_by n l n1 m s y p u rest t has due w e k false h = record {
   same = λ q b. (no_point_here n l n1 m s y p u rest t has w h e k q b).0;
 }
 
-pub behind_clause : (n : ℕ) (l m : Lexed) (s y : ComponentParts) (p : Placement) → s.placement ≡ Some p → s.due ≡ Separator
+pub behind_clause : (n : ℕ) (l m : Lexed) (s y : ComponentParts) (p : PlacementClause) → s.placement ≡ Some p → s.due ≡ Separator
     → statements component_token n s l ≡ taken y m → Behind l m s y p
 unfolding statements component_token
 behind_clause zero l m s y p has due e = absurd cc

@@ -1,8 +1,8 @@
 -- What splices make of tokens, statement after statement.
 use Rattle.std.proofs.Common.{◌≡◌, ℕ, zero, suc, ◌<◌, Bool, true, false, cond, List, [], ◌∷◌, ◌++◌, map, length, refl, sym, ap, ◌∙◌}
 use Rattle.std.proofs.lemmas.List.{append_assoc, map-append}
-use Rattle.lf_lex.specs.Tokens.{Lexed, Lexeme, Plain, plain, with_tokens}
-use Rattle.lf_lex.specs.Splices.{Splice, Makes, Edited, word_of}
+use Rattle.lf_lex.specs.Tokens.{Lexed, Lexeme, PlainToken, plain, with_tokens}
+use Rattle.lf_lex.specs.Splices.{Splice, ReplacesTokens, AreEdited, word_of}
 use Rattle.lf_lex.specs.Reading.{Reader, Statement, Turn, taken, turn, statements}
 use Rattle.lf_lex.proofs.Runs.{turn_bare, ok_is, with_both}
 use Rattle.lf_lex.proofs.Back.{BackAt, TurnsAt, at_last, at_more}
@@ -10,13 +10,13 @@ use Rattle.lf_def.proofs.Clauses.{bind_ok}
 
 -- Splices of two runs, one behind the other.
 
-makes_more : (s : Splice) (words : List (List ℕ)) (middle after more : List Lexeme) → Makes s words middle after → Makes s words middle (after ++ more)
+makes_more : (s : Splice) (words : List (List ℕ)) (middle after more : List Lexeme) → ReplacesTokens s words middle after → ReplacesTokens s words middle (after ++ more)
 makes_more s words [] [] more m = absurd m
 makes_more s words [] (t ∷ after) more m = m
 makes_more s words (t ∷ middle) after more m = m
 
-pub edited_behind : (ss : List Splice) (a b : List Lexeme) (q : List Plain) → Edited ss b q → Edited ss (a ++ b) (map plain a ++ q)
-edited_behind [] a b q e = map-append plain a b ∙ ap (λ (z : List Plain). map plain a ++ z) e
+pub edited_behind : (ss : List Splice) (a b : List Lexeme) (q : List PlainToken) → AreEdited ss b q → AreEdited ss (a ++ b) (map plain a ++ q)
+edited_behind [] a b q e = map-append plain a b ∙ ap (λ (z : List PlainToken). map plain a ++ z) e
 edited_behind (s ∷ ss) a b q e = record {
   before = a ++ e.before;
   middle = e.middle;
@@ -26,12 +26,12 @@ edited_behind (s ∷ ss) a b q e = record {
   tokens = ap (λ (z : List Lexeme). a ++ z) e.tokens ∙ sym (append_assoc a e.before (e.middle ++ e.after));
   makes = e.makes;
   spelled = e.spelled;
-  new = ap (λ (z : List Plain). map plain a ++ z) e.new ∙ sym (append_assoc (map plain a) (map plain e.before) (map word_of e.words ++ e.later))
-      ∙ ap (λ (z : List Plain). z ++ (map word_of e.words ++ e.later)) (sym (map-append plain a e.before));
+  new = ap (λ (z : List PlainToken). map plain a ++ z) e.new ∙ sym (append_assoc (map plain a) (map plain e.before) (map word_of e.words ++ e.later))
+      ∙ ap (λ (z : List PlainToken). z ++ (map word_of e.words ++ e.later)) (sym (map-append plain a e.before));
   next = e.next;
 }
 
-pub edited_both : (ss ts : List Splice) (a b : List Lexeme) (p q : List Plain) → Edited ss a p → Edited ts b q → Edited (ss ++ ts) (a ++ b) (p ++ q)
+pub edited_both : (ss ts : List Splice) (a b : List Lexeme) (p q : List PlainToken) → AreEdited ss a p → AreEdited ts b q → AreEdited (ss ++ ts) (a ++ b) (p ++ q)
 edited_both [] ts a b p q e f = rw (sym e) (edited_behind ts a b q f)
 edited_both (s ∷ ss) ts a b p q e f = record {
   before = e.before;
@@ -43,8 +43,8 @@ edited_both (s ∷ ss) ts a b p q e f = record {
       ∙ ap (λ (z : List Lexeme). e.before ++ z) (append_assoc e.middle e.after b);
   makes = makes_more s e.words e.middle e.after b e.makes;
   spelled = e.spelled;
-  new = ap (λ (z : List Plain). z ++ q) e.new ∙ append_assoc (map plain e.before) (map word_of e.words ++ e.later) q
-      ∙ ap (λ (z : List Plain). map plain e.before ++ z) (append_assoc (map word_of e.words) e.later q);
+  new = ap (λ (z : List PlainToken). z ++ q) e.new ∙ append_assoc (map plain e.before) (map word_of e.words ++ e.later) q
+      ∙ ap (λ (z : List PlainToken). map plain e.before ++ z) (append_assoc (map word_of e.words) e.later q);
   next = edited_both ss ts e.after b e.later q e.next f;
 }
 
@@ -52,8 +52,8 @@ edited_both (s ∷ ss) ts a b p q e f = record {
 pub record Made {S A D E : Type 0} (like : S → D) (bare : A → E) (reader : S → Reader A) (l m : Lexed) (made : List Splice) (s : S) (x : A) : Type 0 where
   pub run : List Lexeme
   pub whole : l ≡ with_tokens run m
-  pub tokens : List Plain
-  pub edited : Edited made run tokens
+  pub tokens : List PlainToken
+  pub edited : AreEdited made run tokens
   pub again : (s' : S) → like s' ≡ like s → BackAt bare (reader s') tokens x
 
 -- One turn, where `all` is the splices of what is known and `place` what becomes of it.
@@ -63,8 +63,8 @@ pub record MadeTurn {S D : Type 0} (bare : S → D) (place : S → S) (all : S �
   pub grown : all t.state ≡ all s ++ made
   pub run : List Lexeme
   pub whole : l ≡ with_tokens run m
-  pub tokens : List Plain
-  pub edited : Edited made run tokens
+  pub tokens : List PlainToken
+  pub edited : AreEdited made run tokens
   pub some : t.more ≡ true → 0 < length tokens
   pub again : (s' : S) → bare s' ≡ bare (place s) → BackAt (turn_bare bare) (statement s') tokens (turn (place t.state) t.more)
 
@@ -74,8 +74,8 @@ pub record AllMade {S D : Type 0} (bare : S → D) (place : S → S) (all : S �
   pub grown : all y ≡ all s ++ made
   pub run : List Lexeme
   pub whole : l ≡ with_tokens run m
-  pub tokens : List Plain
-  pub edited : Edited made run tokens
+  pub tokens : List PlainToken
+  pub edited : AreEdited made run tokens
   pub again : (s' : S) → bare s' ≡ bare (place s) → TurnsAt bare statement s' tokens (place y)
 
 last_made : {S D : Type 0} (bare : S → D) (place : S → S) (all : S → List Splice) (statement : Statement S) (l m n : Lexed) (s s1 y : S)

@@ -5,9 +5,9 @@ use Rattle.std.specs.Prelude.{codes, IfSome}
 use Rattle.std.specs.List.{cons_option, enumerate_from}
 use Rattle.std.proofs.lemmas.List.{append-nil}
 use Rattle.lf_lex.specs.declared.fault.ReadFault.{ReadFault}
-use Rattle.lf_lex.specs.Tokens.{Lexed, Lexeme, Plain, plain, with_token, with_tokens}
-use Rattle.lf_lex.specs.Splices.{Splice, Edited}
-use Rattle.lf_lex.specs.Reading.{◌>>=◌, Taken, Turn, taken, turn, is, end_name, to_semicolon}
+use Rattle.lf_lex.specs.Tokens.{Lexed, Lexeme, PlainToken, plain, with_token, with_tokens}
+use Rattle.lf_lex.specs.Splices.{Splice, AreEdited}
+use Rattle.lf_lex.specs.Reading.{◌>>=◌, ReadValue, Turn, taken, turn, is, end_name, to_semicolon}
 use Rattle.lf_lex.proofs.Runs.{same, turn_bare, ok_is, with_both}
 use Rattle.lf_lex.proofs.Back.{BackAt, at_bind, at_map, at_first, at_yes, at_no, at_block}
 use Rattle.lf_lex.proofs.Following.{is_alike, to_semicolon_follows, end_name_follows}
@@ -106,7 +106,7 @@ last_entry places l n m s u x w minus end e =
 
 entry_by : (c d : Bool) (places : Given) → HavePlaces places → (l n m : Lexed) (s : List Component) (u : Lexeme) (t : Turn (List Component)) (q : ReadFault)
     → l ≡ with_token u n → is (codes "-") u ≡ c → is (codes "END") u ≡ d
-    → cond {A = Result (Taken (Turn (List Component))) ReadFault} c (component n >>= λ x. taken (turn (s ++ x.value ∷ []) true) x.rest)
+    → cond {A = Result (ReadValue (Turn (List Component))) ReadFault} c (component n >>= λ x. taken (turn (s ++ x.value ∷ []) true) x.rest)
     (cond d (end_name keyword n >>= λ x. taken (turn s false) x.rest) (Err q)) ≡ taken t m → Entry places l m s t
 entry_by true d places h l n m s u t q w x y e =
     let a = bind_ok (component n) _ _ e in
@@ -133,8 +133,8 @@ pub record SectionMade (places : Given) (l m : Lexed) (s y : List Component) : T
   pub grown : changes_from 0 places y ≡ changes_from 0 places s ++ made
   pub run : List Lexeme
   pub whole : l ≡ with_tokens run m
-  pub tokens : List Plain
-  pub edited : Edited made run tokens
+  pub tokens : List PlainToken
+  pub edited : AreEdited made run tokens
   pub again : (s' : List Component) → bare_list s' ≡ bare_list (with_places places s) → BackAt bare_list (components s') tokens (with_places places y)
 
 pub section_made : (places : Given) → HavePlaces places → (l m : Lexed) (s y : List Component) → components s l ≡ taken y m → SectionMade places l m s y

@@ -3,7 +3,7 @@ use Rattle.std.proofs.Common.{◌≡◌, ◌≢◌, ◌++◌, ℕ, Bool, true, f
 use Rattle.std.specs.Prelude.{bytes_eq}
 use Rattle.std.specs.Option.{MatchOption}
 use Rattle.std.proofs.lemmas.Slice.Eq.{bytes_eq-Decides}
-use Rattle.lf_write.specs.Comparing.{Leaves}
+use Rattle.lf_write.specs.Comparing.{IsRestOfText}
 use denote.Ref.{Bor}
 
 -- the same bytes in front of both
@@ -17,6 +17,6 @@ unequal a b apart false e = refl
 
 -- what is left once a prefix is taken off
 pub leaves : (bytes due : List ℕ) (left : Option (Bor (List ℕ))) → MatchOption left ((rest : List ℕ) → bytes ≢ due ++ rest) (λ x. bytes ≡ due ++ x.now)
-    → Leaves bytes (λ rest. due ++ rest) left
+    → IsRestOfText bytes (λ rest. due ++ rest) left
 leaves bytes due (Some left) e = λ rest. rw e (same_front due left.now rest)
 leaves bytes due None apart = λ rest. unequal bytes (due ++ rest) (apart rest) (bytes_eq bytes (due ++ rest)) refl

@@ -6,9 +6,9 @@ use Rattle.std.proofs.lemmas.List.Elements.{All-cons, All-head, All-nil, All-tai
 use Rattle.lf_def.specs.Laws as def
 use Rattle.lf_def.specs.Laws.{ClauseWithin}
 use Rattle.lf_def.specs.declared.components.Component.{Component}
-use Rattle.lf_def.specs.declared.components.Placement.{Placement}
-use Rattle.lf_write.specs.declared.clauses.Entry.{Entry}
-use Rattle.lf_write.specs.declared.clauses.Entry.TheVariants.{Plain, Other}
+use Rattle.lf_def.specs.declared.components.PlacementClause.{PlacementClause}
+use Rattle.lf_write.specs.declared.kept_clauses.Entry.{Entry}
+use Rattle.lf_write.specs.declared.kept_clauses.Entry.TheVariants.{Plain, Other}
 use Rattle.lf_write.specs.Export.{ClauseFacts, no_clause}
 use Rattle.lf_write.specs.Keeping.{IsInText, IsKept, IsNext, IsWithin, all_in, clause_in}
 use Rattle.lf_write.proofs.Apart.{ends_within}
@@ -52,7 +52,7 @@ near_more old new far entries entry clause k h =
 
 -- The components of a document are in its text.
 
-in_text : (from semicolon len : ℕ) (c : Component) (p : Option Placement) → semicolon ≤ len → ClauseWithin from semicolon p
+in_text : (from semicolon len : ℕ) (c : Component) (p : Option PlacementClause) → semicolon ≤ len → ClauseWithin from semicolon p
     → IfSome p (λ p. (p.start ≤ p.stop) × (p.stop ≤ len))
 in_text from semicolon len c None le h = tt
 in_text from semicolon len c (Some p) le h = (omega (arith, h.1), omega (arith, le, h.2))

@@ -6,14 +6,14 @@ use Rattle.std.proofs.lemmas.List.{length-map}
 use Rattle.std.proofs.lemmas.Option.{slice_get-map}
 use Rattle.std.proofs.lemmas.Slice.Eq.{bytes_eq-Decides}
 use Rattle.lf_lex.specs.Splices.{joined}
-use Rattle.lf_texts.specs.Clauses.{clause_words}
+use Rattle.lf_team_def.specs.Clauses.{clause_words}
 use Rattle.lf_floorplan.specs.declared.place.Place.{Place}
 use Rattle.lf_def.specs.Laws as def
 use Rattle.lf_def.specs.declared.components.Component.{Component}
 use Rattle.lf_def.specs.declared.components.Location.{Location}
-use Rattle.lf_def.specs.declared.components.Placement.{Placement}
-use Rattle.lf_write.specs.Export.{CanBeGiven, CanBeRenewed, as_location, change, change_at, clause_from, clause_of, clause_splice, clause_with}
-use Rattle.lf_write.specs.Export.{exported, is_at, is_left, is_plain, location_words, renewal, renewal_at, renewed, splice_at}
+use Rattle.lf_def.specs.declared.components.PlacementClause.{PlacementClause}
+use Rattle.lf_write.specs.Export.{AreExportable, CanBeRenewed, as_location, change, change_at, clause_from, clause_of, clause_splice, clause_with}
+use Rattle.lf_write.specs.Export.{exported, is_at, is_unchanged, is_plain, location_words, renewal, renewal_at, renewed, splice_at}
 use Rattle.lf_write.proofs.Apart.{IsOf, clauses_rise}
 use Rattle.lf_write.proofs.Idle.{Agree, agree_same, same_spliced}
 use Rattle.lf_write.proofs.Positions.{Given, listed}
@@ -25,7 +25,7 @@ same_words : (given : Option Place) → location_words (option_map as_location g
 same_words None = refl
 same_words (Some p) = refl
 
-written_again : (text : List ℕ) (p : Placement) (given : Option Place) → is_plain text p ≡ true → is_at p.place given ≡ true
+written_again : (text : List ℕ) (p : PlacementClause) (given : Option Place) → is_plain text p ≡ true → is_at p.place given ≡ true
     → joined (clause_words given) ≡ take (p.stop - p.start) (drop p.start text)
 written_again text p given plain stands =
     let bytes = (bytes_eq-Decides (take (p.stop - p.start) (drop p.start text)) (joined (location_words p.place))).0 plain in
@@ -34,17 +34,17 @@ written_again text p given plain stands =
 
 -- Of one component.
 
-plain_agrees : (text : List ℕ) (c : Component) (p : Placement) (given : Option Place) → is_plain text p ≡ true
+plain_agrees : (text : List ℕ) (c : Component) (p : PlacementClause) (given : Option Place) → is_plain text p ≡ true
     → (test : Bool) → is_at p.place given ≡ test → Agree text (renewal (clause_with true p) given) (change (record c { placement = Some p }) given)
 plain_agrees text c p given plain true e = rw e (inr (refl, written_again text p given plain e))
 plain_agrees text c p given plain false e = rw e (inl refl)
 
-clause_agrees : (text : List ℕ) (c : Component) (p : Placement) (given : Option Place) (test : Bool) → is_plain text p ≡ test
+clause_agrees : (text : List ℕ) (c : Component) (p : PlacementClause) (given : Option Place) (test : Bool) → is_plain text p ≡ test
     → Agree text (renewal (clause_with test p) given) (change (record c { placement = Some p }) given)
 clause_agrees text c p given true e = plain_agrees text c p given e (is_at p.place given) refl
 clause_agrees text c p given false e = agree_same text (change (record c { placement = Some p }) given)
 
-with_placement : (text : List ℕ) (c : Component) (p : Option Placement) (given : Option Place)
+with_placement : (text : List ℕ) (c : Component) (p : Option PlacementClause) (given : Option Place)
     → Agree text (renewal (clause_from text p c.semicolon) given) (change (record c { placement = p }) given)
 with_placement text c None given = agree_same text (change (record c { placement = None }) given)
 with_placement text c (Some p) given = clause_agrees text c p given (is_plain text p) refl
@@ -65,30 +65,30 @@ same_text text cs places can =
 
 -- What is replaced is the clause of the component.
 
-splice_is : (test : Bool) (p : Placement) (semicolon : ℕ) (given : Option Place)
+splice_is : (test : Bool) (p : PlacementClause) (semicolon : ℕ) (given : Option Place)
     → splice_at (clause_with test p) given ≡ clause_splice (Some p) semicolon given
 splice_is true p semicolon given = refl
 splice_is false p semicolon given = refl
 
-splice_from : (text : List ℕ) (p : Option Placement) (semicolon : ℕ) (given : Option Place)
+splice_from : (text : List ℕ) (p : Option PlacementClause) (semicolon : ℕ) (given : Option Place)
     → splice_at (clause_from text p semicolon) given ≡ clause_splice p semicolon given
 splice_from text None semicolon given = refl
 splice_from text (Some p) semicolon given = splice_is (is_plain text p) p semicolon given
 
 renewal_is : (text : List ℕ) (cs : List Component) (g : ℕ × Option Place) (c : Component) → slice_get cs g.0 ≡ Some c
-    → (test : Bool) → is_left (clause_of text c) g.1 ≡ test → IsOf cs g (renewal (clause_of text c) g.1)
+    → (test : Bool) → is_unchanged (clause_of text c) g.1 ≡ test → IsOf cs g (renewal (clause_of text c) g.1)
 renewal_is text cs g c there true e = rw e tt
 renewal_is text cs g c there false e = rw e (c, there, splice_from text c.placement c.semicolon g.1)
 
 renewal_of : (text : List ℕ) (cs : List Component) (g : ℕ × Option Place) (o : Option Component) → slice_get cs g.0 ≡ o
     → IsOf cs g (option_and_then (λ k. renewal k g.1) (option_map (clause_of text) o))
 renewal_of text cs g None e = tt
-renewal_of text cs g (Some c) e = renewal_is text cs g c e (is_left (clause_of text c) g.1) refl
+renewal_of text cs g (Some c) e = renewal_is text cs g c e (is_unchanged (clause_of text c) g.1) refl
 
 renewals_are : (text : List ℕ) (cs : List Component) (g : ℕ × Option Place) → IsOf cs g (renewal_at (map (clause_of text) cs) g)
 renewals_are text cs g = rw (slice_get-map (clause_of text) cs g.0) (renewal_of text cs g (slice_get cs g.0) refl)
 
-pub ready_for : (text : List ℕ) (cs : List Component) (places : Given) → def.Rising 0 (length text) cs → CanBeGiven cs places
+pub ready_for : (text : List ℕ) (cs : List Component) (places : Given) → def.Rising 0 (length text) cs → AreExportable cs places
     → CanBeRenewed text (map (clause_of text) cs) places
 ready_for text cs places rise can = record {
   listed = rw (length-map cs (clause_of text)) (listed 0 (length cs) places can.rise);

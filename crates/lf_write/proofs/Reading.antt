@@ -5,12 +5,12 @@ use Rattle.std.proofs.lemmas.List.{append-nil}
 use Rattle.std.proofs.lemmas.List.Elements.{All-head, All-tail}
 use Rattle.lf_floorplan.specs.declared.place.Place.{Place}
 use Rattle.lf_lex.specs.declared.fault.ReadFault.{ReadFault}
-use Rattle.lf_lex.specs.Tokens.{Lexed, Lexeme, Plain, plain, with_tokens, tokens_of}
-use Rattle.lf_lex.specs.Splices.{Splice, Edited, spliced}
-use Rattle.lf_lex.specs.Reading.{Taken, behind, block, value_of}
+use Rattle.lf_lex.specs.Tokens.{Lexed, Lexeme, PlainToken, plain, with_tokens, tokens_of}
+use Rattle.lf_lex.specs.Splices.{Splice, AreEdited, spliced}
+use Rattle.lf_lex.specs.Reading.{ReadValue, behind, block, value_of}
 use Rattle.lf_lex.proofs.Splicing.{edited_tokens}
 use Rattle.lf_lex.proofs.Back.{halves, at_block}
-use Rattle.lf_def.specs.declared.parts.DocParts.{DocParts}
+use Rattle.lf_def.specs.declared.doc_parts.DocParts.{DocParts}
 use Rattle.lf_def.specs.Document.{Document, document_of, document_from, statement, no_parts}
 use Rattle.lf_def.specs.Laws.{document_without_places}
 use Rattle.lf_def.proofs.Places.{bare_doc}
@@ -33,8 +33,8 @@ abbrev ReadsAs : List ℕ → Document → Type 0
 ReadsAs text d = (again : Document) × (document_of text ≡ Ok again) × (document_without_places again ≡ document_without_places d)
 
 -- tokens behind a run stay
-whole_edits : (made : List Splice) (run rest whole : List Lexeme) (tokens : List Plain) → whole ≡ run ++ rest → Edited made run tokens
-    → Edited made whole (tokens ++ map plain rest)
+whole_edits : (made : List Splice) (run rest whole : List Lexeme) (tokens : List PlainToken) → whole ≡ run ++ rest → AreEdited made run tokens
+    → AreEdited made whole (tokens ++ map plain rest)
 whole_edits made run rest whole tokens e edited =
     let both = edited_both made [] run rest tokens (map plain rest) edited refl in
     let none = append-nil made in
@@ -56,7 +56,7 @@ changes_read places h text d e =
     let rest = behind c.back (tokens_of (spliced 0 g.made text)) in
     let there : tokens_of (spliced 0 g.made text) ≡ with_tokens c.front rest = ap (λ (z : List Lexeme). behind z (tokens_of (spliced 0 g.made text))) c.whole in
     let one = ap (λ (z : Lexed). document_from (value_of (block statement no_parts z))) there
-    ∙ ap (λ (z : Result (Taken DocParts) ReadFault). document_from (value_of z)) (a.takes rest) in
+    ∙ ap (λ (z : Result (ReadValue DocParts) ReadFault). document_from (value_of z)) (a.takes rest) in
     rw made_is (
       document_at a.value,
       one,

@@ -8,19 +8,19 @@ use Rattle.std.proofs.lemmas.List.{append_assoc, map-append}
 use Rattle.lf_orient.specs.declared.Orient.{Orient}
 use Rattle.lf_orient.specs.declared.Orient.TheVariants.{N, W, S, E, FN, FW, FS, FE}
 use Rattle.lf_orient.specs.Words.{orient_word}
-use Rattle.lf_lex.specs.Tokens.{Lexed, Lexeme, Plain, plain, with_tokens}
-use Rattle.lf_lex.specs.Splices.{Makes, Edited, is_word_text, word_of}
+use Rattle.lf_lex.specs.Tokens.{Lexed, Lexeme, PlainToken, plain, with_tokens}
+use Rattle.lf_lex.specs.Splices.{ReplacesTokens, AreEdited, is_word_text, word_of}
 use Rattle.lf_lex.specs.Reading.{taken, turn, is, name, block}
 use Rattle.lf_lex.proofs.Runs.{turn_bare, ok_is, with_both}
 use Rattle.lf_lex.proofs.Back.{BackAt, TurnsAt, back_pure, at_bind, at_map, at_first, at_yes, at_no, at_last, at_more, at_block}
 use Rattle.lf_lex.proofs.BackWords.{is_at}
 use Rattle.lf_lex.proofs.Following.{is_alike, text_alike, name_follows}
 use Rattle.lf_floorplan.specs.declared.place.Place.{Place}
-use Rattle.lf_def.specs.declared.entries.Due.{Due}
-use Rattle.lf_def.specs.declared.entries.Due.TheVariants.{Keyword, Separator}
+use Rattle.lf_def.specs.declared.section.Due.{Due}
+use Rattle.lf_def.specs.declared.section.Due.TheVariants.{Keyword, Separator}
 use Rattle.lf_def.specs.declared.components.Component.{Component}
 use Rattle.lf_def.specs.declared.components.ComponentParts.{ComponentParts}
-use Rattle.lf_def.specs.declared.components.Placement.{Placement}
+use Rattle.lf_def.specs.declared.components.PlacementClause.{PlacementClause}
 use Rattle.lf_def.specs.declared.components.PlacementKind.{PlacementKind}
 use Rattle.lf_def.specs.declared.components.PlacementKind.TheVariants.{Placed, Unplaced}
 use Rattle.lf_def.specs.Components.{component_from, component_token, no_component, component}
@@ -32,7 +32,7 @@ use Rattle.lf_def.proofs.Clauses.{bind_ok}
 use Rattle.lf_def.proofs.Places.{bare_parts, parts_at, component_at, component_follows}
 use Rattle.lf_def.proofs.PrintedNumbers.{decimals_are_read, decimals_are_words}
 use Rattle.lf_def.proofs.PrintedPlaces.{is_unplaced, clause_at, none_is}
-use Rattle.lf_texts.specs.Clauses.{clause_words}
+use Rattle.lf_team_def.specs.Clauses.{clause_words}
 use Rattle.lf_write.specs.Export.{as_location, placement_at, stands_at, clause_splice, perhaps_with_place}
 use Rattle.lf_write.proofs.Behind.{swap}
 use Rattle.lf_write.proofs.Before.{Bare, Found, Outcome, parts_found}
@@ -81,13 +81,13 @@ plus_back s s' a =
     (ap (λ (z : ComponentParts). turn (record z { due = Keyword }) true) a))))
 
 none_alike : (s s' : ComponentParts) → s.placement ≡ None → Alike s s' → s'.placement ≡ None
-none_alike s s' e a = none_is s'.placement (ap (λ (z : ComponentParts). z.placement) a ∙ ap (λ (p : Option Placement). option_map placement_without_places p) e)
+none_alike s s' e a = none_is s'.placement (ap (λ (z : ComponentParts). z.placement) a ∙ ap (λ (p : Option PlacementClause). option_map placement_without_places p) e)
 
 due_alike : (s s' : ComponentParts) (due : Due) → s.due ≡ due → Alike s s' → s'.due ≡ due
 due_alike s s' due e a = ap (λ (z : ComponentParts). z.due) a ∙ e
 
 -- the tokens of the new clause, where no clause was read yet
-new_clause : (given : Option Place) → HasPlace given → (s y : ComponentParts) → s.placement ≡ None → (rest : List Plain)
+new_clause : (given : Option Place) → HasPlace given → (s y : ComponentParts) → s.placement ≡ None → (rest : List PlainToken)
     → ((s' : ComponentParts) → Alike (behind_new given) s' → TurnsAt bare_parts component_token s' rest y)
     → (s' : ComponentParts) → Alike s s' → TurnsAt bare_parts component_token s' (map word_of (clause_words given) ++ rest) y
 new_clause None h s y none rest next s' a =
@@ -115,12 +115,12 @@ stop_back s' y u h a =
 
 -- A whole component.
 
-component_is : (c : Component) (q : Placement) (n k na nb : Lexeme) (p : Option Placement) → n.text ≡ c.name → k.text ≡ c.mac
+component_is : (c : Component) (q : PlacementClause) (n k na nb : Lexeme) (p : Option PlacementClause) → n.text ≡ c.name → k.text ≡ c.mac
     → option_map placement_without_places p ≡ Some (placement_without_places q)
     → component_at n.text k.text (option_map placement_without_places p) ≡ component_at c.name c.mac (Some (placement_without_places q))
 component_is c q n k na nb p e f g = rw (e, f, g) refl
 
-with_names : (c : Component) (q : Placement) (na nb : Lexeme) (us vs ps : List Plain) (z : ComponentParts) → BackAt plain name us na → BackAt plain name vs nb
+with_names : (c : Component) (q : PlacementClause) (na nb : Lexeme) (us vs ps : List PlainToken) (z : ComponentParts) → BackAt plain name us na → BackAt plain name vs nb
     → na.text ≡ c.name → nb.text ≡ c.mac → TurnsAt bare_parts component_token no_component ps z
     → option_map placement_without_places z.placement ≡ Some (placement_without_places q)
     → BackAt without_places component (us ++ (vs ++ ps)) (record c { placement = Some q })
@@ -140,26 +140,26 @@ pub record Renewed (l m : Lexed) (c : Component) (given : Option Place) : Type 0
   pub middle : List Lexeme
   pub after : List Lexeme
   pub whole : l ≡ with_tokens (before ++ (middle ++ after)) m
-  pub makes : Makes (clause_splice c.placement c.semicolon given) (clause_words given) middle after
+  pub makes : ReplacesTokens (clause_splice c.placement c.semicolon given) (clause_words given) middle after
   pub read : BackAt without_places component (map plain before ++ (map word_of (clause_words given) ++ map plain after))
       (record c { placement = Some (placement_at given) })
 
-makes_new : (p : Option Placement) (semicolon : ℕ) (given : Option Place) (last : Lexeme) → p ≡ None → semicolon ≡ last.start
-    → Makes (clause_splice p semicolon given) (clause_words given) [] (last ∷ [])
+makes_new : (p : Option PlacementClause) (semicolon : ℕ) (given : Option Place) (last : Lexeme) → p ≡ None → semicolon ≡ last.start
+    → ReplacesTokens (clause_splice p semicolon given) (clause_words given) [] (last ∷ [])
 makes_new None semicolon given last e f = (f, f, refl)
 makes_new (Some p) semicolon given last e f = absurd cc
 
-makes_other : (p : Option Placement) (semicolon : ℕ) (given : Option Place) (q : Placement) (plus : Lexeme) (middle after : List Lexeme) → p ≡ Some q
-    → Makes (clause_splice (Some q) semicolon given) (clause_words given) (plus ∷ middle) after
-    → Makes (clause_splice p semicolon given) (clause_words given) (plus ∷ middle) after
+makes_other : (p : Option PlacementClause) (semicolon : ℕ) (given : Option Place) (q : PlacementClause) (plus : Lexeme) (middle after : List Lexeme) → p ≡ Some q
+    → ReplacesTokens (clause_splice (Some q) semicolon given) (clause_words given) (plus ∷ middle) after
+    → ReplacesTokens (clause_splice p semicolon given) (clause_words given) (plus ∷ middle) after
 makes_other p semicolon given q plus middle after e f = rw e f
 
 -- the tokens of three runs and what stands behind them
-three_runs : (a b front : List Lexeme) (rest : List Plain) → map plain (a ++ (b ++ front)) ++ rest ≡ map plain a ++ (map plain b ++ (map plain front ++ rest))
+three_runs : (a b front : List Lexeme) (rest : List PlainToken) → map plain (a ++ (b ++ front)) ++ rest ≡ map plain a ++ (map plain b ++ (map plain front ++ rest))
 three_runs a b front rest =
-    ap (λ (z : List Plain). z ++ rest) (map-append plain a (b ++ front) ∙ ap (λ (z : List Plain). map plain a ++ z) (map-append plain b front))
+    ap (λ (z : List PlainToken). z ++ rest) (map-append plain a (b ++ front) ∙ ap (λ (z : List PlainToken). map plain a ++ z) (map-append plain b front))
     ∙ append_assoc (map plain a) (map plain b ++ map plain front) rest
-    ∙ ap (λ (z : List Plain). map plain a ++ z) (append_assoc (map plain b) (map plain front) rest)
+    ∙ ap (λ (z : List PlainToken). map plain a ++ z) (append_assoc (map plain b) (map plain front) rest)
 
 three_wholes : (a b front back : List Lexeme) (l1 l2 l3 m : Lexed) → l1 ≡ with_tokens a l2 → l2 ≡ with_tokens b l3 → l3 ≡ with_tokens (front ++ back) m
     → l1 ≡ with_tokens ((a ++ (b ++ front)) ++ back) m
@@ -187,12 +187,12 @@ new_one given h l1 l2 l3 m c na nb a b y wa wb fa fb ea eb placement semicolon n
           (with_names c (placement_at given) na nb (map plain a) (map plain b) (map plain f.front ++ rest) (behind_new given) fa fb ea eb turns refl);
     }
 
-swap_is : (q : Placement) (b : Bool) (s : ComponentParts) → s.due ≡ Separator → bare_parts (parts_at (Some q) Separator b) ≡ bare_parts (swap q b s)
+swap_is : (q : PlacementClause) (b : Bool) (s : ComponentParts) → s.due ≡ Separator → bare_parts (parts_at (Some q) Separator b) ≡ bare_parts (swap q b s)
 swap_is q b s e = rw e refl
 
 -- where it has one
 other_one : (given : Option Place) → HasPlace given → (l1 l2 l3 m : Lexed) (c : Component) (na nb : Lexeme) (a b : List Lexeme) (y : ComponentParts)
-    (p : Placement)
+    (p : PlacementClause)
     → l1 ≡ with_tokens a l2 → l2 ≡ with_tokens b l3 → BackAt plain name (map plain a) na → BackAt plain name (map plain b) nb
     → na.text ≡ c.name → nb.text ≡ c.mac → c.placement ≡ y.placement → y.placement ≡ Some p → Found [] l3 m y p → Renewed l1 m c given
 other_one given h l1 l2 l3 m c na nb a b y p wa wb fa fb ea eb placement is_placed f =
@@ -241,8 +241,8 @@ renewed given h l m c e =
 pub record Changed (l m : Lexed) (c : Component) (o : Option (Option Place)) : Type 0 where
   pub run : List Lexeme
   pub whole : l ≡ with_tokens run m
-  pub tokens : List Plain
-  pub edited : Edited (cons_option (change_of o c) []) run tokens
+  pub tokens : List PlainToken
+  pub edited : AreEdited (cons_option (change_of o c) []) run tokens
   pub read : BackAt without_places component tokens (perhaps_with_place o c)
 
 unchanged : (l m : Lexed) (c : Component) → component l ≡ taken c m → Changed l m c None

@@ -4,7 +4,7 @@ use Rattle.std.specs.List.{cons_option}
 use Rattle.lf_lex.specs.Splices.{Splice, Rising}
 use Rattle.lf_floorplan.specs.declared.place.Place.{Place}
 use Rattle.lf_def.specs.declared.components.Component.{Component}
-use Rattle.lf_def.specs.declared.components.Placement.{Placement}
+use Rattle.lf_def.specs.declared.components.PlacementClause.{PlacementClause}
 use Rattle.lf_def.specs.Laws.{ClauseWithin}
 use Rattle.lf_def.specs.Laws as def
 use Rattle.lf_write.specs.Export.{Rise, stands_at, clause_splice, change, changes, given_to}
@@ -15,7 +15,7 @@ pub earlier : (from more len : ℕ) (ss : List Splice) → more ≤ from → Ris
 earlier from more len [] le h = omega (arith, le, h)
 earlier from more len (s ∷ ss) le h = (omega (arith, le, h.0), h.1, h.2)
 
-clause_within : (from semicolon len : ℕ) (p : Option Placement) (given : Option Place) (ss : List Splice) → from ≤ semicolon → ClauseWithin from semicolon p
+clause_within : (from semicolon len : ℕ) (p : Option PlacementClause) (given : Option Place) (ss : List Splice) → from ≤ semicolon → ClauseWithin from semicolon p
     → Rising (semicolon + 1) len ss → Rising from len (clause_splice p semicolon given ∷ ss)
 clause_within from semicolon len None given ss le k h = (le, omega arith, earlier (semicolon + 1) semicolon len ss (omega arith) h)
 clause_within from semicolon len (Some p) given ss le k h =

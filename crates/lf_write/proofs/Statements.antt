@@ -6,12 +6,12 @@ use Rattle.std.proofs.lemmas.Slice.Eq.{bytes_eq-Decides}
 use Rattle.lf_lex.specs.declared.fault.ReadFault.{ReadFault}
 use Rattle.lf_lex.specs.Tokens.{Lexed, Lexeme, plain, with_token, with_tokens}
 use Rattle.lf_lex.specs.Splices.{Splice}
-use Rattle.lf_lex.specs.Reading.{◌>>=◌, Taken, Turn, taken, turn, is}
+use Rattle.lf_lex.specs.Reading.{◌>>=◌, ReadValue, Turn, taken, turn, is}
 use Rattle.lf_lex.proofs.Runs.{same_run, turn_bare, ok_is}
 use Rattle.lf_lex.proofs.Back.{at_map, at_same, at_first}
 use Rattle.lf_lex.proofs.Following.{text_alike}
 use Rattle.lf_def.specs.declared.components.Component.{Component}
-use Rattle.lf_def.specs.declared.parts.DocParts.{DocParts}
+use Rattle.lf_def.specs.declared.doc_parts.DocParts.{DocParts}
 use Rattle.lf_def.specs.Header.{is_header, header_statement}
 use Rattle.lf_def.specs.Rows.{with_row}
 use Rattle.lf_def.specs.Regions.{regions}
@@ -31,10 +31,10 @@ use Rattle.lf_write.proofs.Entries.{HavePlaces, section_made}
 abbrev with_components : List Component → DocParts → DocParts
 with_components cs s = record s { components = cs }
 
-abbrev Unread : List Component → DocParts → Result (Taken DocParts) ReadFault → DocParts → Lexed → Type 0
+abbrev Unread : List Component → DocParts → Result (ReadValue DocParts) ReadFault → DocParts → Lexed → Type 0
 Unread cs s reading d m = (reading ≡ taken (with_components cs d) m) × (d.components ≡ s.components)
 
-unread_by : {A : Type 0} (cs : List Component) (s d : DocParts) (m : Lexed) (k : A → DocParts) (r : Result (Taken A) ReadFault)
+unread_by : {A : Type 0} (cs : List Component) (s d : DocParts) (m : Lexed) (k : A → DocParts) (r : Result (ReadValue A) ReadFault)
     → ((x : A) → (k x).components ≡ s.components) → (r >>= λ x. taken (k x.value) x.rest) ≡ taken d m
     → Unread cs s (r >>= λ x. taken (with_components cs (k x.value)) x.rest) d m
 unread_by cs s d m k (Err q) kept e = absurd cc
@@ -45,13 +45,13 @@ unread_by cs s d m k (Ok x) kept e =
     )
 
 body_by : (a b c d e : Bool) (cs : List Component) (s : DocParts) (t : Lexeme) (l m : Lexed) (x : DocParts) → d ≡ false
-    → cond {A = Result (Taken DocParts) ReadFault} a (with_row s.rows l >>= λ z. taken (record s { rows = z.value }) z.rest)
+    → cond {A = Result (ReadValue DocParts) ReadFault} a (with_row s.rows l >>= λ z. taken (record s { rows = z.value }) z.rest)
     (cond b (regions s.regions l >>= λ z. taken (record s { regions = z.value }) z.rest)
     (cond c (groups s.groups l >>= λ z. taken (record s { groups = z.value }) z.rest)
     (cond d (components s.components l >>= λ z. taken (record s { components = z.value }) z.rest)
     (cond e (blockages s.blockages l >>= λ z. taken (record s { blockages = z.value }) z.rest)
     (passed_from t l >>= λ z. taken s z.rest))))) ≡ taken x m
-    → Unread cs s (cond {A = Result (Taken DocParts) ReadFault} a (with_row s.rows l >>= λ z. taken (with_components cs (record s { rows = z.value })) z.rest)
+    → Unread cs s (cond {A = Result (ReadValue DocParts) ReadFault} a (with_row s.rows l >>= λ z. taken (with_components cs (record s { rows = z.value })) z.rest)
     (cond b (regions s.regions l >>= λ z. taken (with_components cs (record s { regions = z.value })) z.rest)
     (cond c (groups s.groups l >>= λ z. taken (with_components cs (record s { groups = z.value })) z.rest)
     (cond d (components cs l >>= λ z. taken (record s { components = z.value }) z.rest)
@@ -71,11 +71,11 @@ body_unread cs s t l m x h e = body_by (is (codes "ROW") t) (is (codes "REGIONS"
     (is (codes "BLOCKAGES") t)
     cs s t l m x h e
 
-abbrev TurnUnread : List Component → DocParts → Result (Taken (Turn DocParts)) ReadFault → Turn DocParts → Lexed → Type 0
+abbrev TurnUnread : List Component → DocParts → Result (ReadValue (Turn DocParts)) ReadFault → Turn DocParts → Lexed → Type 0
 TurnUnread cs s reading t m = (reading ≡ taken (turn (with_components cs t.state) t.more) m) × (t.state.components ≡ s.components)
 
 turn_unread_by : {A : Type 0} (cs : List Component) (s : DocParts) (t : Turn DocParts) (m : Lexed) (more : Bool) (k : A → DocParts)
-    (r : Result (Taken A) ReadFault)
+    (r : Result (ReadValue A) ReadFault)
     → ((x : A) → (k x).components ≡ s.components) → (r >>= λ x. taken (turn (k x.value) more) x.rest) ≡ taken t m
     → TurnUnread cs s (r >>= λ x. taken (turn (with_components cs (k x.value)) more) x.rest) t m
 turn_unread_by cs s t m more k (Err q) kept e = absurd cc
@@ -98,17 +98,17 @@ body_turn cs s l m u t h e =
     let a = bind_ok (body_statement s u l) _ _ e in
     let f = ok_is (turn a.0.value true) a.0.rest t m a.2 in
     let g = body_unread cs s u l a.0.rest a.0.value h a.1 in (
-      ap (λ (z : Result (Taken DocParts) ReadFault). z >>= λ x. taken (turn x.value true) x.rest) g.0
+      ap (λ (z : Result (ReadValue DocParts) ReadFault). z >>= λ x. taken (turn x.value true) x.rest) g.0
           ∙ ap (λ (z : Turn DocParts). taken (turn (with_components cs z.state) z.more) a.0.rest) f.0
           ∙ ap (λ (z : Lexed). taken (turn (with_components cs t.state) t.more) z) f.1,
       sym (ap (λ (z : Turn DocParts). z.state.components) f.0) ∙ g.1,
     )
 
 from_by : (a b : Bool) (cs : List Component) (s : DocParts) (l m : Lexed) (u : Lexeme) (t : Turn DocParts) → is (codes "COMPONENTS") u ≡ false
-    → cond {A = Result (Taken (Turn DocParts)) ReadFault} a (end_design s l >>= λ x. taken (turn s false) x.rest)
+    → cond {A = Result (ReadValue (Turn DocParts)) ReadFault} a (end_design s l >>= λ x. taken (turn s false) x.rest)
     (cond b (header_statement s.header u l >>= λ x. taken (turn (record s { header = x.value }) true) x.rest)
     (body_statement s u l >>= λ x. taken (turn x.value true) x.rest)) ≡ taken t m
-    → TurnUnread cs s (cond {A = Result (Taken (Turn DocParts)) ReadFault} a
+    → TurnUnread cs s (cond {A = Result (ReadValue (Turn DocParts)) ReadFault} a
     (end_design (with_components cs s) l >>= λ x. taken (turn (with_components cs s) false) x.rest)
     (cond b (header_statement s.header u l >>= λ x. taken (turn (with_components cs (record s { header = x.value })) true) x.rest)
     (body_statement (with_components cs s) u l >>= λ x. taken (turn x.value true) x.rest))) t m
@@ -164,7 +164,7 @@ other_made places l m s t kept e =
     some_run (u ∷ run) l m w lt = omega arith
 
 -- the components of a section, and what is known then
-abbrev section_read : DocParts → Lexed → Result (Taken DocParts) ReadFault
+abbrev section_read : DocParts → Lexed → Result (ReadValue DocParts) ReadFault
 section_read s l = components s.components l >>= λ x. taken (record s { components = x.value }) x.rest
 
 from_text : (s : DocParts) (u : Lexeme) (l : Lexed)

@@ -13,7 +13,7 @@ use Rattle.std.proofs.lemmas.Bool.Decides.{nat_tests}
 use Rattle.lf_lex.specs.Splices.{Splice, spliced, Rising}
 use Rattle.lf_floorplan.specs.declared.place.Place.{Place}
 use Rattle.lf_def.specs.declared.components.Component.{Component}
-use Rattle.lf_write.specs.Export.{ClauseFacts, change, changes, exported, is_left, renewal, renewal_at, renewals, renewed, splice_at, stands_at}
+use Rattle.lf_write.specs.Export.{ClauseFacts, change, changes, exported, is_unchanged, renewal, renewal_at, renewals, renewed, splice_at, stands_at}
 use Rattle.lf_write.specs.Laws.{FitsText}
 use Rattle.lf_write.proofs.Positions.{Given}
 
@@ -54,14 +54,14 @@ first_left ks places i g k is =
     ∙ ap (λ (z : Option ClauseFacts). cons_option (option_and_then (λ d. renewal d g.1) z) (renewals ks (drop (i + 1) places)))
     (slice_get_read ks (length ks) g.0 k refl is.within is.clause)
 
-standing : (k : ClauseFacts) (given : Option Place) (ss : List Splice) → is_left k given ≡ true → cons_option (renewal k given) ss ≡ ss
+standing : (k : ClauseFacts) (given : Option Place) (ss : List Splice) → is_unchanged k given ≡ true → cons_option (renewal k given) ss ≡ ss
 standing k given ss e = rw e refl
 
-moving : (k : ClauseFacts) (given : Option Place) (ss : List Splice) → is_left k given ≡ false → cons_option (renewal k given) ss ≡ splice_at k given ∷ ss
+moving : (k : ClauseFacts) (given : Option Place) (ss : List Splice) → is_unchanged k given ≡ false → cons_option (renewal k given) ss ≡ splice_at k given ∷ ss
 moving k given ss e = rw e refl
 
 pub written_standing : {text : List ℕ} {ks : List ClauseFacts} {places : Given} {i at : ℕ} {before now : Option (List ℕ)} {g : ℕ × Option Place} {k : ClauseFacts}
-    → Listed ks places i g k → is_left k g.1 ≡ true → Written text ks places i at before now → Written text ks places (i + 1) at before now
+    → Listed ks places i g k → is_unchanged k g.1 ≡ true → Written text ks places i at before now → Written text ks places (i + 1) at before now
 written_standing {ks = ks} {places = places} {i = i} {g = g} {k = k} is stands w =
     let e = first_left ks places i g k is ∙ standing k g.1 (renewals ks (drop (i + 1) places)) stands in
     record { front = w.front; rising = rw e at w.rising; whole = rw e at w.whole; written = w.written }
@@ -72,7 +72,7 @@ rising_within at len (s ∷ ss) h = omega (arith, h.0, h.1, rising_within s.stop
 
 -- what is left begins with the change of this component
 pub ready : {text : List ℕ} {ks : List ClauseFacts} {places : Given} {i at : ℕ} {before now : Option (List ℕ)} {g : ℕ × Option Place} {k : ClauseFacts}
-    → Listed ks places i g k → is_left k g.1 ≡ false → Written text ks places i at before now → (at ≤ k.start) × (k.start ≤ length text)
+    → Listed ks places i g k → is_unchanged k g.1 ≡ false → Written text ks places i at before now → (at ≤ k.start) × (k.start ≤ length text)
 ready {text = text} {ks = ks} {places = places} {i = i} {g = g} {k = k} is moves w =
     let e = first_left ks places i g k is ∙ moving k g.1 (renewals ks (drop (i + 1) places)) moves in
     let r = rw e at w.rising in
@@ -90,7 +90,7 @@ one_made text at out s ss le le' =
 
 pub written_change : {text : List ℕ} {ks : List ClauseFacts} {places : Given} {i at stop : ℕ} {before now after : Option (List ℕ)} {g : ℕ × Option Place}
     {k : ClauseFacts}
-    → Listed ks places i g k → is_left k g.1 ≡ false → Written text ks places i at before now
+    → Listed ks places i g k → is_unchanged k g.1 ≡ false → Written text ks places i at before now
     → Appends now after (take (k.start - at) (drop at text) ++ (splice_at k g.1).new) → stop ≡ k.stop → Written text ks places (i + 1) stop before after
 written_change {text = text} {ks = ks} {places = places} {i = i} {at = at} {before = before} {now = now} {after = after} {g = g} {k = k} is moves w bytes stop_is =
     let e = first_left ks places i g k is ∙ moving k g.1 (renewals ks (drop (i + 1) places)) moves in

@@ -6,9 +6,9 @@ use Rattle.lf_def.specs.declared.components.Location.{Location}
 
 -- What is left of the bytes behind what a text begins with: the rest of the text is to be compared with it. None if the bytes
 -- begin otherwise.
-abbrev pub Leaves : List ℕ → (List ℕ → List ℕ) → Option (Bor (List ℕ)) → Type 0
-Leaves bytes text (Some left) = (rest : List ℕ) → bytes_eq bytes (text rest) ≡ bytes_eq left.now rest
-Leaves bytes text None = (rest : List ℕ) → bytes_eq bytes (text rest) ≡ false
+abbrev pub IsRestOfText : List ℕ → (List ℕ → List ℕ) → Option (Bor (List ℕ)) → Type 0
+IsRestOfText bytes text (Some left) = (rest : List ℕ) → bytes_eq bytes (text rest) ≡ bytes_eq left.now rest
+IsRestOfText bytes text None = (rest : List ℕ) → bytes_eq bytes (text rest) ≡ false
 
 -- + PLACED ( x y ), a space, and the rest
 abbrev pub before_orient : Location → List ℕ → List ℕ

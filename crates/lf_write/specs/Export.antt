@@ -11,10 +11,10 @@ use Rattle.lf_lex.specs.Splices.{Splice, Rising, spliced, joined}
 use Rattle.lf_floorplan.specs.declared.place.Place.{Place}
 use Rattle.lf_def.specs.declared.components.Component.{Component}
 use Rattle.lf_def.specs.declared.components.Location.{Location}
-use Rattle.lf_def.specs.declared.components.Placement.{Placement}
+use Rattle.lf_def.specs.declared.components.PlacementClause.{PlacementClause}
 use Rattle.lf_def.specs.declared.components.PlacementKind.TheVariants.{Fixed, Cover, Placed, Unplaced}
 use Rattle.lf_def.specs.Document.{Document}
-use Rattle.lf_texts.specs.Clauses.{clause_words}
+use Rattle.lf_team_def.specs.Clauses.{clause_words}
 
 -- Places that are given: a component by its position among all components of the text, and its place; None unplaces it.
 
@@ -28,7 +28,7 @@ Rise from to [] = Unit {0}
 Rise from to (g ∷ gs) = (from ≤ g.0) × (g.0 < to) × Rise (g.0 + 1) to gs
 
 -- places that components can be given: their positions rise and lie in the document, and the components are movable
-pub record CanBeGiven (components : List Component) (places : List (ℕ × Option Place)) : Type 0 where
+pub record AreExportable (components : List Component) (places : List (ℕ × Option Place)) : Type 0 where
   pub rise : Rise 0 (length components) places
   pub movable : All (λ g. IfSome (slice_get components g.0) (λ c. IsMovable c)) places
 
@@ -50,7 +50,7 @@ stands_at c given = is_at (location c) given
 -- What is written.
 
 -- the new clause in place of the old one; if there is none, the new clause and a space directly before the semicolon
-abbrev pub clause_splice : Option Placement → ℕ → Option Place → Splice
+abbrev pub clause_splice : Option PlacementClause → ℕ → Option Place → Splice
 clause_splice None semicolon given = record { start = semicolon; stop = semicolon; new = joined (clause_words given) ++ codes " " }
 clause_splice (Some old) semicolon given = record { start = old.start; stop = old.stop; new = joined (clause_words given) }
 
@@ -101,14 +101,14 @@ location_words (Some at) =
     codes "+" ∷ codes "PLACED" ∷ codes "(" ∷ signed_decimal at.x ∷ signed_decimal at.y ∷ codes ")" ∷ orient_word at.orient ∷ []
 
 -- a clause is plain if its bytes in the text are those that are written for its place
-abbrev pub is_plain : List ℕ → Placement → Bool
+abbrev pub is_plain : List ℕ → PlacementClause → Bool
 is_plain text p = bytes_eq (take (p.stop - p.start) (drop p.start text)) (joined (location_words p.place))
 
-abbrev pub clause_with : Bool → Placement → ClauseFacts
+abbrev pub clause_with : Bool → PlacementClause → ClauseFacts
 clause_with true p = plain_clause p.start p.stop
 clause_with false p = clause_at p.start p.stop p.place
 
-abbrev pub clause_from : List ℕ → Option Placement → ℕ → ClauseFacts
+abbrev pub clause_from : List ℕ → Option PlacementClause → ℕ → ClauseFacts
 clause_from text None semicolon = no_clause semicolon
 clause_from text (Some p) semicolon = clause_with (is_plain text p) p
 
@@ -125,12 +125,12 @@ abbrev pub splice_at : ClauseFacts → Option Place → Splice
 splice_at k given = record { start = k.start; stop = k.stop; new = new_clause k.lacks given }
 
 -- whether the clause is left as it is if its component is given this place; a plain one is always written anew
-abbrev pub is_left : ClauseFacts → Option Place → Bool
-is_left k given = not k.plain && is_at k.place given
+abbrev pub is_unchanged : ClauseFacts → Option Place → Bool
+is_unchanged k given = not k.plain && is_at k.place given
 
 -- what is replaced if the component of this clause is given this place: nothing, if the clause is left
 abbrev pub renewal : ClauseFacts → Option Place → Option Splice
-renewal k given = if is_left k given then None else Some (splice_at k given)
+renewal k given = if is_unchanged k given then None else Some (splice_at k given)
 
 abbrev pub renewal_at : List ClauseFacts → ℕ × Option Place → Option Splice
 renewal_at clauses g = option_and_then (λ k. renewal k g.1) (slice_get clauses g.0)
@@ -154,7 +154,7 @@ abbrev pub as_location : Place → Location
 as_location p = record { x = p.x; y = p.y; orient = p.orient }
 
 -- PLACED there, or UNPLACED
-abbrev pub placement_at : Option Place → Placement
+abbrev pub placement_at : Option Place → PlacementClause
 placement_at None = record { kind = Unplaced; place = None; start = 0; stop = 0 }
 placement_at (Some p) = record { kind = Placed; place = Some (as_location p); start = 0; stop = 0 }
 

@@ -2,10 +2,10 @@
 use Rattle.std.specs.Prelude.{◌≡◌, ℕ, ℤ, ◌+◌, ◌<◌, ◌≤◌, Bool, true, false, List, [], ◌++◌, map, length, get_or, IfSome, Option, Some, None}
 use Rattle.lf_def.specs.declared.components.Component.{Component}
 use Rattle.lf_def.specs.declared.components.Location.{Location}
-use Rattle.lf_write.specs.declared.clauses.Entry.{Entry}
-use Rattle.lf_write.specs.declared.clauses.Entry.TheVariants.{Plain, Other}
-use Rattle.lf_write.specs.declared.clauses.Form.{Form}
-use Rattle.lf_write.specs.declared.clauses.Form.TheVariants.{Plain as PlainForm, Lacking, Located}
+use Rattle.lf_write.specs.declared.kept_clauses.Entry.{Entry}
+use Rattle.lf_write.specs.declared.kept_clauses.Entry.TheVariants.{Plain, Other}
+use Rattle.lf_write.specs.declared.kept_clauses.Form.{Form}
+use Rattle.lf_write.specs.declared.kept_clauses.Form.TheVariants.{Plain as PlainForm, Lacking, Located}
 use Rattle.lf_write.specs.Export.{ClauseFacts, no_clause, plain_clause}
 
 -- the place of a clause of this form with these coordinates

@@ -5,7 +5,7 @@ use Rattle.lf_def.specs.declared.components.Component.{Component}
 use Rattle.lf_def.specs.Ranges.{IsLocation}
 use Rattle.lf_def.specs.Document.{Document, document_of}
 use Rattle.lf_def.specs.Laws.{document_without_places}
-use Rattle.lf_write.specs.Export.{CanBeGiven, CanBeRenewed, Rise, clause_of, location, as_location, stands_at, with_place, exported, given_places, renewed}
+use Rattle.lf_write.specs.Export.{AreExportable, CanBeRenewed, Rise, clause_of, location, as_location, stands_at, with_place, exported, given_places, renewed}
 
 -- the coordinates of a place that is given are such as a DEF text can hold
 abbrev pub FitsText : Option Place → Type 0
@@ -27,18 +27,18 @@ NothingChanges = (text : List ℕ) (components : List Component) (places : List 
     → All (λ g. IfSome (slice_get components g.0) (λ c. stands_at c g.1 ≡ true)) places → exported text components places ≡ text
 
 -- What is kept of the components of a text is enough for its export.
-pub record ClausesServe : Type 0 where
+pub record KeptClausesSuffice : Type 0 where
   pub same : (text : List ℕ) (components : List Component) (places : List (ℕ × Option Place))
       → CanBeRenewed text (map (clause_of text) components) places
       → renewed text (map (clause_of text) components) places ≡ exported text components places
-  pub ready : (text : List ℕ) (d : Document) (places : List (ℕ × Option Place)) → document_of text ≡ Ok d → CanBeGiven d.components places
+  pub ready : (text : List ℕ) (d : Document) (places : List (ℕ × Option Place)) → document_of text ≡ Ok d → AreExportable d.components places
       → CanBeRenewed text (map (clause_of text) d.components) places
 
 -- A component is at a place if and only if its location is that place; without a location it is at none.
-abbrev pub StandsThere : Type 0
-StandsThere = (c : Component) (given : Option Place) → IsTrue (stands_at c given) ↔ (location c ≡ option_map as_location given)
+abbrev pub LocationIsPlace : Type 0
+LocationIsPlace = (c : Component) (given : Option Place) → IsTrue (stands_at c given) ↔ (location c ≡ option_map as_location given)
 
 -- A component that is given a place is there, with the same name and macro.
-abbrev pub GivenStands : Type 0
-GivenStands = (c : Component) (given : Option Place) → (location (with_place given c) ≡ option_map as_location given)
+abbrev pub GivenPlaceIsTaken : Type 0
+GivenPlaceIsTaken = (c : Component) (given : Option Place) → (location (with_place given c) ≡ option_map as_location given)
     × ((with_place given c).name ≡ c.name) × ((with_place given c).mac ≡ c.mac)

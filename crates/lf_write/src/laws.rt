@@ -1,6 +1,6 @@
 //! Laws on exported texts.
 
-ghost use Rattle.lf_write.specs.Laws.{ClausesServe, ExportReadsBack, GivenStands, NothingChanges, StandsThere};
+ghost use Rattle.lf_write.specs.Laws.{KeptClausesSuffice, ExportReadsBack, GivenPlaceIsTaken, NothingChanges, LocationIsPlace};
 
 use lf_def::components_rise;
 
@@ -18,15 +18,15 @@ pub fn nothing_changes()
 
 /// Whether a component is at a place depends on its location alone; and one that is given a place
 /// is there, with the name and the macro that it had.
-pub fn components_stand_where_they_are()
-    ensures stands { StandsThere }
-    ensures given { GivenStands }
+pub fn places_decide_locations()
+    ensures stands { LocationIsPlace }
+    ensures given { GivenPlaceIsTaken }
 {}
 
 /// What is kept of the components of a text is enough for its export: places that the components can be given can be
 /// written with it, and the text that is made from it is then the exported one.
-pub fn clauses_serve()
-    ensures { ClausesServe }
+pub fn kept_clauses_suffice()
+    ensures { KeptClausesSuffice }
 {
     components_rise();
 }

@@ -1,21 +1,21 @@
 use Rattle.std.proofs.Common.{◌∙◌, refl, sym}
-use Rattle.lf_lines.specs.Lines.{most_lines}
-use Rattle.lf_lines.proofs.Answering.{streams_blame}
-use Rattle.lf_work.proofs.WorkSteps.{also_fails, blames_as, writer_blames}
+use Rattle.lf_task_serve.specs.Lines.{most_lines}
+use Rattle.lf_task_serve.proofs.Answering.{streams_blame}
+use Rattle.lf_task_files.proofs.WorkSteps.{also_fails, blames_as, writer_blames}
 use Rattle.lf_app.proofs.tasks.outcome_within.Goals as goal
 
 pub returns-in-Replay-clause-ok : goal.returns-in-Replay-clause-ok
-returns-in-Replay-clause-ok g c = rw c.in-Replay.is (rw c.as_slice.ensures at c.work_on_files.ensures.ok)
+returns-in-Replay-clause-ok g c = rw c.in-Replay.is (rw c.as_slice.ensures at c.serve_files.ensures.ok)
 
 pub returns-in-Replay-clause-err : goal.returns-in-Replay-clause-err
-returns-in-Replay-clause-err g c = rw c.in-Replay.is (rw c.as_slice.ensures at c.work_on_files.ensures.err)
+returns-in-Replay-clause-err g c = rw c.in-Replay.is (rw c.as_slice.ensures at c.serve_files.ensures.err)
 
 pub returns-in-Serve-clause-ok : goal.returns-in-Serve-clause-ok
-returns-in-Serve-clause-ok g c = rw c.in-Serve.is (rw c.as_slice-in-Serve.ensures at c.work_on_files-in-Serve.ensures.ok)
+returns-in-Serve-clause-ok g c = rw c.in-Serve.is (rw c.as_slice-in-Serve.ensures at c.serve_files-in-Serve.ensures.ok)
 
 pub returns-in-Serve-clause-err : goal.returns-in-Serve-clause-err
 returns-in-Serve-clause-err g c =
-    rw c.in-Serve.is (also_fails c.work_on_files-in-Serve.result _ _ _ (rw c.as_slice-in-Serve.ensures at c.work_on_files-in-Serve.ensures.err)
+    rw c.in-Serve.is (also_fails c.serve_files-in-Serve.result _ _ _ (rw c.as_slice-in-Serve.ensures at c.serve_files-in-Serve.ensures.err)
     (λ fault blames. blames_as fault _ _ _ _ _ _ _ _ _ _ _ _ blames (λ k. k) (λ none. absurd none) (λ w. w) (λ e. e) (λ s. s) (λ n. n)))
 
 pub returns-in-Check-clause-ok : goal.returns-in-Check-clause-ok
@@ -35,20 +35,20 @@ returns-in-Describe-clause-err g c =
     (λ fault blames. writer_blames fault _ _ _ _ _ _ _ _ blames (λ k. k) (λ same. record { exports = refl; services = refl; reader = refl; writer = same })))
 
 pub returns-in-Replay-clause-unput : goal.returns-in-Replay-clause-unput
-returns-in-Replay-clause-unput g c = λ none. c.work_on_files.ensures.leaves.unput (rw c.in-Replay.is at none)
+returns-in-Replay-clause-unput g c = λ none. c.serve_files.ensures.leaves.unput (rw c.in-Replay.is at none)
 
 pub returns-in-Serve-clause-unput : goal.returns-in-Serve-clause-unput
-returns-in-Serve-clause-unput g c = λ none. c.work_on_files-in-Serve.ensures.leaves.unput (rw c.in-Serve.is at none)
+returns-in-Serve-clause-unput g c = λ none. c.serve_files-in-Serve.ensures.leaves.unput (rw c.in-Serve.is at none)
 
 pub returns-in-Replay-clause-unasked : goal.returns-in-Replay-clause-unasked
 returns-in-Replay-clause-unasked g c = λ asks.
     let none = rw c.in-Replay.is at asks in
-    c.work_on_files.ensures.leaves.unasked none.0 none.1
+    c.serve_files.ensures.leaves.unasked none.0 none.1
 
 pub returns-in-Serve-clause-unasked : goal.returns-in-Serve-clause-unasked
 returns-in-Serve-clause-unasked g c = λ asks.
     let none = rw c.in-Serve.is at asks in
-    c.work_on_files-in-Serve.ensures.leaves.unasked none.0 none.1
+    c.serve_files-in-Serve.ensures.leaves.unasked none.0 none.1
 
 pub returns-in-Demo-clause-err : goal.returns-in-Demo-clause-err
 returns-in-Demo-clause-err g c =

@@ -1,6 +1,6 @@
 use Rattle.std.proofs.Common.{◌≡◌, ◌∙◌, ap, rules, sym}
 use Rattle.std.specs.Prelude.{⊤}
-use Rattle.lf_command.specs.Command.{as_job}
+use Rattle.lf_cli.specs.Command.{as_job}
 use Rattle.lf_app.proofs.Performing.{std_ends, std_outcome}
 use Rattle.lf_app.proofs.tasks.perform.Goals as goal
 

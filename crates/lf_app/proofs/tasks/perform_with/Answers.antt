@@ -1,6 +1,6 @@
 use Rattle.std.proofs.Common.{refl}
 use Rattle.std.specs.Prelude.{⊤}
-use Rattle.lf_command.specs.Command.{as_job}
+use Rattle.lf_cli.specs.Command.{as_job}
 use Rattle.lf_app.proofs.Performing.{std_fault}
 use Rattle.lf_app.proofs.tasks.perform_with.Goals as goal
 

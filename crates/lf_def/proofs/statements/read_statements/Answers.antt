@@ -1,9 +1,9 @@
 use Rattle.std.proofs.Common.{ap, Result}
 use Rattle.std.proofs.lemmas.Result.{err_from_is_err_and}
 use Rattle.lf_lex.specs.declared.fault.ReadFault.{ReadFault}
-use Rattle.lf_lex.specs.Reading.{Taken, value_of}
+use Rattle.lf_lex.specs.Reading.{ReadValue, value_of}
 use Rattle.lf_lex.proofs.Turns.{turn_on, turn_ends, turn_fails, fails_too}
-use Rattle.lf_def.specs.declared.parts.DocParts.{DocParts}
+use Rattle.lf_def.specs.declared.doc_parts.DocParts.{DocParts}
 use Rattle.lf_def.specs.Document.{statement}
 use Rattle.lf_def.proofs.statements.read_statements.Goals as goal
 
@@ -22,6 +22,6 @@ loop-parts-preserved c = record {
 
 pub returns-clause-ok : goal.returns-clause-ok
 returns-clause-ok c =
-    ap (λ (r : Result (Taken DocParts) ReadFault). value_of r)
+    ap (λ (r : Result (ReadValue DocParts) ReadFault). value_of r)
     (turn_ends statement c.loop-parts.parts c.statement.new.parts c.loop-parts.lexer c.statement.new.lexer _ c.in_ok-statement.field-0
     c.loop-parts.invariant.going c.if-branch.false c.in_ok-statement.ensures.read.0)

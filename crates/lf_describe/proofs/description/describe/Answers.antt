@@ -1,6 +1,6 @@
 use Rattle.std.proofs.Common.{◌∙◌, ℕ, List, ap, map, subst}
 use Rattle.std.specs.Borrow.{Bor}
-use Rattle.lf_rules.specs.declared.report.Listed.{Listed}
+use Rattle.lf_rules.specs.declared.report_types.Listed.{Listed}
 use Rattle.lf_reports.specs.Reports.{named}
 use Rattle.lf_describe.specs.Description.{fixed_names, lines_text}
 use Rattle.lf_describe.specs.Written.{AppendsFront}
@@ -18,7 +18,7 @@ describe_cells-requires-clause-few g c =
 
 pub returns-clause-legal : goal.returns-clause-legal
 returns-clause-legal g c =
-    let l = c.legalizer_is_there.ensures in
+    let l = c.legalizer_exists.ensures in
     legal_is c.cell_is_sized.ensures l c.args.loaded.now c.deref-2.result.now c.describe_cells.result
     (are_cells c.args.loaded.now.cells _ _ c.deref-2.ensures.value c.in-Ok-listed.ensures) (c.describe_cells.ensures.clean l)
 

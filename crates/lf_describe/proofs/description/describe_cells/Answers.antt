@@ -9,15 +9,15 @@ returns-in_default-clause-cut g c = λ l. unwritten _ _
 
 pub returns-clause-text : goal.returns-clause-text
 returns-clause-text g c = λ l.
-    text_is _ l c.describe_told.result (g.W.Sink.contents c.args.writer.now) (g.W.Sink.contents c.describe_told.new.writer) c.describe_told.ensures.text
+    text_is _ l c.write_description.result (g.W.Sink.contents c.args.writer.now) (g.W.Sink.contents c.write_description.new.writer) c.write_description.ensures.text
     (subst (AreVerdicts l c.args.frame.now 0 (map named c.args.cells.now)) (sym c.as_slice.ensures.value) (c.in-Ok.ensures.each l))
 
 pub returns-clause-clean : goal.returns-clause-clean
 returns-clause-clean g c = λ l.
-    clean_is _ l c.describe_told.result c.describe_told.ensures.clean
+    clean_is _ l c.write_description.result c.write_description.ensures.clean
     (subst (AreVerdicts l c.args.frame.now 0 (map named c.args.cells.now)) (sym c.as_slice.ensures.value) (c.in-Ok.ensures.each l))
 
 pub returns-clause-cut : goal.returns-clause-cut
 returns-clause-cut g c = λ l.
-    cut_is _ l c.describe_told.result (g.W.Sink.contents c.args.writer.now) (g.W.Sink.contents c.describe_told.new.writer) c.describe_told.ensures.cut
+    cut_is _ l c.write_description.result (g.W.Sink.contents c.args.writer.now) (g.W.Sink.contents c.write_description.new.writer) c.write_description.ensures.cut
     (subst (AreVerdicts l c.args.frame.now 0 (map named c.args.cells.now)) (sym c.as_slice.ensures.value) (c.in-Ok.ensures.each l))

@@ -1,6 +1,6 @@
 use Rattle.std.proofs.Common.{◌≡◌, ◌<◌, ◌≤◌, length, get_or, arith, ap, List, refl, sym, ◌∙◌}
 use Rattle.lf_def.specs.declared.components.Component.{Component}
-use Rattle.lf_refusals.specs.Findings.{Inputs, inputs}
+use Rattle.lf_frame_checks.specs.Findings.{LoadInputs, inputs}
 use Rattle.lf_floorplan.specs.LoadedCells.{with_name}
 use Rattle.lf_frame.specs.Loads.{CanBeCell}
 use Rattle.lf_frame.proofs.DesignMade.{macro_within, team_within}
@@ -10,7 +10,7 @@ use Rattle.lf_frame.proofs.cells.movable_cells.Goals as goal
 
 pub loop-number-preserved : goal.loop-number-preserved
 loop-number-preserved c =
-    let i : Inputs = inputs c.args.library.now c.args.document.now c.args.limits.now in
+    let i : LoadInputs = inputs c.args.library.now c.args.document.now c.args.limits.now in
     let same : c.as_slice-component-items.result.now ≡ c.args.document.now.components = c.as_slice-component-items.ensures in
     let within : c.loop-number.number < length c.args.document.now.components = rw same at c.loop-number-test.true in
     let is : c.component-item.result ≡ get_or c.args.document.now.components c.loop-number.number c.component-item.result = rw same at c.component-item.is in
@@ -82,7 +82,7 @@ cell_of-cell-requires-clause-few_components c =
 
 pub returns : goal.returns
 returns c =
-    let i : Inputs = inputs c.args.library.now c.args.document.now c.args.limits.now in
+    let i : LoadInputs = inputs c.args.library.now c.args.document.now c.args.limits.now in
     let same : c.as_slice-component-items.result.now ≡ c.args.document.now.components = c.as_slice-component-items.ensures in
     let count = ap (λ (xs : List Component). length xs) same in
     let past : length c.args.document.now.components ≤ c.loop-number.number = omega (arith, count) in

@@ -1,18 +1,18 @@
 use Rattle.std.proofs.Common.{◌≡◌, length, map, arith}
 use Rattle.std.proofs.lemmas.List.{length-map}
 use Rattle.lf_lex.specs.declared.fault.FaultNumber.TheVariants.{SecondName}
-use Rattle.lf_refusals.specs.Findings.{Inputs, inputs}
-use Rattle.lf_claims.specs.Refusals.{BearsEarlierName}
-use Rattle.lf_claims.specs.Teams.{fences}
+use Rattle.lf_frame_checks.specs.Findings.{LoadInputs, inputs}
+use Rattle.lf_frame_claims.specs.Refusals.{HasEarlierName}
+use Rattle.lf_frame_claims.specs.Teams.{fences}
 use Rattle.lf_frame.specs.Loads.{frame_team}
-use Rattle.lf_refusals.proofs.Gathered.{none_of_name}
+use Rattle.lf_frame_checks.proofs.Gathered.{none_of_name}
 use Rattle.lf_frame.proofs.DesignMade.{can_be_cells, design_made, few}
 use Rattle.lf_frame.proofs.FrameMade.{few_fences}
 use Rattle.lf_frame.proofs.loading.accepted_design.Goals as goal
 
 pub movable_cells-requires : goal.movable_cells-requires
 movable_cells-requires c =
-    let i : Inputs = inputs c.args.library.now c.args.document.now c.args.limits.now in
+    let i : LoadInputs = inputs c.args.library.now c.args.document.now c.args.limits.now in
     let kept : length (map frame_team (fences c.args.document.now.regions)) ≡ length (fences c.args.document.now.regions) =
     length-map (fences c.args.document.now.regions) frame_team in
     record {
@@ -22,7 +22,7 @@ movable_cells-requires c =
       able = can_be_cells i c.requires.accepted;
       claims = c.requires.claims;
       macros = c.requires.macros;
-      differ = none_of_name {breaks = BearsEarlierName} (c.requires.accepted SecondName);
+      differ = none_of_name {breaks = HasEarlierName} (c.requires.accepted SecondName);
     }
 
 pub loaded_from-requires : goal.loaded_from-requires

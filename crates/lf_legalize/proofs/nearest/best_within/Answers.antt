@@ -4,7 +4,7 @@ use Rattle.std.proofs.lemmas.Option.{slice_get-get_or}
 use Rattle.std.specs.Option.{option_map}
 use Rattle.lf_rules.specs.Choice.{spot_of}
 use Rattle.lf_segments.specs.RowsByY.{IsEntryOf}
-use Rattle.lf_legalize.specs.RowSearches.{lifted_in}
+use Rattle.lf_legalize.specs.RowSearches.{query_of_search}
 use Rattle.lf_legalize.proofs.Rounds.{IsOnEntries, run_holds, next_entry, all_seen, chosen_near}
 use Rattle.lf_legalize.proofs.nearest.best_within.Goals as goal
 
@@ -16,7 +16,7 @@ with_row-requires-clause-known c =
 
 pub loop-entry-preserved : goal.loop-entry-preserved
 loop-entry-preserved c =
-    next_entry c.args.search.now.frame.now c.args.search.now.size c.between-run.result.now c.loop-entry.entry-index _ (lifted_in c.args.search.now)
+    next_entry c.args.search.now.frame.now c.args.search.now.size c.between-run.result.now c.loop-entry.entry-index _ (query_of_search c.args.search.now)
     c.args.search.now.target.now c.args.reach _ _ _
     (slice_get-get_or c.between-run.result.now c.loop-entry.entry-index record { y = pos 0; x = pos 0; row = 0 } (search rules))
     c.loop-entry.invariant c.in_ok-best.ensures
@@ -25,7 +25,7 @@ pub returns : goal.returns
 returns c =
     let all : c.loop-entry.entry-index ≡ length c.between-run.result.now = search rules in
     chosen_near (IsOnEntries c.args.search.now.frame.now c.args.search.now.size c.between-run.result.now (length c.between-run.result.now))
-    (lifted_in c.args.search.now)
+    (query_of_search c.args.search.now)
     c.args.search.now.target.now c.args.reach (option_map spot_of c.loop-entry.best)
     (λ p may. all_seen c.args.search.now c.between-run.result.now c.args.reach _ _ c.runs_have_rows.ensures.between c.requires.held.index.rows (rw c.rows_of.ensures at c.between-run.ensures)
     (omega (arith, ints, c.requires.small, c.requires.near.up.low, c.requires.near.up.high))

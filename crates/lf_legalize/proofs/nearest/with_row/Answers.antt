@@ -3,13 +3,13 @@ use Rattle.std.specs.Option.{option_map}
 use Rattle.std.proofs.lemmas.Int.{ints}
 use Rattle.std.proofs.lemmas.Option.{slice_get_within}
 use Rattle.lf_rules.specs.Choice.{spot_of}
-use Rattle.lf_legalize.specs.RowSearches.{lifted_in}
+use Rattle.lf_legalize.specs.RowSearches.{query_of_search}
 use Rattle.lf_legalize.proofs.Reaches.{row_passed, row_empty, row_found, limit_below}
 use Rattle.lf_legalize.proofs.nearest.with_row.Goals as goal
 
 pub returns-then-limit-rise : goal.returns-then-limit-rise
 returns-then-limit-rise c =
-    row_passed c.args.search.now.frame.now c.args.search.now.size (lifted_in c.args.search.now) c.args.search.now.target.now c.args.reach
+    row_passed c.args.search.now.frame.now c.args.search.now.size (query_of_search c.args.search.now) c.args.search.now.target.now c.args.reach
     (option_map spot_of c.args.best) c.args.entry.now c.requires.known
     (rw (← c.limit-limit.ensures, ← c.gap-rise.ensures) c.if-limit-rise.true)
 
@@ -25,7 +25,7 @@ pub returns-in-None : goal.returns-in-None
 returns-in-None c =
     let found = c.in_ok-best_in_window.ensures c.requires.known.row c.requires.known.stands in
     let none = rw c.in-None.is at found in
-    row_empty c.args.search.now.frame.now c.args.search.now.size (lifted_in c.args.search.now) c.args.search.now.target.now c.args.reach c.gap-rise.result
+    row_empty c.args.search.now.frame.now c.args.search.now.size (query_of_search c.args.search.now) c.args.search.now.target.now c.args.reach c.gap-rise.result
     (option_map spot_of c.args.best) c.args.entry.now c.requires.known c.window-window.result c.gap-rise.ensures
     (rw (← c.limit-limit.ensures) c.if-limit-rise.false)
     (rw (← c.limit-limit.ensures) c.window-window.ensures.lo) (rw (← c.limit-limit.ensures) c.window-window.ensures.hi) none
@@ -34,7 +34,7 @@ pub returns-in-Some : goal.returns-in-Some
 returns-in-Some c =
     let found = c.in_ok-best_in_window.ensures c.requires.known.row c.requires.known.stands in
     let some = rw c.in-Some.is at found in
-    row_found c.args.search.now.frame.now c.args.search.now.size (lifted_in c.args.search.now) c.args.search.now.target.now c.args.reach c.gap-rise.result
+    row_found c.args.search.now.frame.now c.args.search.now.size (query_of_search c.args.search.now) c.args.search.now.target.now c.args.reach c.gap-rise.result
     (option_map spot_of c.args.best) (option_map spot_of c.better.result)
     c.args.entry.now c.requires.known c.window-window.result (spot_of c.in-Some.place) c.gap-rise.ensures
     (rw (← c.limit-limit.ensures) c.if-limit-rise.false)

@@ -2,7 +2,7 @@ use Rattle.std.proofs.Common.{ℤ, Option, map, sym, subst, FitsSigned, w64, rul
 use Rattle.std.proofs.lemmas.Int.{to_z-of_z}
 use Rattle.lf_floorplan.specs.Bounds.{IsDefNumber}
 use Rattle.lf_spans.specs.Grids.{FindsNearest, IsNearest}
-use Rattle.lf_legalize.specs.RowSearches.{IsBestAmong, IsOnRowIn, lifted_in}
+use Rattle.lf_legalize.specs.RowSearches.{IsBestAmong, IsOnRowIn, query_of_search}
 use Rattle.lf_legalize.proofs.RowFree.{spot_on}
 use Rattle.lf_legalize.proofs.RunLemmas.{heeded_at}
 use Rattle.lf_legalize.proofs.RowChoice.{IsFit, best_there, fit_in_def, may_go_fits}
@@ -38,9 +38,9 @@ returns c =
     let fits : FitsSigned w64 x = search rules in
     let nearest : IsNearest (IsFit s c.args.bottom.now.row.now rows) s.target.now.x x =
     subst (λ (found : Option ℤ). FindsNearest (IsFit s c.args.bottom.now.row.now rows) s.target.now.x found) c.in-Some.is c.in_ok-x.ensures in
-    let best : ℤ → Type 0 = λ v. IsBestAmong (IsOnRowIn s.frame.now s.size c.args.bottom.now.row.now c.args.bottom.now.window.now) (lifted_in s) s.target.now
+    let best : ℤ → Type 0 = λ v. IsBestAmong (IsOnRowIn s.frame.now s.size c.args.bottom.now.row.now c.args.bottom.now.window.now) (query_of_search s) s.target.now
     (spot_on c.args.bottom.now.row.now v c.args.orient) in
-    subst (IsBestAmong (IsOnRowIn s.frame.now s.size c.args.bottom.now.row.now c.args.bottom.now.window.now) (lifted_in s) s.target.now) (sym
+    subst (IsBestAmong (IsOnRowIn s.frame.now s.size c.args.bottom.now.row.now c.args.bottom.now.window.now) (query_of_search s) s.target.now) (sym
     c.place_on.ensures)
     (subst best (sym (to_z-of_z w64 x fits))
     (best_there s c.args.bottom.now.number c.args.bottom.now.row.now c.args.bottom.now.window.now rows c.args.orient x c.requires.stands c.requires.held

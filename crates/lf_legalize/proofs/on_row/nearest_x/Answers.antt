@@ -1,7 +1,7 @@
 use Rattle.std.proofs.Common.{ℤ, map, sym, subst, FitsSigned, to_z, of_z, w64, rules}
 use Rattle.std.proofs.lemmas.Int.{to_z-of_z}
 use Rattle.std.proofs.lemmas.Result.{IfOk-weaker}
-use Rattle.lf_spans.specs.declared.grid.Grid.{Grid}
+use Rattle.lf_spans.specs.declared.grid.SiteGrid.{SiteGrid}
 use Rattle.lf_spans.specs.Grids.{FindsNearest, IsGrid}
 use Rattle.lf_gaps.specs.Gaps.{FitsRows}
 use Rattle.lf_legalize.proofs.RowChoice.{IsFit, fit_in_def, grid_is, level_bounded, level_of_list, nearest_to_target, width_is}
@@ -39,5 +39,5 @@ returns c =
     (λ x fit. fit_in_def s c.args.bottom.now.number c.args.bottom.now.row.now c.args.bottom.now.window.now rows x c.requires.stands c.requires.held
     c.requires.levels fit)
     (subst (λ (t : ℤ). FindsNearest (IsFit s c.args.bottom.now.row.now rows) t found) (to_z-of_z w64 near fits)
-    (subst (λ (g : Grid). FindsNearest (λ x. FitsRows rows g s.size.x x) handed found) c.grid_on-grid.ensures nearest)))
+    (subst (λ (g : SiteGrid). FindsNearest (λ x. FitsRows rows g s.size.x x) handed found) c.grid_on-grid.ensures nearest)))
     c.nearest_fit.ensures

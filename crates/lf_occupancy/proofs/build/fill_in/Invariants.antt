@@ -1,11 +1,11 @@
 use Rattle.std.proofs.Common.{map}
 use Rattle.lf_occupancy.specs.Building.{AreFilledIn, id_at}
-use Rattle.lf_occupancy.specs.Strips.{felt_strips}
+use Rattle.lf_occupancy.specs.Strips.{widened_strips}
 use Rattle.lf_occupancy.proofs.Parting.{IsPassed}
 use Rattle.lf_occupancy.proofs.build.fill_in.Given as goal
 
 -- the cells before the part are marked, and those of it that are passed
 abbrev pub invariant-loop-waiting : goal.invariant-loop-waiting
 invariant-loop-waiting l =
-    AreFilledIn l.frame l.cells (felt_strips l.frame.pitch.x l.index.strips) (IsPassed l.team l.from (map (id_at l.ids) l.waiting-items) l.waiting-index)
+    AreFilledIn l.frame l.cells (widened_strips l.frame.pitch.x l.index.strips) (IsPassed l.team l.from (map (id_at l.ids) l.waiting-items) l.waiting-index)
     l.lanes.items

@@ -1,20 +1,20 @@
 use Rattle.std.proofs.Common.{Option, subst, sym, ◌∙◌}
 use Rattle.std.specs.Prelude.{OnOk}
-use Rattle.lf_units.specs.declared.area.Rect.{Rect}
-use Rattle.lf_occupancy.specs.Strips.{AreLanes, boxes_set, felt_strips}
+use Rattle.lf_units.specs.declared.geometry.Rect.{Rect}
+use Rattle.lf_occupancy.specs.Strips.{ShowAllBoxes, boxes_set, widened_strips}
 use Rattle.lf_occupancy.proofs.Building.{none_set}
 use Rattle.lf_occupancy.proofs.build.mark_cell.Goals as goal
 
 pub returns-in_default : goal.returns-in_default
 returns-in_default c = λ boxes nowhere are.
-    let xs = felt_strips c.args.frame.now.pitch.x c.args.index.now.strips in
+    let xs = widened_strips c.args.frame.now.pitch.x c.args.index.now.strips in
     let id = c.args.id.now in
-    subst (λ (b : Option Rect). AreLanes xs (boxes_set boxes id b) c.args.lanes.now.items) (sym c.in_default.is ∙ c.box_at_work.ensures.is)
+    subst (λ (b : Option Rect). ShowAllBoxes xs (boxes_set boxes id b) c.args.lanes.now.items) (sym c.in_default.is ∙ c.box_at_work.ensures.is)
     (none_set xs boxes id c.args.lanes.now.items nowhere are)
 
 pub returns : goal.returns
 returns c = λ boxes nowhere are.
-    let xs = felt_strips c.args.frame.now.pitch.x c.args.index.now.strips in
+    let xs = widened_strips c.args.frame.now.pitch.x c.args.index.now.strips in
     let id = c.args.id.now in
-    subst (λ (b : Option Rect). OnOk c.settle.result (AreLanes xs (boxes_set boxes id b) c.settle.new.lanes.items))
-    (sym c.in-Some.is ∙ c.box_at_work.ensures.is) (c.settle.ensures.ok boxes nowhere are)
+    subst (λ (b : Option Rect). OnOk c.reserve_and_mark.result (ShowAllBoxes xs (boxes_set boxes id b) c.reserve_and_mark.new.lanes.items))
+    (sym c.in-Some.is ∙ c.box_at_work.ensures.is) (c.reserve_and_mark.ensures.ok boxes nowhere are)

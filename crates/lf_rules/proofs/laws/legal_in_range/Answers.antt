@@ -1,7 +1,7 @@
 use Rattle.std.proofs.Common.{arith, subst}
 use Rattle.std.proofs.lemmas.Int.{ints}
 use Rattle.lf_floorplan.specs.declared.parts.Row.{Row}
-use Rattle.lf_floorplan.specs.Rows.{IsHeeded}
+use Rattle.lf_floorplan.specs.Rows.{IsCoreRow}
 use Rattle.lf_rules.specs.declared.rule.Rule.TheVariants.{Row as RowRule}
 use Rattle.lf_rules.specs.Legality.{Holds}
 use Rattle.lf_floorplan.specs.Boxes.{size_of}
@@ -14,7 +14,7 @@ returns c t sized legal =
     let found : Holds t RowRule = legal RowRule in
     let row = found.0 in
     let bottom = found.1 in
-    let heeded : IsHeeded t.frame.pitch row = subst (λ (r : Row). IsHeeded t.frame.pitch r) bottom.heeded.2 (t.frame.rows_heeded bottom.heeded.0 row bottom.heeded.1) in
+    let heeded : IsCoreRow t.frame.pitch row = subst (λ (r : Row). IsCoreRow t.frame.pitch r) bottom.heeded.2 (t.frame.rows_heeded bottom.heeded.0 row bottom.heeded.1) in
     let small : IsSmall (turned (size_of t.frame t.mac) t.orient) = turned_small _ _ (small_pitch _ _ _ (sized_pitch _ _ sized)) in
     let left = bottom.at_bottom.left in
     let right = bottom.at_bottom.right in

@@ -2,19 +2,19 @@ use Rattle.std.proofs.Common.{◌≡◌, refl, slice_get, Some, rules, length, a
 use Rattle.std.proofs.lemmas.Option.{slice_get_read}
 use Rattle.lf_floorplan.specs.declared.parts.Row.{Row}
 use Rattle.lf_floorplan.specs.declared.frame.Frame.{Frame}
-use Rattle.lf_floorplan.specs.Rows.{row_area, IsHeeded}
+use Rattle.lf_floorplan.specs.Rows.{row_area, IsCoreRow}
 use Rattle.lf_floorplan.specs.Bounds.{IsNearDefRect}
 use Rattle.lf_floorplan.proofs.SizeBounds.{small_pitch}
 use Rattle.lf_segments.proofs.ExtentLemmas.{IsHull, hull_holds, area_near, one_more, all_rows}
 use Rattle.lf_segments.proofs.extent.extent_of.Goals as goal
 
 -- the area of a row of a frame
-near_row : (f : Frame) (r : Row) → IsHeeded f.pitch r → IsNearDefRect (row_area f.pitch r)
+near_row : (f : Frame) (r : Row) → IsCoreRow f.pitch r → IsNearDefRect (row_area f.pitch r)
 near_row f r heeded = area_near f.pitch r (small_pitch f.header.units f.site.size f.pitch f.pitch_whole) heeded
 
 pub loop-row-init : goal.loop-row-init
 loop-row-init c =
-    let heeded : IsHeeded c.args.frame.now.pitch c.index-rows-0.result = search rules in
+    let heeded : IsCoreRow c.args.frame.now.pitch c.index-rows-0.result = search rules in
     record {
       near = rw c.area-extent.ensures (near_row c.args.frame.now c.index-rows-0.result heeded);
       rows = λ k r less there. absurd (omega (arith, less));
@@ -22,7 +22,7 @@ loop-row-init c =
 
 pub loop-row-preserved : goal.loop-row-preserved
 loop-row-preserved c =
-    let heeded : IsHeeded c.args.frame.now.pitch c.row-item.result = search rules in
+    let heeded : IsCoreRow c.args.frame.now.pitch c.row-item.result = search rules in
     let there : slice_get c.args.frame.now.rows c.loop-row.row-index ≡ Some c.row-item.result =
     slice_get_read _ _ c.loop-row.row-index c.row-item.result refl (search rules) (search rules) in
     let hull : IsHull c.loop-row.extent c.area.result c.hull-extent.result = rw c.hull-extent.ensures (hull_holds c.loop-row.extent c.area.result) in

@@ -1,6 +1,6 @@
 use Rattle.std.proofs.Common.{rules}
 use Rattle.std.proofs.lemmas.List.Sorted.{IsPartitionPoint-from_clause}
-use Rattle.lf_segments.specs.RowsByY.{comes_by}
+use Rattle.lf_segments.specs.RowsByY.{is_up_to_point}
 use Rattle.lf_segments.proofs.LastLemmas.{by_point, parted_by, rest_point}
 use Rattle.lf_segments.proofs.rows_by_y.count_by.Goals as goal
 
@@ -10,7 +10,7 @@ returns-clause-by c =
     let y = c.args.y.now in
     let x = c.args.x.now in
     by_point entries y x c.partition_point.result
-    (IsPartitionPoint-from_clause (λ e. comes_by y x e) entries _ c.partition_point.ensures.partitioned (parted_by entries y x c.requires)
+    (IsPartitionPoint-from_clause (λ e. is_up_to_point y x e) entries _ c.partition_point.ensures.partitioned (parted_by entries y x c.requires)
     (λ a r q k. search rules))
 
 pub returns-clause-rest : goal.returns-clause-rest
@@ -19,5 +19,5 @@ returns-clause-rest c =
     let y = c.args.y.now in
     let x = c.args.x.now in
     rest_point entries y x c.partition_point.result
-    (IsPartitionPoint-from_clause (λ e. comes_by y x e) entries _ c.partition_point.ensures.partitioned (parted_by entries y x c.requires)
+    (IsPartitionPoint-from_clause (λ e. is_up_to_point y x e) entries _ c.partition_point.ensures.partitioned (parted_by entries y x c.requires)
     (λ a r q k. search rules))

@@ -1,6 +1,6 @@
 use Rattle.std.proofs.Common.{◌≡◌, List, Some, length, get_or, slice_get, sym, ap, subst, ◌∙◌, arith, rules}
 use Rattle.lf_floorplan.specs.declared.parts.Row.{Row}
-use Rattle.lf_floorplan.specs.Rows.{IsHeeded}
+use Rattle.lf_floorplan.specs.Rows.{IsCoreRow}
 use Rattle.lf_segments.specs.Boxes.{AreBoxesOf, AreSorted}
 use Rattle.lf_segments.proofs.TreeLemmas.{row_of}
 use Rattle.lf_segments.proofs.GroupLemmas.{open_is_team}
@@ -10,7 +10,7 @@ use Rattle.lf_segments.proofs.segments.cut_rows.Goals as goal
 pub push_row-requires : goal.push_row-requires
 push_row-requires c =
     let f = c.args.frame.now in
-    let heeded : IsHeeded f.pitch c.row-item.result = search rules in (
+    let heeded : IsCoreRow f.pitch c.row-item.result = search rules in (
       heeded,
       (
         subst (AreBoxesOf f f.obstacles c.row-item.result) (sym c.as_slice.ensures.value) c.in_ok-boxes_near.ensures.boxes,

@@ -1,12 +1,12 @@
 use Rattle.std.proofs.Common.{ℤ, ◌+ℤ◌, FitsSigned, w64, to_z, of_z, arith, rules, subst}
 use Rattle.std.proofs.lemmas.Int.{ints, to_z-of_z}
 use Rattle.lf_spans.specs.declared.span.Span.{Span}
-use Rattle.lf_spans.specs.declared.grid.Grid.{Grid}
+use Rattle.lf_spans.specs.declared.grid.SiteGrid.{SiteGrid}
 use Rattle.lf_spans.specs.GridSteps.{AreEnds, IsNearer}
 use Rattle.lf_spans.proofs.Grids.{none_fits, first_nearest, last_nearest, between_nearest, less_from, not_less_from, at_most_from, not_at_most_from}
 use Rattle.lf_spans.proofs.grid.nearest_fit.Goals as goal
 
-all_ends : (span : Span) (g : Grid) (width first last : ℤ) → FitsSigned w64 width → AreEnds span g (to_z w64 (of_z w64 width)) first last →
+all_ends : (span : Span) (g : SiteGrid) (width first last : ℤ) → FitsSigned w64 width → AreEnds span g (to_z w64 (of_z w64 width)) first last →
     AreEnds span g width first last
 all_ends span g width first last fits ends = subst (λ (w : ℤ). AreEnds span g w first last) (to_z-of_z w64 width fits) ends
 

@@ -1,16 +1,16 @@
 use Rattle.std.proofs.Common.{◌≡◌, ℤ, Option, w64, to_z, of_z, FitsSigned, refl, subst, ◌∙◌}
 use Rattle.std.proofs.lemmas.Int.{to_z-of_z}
 use Rattle.lf_spans.specs.declared.span.Span.{Span}
-use Rattle.lf_spans.specs.declared.grid.Grid.{Grid}
+use Rattle.lf_spans.specs.declared.grid.SiteGrid.{SiteGrid}
 use Rattle.lf_spans.specs.Grids.{FindsNearest, FitsSpan, grid_of}
 use Rattle.lf_spans.proofs.grid.nearest_on_grid.Goals as goal
 
-found_at : (span : Span) (g h : Grid) (v width t target : ℤ) (found : Option ℤ) → g ≡ h → v ≡ width → t ≡ target →
+found_at : (span : Span) (g h : SiteGrid) (v width t target : ℤ) (found : Option ℤ) → g ≡ h → v ≡ width → t ≡ target →
     FindsNearest (λ x. FitsSpan span g v x) t found → FindsNearest (λ x. FitsSpan span h width x) target found
 found_at span g h v width t target found same_grid same_width same_target near =
     subst (λ (z : ℤ). FindsNearest (λ x. FitsSpan span h width x) z found) same_target
     (subst (λ (w : ℤ). FindsNearest (λ x. FitsSpan span h w x) t found) same_width
-    (subst (λ (k : Grid). FindsNearest (λ x. FitsSpan span k v x) t found) same_grid near))
+    (subst (λ (k : SiteGrid). FindsNearest (λ x. FitsSpan span k v x) t found) same_grid near))
 
 grid_at : (origin step : ℤ) → FitsSigned w64 origin → FitsSigned w64 step →
     grid_of (to_z w64 (of_z w64 origin)) (to_z w64 (of_z w64 step)) ≡ grid_of origin step

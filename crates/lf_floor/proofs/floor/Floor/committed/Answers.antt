@@ -1,5 +1,5 @@
 use Rattle.std.proofs.Common.{subst}
-use Rattle.lf_cells.specs.Cells.{AreAll, Cells}
+use Rattle.lf_cells.specs.Cells.{AreAllIds, Cells}
 use Rattle.lf_floor.proofs.Places.{all_places}
 use Rattle.lf_floor.proofs.floor.Floor.committed.Goals as goal
 
@@ -8,4 +8,4 @@ returns g c =
     let i = c.self.inside in
     let made = c.committed_of.ensures in
     rw (← c.self.view_is, made.2, c.cells.ensures)
-    (all_places i.tables c.self.invariant made.0 (subst (λ (cs : Cells). AreAll cs made.0) c.cells.ensures made.1))
+    (all_places i.tables c.self.invariant made.0 (subst (λ (cs : Cells). AreAllIds cs made.0) c.cells.ensures made.1))

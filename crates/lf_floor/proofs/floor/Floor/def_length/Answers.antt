@@ -1,12 +1,12 @@
 use Rattle.std.proofs.Common.{◌≡◌, ◌<◌, ◌+◌, length, sym, ap, ◌∙◌, List, ℕ, Some, subst}
 use Rattle.lf_floorplan.specs.declared.frame.Frame.{Frame}
 use Rattle.lf_cells.specs.Cells.{Cells, cells_of}
-use Rattle.lf_texts.specs.Output.{IsLengthOf}
-use Rattle.lf_texts.specs.TeamText.{team_text}
-use Rattle.lf_teams.specs.States.{FloorState}
-use Rattle.lf_teams.specs.Teams.{team_number}
+use Rattle.lf_team_def.specs.Output.{IsLengthOf}
+use Rattle.lf_team_def.specs.TeamText.{team_text}
+use Rattle.lf_floor_model.specs.States.{FloorState}
+use Rattle.lf_floor_model.specs.Teams.{team_number}
 use Rattle.lf_floor.specs.Responses.{def_text}
-use Rattle.lf_tables.specs.Tables.{frame_of}
+use Rattle.lf_floor_verbs.specs.Tables.{frame_of}
 use Rattle.lf_floor.proofs.Asked.{text_there}
 use Rattle.lf_floor.proofs.floor.Floor.def_length.Goals as goal
 

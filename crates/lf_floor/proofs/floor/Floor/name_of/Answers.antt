@@ -4,10 +4,10 @@ use Rattle.lf_floorplan.specs.declared.frame.Frame.{Frame}
 use Rattle.lf_cells.specs.declared.cell.Cell.{Cell}
 use Rattle.lf_cells.specs.declared.cell.CellFacts.{CellFacts}
 use Rattle.lf_cells.specs.Cells.{Cells, cell_at}
-use Rattle.lf_teams.specs.Outcomes.{name_at}
-use Rattle.lf_teams.specs.Teams.{IsTeamOf, team_number}
-use Rattle.lf_tables.specs.Tables.{cells_in, frame_of}
-use Rattle.lf_tables.proofs.Seeking.{names_none, name_told, name_printed}
+use Rattle.lf_floor_model.specs.Outcomes.{name_at}
+use Rattle.lf_floor_model.specs.Teams.{IsTeamOf, team_number}
+use Rattle.lf_floor_verbs.specs.Tables.{cells_in, frame_of}
+use Rattle.lf_floor_verbs.proofs.Seeking.{names_none, name_told, name_printed}
 use Rattle.lf_floor.proofs.Rows.{cells_seen, each_team}
 use Rattle.lf_floor.proofs.floor.Floor.name_of.Goals as goal
 

@@ -1,5 +1,5 @@
 use Rattle.std.proofs.Common.{◌∙◌, ap, sym}
-use Rattle.lf_teams.specs.States.{TeamState}
+use Rattle.lf_floor_model.specs.States.{TeamState}
 use Rattle.lf_floor.proofs.Numbered.{seen_is}
 use Rattle.lf_floor.proofs.floor.Floor.padding_of.Goals as goal
 

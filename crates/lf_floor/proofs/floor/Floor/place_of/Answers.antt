@@ -4,8 +4,8 @@ use Rattle.lf_cells.specs.declared.cell.Cell.{Cell}
 use Rattle.lf_cells.specs.declared.cell.CellId.{CellId}
 use Rattle.lf_cells.specs.Cells.{working_at}
 use Rattle.lf_placement.proofs.Moves.{id_there, none_works}
-use Rattle.lf_teams.specs.Teams.{team_number}
-use Rattle.lf_tables.specs.Tables.{cells_in}
+use Rattle.lf_floor_model.specs.Teams.{team_number}
+use Rattle.lf_floor_verbs.specs.Tables.{cells_in}
 use Rattle.lf_floor.proofs.Rows.{cells_seen}
 use Rattle.lf_floor.proofs.floor.Floor.place_of.Goals as goal
 

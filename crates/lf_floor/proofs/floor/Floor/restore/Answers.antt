@@ -1,18 +1,18 @@
 use Rattle.std.proofs.Common.{◌≡◌, Ok, subst, sym}
 use Rattle.std.specs.Prelude.{◌↔◌}
 use Rattle.lf_rules.specs.FullyLegal.{IsFullyLegal}
-use Rattle.lf_teams.specs.Committed.{IsCommittedLegal}
-use Rattle.lf_teams.specs.States.{FloorState}
-use Rattle.lf_state.specs.Reading.{state_of}
-use Rattle.lf_restore.specs.Saved.{AreOfOneDesign, named, saved_design}
-use Rattle.lf_tables.specs.Tables.{floor_in}
+use Rattle.lf_floor_model.specs.Committed.{IsCommittedLegal}
+use Rattle.lf_floor_model.specs.States.{FloorState}
+use Rattle.lf_state_text.specs.Reading.{state_of}
+use Rattle.lf_state_restore.specs.Saved.{ShareDesign, named, saved_design}
+use Rattle.lf_floor_verbs.specs.Tables.{floor_in}
 use Rattle.lf_floor.proofs.Saving.{back_again, legal_told, only_memory}
 use Rattle.lf_floor.proofs.floor.Floor.restore.Goals as goal
 
 pub returns-in-Ok-clause-again : goal.returns-in-Ok-clause-again
 returns-in-Ok-clause-again g c = λ saved one is.
     back_again c.saved_restores.ensures (floor_in c.floor.inside.tables) saved (floor_in c.in-Ok.now) c.args.text.now c.in-Ok.ensures.restored
-    (subst (λ (f : FloorState). AreOfOneDesign f saved) (sym c.floor.view_is) one) is
+    (subst (λ (f : FloorState). ShareDesign f saved) (sym c.floor.view_is) one) is
 
 pub returns-in-Ok-clause-legal : goal.returns-in-Ok-clause-legal
 returns-in-Ok-clause-legal g c = λ saved read.
@@ -24,4 +24,4 @@ returns-in-Ok-clause-legal g c = λ saved read.
 pub returns-in-Err-clause-again_fails : goal.returns-in-Err-clause-again_fails
 returns-in-Err-clause-again_fails g c = λ saved one is.
     only_memory c.saved_restores.ensures (floor_in c.floor.inside.tables) saved c.args.text.now c.in-Err.error c.in-Err.ensures.fault
-    (subst (λ (f : FloorState). AreOfOneDesign f saved) (sym c.floor.view_is) one) is
+    (subst (λ (f : FloorState). ShareDesign f saved) (sym c.floor.view_is) one) is

@@ -1,9 +1,9 @@
 use Rattle.std.proofs.Common.{arith, sym, ◌∙◌}
 use Rattle.lf_proto.specs.Commands.{command_of}
-use Rattle.lf_teams.proofs.Isolation.{run_more, run_all, isolated_from_run}
-use Rattle.lf_teams.proofs.Journals.{leave_out, backs_up}
-use Rattle.lf_teams.proofs.Running.{legal_run, commits_legal}
-use Rattle.lf_teams.proofs.TidyCommits.{tidied_commits}
+use Rattle.lf_floor_model.proofs.Isolation.{run_more, run_all, isolated_from_run}
+use Rattle.lf_floor_model.proofs.Journals.{leave_out, backs_up}
+use Rattle.lf_floor_model.proofs.Running.{legal_run, commits_legal}
+use Rattle.lf_floor_model.proofs.TidyCommits.{tidied_commits}
 use Rattle.lf_floor.proofs.floor.Floor.run.Goals as goal
 
 pub loop-i-preserved : goal.loop-i-preserved
@@ -23,15 +23,15 @@ returns-clause-isolated g c = λ l. isolated_from_run l _ _ _ _ (run_all l _ _ _
 
 pub returns-clause-legal : goal.returns-clause-legal
 returns-clause-legal g c = λ l legal.
-    legal_run l _ _ _ _ c.teams_are_of_the_frame.ensures (run_all l _ _ _ _ c.loop-i.i (omega arith) (c.loop-i.invariant.run l)) legal
+    legal_run l _ _ _ _ c.teams_match_frame.ensures (run_all l _ _ _ _ c.loop-i.i (omega arith) (c.loop-i.invariant.run l)) legal
 
 pub returns-clause-commits : goal.returns-clause-commits
-returns-clause-commits g c = let l = c.legalizer_is_there.ensures in
-    commits_legal l _ _ _ _ c.teams_are_of_the_frame.ensures (run_all l _ _ _ _ c.loop-i.i (omega arith) (c.loop-i.invariant.run l))
+returns-clause-commits g c = let l = c.legalizer_exists.ensures in
+    commits_legal l _ _ _ _ c.teams_match_frame.ensures (run_all l _ _ _ _ c.loop-i.i (omega arith) (c.loop-i.invariant.run l))
 
 pub returns-clause-tidied : goal.returns-clause-tidied
-returns-clause-tidied g c = let l = c.legalizer_is_there.ensures in
-    tidied_commits c.legal_in_range.ensures l _ _ _ _ c.teams_are_of_the_frame.ensures (run_all l _ _ _ _ c.loop-i.i (omega arith) (c.loop-i.invariant.run l))
+returns-clause-tidied g c = let l = c.legalizer_exists.ensures in
+    tidied_commits c.legal_in_range.ensures l _ _ _ _ c.teams_match_frame.ensures (run_all l _ _ _ _ c.loop-i.i (omega arith) (c.loop-i.invariant.run l))
 
 pub returns-clause-left_out : goal.returns-clause-left_out
 returns-clause-left_out g c = λ l marks lasting. leave_out l marks _ _ _ _ (run_all l _ _ _ _ c.loop-i.i (omega arith) (c.loop-i.invariant.run l)) lasting

@@ -2,8 +2,8 @@ use Rattle.std.proofs.Common.{◌≡◌, ◌≤◌, List, ◌++◌, length, drop
 use Rattle.std.specs.Prelude.{vec_capacity}
 use Rattle.lf_rules.specs.Legalizer.{Legalizer}
 use Rattle.lf_proto.specs.declared.reply.Reply.{Reply}
-use Rattle.lf_teams.specs.States.{FloorState}
-use Rattle.lf_teams.specs.Runs.{Run}
+use Rattle.lf_floor_model.specs.States.{FloorState}
+use Rattle.lf_floor_model.specs.Runs.{Run}
 use Rattle.lf_floor.proofs.floor.Floor.run.Given as goal
 
 -- any run that goes on from here makes, with the replies so far, a run from the start

@@ -1,6 +1,6 @@
 use Rattle.std.proofs.Common.{[], List, Option, ap, get_or, sym, ◌∙◌}
 use Rattle.std.specs.Prelude.{slice_get}
-use Rattle.lf_units.specs.declared.area.Rect.{Rect}
+use Rattle.lf_units.specs.declared.geometry.Rect.{Rect}
 use Rattle.lf_cells.specs.declared.cell.CellId.{CellId}
 use Rattle.lf_cells.specs.Cells.{cells_of, id_of}
 use Rattle.lf_occupancy.specs.Floorplans.{boxes_in}

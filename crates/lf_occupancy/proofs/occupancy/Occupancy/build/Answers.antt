@@ -1,6 +1,6 @@
 use Rattle.std.proofs.Common.{◌≡◌, ℤ, of_z, rules, subst, sym, to_z, w64}
 use Rattle.lf_occupancy.specs.Floorplans.{boxes_in}
-use Rattle.lf_occupancy.specs.Strips.{AreLanes, felt_strips}
+use Rattle.lf_occupancy.specs.Strips.{ShowAllBoxes, widened_strips}
 use Rattle.lf_occupancy.proofs.occupancy.Occupancy.build.Goals as goal
 
 pub returns : goal.returns
@@ -9,6 +9,6 @@ returns c =
     record {
       index = c.requires.index;
       site = is;
-      holds = subst (λ (s : ℤ). AreLanes (felt_strips s c.args.index.strips) (boxes_in c.args.frame.now c.args.cells.now) c.in_ok-lanes.lanes.items)
+      holds = subst (λ (s : ℤ). ShowAllBoxes (widened_strips s c.args.index.strips) (boxes_in c.args.frame.now c.args.cells.now) c.in_ok-lanes.lanes.items)
           (sym is) c.in_ok-lanes.ensures;
     }

@@ -1,5 +1,5 @@
 use Rattle.std.proofs.Common.{refl, subst, sym, ◌∙◌}
-use Rattle.lf_occupancy.specs.Strips.{CanEnter, Holds, Marked, felt_strips, filled_by}
+use Rattle.lf_occupancy.specs.Strips.{CanEnter, MarksBoxes, Marked, widened_strips, with_boxes}
 use Rattle.lf_occupancy.proofs.Reaching.{lanes_rise, many_still}
 use Rattle.lf_occupancy.proofs.Views.{seen_is_room}
 use Rattle.lf_occupancy.proofs.occupancy.Occupancy.insert.Goals as goal
@@ -20,15 +20,15 @@ pub take_in-requires-clause-rising : goal.take_in-requires-clause-rising
 take_in-requires-clause-rising c =
     let o = c.self.inside in
     let enter = subst (λ (m : Marked). CanEnter m c.args.id c.args.rect.now) (sym c.self.view_is) c.requires.enter in
-    lanes_rise (felt_strips o.site o.index.strips) enter.boxes o.lanes.items enter.holds
+    lanes_rise (widened_strips o.site o.index.strips) enter.boxes o.lanes.items enter.holds
 
 pub take_in-requires-clause-room : goal.take_in-requires-clause-room
 take_in-requires-clause-room c =
     let o = c.self.inside in
     let enter = subst (λ (m : Marked). CanEnter m c.args.id c.args.rect.now) (sym c.self.view_is) c.requires.enter in
-    seen_is_room (filled_by record { index = o.index; site = o.site; lanes = o.lanes.items } enter.boxes) o.lanes.items c.args.id.team c.args.rect.now 1 refl
+    seen_is_room (with_boxes record { index = o.index; site = o.site; lanes = o.lanes.items } enter.boxes) o.lanes.items c.args.id.team c.args.rect.now 1 refl
     enter.holds enter.room
 
 pub returns-clause-holds : goal.returns-clause-holds
 returns-clause-holds c = λ boxes nowhere holds.
-    c.take_in.ensures.lanes boxes nowhere (subst (λ (m : Marked). Holds m boxes) (sym c.self.view_is) holds)
+    c.take_in.ensures.lanes boxes nowhere (subst (λ (m : Marked). MarksBoxes m boxes) (sym c.self.view_is) holds)

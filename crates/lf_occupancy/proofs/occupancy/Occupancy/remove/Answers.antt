@@ -1,5 +1,5 @@
 use Rattle.std.proofs.Common.{subst, sym, ◌∙◌}
-use Rattle.lf_occupancy.specs.Strips.{CanLeave, Holds, Marked, felt_strips}
+use Rattle.lf_occupancy.specs.Strips.{CanLeave, MarksBoxes, Marked, widened_strips}
 use Rattle.lf_occupancy.proofs.Reaching.{many_still}
 use Rattle.lf_occupancy.proofs.Ones.{lanes_have_one}
 use Rattle.lf_occupancy.proofs.occupancy.Occupancy.remove.Goals as goal
@@ -8,7 +8,7 @@ pub take_out-requires-clause-one : goal.take_out-requires-clause-one
 take_out-requires-clause-one c =
     let o = c.self.inside in
     let leave = subst (λ (m : Marked). CanLeave m c.args.id c.args.rect.now) (sym c.self.view_is) c.requires in
-    lanes_have_one (felt_strips o.site o.index.strips) leave.boxes o.lanes.items c.args.id c.args.rect.now leave.holds leave.is
+    lanes_have_one (widened_strips o.site o.index.strips) leave.boxes o.lanes.items c.args.id c.args.rect.now leave.holds leave.is
 
 pub take_out-requires-clause-site : goal.take_out-requires-clause-site
 take_out-requires-clause-site c = c.self.invariant.site
@@ -24,4 +24,4 @@ invariant_of-self c = record {
 
 pub returns-clause-holds : goal.returns-clause-holds
 returns-clause-holds c = λ boxes is holds.
-    c.take_out.ensures.lanes boxes is (subst (λ (m : Marked). Holds m boxes) (sym c.self.view_is) holds)
+    c.take_out.ensures.lanes boxes is (subst (λ (m : Marked). MarksBoxes m boxes) (sym c.self.view_is) holds)

@@ -9,15 +9,15 @@ use Rattle.lf_occupancy.specs.Occupied.{Occupied}
 use Rattle.lf_placement.specs.Placings.{Placing}
 use Rattle.lf_placement.proofs.placement.Placement.best_place.Goals as goal
 
-pub filled-requires-clause-sized : goal.filled-requires-clause-sized
-filled-requires-clause-sized g c = c.self.invariant.placing.sized
+pub with_boxes-requires-clause-sized : goal.with_boxes-requires-clause-sized
+with_boxes-requires-clause-sized g c = c.self.invariant.placing.sized
 
-pub filled-requires-clause-holds : goal.filled-requires-clause-holds
-filled-requires-clause-holds g c = c.self.invariant.holds
+pub with_boxes-requires-clause-holds : goal.with_boxes-requires-clause-holds
+with_boxes-requires-clause-holds g c = c.self.invariant.holds
 
 pub seek-requires-clause-held : goal.seek-requires-clause-held
 seek-requires-clause-held g c =
-    subst (λ (o : Occupied). IsOccupancyOf c.self.inside.frame c.self.inside.cells o) (sym c.filled.ensures) c.self.invariant.placing.follows
+    subst (λ (o : Occupied). IsOccupancyOf c.self.inside.frame c.self.inside.cells o) (sym c.with_boxes.ensures) c.self.invariant.placing.follows
 
 pub seek-requires-clause-sized : goal.seek-requires-clause-sized
 seek-requires-clause-sized g c = c.self.invariant.placing.sized c.args.id.team

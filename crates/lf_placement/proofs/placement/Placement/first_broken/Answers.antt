@@ -1,10 +1,10 @@
 use Rattle.std.proofs.Common.{Option, subst}
 use Rattle.lf_rules.specs.declared.rule.Rule.{Rule}
-use Rattle.lf_placement.specs.Placings.{IsBrokenAlone}
+use Rattle.lf_placement.specs.Placings.{IsBrokenFrameRule}
 use Rattle.lf_placement.proofs.Judging.{broken_alone}
 use Rattle.lf_placement.proofs.placement.Placement.first_broken.Goals as goal
 
 pub returns-in-Some : goal.returns-in-Some
 returns-in-Some c =
     broken_alone c.args.self.now c.args.padding.sites c.args.id c.args.place.now c.in-Some.rule
-    (subst (λ (r : Option Rule). IsBrokenAlone c.args.self.now c.args.id c.args.place.now r) c.in-Some.is c.broken_alone.ensures)
+    (subst (λ (r : Option Rule). IsBrokenFrameRule c.args.self.now c.args.id c.args.place.now r) c.in-Some.is c.broken_frame_rule.ensures)

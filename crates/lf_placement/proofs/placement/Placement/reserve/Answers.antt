@@ -3,7 +3,7 @@ use Rattle.std.proofs.lemmas.Result.{on_ok_weaker}
 use Rattle.lf_cells.specs.Cells.{cells_of}
 use Rattle.lf_occupancy.specs.Occupied.{FitIn}
 use Rattle.lf_occupancy.specs.Floorplans.{box_of}
-use Rattle.lf_placement.specs.Placings.{Placing, boxes_at, made, placing_of, places_of}
+use Rattle.lf_placement.specs.Placings.{Placing, boxes_at, moves_applied, placing_of, places_of}
 use Rattle.lf_placement.proofs.Keeping.{made_fits, placing_grown}
 use Rattle.lf_placement.proofs.placement.Placement.reserve.Goals as goal
 
@@ -12,22 +12,22 @@ returns-clause-ok c =
     let f = c.self.inside.frame in
     let old = cells_of c.self.inside.cells c.args.team in
     let moves = c.args.moves.now in
-    let p = placing_of f c.self.inside.cells c.make_room.new.occupancy in
-    on_ok_weaker c.make_room.result
-    (λ (fits : FitIn p.held c.args.team (map (box_of f) (made moves old))).
-    subst (λ (q : Placing). FitIn p.held c.args.team (boxes_at f old (places_of (made moves (cells_of q.cells c.args.team)))))
+    let p = placing_of f c.self.inside.cells c.reserve_moves.new.occupancy in
+    on_ok_weaker c.reserve_moves.result
+    (λ (fits : FitIn p.held c.args.team (map (box_of f) (moves_applied moves old))).
+    subst (λ (q : Placing). FitIn p.held c.args.team (boxes_at f old (places_of (moves_applied moves (cells_of q.cells c.args.team)))))
     c.self.view_is
-    (made_fits p c.args.team moves fits)) c.make_room.ensures.ok
+    (made_fits p c.args.team moves fits)) c.reserve_moves.ensures.ok
 
-pub make_room-requires-clause-sized : goal.make_room-requires-clause-sized
-make_room-requires-clause-sized c = c.self.invariant.placing.sized c.args.team
+pub reserve_moves-requires-clause-sized : goal.reserve_moves-requires-clause-sized
+reserve_moves-requires-clause-sized c = c.self.invariant.placing.sized c.args.team
 
-pub make_room-requires-clause-holds : goal.make_room-requires-clause-holds
-make_room-requires-clause-holds c = c.self.invariant.holds
+pub reserve_moves-requires-clause-holds : goal.reserve_moves-requires-clause-holds
+reserve_moves-requires-clause-holds c = c.self.invariant.holds
 
 pub invariant_of-self : goal.invariant_of-self
 invariant_of-self c = record {
-  holds = c.make_room.ensures.holds;
-  placing = placing_grown c.self.inside.frame c.self.inside.cells c.self.inside.occupancy c.make_room.new.occupancy c.self.invariant.placing
-      c.make_room.ensures.index c.make_room.ensures.site c.make_room.ensures.rooms;
+  holds = c.reserve_moves.ensures.holds;
+  placing = placing_grown c.self.inside.frame c.self.inside.cells c.self.inside.occupancy c.reserve_moves.new.occupancy c.self.invariant.placing
+      c.reserve_moves.ensures.index c.reserve_moves.ensures.site c.reserve_moves.ensures.rooms;
 }

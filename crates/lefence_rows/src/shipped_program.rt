@@ -1,0 +1,156 @@
+//! What the program itself answers of a row: the report of `lefence check`, and the replies and the exported text of
+//! `lefence replay`, over texts in memory.
+
+ghost use Rattle.std.specs.Prelude.{◌≡◌, false};
+
+use lf_app::{
+    Acceptor, BindFailure, ClientReader, ClientWriter, Connection, Environment, InputFiles,
+    NoProgress, PortListener, ReadFailure, ServiceConfig, Slots, Task, perform_over, single_chunk,
+};
+use lf_io::{DeviceFault, FromRead, ToWrite};
+use lf_io_files::{OutputFiles, TextSource, WriteFailure};
+use lf_units::Sequence;
+use std::alloc::{AllocError, Global};
+use std::collections::VecDeque;
+
+/// The path of the LEF text; that of every other text is the DEF text's.
+const LEF: &str = "row.lef";
+
+/// The texts of a row.
+#[derive(Clone, Copy)]
+pub struct RowTexts<'a> {
+    pub alloc: Global,
+    pub lef: &'a [u8],
+    pub def: &'a [u8],
+}
+
+impl<'a> InputFiles for RowTexts<'a> {
+    fn text(&self, path: &str) -> Result<Vec<u8>, ReadFailure> {
+        let text = if path == LEF { self.lef } else { self.def };
+        match Vec::from_slice(self.alloc, text) {
+            Ok(copy) => Ok(copy),
+            Err(_) => Err(ReadFailure::OutOfMemory),
+        }
+    }
+
+    fn pieces(&self, alloc: Global, path: &str) -> Result<VecDeque<Vec<u8>>, ReadFailure> {
+        single_chunk(alloc, self.text(path)?)
+    }
+}
+
+/// The last exported text.
+#[derive(Drop)]
+struct KeptExport {
+    text: Vec<u8>,
+}
+
+impl OutputFiles for KeptExport {
+    ghost has_failed = { λ _. false };
+
+    fn try_path(&mut self, _path: &str) -> Result<(), WriteFailure> {
+        Ok(())
+    }
+
+    fn put<P: TextSource>(&mut self, _path: &str, text: &P) -> Result<(), WriteFailure> {
+        self.text.clear();
+        match text.write_to(&mut self.text) {
+            Ok(()) => Ok(()),
+            Err(_) => Err(WriteFailure::OutOfMemory),
+        }
+    }
+}
+
+/// No services: none can be offered.
+#[derive(Clone, Copy)]
+struct NoServices {
+    failed: bool,
+}
+
+impl Acceptor for NoServices {
+    type Reader = ClientReader<&'static [u8]>;
+
+    type Writer = ClientWriter<Vec<u8>>;
+
+    ghost has_failed = { λ s. s.failed };
+
+    fn accept(
+        &mut self,
+    ) -> Result<Connection<ClientReader<&'static [u8]>, ClientWriter<Vec<u8>>>, DeviceFault> {
+        self.failed = true;
+        Err(DeviceFault)
+    }
+
+    fn close(&mut self, connection: Connection<ClientReader<&'static [u8]>, ClientWriter<Vec<u8>>>)
+        ensures failed { self.new.failed ≡ self.old.failed }
+    {
+        drop(connection);
+    }
+}
+
+impl PortListener for NoServices {
+    fn listen(&mut self, _offer: &ServiceConfig) -> Result<(), BindFailure> {
+        self.failed = true;
+        Err(BindFailure::Other)
+    }
+}
+
+/// What a task wrote, and the text that it exported, if it did.
+#[derive(Drop)]
+pub struct Shipped {
+    pub written: Vec<u8>,
+    pub exported: Vec<u8>,
+}
+
+/// Does the task over these texts and lines; what is told of a fault stands behind what is written.
+fn performed(texts: &RowTexts<'_>, task: &Task<'_>, lines: &[u8]) -> Result<Shipped, AllocError> {
+    let mut reader = lines;
+    let mut written = Vec::new(texts.alloc);
+    let mut faults = Vec::new(texts.alloc);
+    let mut around = Environment {
+        texts: *texts,
+        exports: KeptExport {
+            text: Vec::new(texts.alloc),
+        },
+        services: NoServices { failed: false },
+        reader: FromRead::new(&mut reader),
+        writer: ToWrite::new(&mut written),
+        faults: ToWrite::new(&mut faults),
+        progress: NoProgress,
+    };
+    perform_over(texts.alloc, &mut around, task);
+    let exported = around.exports.text;
+    written.extend_from_slice(&faults)?;
+    Ok(Shipped { written, exported })
+}
+
+/// The list of the LEF path alone.
+fn lef_alone(alloc: Global) -> Result<Sequence<&'static str>, AllocError> {
+    let mut lefs = Sequence::new(alloc);
+    lefs.push(LEF)?;
+    Ok(lefs)
+}
+
+/// What `lefence check` writes.
+pub fn report(texts: &RowTexts<'_>) -> Result<Vec<u8>, AllocError> {
+    let task = Task::Check {
+        def: "row.def",
+        lefs: lef_alone(texts.alloc)?,
+        state: None,
+        slots: Slots::standard(),
+    };
+    Ok(performed(texts, &task, b"")?.written)
+}
+
+/// What `lefence replay --export` writes of these lines.
+pub fn replay(texts: &RowTexts<'_>, lines: &[u8]) -> Result<Shipped, AllocError> {
+    let task = Task::Replay {
+        def: "row.def",
+        lefs: lef_alone(texts.alloc)?,
+        state: None,
+        slots: Slots::standard(),
+        lines: 1_000,
+        save: None,
+        export: Some("row.out"),
+    };
+    performed(texts, &task, lines)
+}

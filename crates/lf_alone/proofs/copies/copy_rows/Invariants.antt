@@ -1,6 +1,0 @@
-use Rattle.std.proofs.Common.{◌≡◌, ◌++◌, drop}
-use Rattle.lf_alone.proofs.copies.copy_rows.Given as goal
-
--- the copies so far, followed by the rows that are left, are all of them
-abbrev pub invariant-loop-row : goal.invariant-loop-row
-invariant-loop-row l = l.copies ++ drop l.row-index l.rows ≡ l.rows

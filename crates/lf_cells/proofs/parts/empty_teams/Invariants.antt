@@ -1,5 +1,0 @@
-use Rattle.std.proofs.Common.{◌≡◌, [], replicate}
-use Rattle.lf_cells.proofs.parts.empty_teams.Given as goal
-
-abbrev pub invariant-loop : goal.invariant-loop
-invariant-loop l = l.teams.items ≡ replicate l.counter []

@@ -1,7 +1,0 @@
-use Rattle.std.proofs.Common.{◌≡◌, ◌++◌, map, take, drop}
-use Rattle.lf_cells.specs.Slots.{committed_slot}
-use Rattle.lf_cells.proofs.slots.commit_all.Given as goal
-
--- the cells before this one are committed
-abbrev pub invariant-loop-i : goal.invariant-loop-i
-invariant-loop-i l = l.slots.items ≡ map committed_slot (take l.i l.initial.slots.items) ++ drop l.i l.initial.slots.items

@@ -1,8 +1,0 @@
-use Rattle.lf_claims.proofs.KeyLemmas.{tells_under}
-use Rattle.lf_claims.proofs.starred.PatternsAtEnd.claim_under.Goals as goal
-
-pub returns-in-Some : goal.returns-in-Some
-returns-in-Some c =
-    let part = rw c.in-Some.is at c.part_at.ensures in
-    tells_under c.args.self.now c.args.name.now c.in-Some.part.now c.args.count c.claim_by_trial.result part.0 part.1
-    (rw c.kept_under.ensures at c.claim_by_trial.ensures)

@@ -1,0 +1,8 @@
+use Rattle.std.proofs.Common.{◌≡◌, drop, fold}
+use Rattle.clap.specs.Simple.{app_of}
+use Rattle.lf_cli.specs.Command.{command_line, with_line}
+use Rattle.lf_cli.proofs.subcommand.command_line.Given as goal
+
+-- with the subcommands that are left the command is whole
+abbrev pub invariant-loop-chosen : goal.invariant-loop-chosen
+invariant-loop-chosen l = fold with_line (app_of l.command) (drop l.chosen-index l.chosen-items) ≡ command_line

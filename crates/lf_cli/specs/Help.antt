@@ -1,0 +1,15 @@
+-- Words that ask what the program can be asked.
+use Rattle.std.specs.Prelude.{ℕ, List, [], ◌∷◌, Option, Some, None, option_map, bytes_eq, codes, if◌then◌else◌}
+use Rattle.lf_cli.specs.Command.{subcommand_named}
+use Rattle.lf_cli.specs.declared.help.Help.{Help}
+use Rattle.lf_cli.specs.declared.help.Help.TheVariants.{Program, Version, Of}
+
+-- what the words ask to be told: behind the program's name '--help' or '--version' stands alone, or a subcommand and '--help'
+abbrev pub help_asked : List (List ℕ) → Option Help
+help_asked (name ∷ word ∷ []) =
+    if bytes_eq word (codes "--help") then Some Program
+    else if bytes_eq word (codes "--version") then Some Version
+    else None
+help_asked (name ∷ subcommand ∷ word ∷ []) =
+    if bytes_eq word (codes "--help") then option_map (λ chosen. Of chosen) (subcommand_named subcommand) else None
+help_asked _ = None

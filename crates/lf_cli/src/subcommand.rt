@@ -1,0 +1,256 @@
+//! The subcommands of the program, as they are declared to `clap`.
+
+ghost use Rattle.std.specs.Prelude.{◌≡◌, [], ◌∷◌, bytes_eq, codes, false, fold, IfOk, position};
+ghost use Rattle.clap.specs.Simple.{app_of, with_rule};
+ghost use Rattle.clap.specs.Walk.{rule_of};
+ghost use Rattle.clap.specs.declared.builder.command.Command.TheViews.{out-Command};
+ghost use Rattle.lf_cli.specs.declared.subcommand.Subcommand.TheVariants.{Repair, Replay, Serve};
+ghost use Rattle.lf_cli.specs.Command.{command_line, def_rule, design_line, flag_rule, lef_rule, line_of, needed, number_rule, repeated_rule, slots_rule, subcommand_named, text_rule, with_line, word_of};
+
+use crate::session_slots::MOST_SLOTS;
+use clap::builder::ValueParser;
+use clap::{Arg, ArgAction, Command};
+use std::alloc::{AllocError, Global};
+
+/// The most connections that a service accepts.
+pub(crate) const MOST_CONNECTIONS: u32 = 1_000_000;
+
+/// A subcommand of the program.
+#[derive(Clone, Copy, Debug, PartialEq, Eq)]
+pub enum Subcommand {
+    /// Answers the lines of standard input over the built-in design.
+    Demo,
+    /// Reports on a design.
+    Check,
+    /// Writes a design as JSON Lines.
+    Describe,
+    /// Answers the lines of standard input over a design.
+    Replay,
+    /// Answers the lines of connections over a design.
+    Serve,
+    /// Gives the cells of a design legal places.
+    Repair,
+}
+
+/// All subcommands, in the order in which they are listed.
+const SUBCOMMANDS: [Subcommand; 6] = [
+    Subcommand::Demo,
+    Subcommand::Check,
+    Subcommand::Describe,
+    Subcommand::Replay,
+    Subcommand::Serve,
+    Subcommand::Repair,
+];
+
+/// The word of a subcommand.
+fn word_of(chosen: Subcommand) -> &'static str
+    ensures { result.now ≡ word_of chosen }
+{
+    match chosen {
+        Subcommand::Demo => "demo",
+        Subcommand::Check => "check",
+        Subcommand::Describe => "describe",
+        Subcommand::Replay => "replay",
+        Subcommand::Serve => "serve",
+        Subcommand::Repair => "repair",
+    }
+}
+
+/// Where the subcommand of that word stands among these.
+fn position_of(subcommands: &[Subcommand], word: &str) -> Option<usize>
+    ensures { result ≡ position (λ chosen. bytes_eq (word_of chosen) word.now) subcommands.now }
+{
+    subcommands
+        .iter()
+        .position(|chosen| word_of(*chosen) == word)
+}
+
+/// The subcommand of that word.
+pub(crate) fn subcommand_named(word: &str) -> Option<Subcommand>
+    ensures { result ≡ subcommand_named word.now }
+{
+    let subcommands: &[Subcommand] = &SUBCOMMANDS;
+    let position = position_of(subcommands, word)?;
+    subcommands.get(position).copied()
+}
+
+/// The path of the DEF text.
+fn def_path<'a>(alloc: Global) -> Arg<'a>
+    ensures rule { rule_of result ≡ def_rule }
+    ensures local { result.global ≡ false }
+{
+    Arg::new(alloc, "def").required(true)
+}
+
+/// The paths of the LEF texts, one at least.
+fn lef_paths<'a>(alloc: Global) -> Arg<'a>
+    ensures rule { rule_of result ≡ lef_rule }
+    ensures local { result.global ≡ false }
+{
+    Arg::new(alloc, "lef")
+        .required(true)
+        .num_args(1..)
+        .action(ArgAction::Append)
+}
+
+/// An option whose value is a text, which stands once at most.
+fn text<'a>(alloc: Global, name: &'a str) -> Arg<'a>
+    ensures rule { rule_of result ≡ text_rule name.now }
+    ensures local { result.global ≡ false }
+{
+    Arg::new(alloc, name).long(name)
+}
+
+/// An option whose value is a text, which may stand more than once.
+fn repeated<'a>(alloc: Global, name: &'a str) -> Arg<'a>
+    ensures rule { rule_of result ≡ repeated_rule name.now }
+    ensures local { result.global ≡ false }
+{
+    text(alloc, name).action(ArgAction::Append)
+}
+
+/// An option without a value.
+fn flag<'a>(alloc: Global, name: &'a str) -> Arg<'a>
+    ensures rule { rule_of result ≡ flag_rule name.now }
+    ensures local { result.global ≡ false }
+{
+    text(alloc, name).action(ArgAction::SetTrue)
+}
+
+/// An option whose value is a number from 1 up to this one.
+fn number<'a>(alloc: Global, name: &'a str, most: u64) -> Arg<'a>
+    ensures rule { rule_of result ≡ number_rule name.now most }
+    ensures local { result.global ≡ false }
+{
+    text(alloc, name).value_parser(ValueParser::unsigned(1, most))
+}
+
+/// An option that may not be left out, whose value is a number from 1 up to this one.
+fn needed_number<'a>(alloc: Global, name: &'a str, most: u64) -> Arg<'a>
+    ensures rule { rule_of result ≡ needed (number_rule name.now most) }
+    ensures local { result.global ≡ false }
+{
+    number(alloc, name, most).required(true)
+}
+
+/// A subcommand of that name, whose words are the paths of a design.
+fn over_design<'a>(alloc: Global, name: &'a str) -> Result<Command<'a>, AllocError>
+    ensures line { IfOk result (λ made. app_of made ≡ design_line name.now []) }
+    ensures local { IfOk result (λ made. (out-Command made).has_globals ≡ false) }
+{
+    Command::new(alloc, name)
+        .arg(def_path(alloc))?
+        .arg(lef_paths(alloc))
+}
+
+/// The number of session slots of each team.
+fn slots<'a>(alloc: Global) -> Arg<'a>
+    ensures rule { rule_of result ≡ slots_rule }
+    ensures local { result.global ≡ false }
+{
+    number(alloc, "sessions", MOST_SLOTS as u64)
+}
+
+/// A subcommand of that name that looks at a design, which may stand as a saved state tells.
+fn look<'a>(alloc: Global, name: &'a str) -> Result<Command<'a>, AllocError>
+    ensures line { IfOk result (λ made. app_of made ≡ design_line name.now (text_rule (codes "state") ∷ slots_rule ∷ [])) }
+    ensures local { IfOk result (λ made. (out-Command made).has_globals ≡ false) }
+{
+    let command = over_design(alloc, name)?.arg(text(alloc, "state"))?;
+    command.arg(slots(alloc))
+}
+
+/// What a subcommand that answers lines may have besides the paths of the design: the path of the saved state, the number of session
+/// slots, and the paths of the state and of the text that are written.
+fn with_outputs<'a>(alloc: Global, command: Command<'a>) -> Result<Command<'a>, AllocError>
+    requires local { (out-Command command).has_globals ≡ false }
+    ensures line { IfOk result (λ made. app_of made ≡ fold with_rule (app_of command.entry)
+        (text_rule (codes "state") ∷ slots_rule ∷ text_rule (codes "save") ∷ text_rule (codes "export") ∷ [])) }
+    ensures local { IfOk result (λ made. (out-Command made).has_globals ≡ false) }
+{
+    command
+        .arg(text(alloc, "state"))?
+        .arg(slots(alloc))?
+        .arg(text(alloc, "save"))?
+        .arg(text(alloc, "export"))
+}
+
+/// The subcommand that answers the lines of standard input.
+fn replay<'a>(alloc: Global) -> Result<Command<'a>, AllocError>
+    ensures line { IfOk result (λ made. app_of made ≡ line_of Replay) }
+    ensures local { IfOk result (λ made. (out-Command made).has_globals ≡ false) }
+{
+    let most = u32::MAX as u64;
+    let command = over_design(alloc, "replay")?.arg(number(alloc, "lines", most))?;
+    with_outputs(alloc, command)
+}
+
+/// The subcommand that answers the lines of connections.
+fn serve<'a>(alloc: Global) -> Result<Command<'a>, AllocError>
+    ensures line { IfOk result (λ made. app_of made ≡ line_of Serve) }
+    ensures local { IfOk result (λ made. (out-Command made).has_globals ≡ false) }
+{
+    let command = over_design(alloc, "serve")?
+        .arg(needed_number(alloc, "port", u16::MAX as u64))?
+        .arg(needed_number(alloc, "connections", MOST_CONNECTIONS as u64))?;
+    with_outputs(alloc, command)
+}
+
+/// The subcommand that gives cells legal places, with the options that say which cells move.
+fn repair_of_cells<'a>(alloc: Global) -> Result<Command<'a>, AllocError>
+    ensures line { IfOk result (λ made. app_of made
+        ≡ design_line (codes "repair") (repeated_rule (codes "team") ∷ flag_rule (codes "keep") ∷ flag_rule (codes "all") ∷ [])) }
+    ensures local { IfOk result (λ made. (out-Command made).has_globals ≡ false) }
+{
+    over_design(alloc, "repair")?
+        .arg(repeated(alloc, "team"))?
+        .arg(flag(alloc, "keep"))?
+        .arg(flag(alloc, "all"))
+}
+
+/// The subcommand that gives cells legal places.
+fn repair<'a>(alloc: Global) -> Result<Command<'a>, AllocError>
+    ensures line { IfOk result (λ made. app_of made ≡ line_of Repair) }
+    ensures local { IfOk result (λ made. (out-Command made).has_globals ≡ false) }
+{
+    repair_of_cells(alloc)?
+        .arg(text(alloc, "export"))?
+        .arg(text(alloc, "lines"))
+}
+
+/// The words that a subcommand takes.
+fn line_of<'a>(alloc: Global, chosen: Subcommand) -> Result<Command<'a>, AllocError>
+    ensures line { IfOk result (λ made. app_of made ≡ line_of chosen) }
+    ensures local { IfOk result (λ made. (out-Command made).has_globals ≡ false) }
+{
+    match chosen {
+        Subcommand::Demo => Ok(Command::new(alloc, "demo")),
+        Subcommand::Check => look(alloc, "check"),
+        Subcommand::Describe => look(alloc, "describe"),
+        Subcommand::Replay => replay(alloc),
+        Subcommand::Serve => serve(alloc),
+        Subcommand::Repair => repair(alloc),
+    }
+}
+
+/// The command with one more subcommand.
+fn with<'a>(
+    alloc: Global,
+    command: Command<'a>,
+    chosen: Subcommand,
+) -> Result<Command<'a>, AllocError>
+    ensures { IfOk result (λ made. app_of made ≡ with_line (app_of command.entry) chosen) }
+{
+    command.subcommand(line_of(alloc, chosen)?)
+}
+
+/// The command line that the program takes.
+pub(crate) fn command_line<'a>(alloc: Global) -> Result<Command<'a>, AllocError>
+    ensures { IfOk result (λ made. app_of made ≡ command_line) }
+{
+    let mut command = Command::new(alloc, "lefence");
+    for chosen in &SUBCOMMANDS {
+        command = with(alloc, command, *chosen)?;
+    }
+    Ok(command)
+}

@@ -1,5 +1,0 @@
-use Rattle.lf_command.proofs.Found.{subcommand_is}
-use Rattle.lf_command.proofs.command.subcommand_found.Goals as goal
-
-pub returns : goal.returns
-returns c = subcommand_is c.args.matches.now c.subcommand.result c.subcommand.ensures.name c.subcommand.ensures.rows

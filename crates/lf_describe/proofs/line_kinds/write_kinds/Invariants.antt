@@ -1,0 +1,13 @@
+use Rattle.std.proofs.Common.{◌≡◌, ◌++◌, take}
+use Rattle.std.specs.Prelude.{flat_map}
+use Rattle.lf_describe.specs.Parts.{part_text}
+use Rattle.lf_describe.specs.Written.{WritesFrontOf}
+use Rattle.lf_describe.proofs.line_kinds.write_kinds.Given as goal
+
+-- of what waited and the parts so far, this waits
+abbrev pub invariant-loop-part : goal.invariant-loop-part
+invariant-loop-part g l = record {
+  left : WritesFrontOf (g.W.Sink.contents l.fn.writer) (g.W.Sink.contents l.writer) (l.fn.waiting.items ++ flat_map (part_text l.told) (take l.part-index l.parts)) l.waiting.items;
+  failed : g.W.Sink.has_failed l.writer ≡ g.W.Sink.has_failed l.fn.writer;
+  held : g.W.Sink.holds l.writer ≡ g.W.Sink.holds l.fn.writer;
+}

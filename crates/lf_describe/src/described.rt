@@ -1,0 +1,19 @@
+//! What is told of a design.
+
+ghost use Rattle.std.specs.Prelude.{◌≡◌, All, length};
+ghost use Rattle.lf_reports.specs.Reports.{IsListed, named};
+
+use lf_floorplan::Frame;
+use lf_rules::{Broken, Listed};
+
+/// What is told of a design: the frame, the names of the FIXED components in the order of the DEF text, and the movable cells
+/// in loading order, each with the first rule that it breaks.
+#[derive(Clone, Copy)]
+pub(crate) struct DescribedDesign<'a> {
+    pub(crate) frame: &'a Frame,
+    pub(crate) names: &'a [&'a [u8]],
+    pub(crate) cells: &'a [Listed<&'a [u8]>],
+    pub(crate) verdicts: &'a [Option<Broken>],
+    pub(crate) ghost listed: { All (λ c. IsListed frame.now (named c)) cells.now },
+    pub(crate) ghost judged: { length verdicts.now ≡ length cells.now },
+}

@@ -1,9 +1,0 @@
-use Rattle.std.proofs.Common.{drop, map}
-use Rattle.lf_designs.proofs.DesignSteps.{GoesOn}
-use Rattle.lf_designs.proofs.designs.add_files.Given as goal
-
--- what is left of the paths goes on with the library
-abbrev pub invariant-loop-path : goal.invariant-loop-path
-invariant-loop-path g l = record {
-  goes_on : GoesOn (g.T.Texts.gives l.texts) l.fn.library l.library (map (λ path. path.now) l.paths) (map (λ path. path.now) (drop l.path-index l.paths));
-}

@@ -1,7 +1,0 @@
-use Rattle.std.proofs.Common.{◌≡◌, ◌++◌, drop}
-use Rattle.lf_designs.specs.Checks.{def_places}
-use Rattle.lf_designs.proofs.reports.def_places.Given as goal
-
--- the places so far, followed by those of the cells that are left, are all
-abbrev pub invariant-loop-at : goal.invariant-loop-at
-invariant-loop-at l = l.places.items ++ def_places (drop l.at l.cells) ≡ def_places l.cells

@@ -1,6 +1,0 @@
-use Rattle.std.specs.Io.KnownBytes.{Keeps}
-use Rattle.lf_devices.proofs.adapt.flush_through.Given as goal
-
--- flushing puts nothing
-abbrev pub invariant-loop : goal.invariant-loop
-invariant-loop g l = Keeps (g.W.Write.contents l.fn.writer) (g.W.Write.contents l.writer)

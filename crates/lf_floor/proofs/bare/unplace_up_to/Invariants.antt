@@ -1,5 +1,0 @@
-use Rattle.lf_floor.specs.Bare.{AreSameCells}
-use Rattle.lf_floor.proofs.bare.unplace_up_to.Given as goal
-
-abbrev pub invariant-loop-own : goal.invariant-loop-own
-invariant-loop-own l = AreSameCells l.fn.cells l.cells

@@ -1,5 +1,0 @@
-use Rattle.lf_floor.specs.Bare.{AreSameCells}
-use Rattle.lf_floor.proofs.bare.unplaced.Given as goal
-
-abbrev pub invariant-loop-team : goal.invariant-loop-team
-invariant-loop-team l = AreSameCells l.fn.cells l.bare

@@ -1,6 +1,0 @@
-use Rattle.lf_state.specs.Saved.{team_views}
-use Rattle.lf_floor.proofs.Placing.{as_many}
-use Rattle.lf_floor.proofs.restored.place_cells.Goals as goal
-
-pub place_teams-requires : goal.place_teams-requires
-place_teams-requires c = as_many (team_views c.args.rows.now) c.args.tables c.requires.tables c.requires.due

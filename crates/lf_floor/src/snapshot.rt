@@ -1,0 +1,87 @@
+//! What is saved of a floor, as a value of which a text is put.
+
+ghost use Rattle.std.specs.Prelude.{All, ⊤};
+ghost use Rattle.lf_team_def.specs.Output.{PutsText};
+ghost use Rattle.lf_state_text.specs.Saved.{IsInRange, state_text};
+ghost use Rattle.lf_state_restore.specs.Saved.{IsStateText, named};
+ghost use Rattle.lf_floor.specs.Saving.{state_text_of, saved_teams_of};
+ghost use Rattle.lf_floor_verbs.specs.Tables.{AreTables, floor_in};
+
+use crate::floor::Floor;
+use crate::state_view::{StateView, fences_are_few};
+use lf_floor_verbs::Tables;
+use lf_legalize::Seeker;
+use lf_state_text::write_state;
+use lf_team_def::Output;
+use std::marker::Model;
+
+/// An output that drops what is put.
+#[derive(Drop)]
+struct NullOutput;
+
+impl Output for NullOutput {
+    ghost took = { λ _ _ _. ⊤ };
+
+    fn put(&mut self, _bytes: &[u8]) {}
+}
+
+/// What is saved of a floor, of which a text is put from the floor itself.
+///
+/// Contracts see the design by its names, and the saved teams.
+#[derive(Drop)]
+pub struct StateSnapshot<'a> {
+    tables: &'a Tables,
+}
+
+impl<'a> Model for StateSnapshot<'a> {
+    ghost use Rattle.std.specs.Prelude.{List};
+    ghost use Rattle.lf_state_text.specs.Designs.{NamedDesign};
+    ghost use Rattle.lf_state_text.specs.Saved.{SavedTeam};
+    ghost use Rattle.lf_state_restore.specs.Saved.{named};
+    ghost use Rattle.lf_floor.specs.Saving.{saved_teams_of};
+    ghost use Rattle.lf_floor_verbs.specs.Tables.{AreTables, floor_in};
+
+    ghost Value = { NamedDesign × List SavedTeam };
+
+    ghost view = { λ s. (named (floor_in s.tables.now), saved_teams_of s.tables.now) };
+
+    ghost invariant = { λ s. AreTables s.tables.now };
+}
+
+/// Puts the text of what is told of the tables.
+fn write_tables<O: Output>(out: &mut O, tables: &Tables)
+    requires { AreTables tables.now }
+    ensures text { PutsText O.took out.old out.new (state_text (named (floor_in tables.now)) (saved_teams_of tables.now)) }
+    ensures in_range { All IsInRange (saved_teams_of tables.now) }
+{
+    let told = StateView { tables };
+    write_state(out, &told, &told);
+}
+
+impl<'a> StateSnapshot<'a> {
+    /// Puts the text, and takes no memory.
+    pub fn write_text<O: Output>(&self, out: &mut O)
+        ensures { PutsText O.took out.old out.new (state_text_of self.now) }
+    {
+        write_tables(out, self.tables);
+    }
+}
+
+/// What is saved of the floor of the tables. Each place is looked at, so that it has a text.
+fn snapshot_of(tables: &Tables) -> StateSnapshot<'_>
+    requires { AreTables tables.now }
+    ensures { IsStateText (floor_in tables.now) (state_text_of result) }
+{
+    fences_are_few(tables.placement.frame());
+    write_tables(&mut NullOutput, tables);
+    StateSnapshot { tables }
+}
+
+impl<S: Seeker + Drop> Floor<S> {
+    /// What is saved of the floor: a text of its state, from which `restore` brings it back.
+    pub fn snapshot(&self) -> StateSnapshot<'_>
+        ensures { IsStateText self.now (state_text_of result) }
+    {
+        snapshot_of(&self.tables)
+    }
+}

@@ -1,0 +1,258 @@
+//! What a state text tells of a floor.
+
+ghost use Rattle.std.specs.Prelude.{◌≡◌, ◌<◌, ◌≤◌, List, ℕ, length, map, option_map, slice_get};
+ghost use Rattle.lf_cells.specs.Cells.{cells_of};
+ghost use Rattle.lf_team_def.specs.Output.{PutsText};
+ghost use Rattle.lf_floor_model.specs.Teams.{team_names};
+ghost use Rattle.lf_state_restore.specs.Saved.{IsStateText, named, saved_cell};
+ghost use Rattle.lf_state_text.specs.Designs.{team_of};
+ghost use Rattle.lf_state_text.specs.Saved.{moves_within, saved_at};
+ghost use Rattle.lf_floor.specs.Saving.{saved_teams_of};
+ghost use Rattle.lf_floor_verbs.specs.Tables.{AreTables, floor_in};
+
+use crate::floor::Floor;
+use lf_cells::CellTable;
+use lf_floor_verbs::Tables;
+use lf_floorplan::{Frame, Limits, PackedPlace};
+use lf_legalize::Seeker;
+use lf_rules::Padding;
+use lf_state_text::{DesignSchema, SavedCell, TeamViews, write_state};
+use lf_team_def::Output;
+use lf_undo::Moves;
+use std::marker::Model;
+
+/// The name of the team of that number, the ground team's last; none iff there is no such team.
+pub fn team_name(frame: &Frame, team: usize) -> Option<&[u8]>
+    ensures { option_map (λ name. name.now) result ≡ slice_get (team_names frame.now) team }
+{
+    match frame.teams.as_slice().get(team) {
+        Some(fence) => Some(fence.name.as_bytes()),
+        None => {
+            if team != frame.teams.len() {
+                return None;
+            }
+            Some(b"-")
+        }
+    }
+}
+
+/// The name of the team's cell of that position; none iff it has no such cell.
+fn cell_name(cells: &CellTable, team: usize, own: usize) -> Option<&[u8]>
+    ensures { option_map (λ name. name.now) result ≡ slice_get (map (λ c. c.name) (cells_of cells.now team)) own }
+{
+    let id = cells.cell_of(team, own)?;
+    Some(cells.cell(id)?.name)
+}
+
+/// Where the team's cell of that position stands; none iff it has no such cell.
+fn saved_cell(cells: &CellTable, team: usize, own: usize) -> Option<SavedCell>
+    ensures { result ≡ slice_get (map saved_cell (cells_of cells.now team)) own }
+{
+    let id = cells.cell_of(team, own)?;
+    Some(SavedCell {
+        working: PackedPlace::of(cells.working(id)),
+        committed: PackedPlace::of(cells.committed(id)),
+    })
+}
+
+/// A law: a frame has at most 1,024 fences.
+pub(crate) fn fences_are_few(frame: &Frame)
+    ensures { length frame.now.teams ≤ 1024 }
+{
+    let _most = frame.limits.fences;
+    let _ = &frame.teams;
+}
+
+/// How many teams there are.
+fn count_teams(tables: &Tables) -> usize
+    requires { AreTables tables.now }
+    ensures { result ≡ length (named (floor_in tables.now)).teams }
+{
+    tables.placement.frame().teams.len() + 1
+}
+
+/// The name of the team of that number; none iff there is no such team.
+fn name_of_team(tables: &Tables, team: usize) -> Option<&[u8]>
+    requires { AreTables tables.now }
+    ensures { option_map (λ name. name.now) result ≡ option_map (λ t. t.name) (slice_get (named (floor_in tables.now)).teams team) }
+{
+    team_name(tables.placement.frame(), team)
+}
+
+/// How many cells the team has; 0 if there is no such team.
+fn count_cells(tables: &Tables, team: usize) -> usize
+    requires { AreTables tables.now }
+    ensures { result ≡ length (team_of (named (floor_in tables.now)) team).cells }
+{
+    if team > tables.placement.frame().teams.len() {
+        return 0;
+    }
+    tables.placement.cells().cells_of(team).len()
+}
+
+/// The name of the team's cell of that position; none iff it has no such cell.
+fn name_of_cell(tables: &Tables, team: usize, own: usize) -> Option<&[u8]>
+    requires { AreTables tables.now }
+    ensures { option_map (λ name. name.now) result ≡ slice_get (team_of (named (floor_in tables.now)) team).cells own }
+{
+    if team > tables.placement.frame().teams.len() {
+        return None;
+    }
+    cell_name(tables.placement.cells(), team, own)
+}
+
+/// What is told of the team's revision.
+fn saved_revision(tables: &Tables, team: usize) -> u32
+    requires { team < length (saved_teams_of tables.now) }
+    ensures { result ≡ (saved_at (saved_teams_of tables.now) team).revision }
+{
+    tables.revision(team)
+}
+
+/// What is told of its padding.
+fn told_padding(tables: &Tables, team: usize) -> Padding
+    requires { team < length (saved_teams_of tables.now) }
+    ensures { result.sites ≡ (saved_at (saved_teams_of tables.now) team).padding }
+{
+    tables.padding(team)
+}
+
+/// What is told of its session slots.
+fn told_slots(tables: &Tables, team: usize) -> &[Option<u32>]
+    requires { team < length (saved_teams_of tables.now) }
+    ensures { result.now ≡ (saved_at (saved_teams_of tables.now) team).slots }
+{
+    tables.sessions.slots(team)
+}
+
+/// How many of its cells are told of.
+fn told_cells(tables: &Tables, team: usize) -> usize
+    requires { team < length (saved_teams_of tables.now) }
+    ensures { result ≡ length (saved_at (saved_teams_of tables.now) team).cells }
+{
+    tables.placement.cells().cells_of(team).len()
+}
+
+/// What is told of its cell of that position; none iff it has no such cell.
+fn told_cell(tables: &Tables, team: usize, own: usize) -> Option<SavedCell>
+    requires { team < length (saved_teams_of tables.now) }
+    ensures { result ≡ slice_get (saved_at (saved_teams_of tables.now) team).cells own }
+{
+    saved_cell(tables.placement.cells(), team, own)
+}
+
+/// How many of its undo entries are told of.
+fn told_entries(tables: &Tables, team: usize) -> usize
+    requires tables { AreTables tables.now }
+    requires team { team < length (saved_teams_of tables.now) }
+    ensures { result ≡ length (saved_at (saved_teams_of tables.now) team).entries }
+{
+    tables.undo.depth(team)
+}
+
+/// What is told of its undo entry before which there are so many newer ones; none iff it has no more entries.
+fn told_entry(tables: &Tables, team: usize, newer: usize) -> Option<&Moves>
+    requires tables { AreTables tables.now }
+    requires team { team < length (saved_teams_of tables.now) }
+    ensures { option_map (λ moves. moves_within (length (saved_at (saved_teams_of tables.now) team).cells) moves.now) result
+        ≡ slice_get (saved_at (saved_teams_of tables.now) team).entries newer }
+{
+    tables.undo.at(team, newer)
+}
+
+/// The teams of a floor, by their names and as they stand. Contracts see the tables.
+#[derive(Drop)]
+pub(crate) struct StateView<'a> {
+    pub(crate) tables: &'a Tables,
+}
+
+impl<'a> Model for StateView<'a> {
+    ghost use Rattle.lf_floor_verbs.specs.declared.tables.Tables.{Tables as Kept};
+    ghost use Rattle.lf_floor_verbs.specs.Tables.{AreTables};
+
+    ghost Value = { Kept };
+
+    ghost view = { λ t. t.tables.now };
+
+    ghost invariant = { λ t. AreTables t.tables.now };
+}
+
+impl<'a> DesignSchema for StateView<'a> {
+    ghost use Rattle.lf_floor_verbs.specs.Tables.{floor_in};
+    ghost use Rattle.lf_state_restore.specs.Saved.{named};
+
+    ghost named = { λ t. named (floor_in t) };
+
+    fn limits(&self) -> Limits {
+        self.tables.placement.frame().limits
+    }
+
+    fn team_count(&self) -> usize {
+        count_teams(self.tables)
+    }
+
+    fn team_name(&self, team: usize) -> Option<&[u8]> {
+        name_of_team(self.tables, team)
+    }
+
+    fn cell_count(&self, team: usize) -> usize {
+        count_cells(self.tables, team)
+    }
+
+    fn cell_name(&self, team: usize, own: usize) -> Option<&[u8]> {
+        name_of_cell(self.tables, team, own)
+    }
+}
+
+impl<'a> TeamViews for StateView<'a> {
+    ghost use Rattle.lf_floor.specs.Saving.{saved_teams_of};
+
+    ghost saved = { λ t. saved_teams_of t };
+
+    fn revision(&self, team: usize) -> u32 {
+        saved_revision(self.tables, team)
+    }
+
+    fn padding(&self, team: usize) -> Padding {
+        told_padding(self.tables, team)
+    }
+
+    fn slots(&self, team: usize) -> &[Option<u32>] {
+        told_slots(self.tables, team)
+    }
+
+    fn cell_count(&self, team: usize) -> usize {
+        told_cells(self.tables, team)
+    }
+
+    fn cell(&self, team: usize, own: usize) -> Option<SavedCell> {
+        told_cell(self.tables, team, own)
+    }
+
+    fn entry_count(&self, team: usize) -> usize {
+        told_entries(self.tables, team)
+    }
+
+    fn entry(&self, team: usize, newer: usize) -> Option<&Moves> {
+        told_entry(self.tables, team, newer)
+    }
+}
+
+/// Puts a state text of the tables.
+fn put_tables<O: Output>(out: &mut O, tables: &Tables)
+    requires { AreTables tables.now }
+    ensures { (text : List ℕ) × IsStateText (floor_in tables.now) text × PutsText O.took out.old out.new text }
+{
+    fences_are_few(tables.placement.frame());
+    let told = StateView { tables };
+    write_state(out, &told, &told);
+}
+
+impl<S: Seeker + Drop> Floor<S> {
+    /// Puts a text of the floor's state, from which `restore` brings it back, and takes no memory.
+    pub fn write_state<O: Output>(&self, out: &mut O)
+        ensures { (text : List ℕ) × IsStateText self.now text × PutsText O.took out.old out.new text }
+    {
+        put_tables(out, &self.tables);
+    }
+}

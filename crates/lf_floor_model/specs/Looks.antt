@@ -1,0 +1,72 @@
+-- Questions, which change nothing: the outcomes of where, check, def and find.
+use Rattle.std.specs.Prelude.{ℕ, List, Option, Some, None, map, slice_get}
+use Rattle.lf_units.specs.declared.geometry.Point.{Point}
+use Rattle.lf_floorplan.specs.declared.place.Place.{Place}
+use Rattle.lf_rules.specs.Choice.{SpotPlace, PlacementQuery}
+use Rattle.lf_reports.specs.Reports.{report_of}
+use Rattle.lf_rules.specs.Team.{query_from}
+use Rattle.lf_proto.specs.Numbers.{◌>>=◌}
+use Rattle.lf_proto.specs.ReportText.{report_text}
+use Rattle.lf_proto.specs.Requests.{place_at}
+use Rattle.lf_proto.specs.declared.reply.Reply.TheVariants.{At, Report, Def}
+use Rattle.lf_proto.specs.declared.reply.Refusal.TheVariants.{NoCell, Unplaced, NoPlace}
+use Rattle.lf_cells.specs.declared.cell.Cell.{Cell}
+use Rattle.lf_team_def.specs.TeamText.{team_text}
+use Rattle.lf_floor_model.specs.States.{TeamState}
+use Rattle.lf_floor_model.specs.Teams.{TeamRules, listed_of}
+use Rattle.lf_cells.specs.Cells.{cell_named, working_at}
+use Rattle.lf_legalize.specs.Members.{member_of}
+use Rattle.lf_floor_model.specs.Outcomes.{Outcome, refused}
+
+-- by the cell's working place; None: it is unplaced
+abbrev pub located_at : Option Place → ℕ → TeamState → Outcome
+located_at None own s = refused (Unplaced own) s
+located_at (Some place) own s = record { reply = At place; team = s }
+
+-- by the position of the cell; None: the team has no such cell
+abbrev pub located_own : Option ℕ → TeamState → Outcome
+located_own None s = refused NoCell s
+located_own (Some own) s = located_at (working_at s.cells own) own s
+
+-- where: the working place of the team's cell of that name
+unfoldable pub located : List ℕ → TeamState → Outcome
+located name s = located_own (cell_named name s.cells) s
+
+-- check: the report of the team's cells at their working places, with its padding
+unfoldable pub checked : TeamRules → TeamState → Outcome
+checked t s = record { reply = Report (report_text (report_of t.legalizer t.frame t.padding (map (listed_of t.number) s.cells))); team = s }
+
+-- def: the team's DEF text, its cells at their working places
+unfoldable pub written : TeamRules → TeamState → Outcome
+written t s = record { reply = Def (team_text t.frame t.number s.cells); team = s }
+
+-- ---- the best place of a cell
+
+-- a place over whole numbers as one of the program, if a DEF text can hold its corner, as it can for each legal place
+abbrev pub place_of_spot : SpotPlace → Option Place
+place_of_spot p = place_at p.x p.y p.orient
+
+-- the cell of that position, taken from its place among its team's cells
+abbrev pub query_of_cell : TeamRules → List Cell → ℕ → Cell → PlacementQuery
+query_of_cell t cells own c = query_from t.frame t.number t.padding (map member_of cells) own c.mac
+
+-- the best place for a target of the cell of that position
+abbrev pub best_at : TeamRules → List Cell → ℕ → Point → Option Place
+best_at t cells own target = do
+  c ← slice_get cells own
+  best ← t.legalizer.best_place (query_of_cell t cells own c) target
+  place_of_spot best
+
+-- by the cell's best place; None: it has none
+abbrev pub found_at : Option Place → ℕ → TeamState → Outcome
+found_at None own s = refused (NoPlace own) s
+found_at (Some place) own s = record { reply = At place; team = s }
+
+-- by the position of the cell; None: the team has no such cell
+abbrev pub found_own : Option ℕ → TeamRules → Point → TeamState → Outcome
+found_own None t target s = refused NoCell s
+found_own (Some own) t target s = found_at (best_at t s.cells own target) own s
+
+-- find: the best place of the cell for the target
+unfoldable pub found : TeamRules → List ℕ → Point → TeamState → Outcome
+found t name target s = found_own (cell_named name s.cells) t target s

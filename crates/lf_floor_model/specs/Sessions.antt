@@ -1,0 +1,28 @@
+-- Sessions: the slots of a team, and the outcomes of open, close and sync.
+use Rattle.std.specs.Prelude.{ℕ, Option, Some, None, position, is_none, slice_set}
+pub use Rattle.lf_sessions.specs.Slots.{seen_at}
+use Rattle.lf_proto.specs.declared.reply.Reply.TheVariants.{Done, Opened, Revision}
+use Rattle.lf_proto.specs.declared.reply.Refusal.TheVariants.{SessionsFull}
+use Rattle.lf_floor_model.specs.States.{TeamState}
+use Rattle.lf_floor_model.specs.Outcomes.{Outcome, refused}
+
+-- the team with the session's slot changed
+abbrev pub with_slot : ℕ → Option ℕ → TeamState → TeamState
+with_slot session seen s = record s { slots = slice_set s.slots session seen }
+
+-- the session takes this slot; None: all slots are taken
+abbrev pub opened_at : Option ℕ → TeamState → Outcome
+opened_at None s = refused SessionsFull s
+opened_at (Some session) s = record { reply = Opened session s.revision; team = with_slot session (Some s.revision) s }
+
+-- open: the least free slot is taken, and its session has seen the present revision
+unfoldable pub opened : TeamState → Outcome
+opened s = opened_at (position is_none s.slots) s
+
+-- close: the session's slot is free
+unfoldable pub closed : ℕ → TeamState → Outcome
+closed session s = record { reply = Done; team = with_slot session None s }
+
+-- sync: the session has seen the present revision
+unfoldable pub synced : ℕ → TeamState → Outcome
+synced session s = record { reply = Revision s.revision; team = with_slot session (Some s.revision) s }

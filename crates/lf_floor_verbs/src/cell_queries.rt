@@ -1,0 +1,97 @@
+//! A team's own cells where they stand.
+
+ghost use Rattle.std.specs.Prelude.{◌≡◌, IfOk, count_by, is_none, option_map};
+ghost use Rattle.lf_rules.specs.Choice.{spot_of};
+ghost use Rattle.lf_rules.specs.Legalizer.{Legalizer};
+ghost use Rattle.lf_cells.specs.Cells.{cells_of, working_at};
+ghost use Rattle.lf_legalize.specs.Members.{best_of};
+ghost use Rattle.lf_floor_model.specs.Teams.{broken_at, team_rules};
+ghost use Rattle.lf_floor_model.specs.Looks.{best_at};
+ghost use Rattle.lf_floor_model.specs.Changes.{broken_where, first_unplaced};
+ghost use Rattle.lf_floor_verbs.specs.Tables.{context_at};
+
+use crate::context::TeamContext;
+use lf_cells::{CellId, CellTable};
+use lf_floorplan::Place;
+use lf_legalize::Seeker;
+use lf_placement::Placement;
+use lf_rules::{Broken, Padding, verdict_is_unique};
+use lf_units::Point;
+use std::alloc::AllocError;
+
+/// The first rule that the team's cell of that id breaks at the place, beside the others of its team,
+/// which has this padding; none where there is no such cell. It allocates nothing.
+pub(crate) fn broken_at(
+    placement: &Placement,
+    id: CellId,
+    place: &Place,
+    padding: Padding,
+) -> Option<Broken>
+    ensures { (l : Legalizer) → result
+        ≡ broken_at (team_rules l placement.now.frame id.team padding.sites) (cells_of placement.now.cells id.team) id.own place.now }
+{
+    verdict_is_unique();
+    placement.cells_are_sized();
+    placement.first_broken(id, place, padding)
+}
+
+/// The first rule that the team's cell of that id breaks where it stands, beside the others of its team,
+/// which has this padding; none where it is unplaced, or there is no such cell. It allocates nothing.
+pub(crate) fn broken_where(placement: &Placement, id: CellId, padding: Padding) -> Option<Broken>
+    ensures { (l : Legalizer) → result
+        ≡ broken_where (team_rules l placement.now.frame id.team padding.sites) (cells_of placement.now.cells id.team) id.own }
+{
+    let place = placement.cells().working(id)?;
+    broken_at(placement, id, &place, padding)
+}
+
+/// The best place of the team's cell of that id for a target; none if it has none.
+///
+/// `Err` if an allocation fails.
+pub(crate) fn best_place<S: Seeker>(
+    around: &TeamContext<'_, S>,
+    placement: &Placement,
+    id: CellId,
+    target: &Point,
+) -> Result<Option<Place>, AllocError>
+    requires team { id.team ≡ around.now.number }
+    ensures best { (l : Legalizer) → IfOk result (λ found. found
+        ≡ best_at (context_at l around.now placement.now) (cells_of placement.now.cells around.now.number) id.own target.now) }
+    ensures spot { (l : Legalizer) → IfOk result (λ found. option_map spot_of found
+        ≡ best_of l placement.now.frame around.now.number around.now.padding.sites (cells_of placement.now.cells around.now.number) id.own target.now) }
+{
+    placement.best_place(around.alloc, around.seeker, id, target, around.padding)
+}
+
+/// The position of the team's first unplaced cell, in loading order, found without allocating; none
+/// if every cell is placed.
+pub(crate) fn first_unplaced(cells: &CellTable, number: usize) -> Option<u32>
+    ensures { result ≡ first_unplaced (cells_of cells.now number) }
+{
+    for id in cells.cells_of(number) {
+        if is_unplaced(cells, *id) {
+            return Some(id.own);
+        }
+    }
+    None
+}
+
+/// How many of the team's cells are unplaced.
+pub(crate) fn unplaced_in(cells: &CellTable, number: usize) -> usize
+    ensures { result ≡ count_by (λ c. is_none c.working) (cells_of cells.now number) }
+{
+    let mut unplaced = 0;
+    for id in cells.cells_of(number) {
+        if is_unplaced(cells, *id) {
+            unplaced += 1;
+        }
+    }
+    unplaced
+}
+
+/// Whether the cell is unplaced.
+pub(crate) fn is_unplaced(cells: &CellTable, id: CellId) -> bool
+    ensures { result ≡ is_none (working_at (cells_of cells.now id.team) id.own) }
+{
+    cells.working(id).is_none()
+}

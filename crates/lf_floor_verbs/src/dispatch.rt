@@ -1,0 +1,120 @@
+//! From an order to a team to the verb that answers it.
+
+ghost use Rattle.std.specs.Prelude.{◌≡◌, ◌≢◌, IfOk, None, OnErr, false, true};
+ghost use Rattle.lf_rules.specs.Legalizer.{Legalizer};
+ghost use Rattle.lf_proto.specs.declared.request.TeamCommand.TheVariants.{Within};
+ghost use Rattle.lf_proto.specs.declared.verb.Action.TheVariants.{Change as Changing};
+ghost use Rattle.lf_proto.specs.Commands.{order_of};
+ghost use Rattle.lf_proto.specs.Verbs.{action_of, change_of};
+ghost use Rattle.lf_sessions.specs.Slots.{seen_at, slots_of};
+ghost use Rattle.lf_floor_model.specs.Outcomes.{IsOutcome, IsOutOfMemory};
+ghost use Rattle.lf_floor_model.specs.Verbs.{is_tested, outcome_by_slot, outcome_of, outcome_within, takes_memory, unless_spent, unless_stale};
+ghost use Rattle.lf_floor_verbs.specs.Tables.{EntriesFit, IsServed, KeepsOtherTeams, frame_of, context_in, team_in};
+
+use crate::context::TeamContext;
+use crate::tables::Tables;
+use lf_legalize::Seeker;
+use lf_proto::{Action, Change, Refusal, Reply, TeamCommand};
+use std::alloc::AllocError;
+
+impl Tables {
+    /// Makes a change; `Stale` if the session has not seen the team's revision, else
+    /// `RevisionsSpent` if the team has made as many changes as it may, before any other
+    /// refusal.
+    fn check_session<S: Seeker>(
+        &mut self,
+        around: &TeamContext<'_, S>,
+        session: u32,
+        seen: u32,
+        change: &Change<&[u8]>,
+    ) -> Result<Reply, AllocError>
+        requires served { IsServed around.now.number self.old }
+        requires open { seen_at (slots_of self.old.sessions around.now.number) session ≡ Some seen }
+        ensures ok { (l : Legalizer) → IfOk result (λ reply. IsOutcome
+            (unless_stale seen (context_in l around.now self.old) session (change_of change.now) (team_in around.now self.old))
+            reply (team_in around.now self.new)) }
+        ensures err { (l : Legalizer) → OnErr result (IsOutOfMemory
+            (unless_stale seen (context_in l around.now self.old) session (change_of change.now) (team_in around.now self.old))
+            (team_in around.now self.old) (team_in around.now self.new)) }
+        ensures others { KeepsOtherTeams around.now.number self.old self.new }
+        ensures fit { EntriesFit around.now.number self.new }
+        ensures takes { OnErr result (takes_memory (Within session (Changing (change_of change.now))) ≡ true) }
+        ensures untested { (l : Legalizer) → OnErr result (is_tested (Within session (Changing (change_of change.now)))
+            (unless_stale seen (context_in l around.now self.old) session (change_of change.now) (team_in around.now self.old)).reply ≡ false) }
+    {
+        let revision = self.revision(around.number);
+        if seen != revision {
+            return Ok(Reply::Refused(Refusal::Stale { revision }));
+        }
+        if revision >= self.placement.frame().limits.revisions {
+            return Ok(Reply::Refused(Refusal::RevisionsSpent));
+        }
+        self.run_change(around, session, change)
+    }
+
+    /// Answers an action of an open session that has seen this revision.
+    fn run_action<S: Seeker>(
+        &mut self,
+        around: &TeamContext<'_, S>,
+        session: u32,
+        seen: u32,
+        action: &Action<&[u8]>,
+    ) -> Result<Reply, AllocError>
+        requires served { IsServed around.now.number self.old }
+        requires open { seen_at (slots_of self.old.sessions around.now.number) session ≡ Some seen }
+        ensures ok { (l : Legalizer) → IfOk result (λ reply. IsOutcome
+            (outcome_within seen (context_in l around.now self.old) session (action_of action.now) (team_in around.now self.old))
+            reply (team_in around.now self.new)) }
+        ensures err { (l : Legalizer) → OnErr result (IsOutOfMemory
+            (outcome_within seen (context_in l around.now self.old) session (action_of action.now) (team_in around.now self.old))
+            (team_in around.now self.old) (team_in around.now self.new)) }
+        ensures others { KeepsOtherTeams around.now.number self.old self.new }
+        ensures fit { EntriesFit around.now.number self.new }
+        ensures takes { OnErr result (takes_memory (Within session (action_of action.now)) ≡ true) }
+        ensures untested { (l : Legalizer) → OnErr result (is_tested (Within session (action_of action.now))
+            (outcome_within seen (context_in l around.now self.old) session (action_of action.now) (team_in around.now self.old)).reply ≡ false) }
+    {
+        match action {
+            Action::Close => Ok(self.close(around.number, session)),
+            Action::Sync => Ok(self.sync(around.number, session)),
+            Action::Check => self.check(around),
+            Action::Def => self.write_def(around),
+            Action::Where { cell } => Ok(self.run_where(around.number, cell)),
+            Action::Find { cell, target } => self.find(around, cell, target),
+            Action::Change(change) => self.check_session(around, session, seen, change),
+        }
+    }
+
+    /// Answers an order to the team of these surroundings; `NoSession`, before any other refusal,
+    /// if it names a session that is not open.
+    ///
+    /// `Err` if an allocation fails, and then the team is unchanged.
+    pub fn run_command<S: Seeker>(
+        &mut self,
+        around: &TeamContext<'_, S>,
+        order: &TeamCommand<&[u8]>,
+    ) -> Result<Reply, AllocError>
+        requires served { IsServed around.now.number self.old }
+        ensures ok { (l : Legalizer) → IfOk result (λ reply. IsOutcome
+            (outcome_of (context_in l around.now self.old) (order_of order.now) (team_in around.now self.old))
+            reply (team_in around.now self.new)) }
+        ensures err { (l : Legalizer) → OnErr result (IsOutOfMemory
+            (outcome_of (context_in l around.now self.old) (order_of order.now) (team_in around.now self.old))
+            (team_in around.now self.old) (team_in around.now self.new)) }
+        ensures others { KeepsOtherTeams around.now.number self.old self.new }
+        ensures fit { EntriesFit around.now.number self.new }
+        ensures takes { OnErr result (takes_memory (order_of order.now) ≡ true) }
+        ensures untested { (l : Legalizer) → OnErr result (is_tested (order_of order.now)
+            (outcome_of (context_in l around.now self.old) (order_of order.now) (team_in around.now self.old)).reply ≡ false) }
+    {
+        match order {
+            TeamCommand::Open => Ok(self.open(around.number)),
+            TeamCommand::Within { session, action } => {
+                match self.sessions.seen(around.number, *session) {
+                    Some(seen) => self.run_action(around, *session, seen, action),
+                    None => Ok(Reply::Refused(Refusal::NoSession)),
+                }
+            }
+        }
+    }
+}

@@ -1,0 +1,94 @@
+//! Questions, which change nothing of a team: `where`, `check`, `def` and `find`.
+
+ghost use Rattle.std.specs.Prelude.{IfOk, OnErr};
+ghost use Rattle.lf_rules.specs.Legalizer.{Legalizer};
+ghost use Rattle.lf_floor_model.specs.Teams.{IsTeamOf};
+ghost use Rattle.lf_floor_verbs.specs.Tables.{frame_of, own_team, context_in, team_in};
+ghost use Rattle.lf_floor_model.specs.Outcomes.{IsOutcome, IsOutOfMemory};
+ghost use Rattle.lf_floor_model.specs.Looks.{checked, found, located, written};
+
+use crate::cell_queries::best_place;
+use crate::context::TeamContext;
+use crate::report::report_text;
+use crate::tables::Tables;
+use lf_legalize::Seeker;
+use lf_proto::{Refusal, Reply, Text};
+use lf_team_def::team_def;
+use lf_units::Point;
+use std::alloc::AllocError;
+
+impl Tables {
+    /// Answers where a cell stands: `NoCell` if the team has none of that name, else `Unplaced`
+    /// if it has no place.
+    #[tactic(auto, unfolding(lf_floor_model::specs::Looks::located))]
+    pub(crate) fn run_where(&self, number: usize, name: &[u8]) -> Reply
+        ensures { IsOutcome (located name.now (own_team number self.now)) result (own_team number self.now) }
+    {
+        let Some(id) = self.cell_named(number, name) else {
+            return Reply::Refused(Refusal::NoCell);
+        };
+        match self.working(id) {
+            Some(place) => Reply::At(place),
+            None => Reply::Refused(Refusal::Unplaced { cell: id.own }),
+        }
+    }
+
+    /// Answers the report of the team's cells at their working places.
+    #[tactic(auto, unfolding(lf_floor_model::specs::Looks::checked))]
+    pub(crate) fn check<S>(&self, around: &TeamContext<'_, S>) -> Result<Reply, AllocError>
+        requires team { IsTeamOf (frame_of self.now) (team_in around.now self.now) }
+        ensures ok { (l : Legalizer) → IfOk result (λ reply. IsOutcome
+            (checked (context_in l around.now self.now) (team_in around.now self.now))
+            reply (team_in around.now self.now)) }
+        ensures err { (l : Legalizer) → OnErr result (IsOutOfMemory
+            (checked (context_in l around.now self.now) (team_in around.now self.now))
+            (team_in around.now self.now) (team_in around.now self.now)) }
+    {
+        let text = report_text(around, self)?;
+        Ok(Reply::Report(text))
+    }
+
+    /// Answers the team's DEF text, its cells at their working places.
+    #[tactic(auto, unfolding(lf_floor_model::specs::Looks::written))]
+    pub(crate) fn write_def<S>(&self, around: &TeamContext<'_, S>) -> Result<Reply, AllocError>
+        ensures ok { (l : Legalizer) → IfOk result (λ reply. IsOutcome
+            (written (context_in l around.now self.now) (team_in around.now self.now))
+            reply (team_in around.now self.now)) }
+        ensures err { (l : Legalizer) → OnErr result (IsOutOfMemory
+            (written (context_in l around.now self.now) (team_in around.now self.now))
+            (team_in around.now self.now) (team_in around.now self.now)) }
+    {
+        let text = team_def(
+            around.alloc,
+            self.placement.frame(),
+            self.placement.cells(),
+            around.number,
+        )?;
+        Ok(Reply::Def(Text::from_bytes(text)))
+    }
+
+    /// Answers the best place of a cell: `NoCell` if the team has none of that name, else `NoPlace`
+    /// if it may go to no place.
+    #[tactic(auto, unfolding(lf_floor_model::specs::Looks::found))]
+    pub(crate) fn find<S: Seeker>(
+        &self,
+        around: &TeamContext<'_, S>,
+        name: &[u8],
+        target: &Point,
+    ) -> Result<Reply, AllocError>
+        ensures ok { (l : Legalizer) → IfOk result (λ reply. IsOutcome
+            (found (context_in l around.now self.now) name.now target.now (team_in around.now self.now))
+            reply (team_in around.now self.now)) }
+        ensures err { (l : Legalizer) → OnErr result (IsOutOfMemory
+            (found (context_in l around.now self.now) name.now target.now (team_in around.now self.now))
+            (team_in around.now self.now) (team_in around.now self.now)) }
+    {
+        let Some(id) = self.cell_named(around.number, name) else {
+            return Ok(Reply::Refused(Refusal::NoCell));
+        };
+        match best_place(around, &self.placement, id, target)? {
+            Some(place) => Ok(Reply::At(place)),
+            None => Ok(Reply::Refused(Refusal::NoPlace { cell: id.own })),
+        }
+    }
+}

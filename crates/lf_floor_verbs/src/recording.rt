@@ -1,0 +1,110 @@
+//! The room that a change needs, and the change that is kept so that it can be undone.
+
+ghost use Rattle.std.specs.Prelude.{◌≡◌, ◌+◌, List, IfOk, OnErr, OnOk};
+ghost use Rattle.lf_cells.specs.declared.cell.Cell.{Cell};
+ghost use Rattle.lf_cells.specs.Cells.{moved};
+ghost use Rattle.lf_undo.specs.Stacks.{HasRoomFor};
+ghost use Rattle.lf_placement.specs.Placings.{Fits, HaveMoved, moves_applied, places_of};
+ghost use Rattle.lf_floor_verbs.specs.Tables.{EntriesFit, HasRows, OnlyGainRoom, IsCurrent, KeepsOtherTeams, cells_in, team_after_change, own_team, revision_of};
+
+use crate::tables::Tables;
+use lf_cells::CellId;
+use lf_floorplan::Place;
+use lf_undo::{Move, Moves};
+use std::alloc::{AllocError, Global};
+
+impl Tables {
+    /// Makes room for one more undo entry of the team.
+    ///
+    /// `Err` if an allocation fails.
+    pub(crate) fn make_room(&mut self, number: usize) -> Result<(), AllocError>
+        requires { HasRows number self.old }
+        ensures room { OnOk result (HasRoomFor self.new.undo number) }
+        ensures grown { OnlyGainRoom self.old self.new }
+        ensures placement { self.new.placement ≡ self.old.placement }
+    {
+        self.undo.reserve(number)
+    }
+
+    /// Makes room for one more undo entry of the team, and for its cells where the moves lead them.
+    ///
+    /// `Err` if an allocation fails.
+    pub(crate) fn make_room_for(
+        &mut self,
+        alloc: Global,
+        number: usize,
+        moves: &[Move],
+    ) -> Result<(), AllocError>
+        requires { HasRows number self.old }
+        ensures room { OnOk result (HasRoomFor self.new.undo number) }
+        ensures fits { OnOk result (Fits self.new.placement number (places_of (moves_applied moves.now (cells_in number self.old)))) }
+        ensures grown { OnlyGainRoom self.old self.new }
+    {
+        self.make_room(number)?;
+        self.placement.reserve(alloc, number, moves)
+    }
+
+    /// Keeps the moves of a change as the team's newest undo entry, for which there is room, counts the
+    /// change, and returns the revision.
+    pub(crate) fn push_undo(&mut self, number: usize, session: u32, moves: Moves) -> u32
+        requires rows { HasRows number self.old }
+        requires current { IsCurrent number session self.old }
+        requires room { HasRoomFor self.old.undo number }
+        ensures team { (before : List Cell) → HaveMoved before moves (cells_in number self.old) →
+            own_team number self.new ≡ team_after_change number session before (cells_in number self.old) self.old }
+        ensures revision { result ≡ revision_of self.old number + 1 }
+        ensures placement { self.new.placement ≡ self.old.placement }
+        ensures others { KeepsOtherTeams number self.old self.new }
+    {
+        match self.undo.push(number, moves) {
+            Ok(()) => self.count_change(number, session),
+            Err(_) => unreachable!(),
+        }
+    }
+
+    /// Makes the moves, as a change of the team that the session makes and that can be undone, and
+    /// returns the revision. It allocates nothing.
+    pub(crate) fn change_places(&mut self, number: usize, session: u32, moves: Moves) -> u32
+        requires rows { HasRows number self.old }
+        requires current { IsCurrent number session self.old }
+        requires room { HasRoomFor self.old.undo number }
+        requires fits { Fits self.old.placement number (places_of (moves_applied moves (cells_in number self.old))) }
+        ensures team { own_team number self.new
+            ≡ team_after_change number session (cells_in number self.old) (moves_applied moves (cells_in number self.old)) self.old }
+        ensures revision { result ≡ revision_of self.old number + 1 }
+        ensures others { KeepsOtherTeams number self.old self.new }
+        ensures fit { EntriesFit number self.old → EntriesFit number self.new }
+    {
+        self.placement.boxes_match_places();
+        let mut moves = moves;
+        self.placement.apply(number, &mut moves, 0);
+        self.push_undo(number, session, moves)
+    }
+
+    /// Moves one cell of the team, as a change that the session makes and that can be undone, and
+    /// returns the revision.
+    ///
+    /// `Err` if an allocation fails; then no team has changed.
+    pub(crate) fn change_place(
+        &mut self,
+        alloc: Global,
+        session: u32,
+        id: CellId,
+        place: Option<Place>,
+    ) -> Result<u32, AllocError>
+        requires rows { HasRows id.team self.old }
+        requires current { IsCurrent id.team session self.old }
+        ensures ok { OnOk result (own_team id.team self.new ≡ team_after_change id.team session (cells_in id.team self.old)
+            (moved (cells_in id.team self.old) id.own place) self.old) }
+        ensures revision { IfOk result (λ revision. revision ≡ revision_of self.old id.team + 1) }
+        ensures err { OnErr result (own_team id.team self.new ≡ own_team id.team self.old) }
+        ensures others { KeepsOtherTeams id.team self.old self.new }
+        ensures fit { EntriesFit id.team self.old → EntriesFit id.team self.new }
+    {
+        let number = id.team as usize;
+        let mut moves = Moves::new(alloc);
+        moves.push(Move::new(id.own, place))?;
+        self.make_room_for(alloc, number, moves.as_slice())?;
+        Ok(self.change_places(number, session, moves))
+    }
+}

@@ -1,0 +1,151 @@
+//! Changes: from a change to its method, and those of one cell (`place`, `legalize` and `unplace`).
+
+ghost use Rattle.std.specs.Prelude.{◌≡◌, IfOk, OnErr, false, true};
+ghost use Rattle.lf_rules.specs.Legalizer.{Legalizer};
+ghost use Rattle.lf_proto.specs.declared.request.TeamCommand.TheVariants.{Within};
+ghost use Rattle.lf_proto.specs.declared.verb.Action.TheVariants.{Change as Changing};
+ghost use Rattle.lf_proto.specs.declared.verb.Change.TheVariants.{Place as PlaceAt};
+ghost use Rattle.lf_proto.specs.Verbs.{change_of};
+ghost use Rattle.lf_floor_model.specs.Outcomes.{IsOutcome, IsOutOfMemory};
+ghost use Rattle.lf_floor_model.specs.Changes.{legalized, outcome_of_change, placed, unplaced};
+ghost use Rattle.lf_floor_model.specs.Verbs.{is_tested, takes_memory};
+ghost use Rattle.lf_floor_verbs.specs.Tables.{CanChange, EntriesFit, KeepsOtherTeams, frame_of, context_in, team_in};
+
+use crate::cell_queries::{best_place, broken_at};
+use crate::context::TeamContext;
+use crate::tables::Tables;
+use lf_floorplan::Place;
+use lf_legalize::Seeker;
+use lf_proto::{Change, Refusal, Reply};
+use lf_units::Point;
+use std::alloc::AllocError;
+
+impl Tables {
+    /// Makes a change.
+    pub(crate) fn run_change<S: Seeker>(
+        &mut self,
+        around: &TeamContext<'_, S>,
+        session: u32,
+        change: &Change<&[u8]>,
+    ) -> Result<Reply, AllocError>
+        requires change { CanChange around.now.number session self.old }
+        ensures ok { (l : Legalizer) → IfOk result (λ reply. IsOutcome
+            (outcome_of_change (context_in l around.now self.old) session (change_of change.now) (team_in around.now self.old))
+            reply (team_in around.now self.new)) }
+        ensures err { (l : Legalizer) → OnErr result (IsOutOfMemory
+            (outcome_of_change (context_in l around.now self.old) session (change_of change.now) (team_in around.now self.old))
+            (team_in around.now self.old) (team_in around.now self.new)) }
+        ensures others { KeepsOtherTeams around.now.number self.old self.new }
+        ensures fit { EntriesFit around.now.number self.new }
+        ensures takes { OnErr result (takes_memory (Within session (Changing (change_of change.now))) ≡ true) }
+        ensures untested { (l : Legalizer) → OnErr result (is_tested (Within session (Changing (change_of change.now)))
+            (outcome_of_change (context_in l around.now self.old) session (change_of change.now) (team_in around.now self.old)).reply ≡ false) }
+    {
+        match change {
+            Change::Place { cell, place } => self.place(around, session, cell, place),
+            Change::Legalize { cell, target } => self.legalize(around, session, cell, target),
+            Change::Tidy => self.tidy(around, session),
+            Change::Unplace { cell } => self.unplace(around, session, cell),
+            Change::Swap { first, second } => self.swap(around, session, first, second),
+            Change::Undo => Ok(self.undo(around.number, session)),
+            Change::Commit => self.commit(around, session),
+            Change::Revert => self.revert(around, session),
+            Change::Pad { padding } => Ok(self.pad(around.number, session, *padding)),
+        }
+    }
+
+    /// Puts a cell at a place: `NoCell` if the team has none of that name, else `Illegal` if
+    /// it breaks a rule there.
+    #[tactic(auto, unfolding(lf_floor_model::specs::Changes::placed))]
+    pub(crate) fn place<S>(
+        &mut self,
+        around: &TeamContext<'_, S>,
+        session: u32,
+        name: &[u8],
+        place: &Place,
+    ) -> Result<Reply, AllocError>
+        requires change { CanChange around.now.number session self.old }
+        ensures ok { (l : Legalizer) → IfOk result (λ reply. IsOutcome
+            (placed (context_in l around.now self.old) session name.now place.now (team_in around.now self.old))
+            reply (team_in around.now self.new)) }
+        ensures err { (l : Legalizer) → OnErr result (IsOutOfMemory
+            (placed (context_in l around.now self.old) session name.now place.now (team_in around.now self.old))
+            (team_in around.now self.old) (team_in around.now self.new)) }
+        ensures untested { (l : Legalizer) → OnErr result (is_tested (Within session (Changing (PlaceAt name.now place.now)))
+            (placed (context_in l around.now self.old) session name.now place.now (team_in around.now self.old)).reply ≡ false) }
+        ensures others { KeepsOtherTeams around.now.number self.old self.new }
+        ensures fit { EntriesFit around.now.number self.new }
+    {
+        let Some(id) = self.cell_named(around.number, name) else {
+            return Ok(Reply::Refused(Refusal::NoCell));
+        };
+        if let Some(broken) = broken_at(&self.placement, id, place, around.padding) {
+            return Ok(Reply::Refused(Refusal::Illegal {
+                rule: broken.rule,
+                cell: id.own,
+                other: broken.other,
+            }));
+        }
+        let revision = self.change_place(around.alloc, session, id, Some(*place))?;
+        Ok(Reply::Revision(revision))
+    }
+
+    /// Puts a cell at its best place for a target: `NoCell` if the team has none of that name,
+    /// else `NoPlace` if it may go to no place.
+    #[tactic(auto, unfolding(lf_floor_model::specs::Changes::legalized))]
+    pub(crate) fn legalize<S: Seeker>(
+        &mut self,
+        around: &TeamContext<'_, S>,
+        session: u32,
+        name: &[u8],
+        target: &Point,
+    ) -> Result<Reply, AllocError>
+        requires change { CanChange around.now.number session self.old }
+        ensures ok { (l : Legalizer) → IfOk result (λ reply. IsOutcome
+            (legalized (context_in l around.now self.old) session name.now target.now (team_in around.now self.old))
+            reply (team_in around.now self.new)) }
+        ensures err { (l : Legalizer) → OnErr result (IsOutOfMemory
+            (legalized (context_in l around.now self.old) session name.now target.now (team_in around.now self.old))
+            (team_in around.now self.old) (team_in around.now self.new)) }
+        ensures others { KeepsOtherTeams around.now.number self.old self.new }
+        ensures fit { EntriesFit around.now.number self.new }
+    {
+        let Some(id) = self.cell_named(around.number, name) else {
+            return Ok(Reply::Refused(Refusal::NoCell));
+        };
+        let Some(place) = best_place(around, &self.placement, id, target)? else {
+            return Ok(Reply::Refused(Refusal::NoPlace { cell: id.own }));
+        };
+        let revision = self.change_place(around.alloc, session, id, Some(place))?;
+        Ok(Reply::Legalized { revision, place })
+    }
+
+    /// Takes a cell from its place: `NoCell` if the team has none of that name, else `Unplaced`
+    /// if it has no place.
+    #[tactic(auto, unfolding(lf_floor_model::specs::Changes::unplaced))]
+    pub(crate) fn unplace<S>(
+        &mut self,
+        around: &TeamContext<'_, S>,
+        session: u32,
+        name: &[u8],
+    ) -> Result<Reply, AllocError>
+        requires { CanChange around.now.number session self.old }
+        ensures ok { IfOk result (λ reply. IsOutcome
+            (unplaced (frame_of self.old).limits session name.now (team_in around.now self.old))
+            reply (team_in around.now self.new)) }
+        ensures err { OnErr result (IsOutOfMemory
+            (unplaced (frame_of self.old).limits session name.now (team_in around.now self.old))
+            (team_in around.now self.old) (team_in around.now self.new)) }
+        ensures others { KeepsOtherTeams around.now.number self.old self.new }
+        ensures fit { EntriesFit around.now.number self.new }
+    {
+        let Some(id) = self.cell_named(around.number, name) else {
+            return Ok(Reply::Refused(Refusal::NoCell));
+        };
+        if self.working(id).is_none() {
+            return Ok(Reply::Refused(Refusal::Unplaced { cell: id.own }));
+        }
+        let revision = self.change_place(around.alloc, session, id, None)?;
+        Ok(Reply::Revision(revision))
+    }
+}

@@ -1,0 +1,173 @@
+//! Which of a team's cells stand legally, and the first that does not.
+
+ghost use Rattle.std.specs.Prelude.{◌≡◌, ◌<◌, IfOk, IsTrue, Some, length, map, slice_get, slice_set, true};
+ghost use Rattle.lf_rules.specs.Legalizer.{Legalizer};
+ghost use Rattle.lf_rules.specs.Team.{IsLegalCell};
+ghost use Rattle.lf_cells.specs.Cells.{cells_of};
+ghost use Rattle.lf_legalize.specs.Members.{member_of};
+ghost use Rattle.lf_floor_model.specs.Teams.{team_rules};
+ghost use Rattle.lf_floor_model.specs.Changes.{broken_cells, broken_where};
+ghost use Rattle.lf_floor_verbs.specs.Marking.{AreMarked};
+ghost use Rattle.lf_floor_verbs.specs.Tables.{cells_in, frame_of, context_in};
+
+use crate::by_place::by_place;
+use crate::cell_queries::{broken_where, is_unplaced};
+use crate::context::TeamContext;
+use crate::tables::Tables;
+use lf_cells::CellId;
+use lf_placement::Placement;
+use lf_reports::BrokenCell;
+use lf_rules::{Broken, Padding, legalizer_exists, verdict_is_unique};
+use std::alloc::AllocError;
+
+/// So many cells are put in the order of their places at a time: the list of them stays small beside the cells, and
+/// in a million cells those that are asked one after another still lie near each other.
+const BATCH: usize = 65536;
+
+/// Whether the cell of that id is placed, and breaks no rule where it stands beside the others of its team, which has this
+/// padding; false where there is no such cell. It allocates nothing.
+pub fn is_cell_legal(placement: &Placement, id: CellId, padding: Padding) -> bool
+    ensures legal { IsTrue result → IsLegalCell placement.now.frame id.team padding.sites (map member_of (cells_of placement.now.cells id.team)) id.own }
+    ensures told { id.own < length (cells_of placement.now.cells id.team)
+        → IsLegalCell placement.now.frame id.team padding.sites (map member_of (cells_of placement.now.cells id.team)) id.own → IsTrue result }
+{
+    legalizer_exists();
+    verdict_is_unique();
+    placement.cells_are_sized();
+    if is_unplaced(placement.cells(), id) {
+        return false;
+    }
+    match broken_where(placement, id, padding) {
+        Some(_) => false,
+        None => true,
+    }
+}
+
+/// Marks the cell of that position.
+fn mark(marks: &mut Vec<bool>, own: usize)
+    requires { own < length marks.old.items }
+    ensures { marks.new.items ≡ slice_set marks.old.items own true }
+{
+    marks[own] = true;
+}
+
+/// Marks the team's cell of that position, if it is placed and breaks no rule where it stands.
+fn mark_legal<S>(around: &TeamContext<'_, S>, tables: &Tables, own: usize, marks: &mut Vec<bool>)
+    ensures { AreMarked (frame_of tables.now) around.now.number around.now.padding.sites (cells_in around.now.number tables.now) marks.old.items
+        → AreMarked (frame_of tables.now) around.now.number around.now.padding.sites (cells_in around.now.number tables.now) marks.new.items }
+{
+    let Some(id) = tables.cell_at(around.number, own) else {
+        return;
+    };
+    if own >= marks.len() {
+        return;
+    }
+    if !is_cell_legal(&tables.placement, id, around.padding) {
+        return;
+    }
+    mark(marks, own);
+}
+
+/// Marks those of the team's cells of these ids that are placed, and team-legal where they stand. They are asked in the order of
+/// their places.
+///
+/// `Err` if an allocation fails.
+fn mark_batch<S>(
+    around: &TeamContext<'_, S>,
+    tables: &Tables,
+    ids: &[CellId],
+    marks: &mut Vec<bool>,
+) -> Result<(), AllocError>
+    ensures { AreMarked (frame_of tables.now) around.now.number around.now.padding.sites (cells_in around.now.number tables.now) marks.old.items
+        → AreMarked (frame_of tables.now) around.now.number around.now.padding.sites (cells_in around.now.number tables.now) marks.new.items }
+{
+    let order = by_place(around.alloc, tables.placement.cells(), ids)?;
+    for cell in &order {
+        mark_legal(around, tables, cell.own as usize, marks);
+    }
+    Ok(())
+}
+
+/// For each of the team's cells, in loading order, whether it is placed, and team-legal where it stands.
+///
+/// `Err` if an allocation fails.
+pub(crate) fn legal_marks<S>(
+    around: &TeamContext<'_, S>,
+    tables: &Tables,
+) -> Result<Vec<bool>, AllocError>
+    ensures { IfOk result (λ marks. AreMarked (frame_of tables.now) around.now.number around.now.padding.sites
+        (cells_in around.now.number tables.now) marks.items) }
+{
+    let ids = tables.placement.cells().cells_of(around.number);
+    let mut marks = vec![in around.alloc; false; ids.len()]?;
+    for batch in ids.chunks(BATCH) {
+        mark_batch(around, tables, batch, &mut marks)?;
+    }
+    Ok(marks)
+}
+
+/// Whether the cell of that position is marked.
+pub(crate) fn is_marked(marks: &[bool], own: usize) -> bool
+    ensures { IsTrue result → slice_get marks.now own ≡ Some true }
+{
+    match marks.get(own) {
+        Some(marked) => *marked,
+        None => false,
+    }
+}
+
+/// The first rule that the cell breaks where it stands; none where it is unplaced. A marked one is not asked again.
+pub(crate) fn broken_unmarked(
+    placement: &Placement,
+    marks: &[bool],
+    id: CellId,
+    padding: Padding,
+) -> Option<Broken>
+    requires { AreMarked placement.now.frame id.team padding.sites (cells_of placement.now.cells id.team) marks.now }
+    ensures { (l : Legalizer) → result
+        ≡ broken_where (team_rules l placement.now.frame id.team padding.sites) (cells_of placement.now.cells id.team) id.own }
+{
+    verdict_is_unique();
+    placement.cells_are_sized();
+    if is_marked(marks, id.own as usize) {
+        return None;
+    }
+    broken_where(placement, id, padding)
+}
+
+/// The team's first cell in loading order that breaks a rule where it stands, found among those that are not
+/// marked; none if no cell does.
+fn first_broken(
+    placement: &Placement,
+    number: usize,
+    marks: &[bool],
+    padding: Padding,
+) -> Option<BrokenCell>
+    requires { AreMarked placement.now.frame number padding.sites (cells_of placement.now.cells number) marks.now }
+    ensures { (l : Legalizer) → result
+        ≡ slice_get (broken_cells (team_rules l placement.now.frame number padding.sites) (cells_of placement.now.cells number)) 0 }
+{
+    for id in placement.cells().cells_of(number) {
+        if let Some(broken) = broken_unmarked(placement, marks, *id, padding) {
+            return Some(BrokenCell {
+                own: id.own,
+                broken,
+            });
+        }
+    }
+    None
+}
+
+/// The team's first cell in loading order that breaks a rule where it stands; none if no cell does.
+///
+/// `Err` if an allocation fails.
+pub(crate) fn first_broken_cell<S>(
+    around: &TeamContext<'_, S>,
+    tables: &Tables,
+) -> Result<Option<BrokenCell>, AllocError>
+    ensures { (l : Legalizer) → IfOk result (λ first. first ≡ slice_get
+        (broken_cells (context_in l around.now tables.now) (cells_in around.now.number tables.now)) 0) }
+{
+    let marks = legal_marks(around, tables)?;
+    Ok(first_broken(&tables.placement, around.number, &marks, around.padding))
+}

@@ -1,0 +1,211 @@
+//! What `tidy` does.
+
+ghost use Rattle.std.specs.Prelude.{◌≡◌, [], List, IfOk, OnErr, OnOk};
+ghost use Rattle.lf_rules.specs.Legalizer.{Legalizer};
+ghost use Rattle.lf_cells.specs.declared.cell.Cell.{Cell};
+ghost use Rattle.lf_cells.specs.Cells.{cells_of, moved};
+ghost use Rattle.lf_placement.specs.Placings.{HaveMoved};
+ghost use Rattle.lf_floor_model.specs.Outcomes.{IsOutcome, IsOutOfMemory};
+ghost use Rattle.lf_floor_model.specs.Changes.{tidied_team};
+ghost use Rattle.lf_floor_model.specs.Teams.{team_rules};
+ghost use Rattle.lf_floor_verbs.specs.Tables.{CanChange, EntriesFit, OnlyMovesTeam, KeepsOtherTeams, frame_of, context_at, context_in, team_in};
+ghost use Rattle.lf_floor_verbs.specs.Marking.{AreMarked};
+ghost use Rattle.lf_floor_verbs.specs.Tidying.{TidiesOneCell, TidiesCells, target_at};
+
+use crate::cell_queries::{best_place, broken_at};
+use crate::context::TeamContext;
+use crate::tables::Tables;
+use crate::team_legality::{is_marked, legal_marks};
+use lf_cells::CellId;
+use lf_floorplan::Place;
+use lf_legalize::{Seeker, anchor};
+use lf_placement::Placement;
+use lf_proto::{Refusal, Reply};
+use lf_rules::{Padding, legalizer_exists, tidy_keeps_legal, verdict_is_unique};
+use lf_undo::{Move, Moves};
+use lf_units::Point;
+use std::alloc::{AllocError, Global};
+
+/// What became of one cell.
+#[derive(Clone, Copy)]
+enum TidyStep {
+    /// It is placed and breaks no rule.
+    Stays,
+    /// It went to its best place.
+    Goes,
+    /// It has no best place.
+    Nowhere,
+}
+
+/// What became of all cells of a team.
+#[derive(Clone, Copy)]
+enum Tidy {
+    /// This many went to their best place.
+    Done(u32),
+    /// The cell of that position has no best place.
+    Stopped(u32),
+}
+
+/// The corner of a place.
+fn corner(place: &Place) -> Point
+    ensures { result ≡ record { x = place.now.x; y = place.now.y } }
+{
+    Point {
+        x: i64::from(place.x),
+        y: i64::from(place.y),
+    }
+}
+
+/// Where the team's cell of that id is tidied to: the anchor where it is unplaced, its own corner where
+/// it breaks a rule; none where it stays, as each marked cell does.
+fn target_of(placement: &Placement, marks: &[bool], id: CellId, padding: Padding) -> Option<Point>
+    requires { AreMarked placement.now.frame id.team padding.sites (cells_of placement.now.cells id.team) marks.now }
+    ensures { (l : Legalizer) → result ≡ target_at (team_rules l placement.now.frame id.team padding.sites) (cells_of placement.now.cells id.team) id.own }
+{
+    verdict_is_unique();
+    placement.cells_are_sized();
+    if is_marked(marks, id.own as usize) {
+        return None;
+    }
+    let standing = placement.cells().placement_of(id)?;
+    let Some(place) = standing.working else {
+        return Some(anchor(placement.frame(), id.team as usize));
+    };
+    match broken_at(placement, id, &place, padding) {
+        Some(_) => Some(corner(&place)),
+        None => None,
+    }
+}
+
+/// Moves one cell, for which room is made first, and puts the move with the place that the cell had behind
+/// the others.
+///
+/// `Err` if an allocation fails; then no cell has moved.
+fn move_one(
+    alloc: Global,
+    placement: &mut Placement,
+    moves: &mut Moves,
+    id: CellId,
+    place: Option<Place>,
+) -> Result<(), AllocError>
+    ensures own { OnOk result (cells_of placement.new.cells id.team ≡ moved (cells_of placement.old.cells id.team) id.own place) }
+    ensures moved { (before : List Cell) → HaveMoved before moves.old (cells_of placement.old.cells id.team) →
+        HaveMoved before moves.new (cells_of placement.new.cells id.team) }
+    ensures only { OnlyMovesTeam id.team placement.old placement.new }
+{
+    let number = id.team as usize;
+    placement.reserve(alloc, number, &[Move::new(id.own, place)])?;
+    let from = moves.as_slice().len();
+    moves.push(Move::new(id.own, place))?;
+    placement.apply(number, moves, from);
+    Ok(())
+}
+
+/// Sends the team's cell of that id to its best place, where it does not stay.
+fn tidy_cell<S: Seeker>(
+    around: &TeamContext<'_, S>,
+    placement: &mut Placement,
+    moves: &mut Moves,
+    marks: &[bool],
+    id: CellId,
+) -> Result<TidyStep, AllocError>
+    requires team { id.team ≡ around.now.number }
+    requires marked { AreMarked placement.old.frame around.now.number around.now.padding.sites (cells_of placement.old.cells around.now.number) marks.now }
+    ensures ok { (l : Legalizer) → IfOk result (λ sent. TidiesOneCell (context_at l around.now placement.old) id.own
+        (cells_of placement.old.cells around.now.number) (cells_of placement.new.cells around.now.number) sent) }
+    ensures moved { (before : List Cell) → HaveMoved before moves.old (cells_of placement.old.cells around.now.number) →
+        HaveMoved before moves.new (cells_of placement.new.cells around.now.number) }
+    ensures only { OnlyMovesTeam around.now.number placement.old placement.new }
+{
+    let Some(target) = target_of(placement, marks, id, around.padding) else {
+        return Ok(TidyStep::Stays);
+    };
+    match best_place(around, placement, id, &target)? {
+        Some(place) => {
+            move_one(around.alloc, placement, moves, id, Some(place))?;
+            Ok(TidyStep::Goes)
+        }
+        None => Ok(TidyStep::Nowhere),
+    }
+}
+
+/// Tidies the team's cells in loading order, up to the first that has no best place.
+///
+/// The marked ones are placed and team-legal: they stay so while others are sent, and are not tested again.
+fn tidy_cells<S: Seeker>(
+    around: &TeamContext<'_, S>,
+    placement: &mut Placement,
+    moves: &mut Moves,
+    marks: &[bool],
+) -> Result<Tidy, AllocError>
+    requires marked { AreMarked placement.old.frame around.now.number around.now.padding.sites (cells_of placement.old.cells around.now.number) marks.now }
+    ensures ok { (l : Legalizer) → IfOk result (λ tidy. TidiesCells (context_at l around.now placement.old)
+        (cells_of placement.old.cells around.now.number) (cells_of placement.new.cells around.now.number) tidy) }
+    ensures moved { (before : List Cell) → HaveMoved before moves.old (cells_of placement.old.cells around.now.number) →
+        HaveMoved before moves.new (cells_of placement.new.cells around.now.number) }
+    ensures only { OnlyMovesTeam around.now.number placement.old placement.new }
+{
+    legalizer_exists();
+    tidy_keeps_legal();
+    let mut moved = 0;
+    for own in 0..placement.cells().cells_of(around.number).len() {
+        placement.cells_are_sized();
+        let id = placement.cells().cells_of(around.number)[own];
+        match tidy_cell(around, placement, moves, marks, id)? {
+            TidyStep::Stays => {}
+            TidyStep::Goes => moved += 1,
+            TidyStep::Nowhere => return Ok(Tidy::Stopped(id.own)),
+        }
+    }
+    Ok(Tidy::Done(moved))
+}
+
+/// No move, with room for one of each cell that is not marked: a list that grows would take up to three times as much.
+///
+/// `Err` if an allocation fails.
+fn moves_for(alloc: Global, marks: &[bool]) -> Result<Moves, AllocError>
+    ensures { IfOk result (λ moves. moves ≡ []) }
+{
+    Moves::with_capacity(alloc, marks.iter().filter(|marked| !**marked).count())
+}
+
+impl Tables {
+    /// Goes through the team's cells in loading order and sends each that is unplaced or breaks a
+    /// rule to its best place: `NoPlace`, and no cell is moved, if one has none.
+    ///
+    /// A tidy that is refused on its way is taken back without allocating.
+    pub(crate) fn tidy<S: Seeker>(
+        &mut self,
+        around: &TeamContext<'_, S>,
+        session: u32,
+    ) -> Result<Reply, AllocError>
+        requires change { CanChange around.now.number session self.old }
+        ensures ok { (l : Legalizer) → IfOk result (λ reply. IsOutcome
+            (tidied_team (context_in l around.now self.old) session (team_in around.now self.old))
+            reply (team_in around.now self.new)) }
+        ensures err { (l : Legalizer) → OnErr result (IsOutOfMemory
+            (tidied_team (context_in l around.now self.old) session (team_in around.now self.old))
+            (team_in around.now self.old) (team_in around.now self.new)) }
+        ensures others { KeepsOtherTeams around.now.number self.old self.new }
+        ensures fit { EntriesFit around.now.number self.new }
+    {
+        let marks = legal_marks(around, self)?;
+        let mut moves = moves_for(around.alloc, &marks)?;
+        self.make_room(around.number)?;
+        self.placement.boxes_match_places();
+        match tidy_cells(around, &mut self.placement, &mut moves, &marks) {
+            Ok(Tidy::Done(moved)) => {
+                let revision = self.push_undo(around.number, session, moves);
+                Ok(Reply::Tidied { revision, moved })
+            }
+            Ok(Tidy::Stopped(cell)) => {
+                self.placement.undo_moves(around.number, &moves);
+                Ok(Reply::Refused(Refusal::NoPlace { cell }))
+            }
+            Err(error) => {
+                self.placement.undo_moves(around.number, &moves);
+                Err(error)
+            }
+        }
+    }
+}

@@ -1,5 +1,0 @@
-use Rattle.lf_floorplan.proofs.ObstacleLemmas.{stays_near}
-use Rattle.lf_floorplan.proofs.laws.obstacles_stay_near.Goals as goal
-
-pub returns : goal.returns
-returns c f k d within = stays_near f.header.units f.macros _ (f.obstacles_in_range k d within)

@@ -1,8 +1,0 @@
-use Rattle.std.proofs.Common.{◌≡◌, ◌++◌, drop, map}
-use Rattle.std.specs.Prelude.{filter}
-use Rattle.lf_refusals.specs.Loading.{is_heeded, frame_row}
-use Rattle.lf_frame.proofs.copies.heeded_rows.Given as goal
-
--- the rows of core sites so far, followed by those among the rows that are left, are all of them
-abbrev pub invariant-loop-row : goal.invariant-loop-row
-invariant-loop-row l = l.heeded ++ map frame_row (filter (is_heeded l.core) (drop l.row-index l.rows)) ≡ map frame_row (filter (is_heeded l.core) l.rows)

@@ -1,8 +1,0 @@
-use Rattle.std.proofs.Common.{◌≡◌, ◌++◌, drop}
-use Rattle.std.specs.Prelude.{flat_map}
-use Rattle.lf_frame.specs.Loads.{softly_blocked}
-use Rattle.lf_frame.proofs.copies.soft_rects.Given as goal
-
--- the rectangles so far, followed by those of the blockages that are left, are all of them
-abbrev pub invariant-loop-blockage : goal.invariant-loop-blockage
-invariant-loop-blockage l = l.soft ++ flat_map softly_blocked (drop l.blockage-index l.blockages) ≡ flat_map softly_blocked l.blockages

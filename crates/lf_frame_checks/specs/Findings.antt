@@ -1,0 +1,153 @@
+-- What each refusal of loading finds, and which one loading returns.
+use Rattle.std.specs.Prelude.{◌≡◌, ◌⊎◌, ℕ, ◌<◌, List, [], Option, Some, None, IsSome, is_some, cond, unwrap_or, option_map, MatchOption}
+use Rattle.std.specs.Option.{option_copied}
+use Rattle.lf_units.specs.declared.geometry.Point.{Point}
+use Rattle.lf_lex.specs.declared.fault.FaultNumber.{FaultNumber}
+use Rattle.lf_lex.specs.declared.fault.FaultNumber.TheVariants.{BadToken, UnexpectedEnd, Unexpected, BadNumber, WrongEnd, UnknownStatement}
+use Rattle.lf_lex.specs.declared.fault.FaultNumber.TheVariants.{NoUnits, NoSite, NoRows, VerticalRow, BadStep, RowOrient, RowsOverlap}
+use Rattle.lf_lex.specs.declared.fault.FaultNumber.TheVariants.{NoMacro, NoSize, NotWhole, SecondName, SecondRegion, NoRegion, TeamName}
+use Rattle.lf_lex.specs.declared.fault.FaultNumber.TheVariants.{FencesOverlap, TwoFences, TooMany, OutOfMemory}
+use Rattle.lf_lex.specs.declared.fault.LoadFault.{LoadFault}
+use Rattle.lf_floorplan.specs.declared.sites.Site.{Site}
+use Rattle.lf_lef.specs.Contents.{Contents}
+use Rattle.lf_def.specs.declared.groups.Group.{Group}
+use Rattle.lf_def.specs.Document.{Document}
+use Rattle.lf_def.specs.declared.document.DefDoc.{DefDoc}
+use Rattle.lf_def.specs.Contents.{contents}
+use Rattle.lf_floorplan.specs.declared.limits.Limits.{Limits}
+use Rattle.lf_frame_claims.specs.Entries.{FirstIs}
+use Rattle.lf_frame_checks.specs.Loading.{at_place, core_site, IsWholeSize}
+use Rattle.lf_floorplan.specs.Sizes.{size_in_dbu}
+use Rattle.lf_frame_claims.specs.Refusals.{HasEarlierName, IsClaimedTwice}
+use Rattle.lf_frame_checks.specs.Refusals.{HasNoSite, IsVertical, HasBadStep, IsSideways, OverlapsEarlierRow, HasNoMacro, HasNoSize, HasPartUnits}
+use Rattle.lf_frame_checks.specs.Refusals.{HasEarlierFenceName, HasNoRegion, HasGroundName, OverlapsEarlierFence, IsRowTooMany, IsFenceTooMany}
+use Rattle.lf_frame_checks.specs.Refusals.{IsComponentTooMany, EndsTooFar}
+
+-- what a design is loaded from: the library of the LEF texts, the document of the DEF text, and the limits
+pub record LoadInputs : Type 0 where
+  pub library : Contents
+  pub document : Document
+  pub limits : Limits
+
+-- the inputs made of these
+abbrev pub inputs : Contents → DefDoc → Limits → LoadInputs
+inputs library document limits = record { library = library; document = contents document; limits = limits }
+
+-- the database units per micron; 1 for a document without UNITS, which is refused
+abbrev pub units_in : LoadInputs → ℕ
+units_in i = unwrap_or i.document.header.units 1
+
+-- the core site of a design
+abbrev pub core_in : LoadInputs → Option Site
+core_in i = core_site i.library i.document.rows
+
+-- what a refusal finds: a name, or nothing
+abbrev pub Finding : Type 1
+Finding = Option (List ℕ) → Type 0
+
+-- the name of the first entry that breaks the rule, or nothing
+pub record NameOfFirst {A : Type 0} (name_of : A → List ℕ) (breaks : List A → A → Type 0) (entries : List A) (found : Option (List ℕ)) : Type 0 where
+  pub place : Option ℕ
+  pub first : FirstIs breaks entries place
+  pub name : found ≡ option_map name_of (at_place entries place)
+
+-- what the first finds; if that is nothing, what the second finds
+abbrev pub FirstOf : Finding → Finding → Finding
+FirstOf first second found = (first None × second found) ⊎ (IsSome found × first found)
+
+-- what is found with the core site; nothing without one, as NoRows comes first
+abbrev pub OfCore : LoadInputs → (Site → Finding) → Finding
+OfCore i finds found = MatchOption (core_in i) (found ≡ None) (λ core. finds core found)
+
+-- what is found with the core site's size in database units; nothing if it is not whole in them
+pub record WhereWhole (i : LoadInputs) (core : Site) (finds : Finding) (found : Option (List ℕ)) : Type 0 where
+  pub whole : IsWholeSize (units_in i) core.size → finds found
+  pub part : (IsWholeSize (units_in i) core.size → ⊥) → found ≡ None
+
+-- what is found with the core site and its size in database units
+abbrev pub OfPitch : LoadInputs → (Site → Point → Finding) → Finding
+OfPitch i finds = OfCore i (λ core. WhereWhole i core (finds core (size_in_dbu (units_in i) core.size)))
+
+-- the core site's size is not whole in database units
+pub record CoreHasPartUnits (i : LoadInputs) (core : Site) (found : Option (List ℕ)) : Type 0 where
+  pub whole : IsWholeSize (units_in i) core.size → found ≡ None
+  pub part : (IsWholeSize (units_in i) core.size → ⊥) → found ≡ Some core.name
+
+-- the region of a group
+abbrev pub region_name : Group → List ℕ
+region_name g = unwrap_or g.region []
+
+-- what the refusal of this number finds (LEF SITE, MACRO; DEF UNITS, ROW, REGIONS, GROUPS, COMPONENTS); the numbers of readers,
+-- and OutOfMemory, find nothing
+abbrev pub Finds : LoadInputs → FaultNumber → Finding
+Finds i NoUnits = λ found. found ≡ cond (is_some i.document.header.units) None (Some i.document.header.design)
+Finds i NoSite = NameOfFirst (λ r. r.site) (HasNoSite i.library) i.document.rows
+Finds i NoRows = λ found. found ≡ cond (is_some (core_in i)) None (Some i.document.header.design)
+Finds i VerticalRow = OfCore i (λ core. NameOfFirst (λ r. r.name) (IsVertical core) i.document.rows)
+Finds i BadStep = OfPitch i (λ core pitch. NameOfFirst (λ r. r.name) (HasBadStep core pitch) i.document.rows)
+Finds i RowOrient = OfCore i (λ core. NameOfFirst (λ r. r.name) (IsSideways core) i.document.rows)
+Finds i RowsOverlap = OfPitch i (λ core pitch. NameOfFirst (λ r. r.name) (OverlapsEarlierRow core pitch) i.document.rows)
+Finds i NoMacro = NameOfFirst (λ c. c.mac) (HasNoMacro i.library) i.document.components
+Finds i NoSize = NameOfFirst (λ c. c.mac) (HasNoSize i.library) i.document.components
+Finds i NotWhole = FirstOf (OfCore i (CoreHasPartUnits i)) (NameOfFirst (λ c. c.mac) (HasPartUnits i.library (units_in i)) i.document.components)
+Finds i SecondName = NameOfFirst (λ c. c.name) HasEarlierName i.document.components
+Finds i SecondRegion = NameOfFirst (λ r. r.name) HasEarlierFenceName i.document.regions
+Finds i NoRegion = NameOfFirst region_name (HasNoRegion i.document.regions) i.document.groups
+Finds i TeamName = NameOfFirst (λ r. r.name) HasGroundName i.document.regions
+Finds i FencesOverlap = NameOfFirst (λ r. r.name) OverlapsEarlierFence i.document.regions
+Finds i TwoFences = NameOfFirst (λ c. c.name) (IsClaimedTwice i.document.regions i.document.groups) i.document.components
+Finds i TooMany =
+    FirstOf (OfCore i (λ core. NameOfFirst (λ r. r.name) (IsRowTooMany core i.limits.rows) i.document.rows))
+    (FirstOf (NameOfFirst (λ r. r.name) (IsFenceTooMany i.limits.fences) i.document.regions)
+    (FirstOf (NameOfFirst (λ c. c.name) (IsComponentTooMany i.limits.components) i.document.components)
+    (OfPitch i (λ core pitch. NameOfFirst (λ r. r.name) (EndsTooFar core pitch) i.document.rows))))
+Finds i BadToken = λ found. found ≡ None
+Finds i UnexpectedEnd = λ found. found ≡ None
+Finds i Unexpected = λ found. found ≡ None
+Finds i BadNumber = λ found. found ≡ None
+Finds i WrongEnd = λ found. found ≡ None
+Finds i UnknownStatement = λ found. found ≡ None
+Finds i OutOfMemory = λ found. found ≡ None
+
+-- the number of a refusal, from 1 to 24
+abbrev pub number_of : FaultNumber → ℕ
+number_of BadToken = 1
+number_of UnexpectedEnd = 2
+number_of Unexpected = 3
+number_of BadNumber = 4
+number_of WrongEnd = 5
+number_of UnknownStatement = 6
+number_of NoUnits = 7
+number_of NoSite = 8
+number_of NoRows = 9
+number_of VerticalRow = 10
+number_of BadStep = 11
+number_of RowOrient = 12
+number_of RowsOverlap = 13
+number_of NoMacro = 14
+number_of NoSize = 15
+number_of NotWhole = 16
+number_of SecondName = 17
+number_of SecondRegion = 18
+number_of NoRegion = 19
+number_of TeamName = 20
+number_of FencesOverlap = 21
+number_of TwoFences = 22
+number_of TooMany = 23
+number_of OutOfMemory = 24
+
+-- no refusal finds anything
+abbrev pub IsAccepted : LoadInputs → Type 0
+IsAccepted i = (n : FaultNumber) → Finds i n None
+
+-- this refusal finds the name, and none of a lesser number finds anything
+pub record IsRefused (i : LoadInputs) (number : FaultNumber) (name : List ℕ) : Type 0 where
+  pub finds : Finds i number (Some name)
+  pub least : (n : FaultNumber) → number_of n < number_of number → Finds i n None
+
+-- the fault that loading returns: a refusal's number and the name that it finds, without a line
+pub record IsFault (i : LoadInputs) (fault : LoadFault) : Type 0 where
+  pub name : List ℕ
+  pub named : option_copied fault.name ≡ Some name
+  pub no_line : fault.line ≡ None
+  pub refused : IsRefused i fault.number name

@@ -1,0 +1,160 @@
+//! The refusals of loading for components.
+
+ghost use Rattle.std.specs.Prelude.{[], ◌≡◌, ◌↔◌, ◌<◌, ◌≤◌, true, false, None, Some, IsTrue, IfSome, length, ◌&&◌};
+ghost use Rattle.std.specs.Option.{option_copied};
+ghost use Rattle.lf_lef.specs.Lengths.{IsInRange, HasRange};
+ghost use Rattle.lf_units.specs.Length.{IsLength, in_dbu};
+ghost use Rattle.lf_frame_claims.specs.Entries.{FirstIs, first_of};
+ghost use Rattle.lf_frame_checks.specs.Loading.{at_place, macro_named as named_macro, has_size as is_size, IsWholeSize};
+ghost use Rattle.lf_frame_checks.specs.MacroTables.{macro_of, macros_of};
+ghost use Rattle.lf_frame_checks.specs.Refusals.{HasNoMacro, HasNoSize, HasPartUnits, AreMacroFaults, IsComponentTooMany};
+
+use crate::macro_numbers::MacroTable;
+use lf_def::{Component, is_cover};
+use lf_floorplan::Macro;
+use lf_lef::Library;
+use lf_units::{Point, micros_to_dbu};
+
+/// The macro of that number in the library; none iff there is no number.
+fn macro_numbered(library: &Library, number: Option<usize>) -> Option<&Macro>
+    ensures macro_is { option_copied result ≡ at_place library.now.macros number }
+    ensures range { IfSome result (λ m. HasRange m.now.size) }
+{
+    library.macros().get(number?)
+}
+
+/// The macro of that name; none iff there is none.
+pub fn macro_named<'l>(library: &'l Library, name: &[u8]) -> Option<&'l Macro>
+    ensures macro_is { option_copied result ≡ named_macro library.now name.now }
+    ensures range { IfSome result (λ m. HasRange m.now.size) }
+{
+    macro_numbered(library, library.find_macro(name))
+}
+
+/// Whether both lengths are above 0.
+pub(crate) fn has_size(size: &Point) -> bool
+    ensures { result ≡ is_size size.now }
+{
+    0 < size.x && 0 < size.y
+}
+
+/// Whether the length is whole in database units.
+fn is_whole(micros: i64, units: u32) -> bool
+    requires least { 1 ≤ units }
+    requires most { units ≤ 20000 }
+    requires range { IsInRange micros }
+    ensures { IsTrue result ↔ IsLength units micros (in_dbu units micros) }
+{
+    micros_to_dbu(micros, units).is_some()
+}
+
+/// Whether both lengths are whole in database units.
+pub(crate) fn is_whole_size(size: &Point, units: u32) -> bool
+    requires least { 1 ≤ units }
+    requires most { units ≤ 20000 }
+    requires range { HasRange size.now }
+    ensures { IsTrue result ↔ IsWholeSize units size.now }
+{
+    if !is_whole(size.x, units) {
+        return false;
+    }
+    is_whole(size.y, units)
+}
+
+/// What is wrong with a component's macro.
+#[derive(Clone, Copy)]
+struct MacroFault {
+    unknown: bool,
+    sizeless: bool,
+    part_units: bool,
+}
+
+/// The first components other than COVER whose macro is in no LEF text, has no SIZE with both lengths above 0, and has
+/// a size that is not whole in database units.
+#[derive(Clone, Copy)]
+pub struct MacroFaults {
+    pub unknown: Option<usize>,
+    pub sizeless: Option<usize>,
+    pub part_units: Option<usize>,
+}
+
+/// What is wrong with the component's macro, which has that number in the library.
+fn macro_fault(
+    component: &Component,
+    number: Option<usize>,
+    library: &Library,
+    units: u32,
+) -> MacroFault
+    requires least { 1 ≤ units }
+    requires most { units ≤ 20000 }
+    requires number { number ≡ macro_of library.now component.now }
+    ensures unknown { IsTrue result.unknown ↔ HasNoMacro library.now [] component.now }
+    ensures sizeless { IsTrue result.sizeless ↔ HasNoSize library.now [] component.now }
+    ensures part_units { IsTrue result.part_units ↔ HasPartUnits library.now units [] component.now }
+{
+    let mut fault = MacroFault {
+        unknown: false,
+        sizeless: false,
+        part_units: false,
+    };
+    if is_cover(component) {
+        return fault;
+    }
+    match macro_numbered(library, number) {
+        Some(mac) => {
+            fault.sizeless = !has_size(&mac.size);
+            fault.part_units = !is_whole_size(&mac.size, units);
+        }
+        None => fault.unknown = true,
+    }
+    fault
+}
+
+/// The first number so far, given whether this one counts.
+fn first_so_far(first: Option<usize>, number: usize, counts: bool) -> Option<usize>
+    ensures { result ≡ first_of first number counts }
+{
+    match first {
+        Some(earlier) => Some(earlier),
+        None => { if counts { Some(number) } else { None } }
+    }
+}
+
+/// The first components whose macros are at fault, of each kind.
+pub(crate) fn macro_faults(
+    components: &[Component],
+    macros: &MacroTable,
+    library: &Library,
+    units: u32,
+) -> MacroFaults
+    requires least { 1 ≤ units }
+    requires most { units ≤ 20000 }
+    requires macros { macros.now ≡ macros_of library.now components.now }
+    ensures { AreMacroFaults library.now units components.now result }
+{
+    let mut unknown = None;
+    let mut sizeless = None;
+    let mut part_units = None;
+    for (number, component) in components.iter().enumerate() {
+        let fault = macro_fault(component, macros.macro_at(number), library, units);
+        unknown = first_so_far(unknown, number, fault.unknown);
+        sizeless = first_so_far(sizeless, number, fault.sizeless);
+        part_units = first_so_far(part_units, number, fault.part_units);
+    }
+    MacroFaults {
+        unknown,
+        sizeless,
+        part_units,
+    }
+}
+
+/// The first component beyond the limit.
+pub(crate) fn first_component_too_many(components: &[Component], limit: usize) -> Option<usize>
+    ensures { FirstIs (IsComponentTooMany limit) components.now result }
+{
+    if limit < components.len() {
+        Some(limit)
+    } else {
+        None
+    }
+}

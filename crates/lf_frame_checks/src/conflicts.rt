@@ -1,0 +1,154 @@
+//! The fences that a refused fence or component meets.
+
+ghost use Rattle.std.specs.Prelude.{[], ◌≡◌, ◌↔◌, true, Any, IsTrue, None};
+ghost use Rattle.std.specs.Option.{option_copied};
+ghost use Rattle.lf_def.specs.Kinds.{is_fence as is_fence_region};
+ghost use Rattle.lf_frame_claims.specs.Entries.{FirstIs};
+ghost use Rattle.lf_frame_claims.specs.Teams.{NamedBy};
+ghost use Rattle.lf_frame_checks.specs.Findings.{NameOfFirst, region_name};
+ghost use Rattle.lf_frame_checks.specs.Meetings.{AreClaimers, ClaimsBut, IsOverlappedBy, ConflictsWith, OverlapsFence, fence_named as named_fence, conflict_in};
+
+use crate::fence_checks::do_regions_meet;
+use crate::findings::{region_at, region_of_group};
+use lf_def::{DefDoc, Group, Region, is_fence};
+use lf_lex::{FaultNumber, LoadFault};
+use lf_names::Pattern;
+
+/// The names of the fences that a fault of loading is about, besides the name that it gives.
+#[derive(Clone, Copy)]
+pub struct FenceConflict<'d> {
+    /// Of FencesOverlap the fence that the given one meets, of TwoFences the first that claims the component.
+    pub first: Option<&'d [u8]>,
+    /// Of TwoFences the other fence that claims it.
+    pub second: Option<&'d [u8]>,
+}
+
+/// No fence.
+const NO_FENCE: FenceConflict<'static> = FenceConflict {
+    first: None,
+    second: None,
+};
+
+/// The first fence of that name.
+fn fence_named<'d>(regions: &'d [Region], name: &[u8]) -> Option<&'d Region>
+    ensures { option_copied result ≡ named_fence regions.now name.now }
+{
+    regions
+        .iter()
+        .find(|region| is_fence(region) && region.name.is(name))
+}
+
+/// Whether the region is a fence of another name that shares a point with the fence.
+fn meets(fence: &Region, region: &Region) -> bool
+    ensures { IsTrue result ↔ OverlapsFence fence.now [] region.now }
+{
+    is_fence(region) && !region.name.is(fence.name.as_bytes()) && do_regions_meet(region, fence)
+}
+
+/// The first fence of another name that shares a point with this one.
+fn first_met(regions: &[Region], fence: &Region) -> Option<usize>
+    ensures { FirstIs (OverlapsFence fence.now) regions.now result }
+{
+    for (number, region) in regions.iter().enumerate() {
+        if meets(fence, region) {
+            return Some(number);
+        }
+    }
+    None
+}
+
+/// The name of the first other fence that shares a point with the fence of that name.
+fn met_by<'d>(regions: &'d [Region], name: &[u8]) -> Option<&'d [u8]>
+    ensures { IsOverlappedBy regions.now name.now (option_copied result) }
+{
+    let Some(fence) = fence_named(regions, name) else {
+        return None;
+    };
+    region_at(regions, first_met(regions, fence))
+}
+
+/// Whether the name matches a pattern of the group.
+fn is_named_by(group: &Group, name: &[u8]) -> bool
+    ensures { IsTrue result ↔ NamedBy group.now name.now }
+{
+    group
+        .patterns
+        .as_slice()
+        .iter()
+        .any(|pattern| Pattern::new(pattern.as_bytes()).matches(name))
+}
+
+/// Whether a fence has that name.
+fn has_fence(regions: &[Region], name: &[u8]) -> bool
+    ensures { IsTrue result ↔ Any (λ r. (is_fence_region r ≡ true) × (r.name ≡ name.now)) regions.now }
+{
+    regions
+        .iter()
+        .any(|region| is_fence(region) && region.name.is(name))
+}
+
+/// Whether the group binds the name to a fence other than this one.
+fn claims_but(regions: &[Region], name: &[u8], told: Option<&[u8]>, group: &Group) -> bool
+    ensures { IsTrue result ↔ ClaimsBut regions.now name.now (option_copied told.entry) [] group.now }
+{
+    let Some(fence) = &group.region else {
+        return false;
+    };
+    told != Some(fence.as_bytes())
+        && has_fence(regions, fence.as_bytes())
+        && is_named_by(group, name)
+}
+
+/// The first group that binds the name to a fence other than this one.
+fn first_claiming(
+    regions: &[Region],
+    groups: &[Group],
+    name: &[u8],
+    told: Option<&[u8]>,
+) -> Option<usize>
+    ensures { FirstIs (ClaimsBut regions.now name.now (option_copied told.entry)) groups.now result }
+{
+    for (number, group) in groups.iter().enumerate() {
+        if claims_but(regions, name, told, group) {
+            return Some(number);
+        }
+    }
+    None
+}
+
+/// The first fence other than this one to which a group binds the name.
+fn claimer<'d>(document: &'d DefDoc, name: &[u8], told: Option<&[u8]>) -> Option<&'d [u8]>
+    ensures { NameOfFirst region_name (ClaimsBut document.now.regions name.now (option_copied told.entry)) document.now.groups (option_copied result) }
+{
+    let groups = document.groups.as_slice();
+    let first = first_claiming(document.regions.as_slice(), groups, name, told);
+    region_of_group(groups, first)
+}
+
+/// The first two fences to which groups bind the name.
+fn claimers<'d>(document: &'d DefDoc, name: &[u8]) -> FenceConflict<'d>
+    ensures { AreClaimers document.now.regions document.now.groups name.now (conflict_in result) }
+{
+    let first = claimer(document, name, None);
+    FenceConflict {
+        first,
+        second: claimer(document, name, first),
+    }
+}
+
+/// The fences that a fault of loading the document is about, besides the name that it gives.
+pub fn conflicting_fences<'d>(document: &'d DefDoc, fault: &LoadFault<'_>) -> FenceConflict<'d>
+    ensures { ConflictsWith document.now.regions document.now.groups fault.now (conflict_in result) }
+{
+    let Some(name) = fault.name else {
+        return NO_FENCE;
+    };
+    match fault.number {
+        FaultNumber::FencesOverlap => FenceConflict {
+            first: met_by(document.regions.as_slice(), name),
+            second: None,
+        },
+        FaultNumber::TwoFences => claimers(document, name),
+        _ => NO_FENCE,
+    }
+}

@@ -1,0 +1,107 @@
+//! The macro of each component.
+
+ghost use Rattle.std.specs.Prelude.{◌≡◌, ◌≤◌, IfOk, IfSome};
+ghost use Rattle.lf_frame_checks.specs.MacroTables.{macro_of, macros_of, macro_at as macro_at_number};
+
+use lf_def::Component;
+use lf_lef::Library;
+use std::alloc::{AllocError, Global};
+use std::marker::Model;
+use std::mem::size_of;
+
+/// The number of a macro, or none, in 32 bits. Contracts see the option.
+#[derive(Clone, Copy)]
+struct MacroNumber {
+    /// 0 if there is none, and else one more than the number.
+    code: u32,
+}
+
+impl Model for MacroNumber {
+    ghost use Rattle.std.specs.Prelude.{ℕ, Option};
+
+    ghost Value = { Option ℕ };
+
+    ghost use Rattle.lf_frame_checks.specs.MacroNumbers.{number_in, shortened, shortened_back};
+
+    ghost view = { number_in };
+
+    ghost inverse = { shortened };
+
+    ghost inverse_ok = { λ a h. shortened_back a };
+}
+
+const _: () = prove!(size_of::<MacroNumber>() == 4);
+
+/// The macro of each component, looked up once: its number in the library, or none if no LEF text has it. Contracts see these.
+#[derive(Drop)]
+pub struct MacroTable {
+    numbers: Vec<MacroNumber>,
+}
+
+impl Model for MacroTable {
+    ghost use Rattle.std.specs.Prelude.{ℕ, List, Option};
+
+    ghost Value = { List (Option ℕ) };
+
+    ghost view = { λ t. t.numbers.items };
+}
+
+impl MacroNumber {
+    /// The same number in 32 bits.
+    fn new(number: Option<usize>) -> Self
+        requires { IfSome number (λ n. n ≤ 1000000) }
+        ensures { result ≡ number }
+    {
+        match number {
+            Some(number) => MacroNumber {
+                code: number as u32 + 1,
+            },
+            None => MacroNumber { code: 0 },
+        }
+    }
+
+    /// The same number in as many bits as it may take.
+    fn long(&self) -> Option<usize>
+        ensures { result ≡ self.now }
+    {
+        match self.code {
+            0 => None,
+            code => Some((code - 1) as usize),
+        }
+    }
+}
+
+/// The number of the component's macro in the library.
+fn number_of(component: &Component, library: &Library) -> MacroNumber
+    ensures { result ≡ macro_of library.now component.now }
+{
+    let _ = library.macros();
+    MacroNumber::new(library.find_macro(component.macro_name()))
+}
+
+/// The table of these components. `Err` if an allocation fails.
+pub fn macro_table(
+    alloc: Global,
+    components: &[Component],
+    library: &Library,
+) -> Result<MacroTable, AllocError>
+    ensures { IfOk result (λ table. table ≡ macros_of library.now components.now) }
+{
+    let mut numbers = Vec::with_capacity(alloc, components.len())?;
+    for component in components {
+        numbers.push(number_of(component, library))?;
+    }
+    Ok(MacroTable { numbers })
+}
+
+impl MacroTable {
+    /// The macro of the component of that number; none if no LEF text has it, or there is no such component.
+    pub fn macro_at(&self, number: usize) -> Option<usize>
+        ensures { result ≡ macro_at_number self.now number }
+    {
+        match self.numbers.get(number) {
+            Some(found) => found.long(),
+            None => None,
+        }
+    }
+}

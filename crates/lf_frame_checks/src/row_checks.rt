@@ -1,0 +1,324 @@
+//! The refusals of loading for rows.
+
+ghost use Rattle.std.specs.Prelude.{[], ◌≡◌, ◌≢◌, ◌↔◌, ℕ, ℤ, pos, ◌<◌, ◌≤◌, ◌<ℤ◌, ◌≤ℤ◌, ◌+ℤ◌, ◌*ℤ◌, ◌++◌, true, None, All, Any};
+ghost use Rattle.std.specs.Prelude.{IsTrue, IfSome, IfOk, OnOk, MatchOption, length};
+ghost use Rattle.std.specs.Option.{option_copied};
+ghost use Rattle.lf_units.specs.Area.{SharesPoint};
+ghost use Rattle.lf_lef.specs.Lengths.{HasRange};
+ghost use Rattle.lf_def.specs.Ranges.{IsRow};
+ghost use Rattle.lf_floorplan.specs.Rows.{row_area};
+ghost use Rattle.lf_frame_claims.specs.Entries.{FirstIs};
+ghost use Rattle.lf_frame_checks.specs.Loading.{site_named, is_core, core_row as core_row_of, core_site as core_site_of, is_core_row as is_heeded_row, frame_row};
+ghost use Rattle.lf_frame_checks.specs.Sweep.{piece_of, row_pieces as row_pieces_of, ArePiecesOf};
+ghost use Rattle.lf_frame_checks.specs.Refusals.{HasNoSite, IsVertical, HasBadStep, IsSideways, OverlapsEarlierRow, IsRowTooMany, EndsTooFar};
+
+use crate::component_checks::has_size;
+use crate::pitch::Pitch;
+use crate::sweep::{SweepRect, none_clash};
+use lf_def::Row;
+use lf_floorplan::Site;
+use lf_lef::Library;
+use lf_orient::row_rail;
+use std::alloc::{AllocError, Global};
+
+/// The site of that name; none if there is none.
+pub(crate) fn site_named<'l>(library: &'l Library, name: &[u8]) -> Option<&'l Site>
+    ensures site { option_copied result ≡ site_named library.now name.now }
+    ensures range { IfSome result (λ s. HasRange s.now.size) }
+{
+    library.sites().get(library.find_site(name)?)
+}
+
+/// Whether the row's site has CLASS CORE and a SIZE with both lengths above 0.
+fn has_core_site(row: &Row, library: &Library) -> bool
+    ensures { result ≡ is_core (site_named library.now row.now.site) }
+{
+    match site_named(library, row.site.as_bytes()) {
+        Some(site) => site.core && has_size(&site.size),
+        None => false,
+    }
+}
+
+/// The first row whose site has CLASS CORE and a SIZE with both lengths above 0.
+fn core_row<'d>(rows: &'d [Row], library: &Library) -> Option<&'d Row>
+    ensures { option_copied result ≡ core_row_of library.now rows.now }
+{
+    rows.iter().find(|row| has_core_site(row, library))
+}
+
+/// The core site: that of the first row whose site has CLASS CORE and a SIZE with both lengths above 0.
+pub(crate) fn core_site<'l>(library: &'l Library, rows: &[Row]) -> Option<&'l Site>
+    ensures core { option_copied result ≡ core_site_of library.now rows.now }
+    ensures range { IfSome result (λ s. HasRange s.now.size) }
+{
+    match core_row(rows, library) {
+        Some(row) => site_named(library, row.site.as_bytes()),
+        None => None,
+    }
+}
+
+/// Whether the row's site is in no LEF text.
+fn has_no_site(row: &Row, library: &Library) -> bool
+    ensures { IsTrue result ↔ HasNoSite library.now [] row.now }
+{
+    site_named(library, row.site.as_bytes()).is_none()
+}
+
+/// The first row whose site is in no LEF text.
+pub(crate) fn first_without_site(rows: &[Row], library: &Library) -> Option<usize>
+    ensures { FirstIs (HasNoSite library.now) rows.now result }
+{
+    for (number, row) in rows.iter().enumerate() {
+        if has_no_site(row, library) {
+            return Some(number);
+        }
+    }
+    None
+}
+
+/// Whether the row is one of core sites.
+pub fn is_core_row(row: &Row, core: &Site) -> bool
+    ensures { result ≡ is_heeded_row core.now row.now }
+{
+    row.site.is(core.name.as_bytes())
+}
+
+/// Whether the row is one of core sites and its numY is not 1.
+fn is_vertical(row: &Row, core: &Site) -> bool
+    ensures { IsTrue result ↔ IsVertical core.now [] row.now }
+{
+    is_core_row(row, core) && row.sites_y != 1
+}
+
+/// The first row of core sites whose numY is not 1.
+pub(crate) fn first_vertical(rows: &[Row], core: &Site) -> Option<usize>
+    ensures { FirstIs (IsVertical core.now) rows.now result }
+{
+    for (number, row) in rows.iter().enumerate() {
+        if is_vertical(row, core) {
+            return Some(number);
+        }
+    }
+    None
+}
+
+/// Whether the row has several sites, which are core sites, and its step is not their width.
+fn has_bad_step(row: &Row, core: &Site, pitch: &Pitch) -> bool
+    ensures { IsTrue result ↔ HasBadStep core.now pitch.now.size [] row.now }
+{
+    match row.step {
+        Some(step) => is_core_row(row, core) && 1 < row.sites_x && step.x != pitch.size.x,
+        None => false,
+    }
+}
+
+/// The first row of several core sites whose step is not the site's width.
+pub(crate) fn first_bad_step(rows: &[Row], core: &Site, pitch: &Pitch) -> Option<usize>
+    ensures { FirstIs (HasBadStep core.now pitch.now.size) rows.now result }
+{
+    for (number, row) in rows.iter().enumerate() {
+        if has_bad_step(row, core, pitch) {
+            return Some(number);
+        }
+    }
+    None
+}
+
+/// Whether the row is one of core sites and neither N, S, FN nor FS.
+fn is_turned(row: &Row, core: &Site) -> bool
+    ensures { IsTrue result ↔ IsSideways core.now [] row.now }
+{
+    is_core_row(row, core) && row_rail(row.orient).is_none()
+}
+
+/// The first row of core sites that is neither N, S, FN nor FS.
+pub(crate) fn first_turned(rows: &[Row], core: &Site) -> Option<usize>
+    ensures { FirstIs (IsSideways core.now) rows.now result }
+{
+    for (number, row) in rows.iter().enumerate() {
+        if is_turned(row, core) {
+            return Some(number);
+        }
+    }
+    None
+}
+
+/// The first row of core sites beyond the limit.
+pub(crate) fn first_row_too_many(rows: &[Row], core: &Site, limit: usize) -> Option<usize>
+    ensures { FirstIs (IsRowTooMany core.now limit) rows.now result }
+{
+    let mut heeded = 0;
+    for (number, row) in rows.iter().enumerate() {
+        if is_core_row(row, core) {
+            if limit <= heeded {
+                return Some(number);
+            }
+            heeded += 1;
+        }
+    }
+    None
+}
+
+/// The width of all sites of a row, which may exceed 64 bits.
+fn full_width(row: &Row, pitch: &Pitch) -> i128
+    ensures { result ≡ pos row.now.sites_x *ℤ pitch.now.size.x }
+{
+    i128::from(row.sites_x) * i128::from(pitch.size.x)
+}
+
+/// The x at which the row ends, which may exceed 64 bits.
+fn right_edge(row: &Row, pitch: &Pitch) -> i128
+    requires row { IsRow row.now }
+    ensures { result ≡ (row_area pitch.now.size (frame_row row.now)).x2 }
+{
+    i128::from(row.x) + full_width(row, pitch)
+}
+
+/// Whether the row's upper edge is at or below the other's lower one.
+fn is_below(row: &Row, other: &Row, pitch: &Pitch) -> bool
+    requires row { IsRow row.now }
+    ensures { IsTrue result ↔ ((row.now.y +ℤ pitch.now.size.y) ≤ℤ other.now.y) }
+{
+    row.y + pitch.size.y <= other.y
+}
+
+/// Whether the row ends at or before the x at which the other begins.
+fn ends_before(row: &Row, other: &Row, pitch: &Pitch) -> bool
+    requires row { IsRow row.now }
+    ensures { IsTrue result ↔ ((row_area pitch.now.size (frame_row row.now)).x2 ≤ℤ other.now.x) }
+{
+    right_edge(row, pitch) <= i128::from(other.x)
+}
+
+/// Whether the two rows share a point.
+fn do_rows_meet(first: &Row, second: &Row, pitch: &Pitch) -> bool
+    requires first { IsRow first.now }
+    requires second { IsRow second.now }
+    ensures { IsTrue result ↔ SharesPoint (row_area pitch.now.size (frame_row first.now)) (row_area pitch.now.size (frame_row second.now)) }
+{
+    if is_below(second, first, pitch) {
+        return false;
+    }
+    if is_below(first, second, pitch) {
+        return false;
+    }
+    if ends_before(second, first, pitch) {
+        return false;
+    }
+    !ends_before(first, second, pitch)
+}
+
+/// Whether a row of core sites in the list shares a point with this one.
+fn meets_one_of(row: &Row, earlier: &[Row], core: &Site, pitch: &Pitch) -> bool
+    requires row { IsRow row.now }
+    requires each { All IsRow earlier.now }
+    ensures { IsTrue result ↔ Any (λ e. (is_heeded_row core.now e ≡ true)
+        × SharesPoint (row_area pitch.now.size (frame_row e)) (row_area pitch.now.size (frame_row row.now))) earlier.now }
+{
+    for other in earlier {
+        if is_core_row(other, core) && do_rows_meet(other, row, pitch) {
+            return true;
+        }
+    }
+    false
+}
+
+/// The first row of core sites that shares a point with an earlier one, found by comparing all pairs.
+fn row_overlap_by_pairs(rows: &[Row], core: &Site, pitch: &Pitch) -> Option<usize>
+    requires each { All IsRow rows.now }
+    ensures { FirstIs (OverlapsEarlierRow core.now pitch.now.size) rows.now result }
+{
+    for (number, row) in rows.iter().enumerate() {
+        if is_core_row(row, core) && meets_one_of(row, &rows[..number], core, pitch) {
+            return Some(number);
+        }
+    }
+    None
+}
+
+/// The row as a piece of the sweep.
+fn row_piece(number: usize, row: &Row, pitch: &Pitch) -> SweepRect
+    requires row { IsRow row.now }
+    ensures { result ≡ piece_of number (row_area pitch.now.size (frame_row row.now)) }
+{
+    SweepRect {
+        entry: number,
+        left: row.x,
+        right: right_edge(row, pitch),
+        bottom: row.y,
+        top: row.y + pitch.size.y,
+    }
+}
+
+/// Appends the row as a piece, if it is one of core sites.
+fn push_row(
+    pieces: &mut Vec<SweepRect>,
+    number: usize,
+    row: &Row,
+    core: &Site,
+    pitch: &Pitch,
+) -> Result<(), AllocError>
+    requires row { IsRow row.now }
+    ensures { OnOk result (pieces.new.items ≡ pieces.old.items ++ row_pieces_of core.now pitch.now.size number row.now) }
+{
+    if is_core_row(row, core) {
+        pieces.push(row_piece(number, row, pitch))?;
+    }
+    Ok(())
+}
+
+/// The rows of core sites as pieces of the sweep.
+fn row_pieces(
+    alloc: Global,
+    rows: &[Row],
+    core: &Site,
+    pitch: &Pitch,
+) -> Result<Vec<SweepRect>, AllocError>
+    requires each { All IsRow rows.now }
+    ensures { IfOk result (λ pieces. ArePiecesOf (row_pieces_of core.now pitch.now.size) rows.now pieces.items) }
+{
+    let mut pieces = Vec::new(alloc);
+    for (number, row) in rows.iter().enumerate() {
+        push_row(&mut pieces, number, row, core, pitch)?;
+    }
+    Ok(pieces)
+}
+
+/// The first row of core sites that shares a point with an earlier one. Takes the time of a sort if there is none and
+/// few rows overlap in y.
+pub(crate) fn first_row_overlap(
+    alloc: Global,
+    rows: &[Row],
+    core: &Site,
+    pitch: &Pitch,
+) -> Result<Option<usize>, AllocError>
+    requires each { All IsRow rows.now }
+    ensures { IfOk result (λ found. FirstIs (OverlapsEarlierRow core.now pitch.now.size) rows.now found) }
+{
+    let mut pieces = row_pieces(alloc, rows, core, pitch)?;
+    if none_clash(&mut pieces) {
+        return Ok(None);
+    }
+    Ok(row_overlap_by_pairs(rows, core, pitch))
+}
+
+/// Whether the row is one of core sites and ends past the largest coordinate.
+fn ends_too_far(row: &Row, core: &Site, pitch: &Pitch) -> bool
+    requires row { IsRow row.now }
+    ensures { IsTrue result ↔ EndsTooFar core.now pitch.now.size [] row.now }
+{
+    is_core_row(row, core) && 2_147_483_647 < right_edge(row, pitch)
+}
+
+/// The first row of core sites that ends past the largest coordinate.
+pub(crate) fn first_too_far(rows: &[Row], core: &Site, pitch: &Pitch) -> Option<usize>
+    requires each { All IsRow rows.now }
+    ensures { FirstIs (EndsTooFar core.now pitch.now.size) rows.now result }
+{
+    for (number, row) in rows.iter().enumerate() {
+        if ends_too_far(row, core, pitch) {
+            return Some(number);
+        }
+    }
+    None
+}

@@ -1,0 +1,210 @@
+//! The claims of fences on each name of a list.
+
+ghost use Rattle.std.specs.Prelude.{◌≡◌, ◌<◌, ℕ, IfOk, OnErr, OnOk, SomeIff, length, replicate, slice_set};
+ghost use Rattle.lf_frame_claims.specs.ShortClaims.{IsShort};
+ghost use Rattle.lf_frame_claims.specs.Claims.{merged as merged_claim, CountsFences, IsMatched};
+ghost use Rattle.lf_frame_claims.specs.ClaimTables.{claim_at};
+
+use crate::claim::{Claim, merged};
+use lf_names::Match;
+use std::alloc::{AllocError, Global};
+use std::marker::Model;
+use std::mem::size_of;
+
+/// A claim in 32 bits. Contracts see the claim.
+#[derive(Clone, Copy)]
+struct ShortClaim {
+    /// 0 if no fence claims, 1 if two do, and two more than the number of the only fence that does.
+    code: u32,
+}
+
+impl Model for ShortClaim {
+    ghost use Rattle.lf_frame_claims.specs.declared.claim.Claim.{Claim};
+
+    ghost Value = { Claim };
+
+    ghost use Rattle.lf_frame_claims.specs.ShortClaims.{claim_in, shortened, shortened_back};
+
+    ghost view = { claim_in };
+
+    ghost inverse = { shortened };
+
+    ghost inverse_ok = { λ a h. shortened_back a };
+}
+
+const _: () = prove!(size_of::<ShortClaim>() == 4 && size_of::<Claim>() == 16);
+
+/// Claims on names, all of them in one of two forms.
+#[derive(Drop)]
+enum ClaimList {
+    Short(Vec<ShortClaim>),
+    Wide(Vec<Claim>),
+}
+
+/// The claims on each name of a list, by the numbers of the names: 4 bytes of each, or 16 once the number of a fence that claims
+/// one takes more than 32 bits. Contracts see their list.
+#[derive(Drop)]
+pub struct Claims {
+    kept: ClaimList,
+}
+
+impl Model for Claims {
+    ghost use Rattle.std.specs.Prelude.{List};
+    ghost use Rattle.lf_frame_claims.specs.declared.claim.Claim.{Claim};
+
+    ghost Value = { List Claim };
+
+    ghost use Rattle.lf_frame_claims.specs.ClaimLists.{claims_kept};
+
+    ghost view = { λ c. claims_kept c.kept };
+}
+
+impl ShortClaim {
+    /// The same claim in as many bits as it may take.
+    fn long(&self) -> Claim
+        ensures { result ≡ self.now }
+    {
+        match self.code {
+            0 => Claim::Unclaimed,
+            1 => Claim::ByTwo,
+            code => Claim::ByOne((code - 2) as usize),
+        }
+    }
+}
+
+/// The claim of this fence alone in 32 bits; none if it takes more.
+fn short_by_one(fence: usize) -> Option<ShortClaim>
+    ensures { SomeIff result (IsShort (Claim.ByOne fence)) (Claim.ByOne fence) }
+{
+    let code = fence.checked_add(2)?;
+    match u32::try_from(code) {
+        Ok(code) => Some(ShortClaim { code }),
+        Err(_) => None,
+    }
+}
+
+/// The claim in 32 bits; none if it takes more.
+fn short_claim(claim: Claim) -> Option<ShortClaim>
+    ensures { SomeIff result (IsShort claim) claim }
+{
+    match claim {
+        Claim::Unclaimed => Some(ShortClaim { code: 0 }),
+        Claim::ByTwo => Some(ShortClaim { code: 1 }),
+        Claim::ByOne(fence) => short_by_one(fence),
+    }
+}
+
+/// The short claim at the number; Unclaimed if there is none.
+fn short_at(claims: &[ShortClaim], number: usize) -> Claim
+    ensures { result ≡ claim_at claims.now number }
+{
+    match claims.get(number) {
+        Some(claim) => claim.long(),
+        None => Claim::Unclaimed,
+    }
+}
+
+/// The wide claim at the number; Unclaimed if there is none.
+fn wide_at(claims: &[Claim], number: usize) -> Claim
+    ensures { result ≡ claim_at claims.now number }
+{
+    match claims.get(number) {
+        Some(claim) => *claim,
+        None => Claim::Unclaimed,
+    }
+}
+
+/// Puts the claim at the number, if there is one.
+fn put_at<C: Copy>(claims: &mut Vec<C>, number: usize, claim: C)
+    ensures { claims.new.items ≡ slice_set claims.old.items number claim }
+{
+    if let Some(place) = claims.get_mut(number) {
+        *place = claim;
+    }
+}
+
+/// The same claims, wide.
+fn widened(alloc: Global, claims: &[ShortClaim]) -> Result<Vec<Claim>, AllocError>
+    ensures { IfOk result (λ wide. wide.items ≡ claims.now) }
+{
+    let mut wide = Vec::with_capacity(alloc, claims.len())?;
+    for claim in claims {
+        wide.push(claim.long())?;
+    }
+    Ok(wide)
+}
+
+impl Claims {
+    /// This many names without a claim.
+    pub(crate) fn unclaimed(alloc: Global, count: usize) -> Result<Self, AllocError>
+        ensures { IfOk result (λ claims. claims ≡ replicate count Claim.Unclaimed) }
+    {
+        let short = vec![in alloc; ShortClaim { code: 0 }; count]?;
+        Ok(Claims {
+            kept: ClaimList::Short(short),
+        })
+    }
+
+    /// The claim at the number; Unclaimed if there is none.
+    pub(crate) fn claim_at(&self, number: usize) -> Claim
+        ensures { result ≡ claim_at self.now number }
+    {
+        match &self.kept {
+            ClaimList::Short(claims) => short_at(claims, number),
+            ClaimList::Wide(claims) => wide_at(claims, number),
+        }
+    }
+
+    /// Puts the claim at the number, if there is one. `Err`, which leaves all claims unchanged, if an allocation fails.
+    fn put(&mut self, alloc: Global, number: usize, claim: Claim) -> Result<(), AllocError>
+        ensures ok { OnOk result (self.new ≡ slice_set self.old number claim) }
+        ensures err { OnErr result (self.new ≡ self.old) }
+    {
+        match &mut self.kept {
+            ClaimList::Wide(claims) => put_at(claims, number, claim),
+            ClaimList::Short(claims) => match short_claim(claim) {
+                Some(short) => put_at(claims, number, short),
+                None => {
+                    let mut wide = widened(alloc, claims)?;
+                    put_at(&mut wide, number, claim);
+                    self.kept = ClaimList::Wide(wide);
+                }
+            },
+        }
+        Ok(())
+    }
+
+    /// Adds these fences to the claim at the number, if there is one. `Err`, which leaves all claims unchanged, if an allocation
+    /// fails.
+    pub(crate) fn merge(
+        &mut self,
+        alloc: Global,
+        number: usize,
+        more: Claim,
+    ) -> Result<(), AllocError>
+        ensures ok { OnOk result (self.new ≡ slice_set self.old number (merged_claim (claim_at self.old number) more)) }
+        ensures err { OnErr result (self.new ≡ self.old) }
+    {
+        if let Claim::Unclaimed = more {
+            return Ok(());
+        }
+        let claim = merged(self.claim_at(number), more);
+        self.put(alloc, number, claim)
+    }
+}
+
+/// The claims on this many names from matches of a name's number with a fence's number.
+pub(crate) fn claims_by_match(
+    alloc: Global,
+    count: usize,
+    matches: &[Match],
+) -> Result<Claims, AllocError>
+    ensures long { IfOk result (λ claims. length claims ≡ count) }
+    ensures told { IfOk result (λ claims. (number : ℕ) → number < count → CountsFences (IsMatched matches.now number) (claim_at claims number)) }
+{
+    let mut claims = Claims::unclaimed(alloc, count)?;
+    for found in matches {
+        claims.merge(alloc, found.own, Claim::ByOne(found.asked))?;
+    }
+    Ok(claims)
+}

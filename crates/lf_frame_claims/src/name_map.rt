@@ -1,0 +1,50 @@
+//! Maps from names.
+
+ghost use Rattle.std.specs.Prelude.{◌≡◌, ℕ, List, None, OnOk};
+ghost use Rattle.lf_frame_claims.specs.NameMaps.{value_of, HasAllValues, SetsValue};
+
+use lf_names::{Added, NameTable};
+use std::alloc::{AllocError, Global};
+
+/// A value for each of some names, looked up in a time that does not depend on their number, but for names chosen
+/// against the fixed hash.
+#[derive(Drop)]
+pub struct NameMap<V: Copy> {
+    names: NameTable,
+    values: Vec<V>,
+}
+
+impl<V: Copy> NameMap<V> {
+    /// The empty map.
+    pub(crate) fn new(alloc: Global) -> Self
+        ensures whole { HasAllValues result }
+        ensures nothing { (name : List ℕ) → value_of result name ≡ None }
+    {
+        NameMap {
+            names: NameTable::new(alloc),
+            values: Vec::new(alloc),
+        }
+    }
+
+    /// The name's value; none if it has none.
+    pub(crate) fn get(&self, name: &[u8]) -> Option<V>
+        ensures { result ≡ value_of self.now name.now }
+    {
+        match self.names.find(name) {
+            Some(at) => self.values.get(at).copied(),
+            None => None,
+        }
+    }
+
+    /// Sets the name's value. After an `Err` the map must be dropped.
+    pub(crate) fn put(&mut self, name: &[u8], value: V) -> Result<(), AllocError>
+        requires { HasAllValues self.old }
+        ensures { OnOk result (SetsValue self.old self.new name.now value) }
+    {
+        match self.names.add(name)? {
+            Added::New(_) => self.values.push(value)?,
+            Added::Present(at) => self.values[at] = value,
+        }
+        Ok(())
+    }
+}

@@ -1,0 +1,47 @@
+-- The cells of a team of a loaded design, wherever they stand, and that the team's text reads back.
+use Rattle.std.specs.Prelude.{◌≡◌, ◌≢◌, ℕ, ◌≤◌, List, All, Contains, IfSome, IsSome, Ok, codes, length, map, slice_get}
+use Rattle.lf_def.specs.Document.{document_of}
+use Rattle.lf_def.specs.PrintedTexts.{ReadsApartFromOffsets}
+use Rattle.lf_def.specs.Ranges.{IsLocation}
+use Rattle.lf_floorplan.specs.declared.loaded.Cell.{Cell as LoadedCell}
+use Rattle.lf_floorplan.specs.declared.loaded.Loaded.{Loaded}
+use Rattle.lf_cells.specs.declared.cell.Cell.{Cell}
+use Rattle.lf_cells.specs.Openings.{own_cells}
+use Rattle.lf_frame_checks.specs.Findings.{LoadInputs}
+use Rattle.lf_frame.specs.Loads.{as_location, IsLoadedFrom}
+use Rattle.lf_team_def.specs.TeamText.{team_text}
+use Rattle.lf_laws_roundtrip.specs.TeamDocument.{team_document}
+
+-- a cell of the team of that number, at any working place that a text can hold, or unplaced
+pub record IsCellOfTeam (l : Loaded) (number : ℕ) (c : Cell) : Type 0 where
+  pub loaded : LoadedCell
+  pub there : Contains l.cells loaded
+  pub own : loaded.team ≡ number
+  pub name : c.name ≡ loaded.name
+  pub mac : c.mac ≡ loaded.mac
+  pub place : IfSome c.working (λ p. IsLocation (as_location p))
+
+-- cells of the team of that number; if it has a fence none is named `+`, which no pattern of a group can be
+pub record AreTeamCells (l : Loaded) (number : ℕ) (cells : List Cell) : Type 0 where
+  pub few : length cells ≤ 4000000
+  pub own : All (IsCellOfTeam l number) cells
+  pub no_plus : IsSome (slice_get l.frame.teams number) → All (λ c. c.name ≢ codes "+") cells
+
+-- the name and the macro of a cell, which no command changes
+abbrev pub lasting : Cell → List ℕ × ℕ
+lasting c = (c.name, c.mac)
+
+-- the cells of the team of that number, in loading order, wherever they stand
+pub record AreOwnCells (l : Loaded) (number : ℕ) (cells : List Cell) : Type 0 where
+  pub same : map lasting cells ≡ map lasting (own_cells number l.cells)
+  pub places : All (λ c. IfSome c.working (λ p. IsLocation (as_location p))) cells
+  pub no_plus : IsSome (slice_get l.frame.teams number) → All (λ c. c.name ≢ codes "+") cells
+
+-- All cells of a team are cells of the team.
+abbrev pub OwnCellsAreTeamCells : Type 0
+OwnCellsAreTeamCells = (l : Loaded) (number : ℕ) (cells : List Cell) → AreOwnCells l number cells → AreTeamCells l number cells
+
+-- Of a design that is loaded from a text that was read, the text of a team reads back.
+abbrev pub LoadedTeamsReadBack : Type 0
+LoadedTeamsReadBack = (text : List ℕ) (i : LoadInputs) → document_of text ≡ Ok i.document → (l : Loaded) → IsLoadedFrom i l → (number : ℕ) (cells : List Cell)
+    → AreTeamCells l number cells → ReadsApartFromOffsets (team_text l.frame number cells) (team_document l.frame number cells)

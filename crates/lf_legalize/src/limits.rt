@@ -1,0 +1,62 @@
+//! How far from the target a better place may lie.
+
+ghost use Rattle.std.specs.Prelude.{◌≡◌, ◌≤◌, ◌<◌, ◌+ℤ◌, ◌-ℤ◌, pos, min, option_map, ◌⊎◌};
+ghost use Rattle.lf_rules.specs.Choice.{spot_of};
+ghost use Rattle.lf_legalize.specs.Extents.{IsNearDefPoint, limit as limit_of, IsBetter};
+
+use crate::key::{distance, has_lesser_key};
+use crate::row_search::RowSearch;
+use lf_floorplan::Place;
+use lf_units::{Point, Span};
+
+/// The lesser of the two.
+fn lesser(far: u128, reach: u64) -> u64
+    ensures { result ≡ min far reach }
+{
+    if far < u128::from(reach) {
+        far as u64
+    } else {
+        reach
+    }
+}
+
+/// How far from the target a place may be that is better than the best one so far, or as good.
+pub(crate) fn limit(target: &Point, reach: u64, best: &Option<Place>) -> u64
+    ensures { result ≡ limit_of target.now reach (option_map spot_of best.now) }
+{
+    match best {
+        None => reach,
+        Some(place) => lesser(distance(target, place), reach),
+    }
+}
+
+/// The x range for the box of a cell that is at most this far right or left of the target.
+pub(crate) fn window(search: &RowSearch<'_>, slack: u64) -> Span
+    requires near { IsNearDefPoint search.now.target.now }
+    requires small { slack ≤ 68719476736 }
+    ensures lo { result.lo ≡ search.now.target.now.x -ℤ pos slack }
+    ensures hi { result.hi ≡ (search.now.target.now.x +ℤ pos slack) +ℤ search.now.size.x }
+{
+    let slack = slack as i64;
+    let x = search.target.x;
+    Span {
+        lo: x - slack,
+        hi: x + slack + search.size.x,
+    }
+}
+
+/// The better of the best place so far and this one.
+pub(crate) fn better(target: &Point, best: Option<Place>, place: Place) -> Option<Place>
+    ensures { IsBetter target.now (option_map spot_of best) (spot_of place) (option_map spot_of result) }
+{
+    match best {
+        None => Some(place),
+        Some(old) => {
+            if has_lesser_key(target, &place, &old) {
+                Some(place)
+            } else {
+                Some(old)
+            }
+        }
+    }
+}

@@ -1,0 +1,77 @@
+//! What is free for a cell on a row, without what soft blockages cover.
+
+ghost use Rattle.std.specs.Prelude.{◌≡◌, ◌≤ℤ◌, ℕ, IfOk, [], negsuc, slice_index_or};
+ghost use Rattle.lf_spans.specs.Spans.{IsMinus, IsRising};
+ghost use Rattle.lf_occupancy.specs.Floorplans.{IsOccupancyOf};
+ghost use Rattle.lf_occupancy.specs.Occupied.{IsPaddingOf};
+ghost use Rattle.lf_legalize.specs.Levels.{AreWithoutSoft, AreOpenInRow};
+ghost use Rattle.lf_legalize.specs.RowSearches.{padding_in};
+
+use crate::row_search::RowSearch;
+use lf_segments::{FrameIndex, StripRange};
+use lf_spans::spans_minus;
+use lf_units::Span;
+use std::alloc::{AllocError, Global};
+
+/// The spans without the soft ones, of which there are mostly none.
+fn without(alloc: Global, spans: Vec<Span>, soft: &[Span]) -> Result<Vec<Span>, AllocError>
+    requires spans { IsRising spans.items }
+    requires soft { IsRising soft.now }
+    ensures { IfOk result (λ left. IsMinus spans.items soft.now left.items) }
+{
+    if soft.is_empty() {
+        return Ok(spans);
+    }
+    spans_minus(alloc, spans.as_slice(), soft)
+}
+
+/// The free spans without what soft blockages cover of these strips.
+fn without_soft(
+    alloc: Global,
+    index: &FrameIndex,
+    near: &StripRange,
+    free: Vec<Span>,
+) -> Result<Vec<Span>, AllocError>
+    requires free { IsRising free.items }
+    requires soft { (k : ℕ) → IsRising (slice_index_or index.now.soft k []) }
+    ensures { IfOk result (λ left. AreWithoutSoft index.now.soft near.now.start near.now.end free.items left.items) }
+{
+    let mut left = free;
+    for n in near.start..near.end {
+        left = without(alloc, left, index.soft_of(n))?;
+    }
+    Ok(left)
+}
+
+/// The padding of the search, in database units.
+fn padding_length(search: &RowSearch<'_>) -> i64
+    requires { IsOccupancyOf search.now.frame.now search.now.cells.now search.now.occupancy.now }
+    ensures is { result ≡ padding_in search.now }
+    ensures padding { IsPaddingOf search.now.occupancy.now result }
+{
+    search.padding.length(search.frame)
+}
+
+/// Within a window, the spans of a row that are free for the cell of the search, with the padding
+/// around the team's other cells, and off soft blockages.
+pub(crate) fn open_in_row(
+    alloc: Global,
+    search: &RowSearch<'_>,
+    number: usize,
+    window: &Span,
+) -> Result<Vec<Span>, AllocError>
+    requires held { IsOccupancyOf search.now.frame.now search.now.cells.now search.now.occupancy.now }
+    requires low { negsuc 4611686018427387903 ≤ℤ window.now.lo }
+    ensures { IfOk result (λ left. AreOpenInRow search.now.occupancy.now number search.now.id window.now (padding_in search.now) left.items) }
+{
+    let padding = padding_length(search);
+    let free = search
+        .occupancy
+        .free_in_row(alloc, number, search.id, window, padding)?;
+    let index = search.occupancy.index();
+    if index.has_no_soft() {
+        return Ok(free);
+    }
+    let near = index.strips_overlapping(number, search.id.team as usize, &window.lo, &window.hi);
+    without_soft(alloc, index, &near, free)
+}

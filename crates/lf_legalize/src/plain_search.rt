@@ -1,0 +1,144 @@
+//! The plain search for the best place, which looks at every site of every row.
+
+ghost use Rattle.std.specs.Prelude.{◌≡◌, ◌↔◌, ◌+ℤ◌, ◌*ℤ◌, ◌<ℤ◌, ◌≤ℤ◌, ◌<◌, pos, IsTrue};
+ghost use Rattle.std.specs.Option.{option_map};
+ghost use Rattle.lf_floorplan.specs.Boxes.{IsSized};
+ghost use Rattle.lf_floorplan.specs.Rows.{IsCoreRow};
+ghost use Rattle.lf_rules.specs.Choice.{spot_of, IsChoice, IsLegalAt, IsAllowedPlace};
+ghost use Rattle.lf_rules.specs.Legalizer.{Legalizer};
+ghost use Rattle.lf_rules.specs.Looking.{IsAtSite, IsOnSites, spot_at};
+ghost use Rattle.lf_legalize.specs.Lifting.{query_without};
+ghost use Rattle.lf_legalize.specs.Searches.{cell_of, ScansPlaces};
+
+use crate::limits::better;
+use crate::search::Search;
+use lf_floorplan::{Frame, Macro, Place, Row};
+use lf_orient::Orient;
+use lf_rules::{Padding, Placed, box_of, first_broken, overlaps_soft};
+use lf_units::Point;
+
+/// Whether the place is legal for the cell.
+fn is_legal(search: &Search<'_>, place: &Place) -> bool
+    ensures { IsTrue result ↔ IsLegalAt (cell_of search.now) (spot_of place.now) }
+{
+    first_broken(
+        search.frame,
+        search.team,
+        search.mac,
+        place,
+        search.others,
+        search.padding,
+    )
+    .is_none()
+}
+
+/// Whether the search may put the cell at the place: it is legal, and the cell's box there keeps clear of soft blockages.
+fn is_allowed(search: &Search<'_>, place: &Place) -> bool
+    ensures { IsTrue result ↔ IsAllowedPlace (cell_of search.now) (spot_of place.now) }
+{
+    let rect = box_of(search.frame, search.mac, place);
+    if overlaps_soft(search.frame, &rect) {
+        return false;
+    }
+    is_legal(search, place)
+}
+
+/// The best place so far, after looking also at this one.
+fn with_place(search: &Search<'_>, best: Option<Place>, place: Place) -> Option<Place>
+    ensures { ScansPlaces (λ p. p ≡ spot_of place) search.now best result }
+{
+    if !is_allowed(search, &place) {
+        return best;
+    }
+    better(search.target, best, place)
+}
+
+/// How far the site lies from the row's left end.
+fn offset(row: &Row, pitch: &Point, site: u32) -> i64
+    requires heeded { IsCoreRow pitch.now row.now }
+    requires wide { pos 0 <ℤ pitch.now.x }
+    requires within { site < row.now.sites }
+    ensures value { result ≡ pos site *ℤ pitch.now.x }
+    ensures low { pos 0 ≤ℤ result }
+    ensures high { result <ℤ (pos row.now.sites *ℤ pitch.now.x) }
+{
+    i64::from(site) * pitch.x
+}
+
+/// The place on this site of the row, in this orientation.
+fn place_at(row: &Row, pitch: &Point, site: u32, orient: Orient) -> Place
+    requires heeded { IsCoreRow pitch.now row.now }
+    requires wide { pos 0 <ℤ pitch.now.x }
+    requires within { site < row.now.sites }
+    ensures { spot_of result ≡ spot_at pitch.now row.now site orient }
+{
+    let x = i64::from(row.x) + offset(row, pitch, site);
+    Place::new(x as i32, row.y, orient)
+}
+
+/// The best place so far, after looking also at those on this site of the row.
+fn with_site(search: &Search<'_>, best: Option<Place>, row: &Row, site: u32) -> Option<Place>
+    requires heeded { IsCoreRow search.now.frame.now.pitch row.now }
+    requires within { site < row.now.sites }
+    ensures { ScansPlaces (IsAtSite search.now.frame.now.pitch row.now site) search.now best result }
+{
+    let pitch = &search.frame.pitch;
+    let north = with_place(search, best, place_at(row, pitch, site, Orient::N));
+    let south = with_place(search, north, place_at(row, pitch, site, Orient::S));
+    let mirrored = with_place(search, south, place_at(row, pitch, site, Orient::FN));
+    with_place(search, mirrored, place_at(row, pitch, site, Orient::FS))
+}
+
+/// The best place so far, after looking also at those of this row.
+fn with_row(search: &Search<'_>, best: Option<Place>, row: &Row) -> Option<Place>
+    requires { IsCoreRow search.now.frame.now.pitch row.now }
+    ensures { ScansPlaces (IsOnSites search.now.frame.now.pitch row.now row.now.sites) search.now best result }
+{
+    let mut best = best;
+    for site in 0..row.sites {
+        best = with_site(search, best, row, site);
+    }
+    best
+}
+
+/// The best place of a cell for a target: of all places that are legal for it beside the team's other
+/// placed cells, and at which its box shares no point with a soft blockage, the one of least key; none if there is no such place.
+///
+/// `team` is a fence's position in the frame, or the number of fences for the ground team. `others`
+/// are the team's other placed cells. The key is that of `has_lesser_key`; no two legal places have the same
+/// key, so there is one best place at most. The target may be any point. It allocates nothing.
+///
+/// `padding` is the team's, in core sites. It keeps the cell apart from each of the team's other cells,
+/// wherever that stands, across obstacles and from one segment to the next; not from the ends of
+/// segments, nor from the cells of other teams.
+///
+/// The macro has a whole size.
+///
+/// It tries each orientation on every site of every row: the time grows as the number of sites times
+/// that of the rows, obstacles, soft blockages and other cells. Faster searches are compared with it.
+pub fn best_place(
+    frame: &Frame,
+    team: usize,
+    mac: &Macro,
+    others: &[Placed],
+    target: &Point,
+    padding: Padding,
+) -> Option<Place>
+    requires { IsSized frame.now mac.now }
+    ensures best { IsChoice (query_without frame.now team padding.sites mac.now others.now) target.now (option_map spot_of result) }
+    ensures one { (l : Legalizer) → option_map spot_of result ≡ l.best_place (query_without frame.now team padding.sites mac.now others.now) target.now }
+{
+    let search = Search {
+        frame,
+        team,
+        mac,
+        others,
+        target,
+        padding,
+    };
+    let mut best = None;
+    for row in frame.rows.as_slice() {
+        best = with_row(&search, best, row);
+    }
+    best
+}

@@ -1,0 +1,57 @@
+//! A table of distinct borrowed names.
+
+ghost use Rattle.std.specs.Prelude.{◌≡◌, [], IfOk, OnErr, None};
+ghost use Rattle.lf_names.specs.Names.{position_of};
+ghost use Rattle.lf_names.specs.Adds.{AddsName};
+
+use crate::table::Added;
+use indexmap::IndexSet;
+use std::alloc::{AllocError, Global};
+use std::hash::{BuildHasherDefault, FoldHasher};
+use std::marker::Model;
+
+/// Distinct borrowed names, in first-seen order: a `NameTable` without copies. It is fastest if the names are close
+/// together in memory.
+#[derive(Drop)]
+pub(crate) struct BorrowedNames<'a> {
+    names: IndexSet<&'a [u8], BuildHasherDefault<FoldHasher>, Global>,
+}
+
+impl<'a> Model for BorrowedNames<'a> {
+    ghost use Rattle.std.specs.Prelude.{List, ℕ, map};
+
+    ghost Value = { List (List ℕ) };
+
+    ghost view = { λ t. map (λ k. k.now) t.names.keys };
+}
+
+impl<'a> BorrowedNames<'a> {
+    /// The empty table, with room for this many names.
+    pub(crate) fn with_capacity(alloc: Global, names: usize) -> Result<Self, AllocError>
+        ensures { IfOk result (λ table. table ≡ []) }
+    {
+        Ok(BorrowedNames {
+            names: IndexSet::with_capacity(alloc, names)?,
+        })
+    }
+
+    /// Appends the name unless it is there. `Err` if an allocation fails, which only a new name needs.
+    pub(crate) fn add(&mut self, name: &'a [u8]) -> Result<Added, AllocError>
+        ensures ok { IfOk result (λ added. AddsName self.old name.now added self.new) }
+        ensures err { OnErr result (self.new ≡ self.old) }
+        ensures only_new { OnErr result (position_of self.old name.now ≡ None) }
+    {
+        let (position, new) = self.names.insert_full(name)?;
+        if new {
+            return Ok(Added::New(position));
+        }
+        Ok(Added::Present(position))
+    }
+
+    /// The name's position; none if it is not there.
+    pub(crate) fn find(&self, name: &[u8]) -> Option<usize>
+        ensures { result ≡ position_of self.now name.now }
+    {
+        self.names.get_index_of(name)
+    }
+}

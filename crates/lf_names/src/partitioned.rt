@@ -1,0 +1,255 @@
+//! Labelled names in parts, each of which is looked up by itself.
+
+ghost use Rattle.std.specs.Prelude.{◌≡◌, ◌↔◌, ◌<◌, ◌++◌, ◌∷◌, ℕ, List, [], IfOk, IfSome, IfNone, IsTrue, OnOk, OnErr, map, take, drop};
+ghost use Rattle.std.specs.List.Sorted.{IsPermutation};
+ghost use Rattle.std.specs.Option.{option_map, option_to_list};
+ghost use Rattle.lf_names.specs.Labels.{Labelled, Differ, AreMatches, label_in, labels_of, matches_of};
+ghost use Rattle.lf_names.specs.NameParts.{part_of as name_part, part_count, StoresNames, ArePartsOf};
+
+use crate::borrowed::BorrowedNames;
+use crate::entries::{Entries, Entry};
+use crate::table::Added;
+use std::alloc::{AllocError, Global};
+use std::marker::Model;
+
+/// The number of parts: enough that the table of one part of a million names stays close to the processor.
+const PARTS: usize = 256;
+
+/// The odd factor of the hash that selects the part.
+const FACTOR: u32 = 0x9E37_79B1;
+
+/// Names with labels, in the order in which they were pushed; their bytes are joined.
+#[derive(Drop)]
+pub struct LabelledNames {
+    bytes: Vec<u8>,
+    entries: Entries,
+}
+
+/// The labels of a name that is in two lists: its own, and that of the asked name.
+#[derive(Clone, Copy)]
+pub struct Match {
+    pub own: usize,
+    pub asked: usize,
+}
+
+/// A list of labelled names in parts, which copy their names. Equal names are in one part, so names are looked up part
+/// by part, in small tables: faster than one large table if there are many names. A contract sees the list of the names
+/// with their labels, in some order.
+#[derive(Drop)]
+pub struct PartitionedNames {
+    parts: Vec<LabelledNames>,
+}
+
+impl Model for PartitionedNames {
+    ghost use Rattle.std.specs.Prelude.{List};
+    ghost use Rattle.lf_names.specs.Labels.{Labelled};
+    ghost use Rattle.lf_names.specs.NameParts.{AreParted, names_of_parts};
+
+    ghost Value = { List Labelled };
+
+    ghost view = { λ p. names_of_parts p.parts.items };
+
+    ghost invariant = { λ p. AreParted p.parts.items };
+}
+
+/// The part of a name. The hash is not that of the tables, so that the names of a part do not collide in its table.
+fn part_of(name: &[u8]) -> usize
+    ensures part { result ≡ name_part name.now }
+    ensures within { result < part_count }
+{
+    let mut hash: u32 = 0;
+    for byte in name {
+        hash = hash.wrapping_mul(FACTOR).wrapping_add(u32::from(*byte));
+    }
+    (hash.wrapping_mul(FACTOR) >> 24) as usize
+}
+
+/// The first `len` bytes, and those after them.
+fn cut(bytes: &[u8], len: usize) -> (&[u8], &[u8])
+    ensures front { result.0.now ≡ take len bytes.now }
+    ensures back { result.1.now ≡ drop len bytes.now }
+{
+    bytes.split_at(len.min(bytes.len()))
+}
+
+impl LabelledNames {
+    /// The empty list.
+    fn new(alloc: Global) -> Self
+        ensures { StoresNames result [] }
+    {
+        LabelledNames {
+            bytes: Vec::new(alloc),
+            entries: Entries::new(alloc),
+        }
+    }
+
+    /// Appends a name with its label. `Err`, which leaves the names unchanged, if an allocation fails.
+    fn push(&mut self, label: usize, name: &[u8]) -> Result<(), AllocError>
+        ensures ok { (names : List Labelled) → StoresNames self.old names → OnOk result (StoresNames self.new (names ++ record { label = label; name = name.now } ∷ [])) }
+        ensures err { (names : List Labelled) → StoresNames self.old names → OnErr result (StoresNames self.new names) }
+    {
+        let len = name.len();
+        let before = self.bytes.len();
+        self.bytes.extend_from_slice(name)?;
+        if self.entries.push(Entry { label, len }).is_err() {
+            self.bytes.truncate(before);
+            return Err(AllocError);
+        }
+        Ok(())
+    }
+}
+
+/// The table of the names; none if one is there twice.
+fn table_of(alloc: Global, names: &LabelledNames) -> Result<Option<BorrowedNames<'_>>, AllocError>
+    ensures names { (own : List Labelled) → StoresNames names.now own → IfOk result (λ answer. IfSome answer (λ table. table ≡ map (λ n. n.name) own)) }
+    ensures differ { (own : List Labelled) → StoresNames names.now own → IfOk result (λ answer. IfSome answer (λ table. Differ own)) }
+    ensures none { (own : List Labelled) → StoresNames names.now own → IfOk result (λ answer. IfNone answer (Differ own → ⊥)) }
+{
+    let mut table = BorrowedNames::with_capacity(alloc, names.entries.len())?;
+    let mut remaining = names.bytes.as_slice();
+    for position in 0..names.entries.len() {
+        let (name, behind) = cut(remaining, names.entries.at(position).len);
+        remaining = behind;
+        match table.add(name)? {
+            Added::New(_) => (),
+            Added::Present(_) => return Ok(None),
+        }
+    }
+    Ok(Some(table))
+}
+
+/// The label of the name, by its position in the table.
+fn label_of(names: &LabelledNames, table: &BorrowedNames, name: &[u8]) -> Option<usize>
+    ensures { (own : List Labelled) → StoresNames names.now own → table.now ≡ map (λ n. n.name) own → result ≡ label_in own name.now }
+{
+    let entry = names.entries.get(table.find(name)?)?;
+    Some(entry.label)
+}
+
+/// Appends a match if the asked name has a label.
+fn add_match(matches: &mut Vec<Match>, own: Option<usize>, asked: usize) -> Result<(), AllocError>
+    ensures { OnOk result (matches.new.items ≡ matches.old.items ++ option_to_list (option_map (labels_of asked) own)) }
+{
+    if let Some(own) = own {
+        matches.push(Match { own, asked })?;
+    }
+    Ok(())
+}
+
+/// Appends the match of each asked name that is there.
+fn match_names(
+    names: &LabelledNames,
+    table: &BorrowedNames,
+    asked: &LabelledNames,
+    matches: &mut Vec<Match>,
+) -> Result<(), AllocError>
+    ensures { (own questions : List Labelled) → StoresNames names.now own → table.now ≡ map (λ n. n.name) own → StoresNames asked.now questions → OnOk result (matches.new.items ≡ matches.old.items ++ matches_of own questions) }
+{
+    let mut remaining = asked.bytes.as_slice();
+    for position in 0..asked.entries.len() {
+        let entry = asked.entries.at(position);
+        let (name, behind) = cut(remaining, entry.len);
+        remaining = behind;
+        add_match(matches, label_of(names, table, name), entry.label)?;
+    }
+    Ok(())
+}
+
+/// Appends the matches of one part and returns true; false, and no match, if a name of the part is there twice.
+fn match_part(
+    alloc: Global,
+    names: &LabelledNames,
+    asked: &LabelledNames,
+    matches: &mut Vec<Match>,
+) -> Result<bool, AllocError>
+    ensures differ { (own : List Labelled) → StoresNames names.now own → IfOk result (λ differ. IsTrue differ ↔ Differ own) }
+    ensures matches { (own questions : List Labelled) → StoresNames names.now own → StoresNames asked.now questions → IfOk result (λ differ. IsTrue differ → matches.new.items ≡ matches.old.items ++ matches_of own questions) }
+{
+    let Some(table) = table_of(alloc, names)? else {
+        return Ok(false);
+    };
+    match_names(names, &table, asked, matches)?;
+    Ok(true)
+}
+
+/// All parts, empty.
+fn empty_parts(alloc: Global) -> Result<Vec<LabelledNames>, AllocError>
+    ensures { IfOk result (λ parts. ArePartsOf [] parts.items) }
+{
+    let mut parts = Vec::with_capacity(alloc, PARTS)?;
+    for _ in 0..PARTS {
+        parts.push(LabelledNames::new(alloc))?;
+    }
+    Ok(parts)
+}
+
+/// Appends the name to its part.
+fn push_in_part(parts: &mut Vec<LabelledNames>, label: usize, name: &[u8]) -> Result<(), AllocError>
+    ensures ok { (names : List Labelled) → ArePartsOf names parts.old.items → OnOk result (ArePartsOf (names ++ record { label = label; name = name.now } ∷ []) parts.new.items) }
+    ensures err { (names : List Labelled) → ArePartsOf names parts.old.items → OnErr result (ArePartsOf names parts.new.items) }
+{
+    let Some(part) = parts.get_mut(part_of(name)) else {
+        return Ok(());
+    };
+    part.push(label, name)?;
+    Ok(())
+}
+
+/// The matches of all parts, one part after the other; none if a name is there twice.
+fn match_parts(
+    alloc: Global,
+    own: &[LabelledNames],
+    asked: &[LabelledNames],
+) -> Result<Option<Vec<Match>>, AllocError>
+    ensures differ { (names questions : List Labelled) → ArePartsOf names own.now → ArePartsOf questions asked.now → IfOk result (λ answer. IfSome answer (λ matches. Differ names)) }
+    ensures matches { (names questions : List Labelled) → ArePartsOf names own.now → ArePartsOf questions asked.now → IfOk result (λ answer. IfSome answer (λ matches. AreMatches names questions matches.items)) }
+    ensures many { (names questions : List Labelled) → ArePartsOf names own.now → ArePartsOf questions asked.now → IfOk result (λ answer. IfSome answer (λ matches. IsPermutation (matches_of names questions) matches.items)) }
+    ensures none { (names questions : List Labelled) → ArePartsOf names own.now → ArePartsOf questions asked.now → IfOk result (λ answer. IfNone answer (Differ names → ⊥)) }
+{
+    let mut matches = Vec::new(alloc);
+    for (part, names) in own.iter().enumerate() {
+        let Some(questions) = asked.get(part) else {
+            return Ok(None);
+        };
+        if !match_part(alloc, names, questions, &mut matches)? {
+            return Ok(None);
+        }
+    }
+    Ok(Some(matches))
+}
+
+impl PartitionedNames {
+    /// The empty list. `Err` if an allocation fails.
+    pub fn new(alloc: Global) -> Result<Self, AllocError>
+        ensures { IfOk result (λ parts. parts ≡ []) }
+    {
+        Ok(PartitionedNames {
+            parts: empty_parts(alloc)?,
+        })
+    }
+
+    /// Adds the name with its label to its part. The same name may be added again. `Err` if an allocation fails; the list is
+    /// then unchanged.
+    pub fn push(&mut self, label: usize, name: &[u8]) -> Result<(), AllocError>
+        ensures ok { OnOk result (IsPermutation (self.old ++ record { label = label; name = name.now } ∷ []) self.new) }
+        ensures err { OnErr result (self.new ≡ self.old) }
+    {
+        push_in_part(&mut self.parts, label, name)?;
+        Ok(())
+    }
+
+    /// The two labels of each asked name that is in the list, once for each time that it is asked for, in any order.
+    /// None iff a name of the list is there twice. `Err` if an allocation fails.
+    pub fn matches(
+        &self,
+        alloc: Global,
+        asked: &PartitionedNames,
+    ) -> Result<Option<Vec<Match>>, AllocError>
+        ensures differ { IfOk result (λ answer. IfSome answer (λ matches. Differ self.now)) }
+        ensures matches { IfOk result (λ answer. IfSome answer (λ matches. AreMatches self.now asked.now matches.items)) }
+        ensures many { IfOk result (λ answer. IfSome answer (λ matches. IsPermutation (matches_of self.now asked.now) matches.items)) }
+        ensures none { IfOk result (λ answer. IfNone answer (Differ self.now → ⊥)) }
+    {
+        match_parts(alloc, &self.parts, &asked.parts)
+    }
+}

@@ -1,7 +1,0 @@
-use Rattle.lf_occupancy.specs.Building.{AreFilledIn, IsBefore}
-use Rattle.lf_occupancy.specs.Strips.{felt_strips}
-use Rattle.lf_occupancy.proofs.build.lanes_of.Given as goal
-
--- the cells of the teams passed are marked
-abbrev pub invariant-loop-team : goal.invariant-loop-team
-invariant-loop-team l = AreFilledIn l.frame l.cells (felt_strips l.frame.pitch.x l.index.strips) (IsBefore l.team 0) l.lanes.items

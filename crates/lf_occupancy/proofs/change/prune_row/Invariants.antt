@@ -1,8 +1,0 @@
-use Rattle.lf_occupancy.specs.Lanes.{IsPruned}
-use Rattle.lf_occupancy.specs.Strips.{AreChanged}
-use Rattle.lf_occupancy.proofs.Changes.{IsBetween}
-use Rattle.lf_occupancy.proofs.change.prune_row.Given as goal
-
--- the lanes passed are without the cell's entries
-abbrev pub invariant-loop-n : goal.invariant-loop-n
-invariant-loop-n l = AreChanged (IsBetween l.initial.n l.n l.n-end) (λ n. IsPruned l.id.own) l.initial.lanes.items l.lanes.items

@@ -1,9 +1,0 @@
-use Rattle.std.proofs.Common.{take}
-use Rattle.lf_occupancy.specs.Strips.{AreChanged, IsReached, PutsIn, felt_strips}
-use Rattle.lf_occupancy.proofs.change.put_in_rows.Given as goal
-
--- the lanes of the rows passed are changed
-abbrev pub invariant-loop-entry : goal.invariant-loop-entry
-invariant-loop-entry l =
-    AreChanged (IsReached (felt_strips l.site l.index.strips) (take l.entry-index l.rows) l.id.team l.rect)
-    (PutsIn (felt_strips l.site l.index.strips) l.id.own l.rect) l.initial.lanes.items l.lanes.items

@@ -1,8 +1,0 @@
-use Rattle.lf_occupancy.specs.Strips.{AreChanged, PutsIn, felt_strips}
-use Rattle.lf_occupancy.proofs.Changes.{IsBetween}
-use Rattle.lf_occupancy.proofs.change.put_in_run.Given as goal
-
--- the lanes passed have the cell's parts
-abbrev pub invariant-loop-n : goal.invariant-loop-n
-invariant-loop-n l =
-    AreChanged (IsBetween l.initial.n l.n l.n-end) (PutsIn (felt_strips l.site l.index.strips) l.own l.rect) l.initial.lanes.items l.lanes.items

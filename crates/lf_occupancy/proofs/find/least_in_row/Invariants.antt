@@ -1,9 +1,0 @@
-use Rattle.lf_occupancy.specs.Lanes.{IsLeast}
-use Rattle.lf_occupancy.specs.Strips.{felt_strips, shown_lanes}
-use Rattle.lf_occupancy.proofs.Finds.{MeetsBetween}
-use Rattle.lf_occupancy.proofs.find.least_in_row.Given as goal
-
--- the least of the number at the start and of what is met in the strips passed
-abbrev pub invariant-loop-n : goal.invariant-loop-n
-invariant-loop-n l =
-    IsLeast (MeetsBetween (shown_lanes (felt_strips l.site l.index.strips) l.boxes l.lanes) l.initial.n l.n l.n-end l.rect l.id.own) l.fn.so_far l.least

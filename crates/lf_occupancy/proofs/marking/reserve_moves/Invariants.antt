@@ -1,0 +1,11 @@
+use Rattle.std.proofs.Common.{length, take}
+use Rattle.std.specs.Prelude.{All, IfSome}
+use Rattle.lf_occupancy.specs.Strips.{AreKept, HaveRoom, MeetsStrip, widened_strips}
+use Rattle.lf_occupancy.proofs.marking.reserve_moves.Given as goal
+
+-- all lanes hold what they held, and there is room for the moves passed
+abbrev pub invariant-loop-id : goal.invariant-loop-id
+invariant-loop-id l = record {
+  kept : AreKept l.initial.lanes.items l.lanes.items;
+  room : All (λ m. IfSome m.1 (λ rect. HaveRoom (MeetsStrip (widened_strips l.site l.index.strips) m.0.team rect) (length l.moves) l.lanes.items)) (take l.id-index l.moves);
+}

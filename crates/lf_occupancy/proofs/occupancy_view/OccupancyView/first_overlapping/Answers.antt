@@ -1,0 +1,33 @@
+use Rattle.std.proofs.Common.{None, List, ap, sym, subst, ◌∙◌}
+use Rattle.lf_occupancy.specs.declared.strip_marks.StripMarks.{StripMarks}
+use Rattle.lf_occupancy.specs.Lanes.{IsLeast}
+use Rattle.lf_occupancy.specs.Occupied.{Occupied, IsFirstMet}
+use Rattle.lf_occupancy.specs.Strips.{ShowAllBoxes, MarksBoxes, Marked, MeetsInOne, widened_strips, with_boxes, strip_views}
+use Rattle.lf_occupancy.proofs.Showing.{lanes_shown}
+use Rattle.lf_occupancy.proofs.Views.{first_of_least}
+use Rattle.lf_occupancy.proofs.occupancy_view.OccupancyView.first_overlapping.Goals as goal
+
+pub least_met-requires-clause-site : goal.least_met-requires-clause-site
+least_met-requires-clause-site c = c.occupancy.invariant.site
+
+pub least_met-requires-clause-lanes : goal.least_met-requires-clause-lanes
+least_met-requires-clause-lanes c =
+    let h = c.self.inside in
+    let o = c.occupancy.inside in
+    subst (λ (ls : List StripMarks). ShowAllBoxes (widened_strips o.site o.index.strips) h.boxes ls) (sym c.deref.ensures.value)
+    (subst (λ (m : Marked). MarksBoxes m h.boxes) (sym c.occupancy.view_is) c.self.invariant)
+
+pub returns : goal.returns
+returns c =
+    let h = c.self.inside in
+    let o = c.occupancy.inside in
+    let id = c.args.id in
+    let rect = c.args.rect.now in
+    let xs = widened_strips o.site o.index.strips in
+    let at = ap (λ (m : Marked). with_boxes m h.boxes) c.occupancy.view_is ∙ c.self.view_is in
+    let holds = subst (λ (m : Marked). MarksBoxes m h.boxes) (sym c.occupancy.view_is) c.self.invariant in
+    subst (λ (v : Occupied). IsFirstMet v id rect c.least_met.result) at
+    (first_of_least (with_boxes record { index = o.index; site = o.site; lanes = o.lanes.items } h.boxes) (strip_views xs h.boxes o.lanes.items) id rect
+    c.least_met.result (lanes_shown xs h.boxes o.lanes.items holds)
+    (subst (λ (ls : List StripMarks). IsLeast (MeetsInOne xs (strip_views xs h.boxes ls) id.team rect id.own) None c.least_met.result) c.deref.ensures.value
+    c.least_met.ensures))

@@ -1,0 +1,84 @@
+use Rattle.std.proofs.Common.{◌≡◌, [], get_or, ap, sym, ◌∙◌, arith}
+use Rattle.std.proofs.lemmas.Int.{ints}
+use Rattle.lf_spans.specs.declared.span.Span.{Span}
+use Rattle.lf_spans.specs.Spans.{IsFilled}
+use Rattle.lf_occupancy.specs.declared.strip_marks.Entry.{Entry}
+use Rattle.lf_occupancy.specs.Lanes.{entries_in, wider_range, x_range}
+use Rattle.lf_occupancy.proofs.Laning.{entries_many, entry_there}
+use Rattle.lf_occupancy.proofs.Padded.{no_entry, range_there, same_entry}
+use Rattle.lf_occupancy.proofs.Walking.{walk_begins, walk_ends, walk_goes_on, walk_skips}
+use Rattle.lf_occupancy.proofs.strip_marks.free_beside.Goals as goal
+
+pub loop-mark-init : goal.loop-mark-init
+loop-mark-init c = walk_begins c.args.range.now _ _ c.in_ok-free.ensures.items
+
+pub range_at-reach-requires : goal.range_at-reach-requires
+range_at-reach-requires c = c.requires.told c.loop-mark.mark-index _ (omega arith)
+
+pub padded_range-span-requires-clause-low : goal.padded_range-span-requires-clause-low
+padded_range-span-requires-clause-low c =
+    let cells = get_or c.args.boxes.now c.args.id.now.team [] in
+    let area = c.args.area.now in
+    let ms = c.args.marks.now in
+    let i = c.loop-mark.mark-index in
+    let many = entries_many cells area ms in
+    let is = range_there cells area ms i _ c.range_at-reach.result (omega arith) c.range_at-reach.ensures in
+    let at = ap (λ (z : Span). z.lo) is in
+    let room = (c.requires.around i no_entry (omega (arith, many))).low in
+    omega (arith, ints, at, room)
+
+pub padded_range-span-requires-clause-high : goal.padded_range-span-requires-clause-high
+padded_range-span-requires-clause-high c =
+    let cells = get_or c.args.boxes.now c.args.id.now.team [] in
+    let area = c.args.area.now in
+    let ms = c.args.marks.now in
+    let i = c.loop-mark.mark-index in
+    let many = entries_many cells area ms in
+    let is = range_there cells area ms i _ c.range_at-reach.result (omega arith) c.range_at-reach.ensures in
+    let at = ap (λ (z : Span). z.hi) is in
+    let room = (c.requires.around i no_entry (omega (arith, many))).high in
+    omega (arith, ints, at, room)
+
+pub loop-mark-preserved-then-mark-id : goal.loop-mark-preserved-then-mark-id
+loop-mark-preserved-then-mark-id c =
+    let cells = get_or c.args.boxes.now c.args.id.now.team [] in
+    let area = c.args.area.now in
+    let ms = c.args.marks.now in
+    let es = entries_in cells area ms in
+    let i = c.loop-mark.mark-index in
+    let many = entries_many cells area ms in
+    let e : Entry = get_or es i no_entry in
+    let own = ap (λ (z : Entry). z.own) (entry_there cells area ms i no_entry _ (omega arith)) in
+    walk_skips c.args.padding.now es i e c.args.id.now.own c.args.range.now c.loop-mark.free.items c.loop-mark.rest (omega (arith, many))
+    (same_entry es i (omega (arith, many))) (own ∙ c.if-mark-id.true) c.loop-mark.invariant
+
+pub loop-mark-preserved : goal.loop-mark-preserved
+loop-mark-preserved c =
+    let cells = get_or c.args.boxes.now c.args.id.now.team [] in
+    let area = c.args.area.now in
+    let ms = c.args.marks.now in
+    let es = entries_in cells area ms in
+    let i = c.loop-mark.mark-index in
+    let many = entries_many cells area ms in
+    let by = c.args.padding.now in
+    let e : Entry = get_or es i no_entry in
+    let at : e ≡ get_or es i e = same_entry es i (omega (arith, many)) in
+    let is = range_there cells area ms i _ c.range_at-reach.result (omega arith) c.range_at-reach.ensures in
+    let span : c.padded_range-span.result ≡ wider_range by (x_range e.area) = c.padded_range-span.ensures ∙ ap (wider_range by) is in
+    let lo = ap (λ (z : Span). z.lo) span in
+    let hi = ap (λ (z : Span). z.hi) span in
+    let wide = (c.requires.whole i no_entry (omega (arith, many))).wide in
+    let least = c.requires.short.least in
+    let filled : IsFilled c.padded_range-span.result = omega (arith, ints, lo, hi, wide, least) in
+    let own = ap (λ (z : Entry). z.own) (entry_there cells area ms i no_entry _ (omega arith)) in
+    walk_goes_on by es i e c.args.id.now.own c.args.range.now c.loop-mark.free.items c.push_filled.new.spans.items c.loop-mark.rest c.part_behind-rest.result _
+    c.padded_range-span.result (omega (arith, many)) at (λ same. c.if-mark-id.false (sym own ∙ same)) span filled c.requires.order c.part_before.ensures
+    c.part_behind-rest.ensures c.in_ok-push_filled.ensures c.loop-mark.invariant
+
+pub returns : goal.returns
+returns c =
+    let cells = get_or c.args.boxes.now c.args.id.now.team [] in
+    let es = entries_in cells c.args.area.now c.args.marks.now in
+    let many = entries_many cells c.args.area.now c.args.marks.now in
+    walk_ends c.args.padding.now es c.loop-mark.mark-index c.args.id.now.own c.args.range.now c.loop-mark.free.items c.push_filled-2.new.spans.items
+    c.loop-mark.rest (omega (arith, many)) c.loop-mark.invariant c.in_ok-push_filled-2.ensures

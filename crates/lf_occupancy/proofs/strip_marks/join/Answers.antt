@@ -1,0 +1,40 @@
+use Rattle.std.proofs.Common.{◌≡◌, List, length, get_or, ap, arith, rules}
+use Rattle.std.proofs.lemmas.Int.{ints, clamps}
+use Rattle.lf_occupancy.specs.declared.strip_marks.Mark.{Mark}
+use Rattle.lf_occupancy.proofs.strip_marks.join.Goals as goal
+
+pub overflow_sub-area : goal.overflow_sub-area
+overflow_sub-area c =
+    let low = c.requires.left in
+    let high = c.requires.right in
+    let wide = c.requires.whole.wide in
+    omega (arith, ints, low, high, wide)
+
+pub returns : goal.returns
+returns c =
+    let old = c.args.lane.now.marks.items in
+    let at = c.count_before-at.result in
+    let same = c.as_slice.ensures.value in
+    record {
+      at = at;
+      bound = let h = c.count_before-at.ensures.within in let long = ap (λ (xs : List Mark). length xs) same in omega (arith, h, long);
+      marks = c.insert_at.ensures.items;
+      before = λ k d less.
+          let h = c.count_before-at.ensures.below k d less in
+          let there : (get_or c.as_slice.result.now k d).left ≡ (get_or old k d).left = ap (λ (xs : List Mark). (get_or xs k d).left) same in
+          let left = c.from.ensures in
+          omega (arith, ints, h, there, left);
+      behind = λ k d from until.
+          let long = ap (λ (xs : List Mark). length xs) same in
+          let h = c.count_before-at.ensures.rest k d from (omega (arith, until, long)) in
+          let there : (get_or c.as_slice.result.now k d).left ≡ (get_or old k d).left = ap (λ (xs : List Mark). (get_or xs k d).left) same in
+          let left = c.from.ensures in
+          omega (arith, ints, h, there, left);
+      widest = let h = c.max-lane.ensures.value in
+          let low = c.requires.left in
+          let high = c.requires.right in
+          let wide = c.requires.whole.wide in
+          omega (arith, ints, clamps, h, low, high, wide);
+      more = search rules;
+      room = search rules;
+    }

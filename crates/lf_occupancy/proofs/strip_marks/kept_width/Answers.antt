@@ -1,0 +1,10 @@
+use Rattle.std.proofs.Common.{arith}
+use Rattle.std.proofs.lemmas.Int.{ints}
+use Rattle.lf_occupancy.proofs.strip_marks.kept_width.Goals as goal
+
+pub overflow_sub-part : goal.overflow_sub-part
+overflow_sub-part c =
+    let left = c.requires.left.low in
+    let right = c.requires.right in
+    let wide = c.requires.whole.wide in
+    omega (arith, ints, left, right, wide)

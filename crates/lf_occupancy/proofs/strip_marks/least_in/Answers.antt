@@ -1,0 +1,34 @@
+use Rattle.std.proofs.Common.{List, [], get_or, subst, arith}
+use Rattle.std.specs.Prelude.{Any}
+use Rattle.std.proofs.lemmas.List.{get_or_default, take_all}
+use Rattle.lf_occupancy.specs.declared.strip_marks.Mark.{Mark}
+use Rattle.lf_occupancy.specs.Lanes.{IsLeast, MeetsEntry, entry_in}
+use Rattle.lf_occupancy.proofs.Leasts.{least_alike, least_more, least_of_none}
+use Rattle.lf_occupancy.proofs.Lists.{any_made, any_unmade}
+use Rattle.lf_spans.proofs.Anys.{any_nil}
+use Rattle.lf_occupancy.proofs.strip_marks.least_in.Goals as goal
+
+pub lesser-least-requires : goal.lesser-least-requires
+lesser-least-requires c = c.requires c.loop-mark.mark-index _ (omega arith)
+
+pub loop-mark-init : goal.loop-mark-init
+loop-mark-init c = least_of_none _ c.args.so_far (λ own m. any_nil _ m)
+
+pub loop-mark-preserved : goal.loop-mark-preserved
+loop-mark-preserved c =
+    let cells = get_or c.args.boxes.now c.args.team [] in
+    least_more (λ own m. MeetsEntry c.args.rect.now c.args.but own (entry_in cells c.args.area.now m)) c.args.marks.now c.loop-mark.mark-index _ c.args.so_far
+    c.loop-mark.least c.lesser-least.result (omega arith) (get_or_default c.args.marks.now c.loop-mark.mark-index _ _ (omega arith)) c.loop-mark.invariant
+    c.lesser-least.ensures
+
+pub returns : goal.returns
+returns c =
+    let cells = get_or c.args.boxes.now c.args.team [] in
+    let area = c.args.area.now in
+    let rect = c.args.rect.now in
+    let but = c.args.but in
+    let ms = c.args.marks.now in
+    let all = subst (λ (xs : List Mark). IsLeast (λ own. Any (λ m. MeetsEntry rect but own (entry_in cells area m)) xs) c.args.so_far c.loop-mark.least)
+    (take_all c.loop-mark.mark-index ms (omega arith)) c.loop-mark.invariant in
+    least_alike _ _ c.args.so_far c.loop-mark.least (λ own m. any_made (MeetsEntry rect but own) (entry_in cells area) ms m)
+    (λ own m. any_unmade (MeetsEntry rect but own) (entry_in cells area) ms m) all

@@ -1,0 +1,49 @@
+//! A walk along a range from one taken span to the next: what is free before it, and what is left of the range behind it.
+
+ghost use Rattle.std.specs.Prelude.{◌≡◌, OnOk};
+ghost use Rattle.std.specs.Int.{int_max, int_min};
+ghost use Rattle.lf_spans.specs.Steps.{AddsFilled, IsBefore, IsBehind};
+
+use lf_spans::Span;
+use std::alloc::AllocError;
+
+/// The range that two spans have in common.
+pub(crate) fn common_range(first: &Span, second: &Span) -> Span
+    ensures low { result.lo ≡ int_max first.now.lo second.now.lo }
+    ensures high { result.hi ≡ int_min first.now.hi second.now.hi }
+{
+    Span {
+        lo: first.lo.max(second.lo),
+        hi: first.hi.min(second.hi),
+    }
+}
+
+/// The part of the rest before the span.
+pub(crate) fn part_before(rest: &Span, span: &Span) -> Span
+    ensures { IsBefore rest.now span.now result }
+{
+    Span {
+        lo: rest.lo,
+        hi: rest.hi.min(span.lo),
+    }
+}
+
+/// The part of the rest behind the span.
+pub(crate) fn part_behind(rest: &Span, span: &Span) -> Span
+    ensures { IsBehind rest.now span.now result }
+{
+    Span {
+        lo: rest.lo.max(span.hi),
+        hi: rest.hi,
+    }
+}
+
+/// Appends the span if it holds a number.
+pub(crate) fn push_filled(span: &Span, spans: &mut Vec<Span>) -> Result<(), AllocError>
+    ensures { OnOk result (AddsFilled span.now spans.old.items spans.new.items) }
+{
+    if span.lo < span.hi {
+        spans.push(*span)?;
+    }
+    Ok(())
+}

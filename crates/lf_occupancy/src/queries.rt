@@ -1,0 +1,148 @@
+//! What is met in strips, and what is free in them.
+
+ghost use Rattle.std.specs.Prelude.{◌≡◌, ◌++◌, IfOk, None, negsuc, ◌≤ℤ◌, length};
+ghost use Rattle.lf_rules.specs.Padding.{IsShort};
+ghost use Rattle.lf_occupancy.specs.Lanes.{IsLeast};
+ghost use Rattle.lf_occupancy.specs.Strips.{AreFreeTo, ShowAllBoxes, AreFreeSpansOfStrip, IsSite, MeetsInOne, MeetsInRow, widened_strips, strip_views};
+
+use crate::boxes::Boxes;
+use crate::strip_marks::{StripMarks, free_in_lane, free_of_all, least_in_lane, x_range_of};
+use crate::widened::{widened_area, widened_strips};
+use lf_cells::CellId;
+use lf_segments::FrameIndex;
+use lf_units::{Rect, Span};
+use std::alloc::{AllocError, Global};
+
+/// The least number of a cell, other than this one, of which an entry in a strip of the row and the
+/// cell's team, felt around, shares a point with the rectangle; the number so far if that is less, or
+/// none is met.
+fn least_in_row(
+    index: &FrameIndex,
+    site: &i64,
+    lanes: &[StripMarks],
+    boxes: &Boxes<'_>,
+    row: usize,
+    id: &CellId,
+    rect: &Rect,
+    so_far: Option<u32>,
+) -> Option<u32>
+    requires site { IsSite site.now }
+    requires lanes { ShowAllBoxes (widened_strips site.now index.now.strips) boxes.now lanes.now }
+    ensures { IsLeast (MeetsInRow (widened_strips site.now index.now.strips) (strip_views (widened_strips site.now index.now.strips) boxes.now lanes.now) row
+        id.now.team rect.now id.now.own) so_far result }
+{
+    let near = widened_strips(index, site, row, id.team as usize, rect);
+    let mut least = so_far;
+    for n in near.start..near.end {
+        least = least_in_lane(
+            boxes,
+            id.team,
+            &lanes[n],
+            &widened_area(index, site, n),
+            rect,
+            id.own,
+            least,
+        );
+    }
+    least
+}
+
+/// The same in the strips of all rows: none if none is met.
+pub(crate) fn least_met(
+    index: &FrameIndex,
+    site: &i64,
+    lanes: &[StripMarks],
+    boxes: &Boxes<'_>,
+    id: &CellId,
+    rect: &Rect,
+) -> Option<u32>
+    requires site { IsSite site.now }
+    requires lanes { ShowAllBoxes (widened_strips site.now index.now.strips) boxes.now lanes.now }
+    ensures { IsLeast (MeetsInOne (widened_strips site.now index.now.strips) (strip_views (widened_strips site.now index.now.strips) boxes.now lanes.now)
+        id.now.team rect.now id.now.own) None result }
+{
+    index.strips_are_placed();
+    let mut least = None;
+    for entry in index.rows_near(rect) {
+        least = least_in_row(index, site, lanes, boxes, entry.row, id, rect, least);
+    }
+    least
+}
+
+/// The spans of the first list and then those of the second, which becomes the result where the first has none.
+fn joined(first: Vec<Span>, second: Vec<Span>) -> Result<Vec<Span>, AllocError>
+    ensures { IfOk result (λ all. all.items ≡ first.items ++ second.items) }
+{
+    if first.is_empty() {
+        return Ok(second);
+    }
+    let mut all = first;
+    all.extend_from_slice(&second)?;
+    Ok(all)
+}
+
+/// Within a window, the spans of a row's strips that are left free by the cells of the cell's team
+/// other than this one, with the padding around each.
+pub(crate) fn free_in_strips(
+    alloc: Global,
+    index: &FrameIndex,
+    site: &i64,
+    lanes: &[StripMarks],
+    boxes: &Boxes<'_>,
+    row: usize,
+    id: &CellId,
+    window: &Span,
+    padding: &i64,
+) -> Result<Vec<Span>, AllocError>
+    requires site { IsSite site.now }
+    requires lanes { ShowAllBoxes (widened_strips site.now index.now.strips) boxes.now lanes.now }
+    requires short { IsShort padding.now }
+    requires low { negsuc 4611686018427387903 ≤ℤ window.now.lo }
+    ensures { IfOk result (λ free. AreFreeTo index.now.strips (strip_views (widened_strips site.now index.now.strips) boxes.now lanes.now) row id.now.team
+        id.now.own window.now padding.now (length index.now.strips) free.items) }
+{
+    index.strips_are_placed();
+    let list = index.strips();
+    let near = index.strips_overlapping(row, id.team as usize, &window.lo, &window.hi);
+    let mut free = Vec::new(alloc);
+    for n in near.start..near.end {
+        let span = x_range_of(&list[n].area);
+        let area = widened_area(index, site, n);
+        let part = free_in_lane(alloc, boxes, id, &lanes[n], &area, &span, window, padding)?;
+        free = joined(free, part)?;
+    }
+    Ok(free)
+}
+
+/// The spans of the strip of that number that the cells of its team leave free with the padding around
+/// each, but for one that is left out; none if there is no such strip.
+pub(crate) fn free_in_one(
+    alloc: Global,
+    index: &FrameIndex,
+    site: &i64,
+    lanes: &[StripMarks],
+    boxes: &Boxes<'_>,
+    number: usize,
+    without: &CellId,
+    padding: &i64,
+) -> Result<Vec<Span>, AllocError>
+    requires site { IsSite site.now }
+    requires lanes { ShowAllBoxes (widened_strips site.now index.now.strips) boxes.now lanes.now }
+    requires short { IsShort padding.now }
+    ensures { IfOk result (λ free. AreFreeSpansOfStrip index.now.strips (strip_views (widened_strips site.now index.now.strips) boxes.now lanes.now) without.now
+        padding.now number free.items) }
+{
+    index.strips_are_placed();
+    let list = index.strips();
+    if number >= list.len() {
+        return Ok(Vec::new(alloc));
+    }
+    let span = x_range_of(&list[number].area);
+    let team = list[number].team;
+    let lane = &lanes[number];
+    let area = widened_area(index, site, number);
+    if team == without.team as usize {
+        return free_in_lane(alloc, boxes, without, lane, &area, &span, &span, padding);
+    }
+    free_of_all(alloc, boxes, team, lane, &area, &span, padding)
+}

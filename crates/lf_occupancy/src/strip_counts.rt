@@ -1,0 +1,301 @@
+//! A count of boxes for each strip, were some cells elsewhere. The strips are felt around here.
+
+ghost use Rattle.std.specs.Prelude.{◌≡◌, ◌+◌, ◌≢◌, ◌≤◌, AllPairs, IfOk, IfSome, OnOk, Some, length, map};
+ghost use Rattle.std.specs.Vec.{vec_capacity, vec_len};
+ghost use Rattle.lf_occupancy.specs.Occupied.{KeepsCapacities};
+ghost use Rattle.lf_occupancy.specs.Settling.{IsOneOf};
+ghost use Rattle.lf_occupancy.specs.Strips.{AreChanged, AreKept, IsReached, IsSite, widened_strips, capacities_in};
+ghost use Rattle.lf_occupancy.specs.Lanes.{IsKept};
+ghost use Rattle.lf_occupancy.specs.Tallies.{AreShifted, IsHigher, IsLess, IsLessAt, IsLower, IsMore, IsShiftOf, IsShifted, IsShiftedAt, hull_in};
+
+use crate::strip_marks::{StripMarks, has_points, make_room, part_of};
+use crate::widened::{widened_area, widened_strips};
+use lf_segments::{FrameIndex, RowEntry, StripRange};
+use lf_units::Rect;
+use std::alloc::{AllocError, Global};
+use std::marker::Model;
+
+/// For each strip of a frame a number of boxes: as many as stand in it, or would stand in it if some cells
+/// were at other places. Contracts see the numbers.
+#[derive(Drop)]
+pub struct StripCounts {
+    pub(crate) counts: Vec<usize>,
+}
+
+impl Model for StripCounts {
+    ghost use Rattle.std.specs.Prelude.{List, ℕ};
+
+    ghost Value = { List ℕ };
+
+    ghost view = { λ t. t.counts.items };
+}
+
+/// How many marks each lane has.
+pub(crate) fn marks_of(alloc: Global, lanes: &[StripMarks]) -> Result<Vec<usize>, AllocError>
+    ensures { IfOk result (λ counts. counts.items ≡ map (λ l. vec_len l.marks) lanes.now) }
+{
+    let mut counts = Vec::with_capacity(alloc, lanes.len())?;
+    for lane in lanes {
+        counts.push(lane.marks.len())?;
+    }
+    Ok(counts)
+}
+
+/// Counts one less where the rectangle shares a point with the area of the strip.
+fn count_less(count: &mut usize, area: &Rect, rect: &Rect)
+    ensures { IsLess area.now rect.now count.old count.new }
+{
+    if has_points(&part_of(area, rect)) {
+        *count = count.saturating_sub(1);
+    }
+}
+
+/// Counts one less in each strip of a run that shares a point with the rectangle.
+fn lower_run(
+    counts: &mut Vec<usize>,
+    index: &FrameIndex,
+    site: &i64,
+    near: &StripRange,
+    rect: &Rect,
+)
+    requires site { IsSite site.now }
+    requires many { length counts.old.items ≡ length (widened_strips site.now index.now.strips) }
+    requires within { near.now.end ≤ length (widened_strips site.now index.now.strips) }
+    ensures { AreChanged (IsOneOf near.now) (IsLessAt (widened_strips site.now index.now.strips) rect.now) counts.old.items counts.new.items }
+{
+    for n in near.start..near.end {
+        count_less(&mut counts[n], &widened_area(index, site, n), rect);
+    }
+}
+
+/// The same in the strips of the team in all these rows.
+fn lower_rows(
+    counts: &mut Vec<usize>,
+    index: &FrameIndex,
+    site: &i64,
+    rows: &[RowEntry],
+    team: usize,
+    rect: &Rect,
+)
+    requires site { IsSite site.now }
+    requires many { length counts.old.items ≡ length (widened_strips site.now index.now.strips) }
+    requires once { AllPairs (λ a b. a.row ≢ b.row) rows.now }
+    ensures { AreChanged (IsReached (widened_strips site.now index.now.strips) rows.now team rect.now) (IsLessAt (widened_strips site.now index.now.strips) rect.now)
+        counts.old.items counts.new.items }
+{
+    for entry in rows {
+        let near = widened_strips(index, site, entry.row, team, rect);
+        lower_run(counts, index, site, &near, rect);
+    }
+}
+
+/// Counts one less in each strip of the team that shares a point with the box, if there is one.
+pub(crate) fn lower(
+    counts: &mut Vec<usize>,
+    index: &FrameIndex,
+    site: &i64,
+    team: usize,
+    from: &Option<Rect>,
+)
+    requires site { IsSite site.now }
+    requires many { length counts.old.items ≡ length (widened_strips site.now index.now.strips) }
+    ensures { IsLower (widened_strips site.now index.now.strips) team from.now counts.old.items counts.new.items }
+{
+    index.strips_are_placed();
+    if let Some(rect) = from {
+        lower_rows(counts, index, site, index.rows_near(rect), team, rect);
+    }
+}
+
+/// Counts one more in a strip, which has then room for what is counted.
+///
+/// `Err` if an allocation fails; the strip holds what it held.
+fn count_more(lane: &mut StripMarks, count: &mut usize) -> Result<(), AllocError>
+    ensures kept { IsKept lane.old lane.new }
+    ensures more { OnOk result (count.new ≡ count.old + 1) }
+    ensures room { OnOk result (count.new ≤ vec_capacity lane.new.marks) }
+{
+    let Some(next) = count.checked_add(1) else {
+        return Err(AllocError);
+    };
+    let marks = &mut lane.marks;
+    let more = next.saturating_sub(marks.len());
+    make_room(lane, more)?;
+    *count = next;
+    Ok(())
+}
+
+/// Counts one more in each strip of a run.
+fn raise_run(
+    lanes: &mut Vec<StripMarks>,
+    counts: &mut Vec<usize>,
+    near: &StripRange,
+) -> Result<(), AllocError>
+    requires room { KeepsCapacities counts.old.items (capacities_in lanes.old.items) }
+    requires within { near.now.end ≤ length lanes.old.items }
+    ensures kept { AreKept lanes.old.items lanes.new.items }
+    ensures more { OnOk result (AreChanged (IsOneOf near.now) IsMore counts.old.items counts.new.items) }
+    ensures room { OnOk result (KeepsCapacities counts.new.items (capacities_in lanes.new.items)) }
+{
+    for n in near.start..near.end {
+        count_more(&mut lanes[n], &mut counts[n])?;
+    }
+    Ok(())
+}
+
+/// Counts one more in each strip of the team that shares a point with the rectangle.
+fn raise_rows(
+    lanes: &mut Vec<StripMarks>,
+    counts: &mut Vec<usize>,
+    index: &FrameIndex,
+    site: &i64,
+    team: usize,
+    rect: &Rect,
+) -> Result<(), AllocError>
+    requires site { IsSite site.now }
+    requires many { length lanes.old.items ≡ length (widened_strips site.now index.now.strips) }
+    requires room { KeepsCapacities counts.old.items (capacities_in lanes.old.items) }
+    ensures kept { AreKept lanes.old.items lanes.new.items }
+    ensures more { OnOk result (IsHigher (widened_strips site.now index.now.strips) team (Some rect.now) counts.old.items counts.new.items) }
+    ensures room { OnOk result (KeepsCapacities counts.new.items (capacities_in lanes.new.items)) }
+{
+    index.strips_are_placed();
+    let rows = index.rows_near(rect);
+    for entry in rows {
+        let near = widened_strips(index, site, entry.row, team, rect);
+        raise_run(lanes, counts, &near)?;
+    }
+    Ok(())
+}
+
+/// The same with the box, if there is one.
+pub(crate) fn raise(
+    lanes: &mut Vec<StripMarks>,
+    counts: &mut Vec<usize>,
+    index: &FrameIndex,
+    site: &i64,
+    team: usize,
+    to: &Option<Rect>,
+) -> Result<(), AllocError>
+    requires site { IsSite site.now }
+    requires many { length lanes.old.items ≡ length (widened_strips site.now index.now.strips) }
+    requires room { KeepsCapacities counts.old.items (capacities_in lanes.old.items) }
+    ensures kept { AreKept lanes.old.items lanes.new.items }
+    ensures more { OnOk result (IsHigher (widened_strips site.now index.now.strips) team to.now counts.old.items counts.new.items) }
+    ensures room { OnOk result (KeepsCapacities counts.new.items (capacities_in lanes.new.items)) }
+{
+    match to {
+        Some(rect) => raise_rows(lanes, counts, index, site, team, rect),
+        None => Ok(()),
+    }
+}
+
+/// A box of a cell, and the one in its place.
+#[derive(Clone, Copy)]
+pub(crate) struct BoxChange {
+    from: Rect,
+    to: Rect,
+}
+
+/// The boxes, if there are both and no row lies between them.
+pub(crate) fn near_shift(from: &Option<Rect>, to: &Option<Rect>) -> Option<BoxChange>
+    ensures { IfSome result (λ shift. IsShiftOf from.now to.now shift) }
+{
+    let first = (*from)?;
+    let second = (*to)?;
+    if first.y2 < second.y1 || second.y2 < first.y1 {
+        return None;
+    }
+    Some(BoxChange {
+        from: first,
+        to: second,
+    })
+}
+
+/// The rectangle that holds both boxes.
+fn hull_of(shift: &BoxChange) -> Rect
+    ensures { result ≡ hull_in shift.now }
+{
+    Rect {
+        x1: shift.from.x1.min(shift.to.x1),
+        y1: shift.from.y1.min(shift.to.y1),
+        x2: shift.from.x2.max(shift.to.x2),
+        y2: shift.from.y2.max(shift.to.y2),
+    }
+}
+
+/// Counts in a strip of that area one box in place of the other; it has then room for what is counted.
+///
+/// `Err` if an allocation fails; the strip holds what it held.
+fn count_shift(
+    lane: &mut StripMarks,
+    count: &mut usize,
+    area: &Rect,
+    shift: &BoxChange,
+) -> Result<(), AllocError>
+    requires room { count.old ≤ vec_capacity lane.old.marks }
+    ensures kept { IsKept lane.old lane.new }
+    ensures shifted { OnOk result (IsShifted area.now shift.now count.old count.new) }
+    ensures room { OnOk result (count.new ≤ vec_capacity lane.new.marks) }
+{
+    if has_points(&part_of(area, &shift.to)) {
+        if has_points(&part_of(area, &shift.from)) {
+            return Ok(());
+        }
+        return count_more(lane, count);
+    }
+    count_less(count, area, &shift.from);
+    Ok(())
+}
+
+/// The same in each strip of a run.
+fn shift_run(
+    lanes: &mut Vec<StripMarks>,
+    counts: &mut Vec<usize>,
+    index: &FrameIndex,
+    site: &i64,
+    near: &StripRange,
+    shift: &BoxChange,
+) -> Result<(), AllocError>
+    requires site { IsSite site.now }
+    requires many { length lanes.old.items ≡ length (widened_strips site.now index.now.strips) }
+    requires room { KeepsCapacities counts.old.items (capacities_in lanes.old.items) }
+    requires within { near.now.end ≤ length lanes.old.items }
+    ensures kept { AreKept lanes.old.items lanes.new.items }
+    ensures shifted { OnOk result (AreChanged (IsOneOf near.now) (IsShiftedAt (widened_strips site.now index.now.strips) shift.now)
+        counts.old.items counts.new.items) }
+    ensures room { OnOk result (KeepsCapacities counts.new.items (capacities_in lanes.new.items)) }
+{
+    for n in near.start..near.end {
+        let area = widened_area(index, site, n);
+        count_shift(&mut lanes[n], &mut counts[n], &area, shift)?;
+    }
+    Ok(())
+}
+
+/// Counts one box in place of the other in the strips of the team. Each strip is looked up once, and most
+/// cells stay in theirs.
+pub(crate) fn shift_rows(
+    lanes: &mut Vec<StripMarks>,
+    counts: &mut Vec<usize>,
+    index: &FrameIndex,
+    site: &i64,
+    team: usize,
+    shift: &BoxChange,
+) -> Result<(), AllocError>
+    requires site { IsSite site.now }
+    requires many { length lanes.old.items ≡ length (widened_strips site.now index.now.strips) }
+    requires room { KeepsCapacities counts.old.items (capacities_in lanes.old.items) }
+    ensures kept { AreKept lanes.old.items lanes.new.items }
+    ensures shifted { OnOk result (AreShifted (widened_strips site.now index.now.strips) team shift.now counts.old.items counts.new.items) }
+    ensures room { OnOk result (KeepsCapacities counts.new.items (capacities_in lanes.new.items)) }
+{
+    index.strips_are_placed();
+    let hull = hull_of(shift);
+    let rows = index.rows_near(&hull);
+    for entry in rows {
+        let near = widened_strips(index, site, entry.row, team, &hull);
+        shift_run(lanes, counts, index, site, &near, shift)?;
+    }
+    Ok(())
+}

@@ -1,0 +1,508 @@
+//! The entries of one strip.
+
+ghost use Rattle.std.specs.Prelude.{[], All, List, Option, ◌≡◌, ◌↔◌, ◌<◌, ◌≤◌, ◌≤ℤ◌, ◌<ℤ◌, ◌+◌, ◌+ℤ◌, ◌-ℤ◌, ◌*ℤ◌, ℕ, IfOk, IsTrue, MatchOption, OnOk, insert, length, negsuc, pos, slice_index_or};
+ghost use Rattle.std.specs.Vec.{vec_capacity, vec_len};
+ghost use Rattle.lf_spans.specs.Spans.{IsFree, IsFreeIn, IsInOrder};
+ghost use Rattle.lf_rules.specs.Padding.{HasRoomAround, IsShort};
+ghost use Rattle.lf_units.specs.declared.geometry.Rect.{Rect};
+ghost use Rattle.lf_occupancy.specs.declared.strip_marks.Mark.{Mark};
+ghost use Rattle.lf_occupancy.specs.Lanes.{AreRising, MarksAreOf, HasAtMostOne, HasRoom, HasRoomOf, IsJoined, IsKept, IsKeptAs, IsLeast, IsMarked};
+ghost use Rattle.lf_occupancy.specs.Lanes.{IsNearRun, IsNearZero, IsPlaceX, IsUnmarked, IsPutIn, HasPoints, LiesBeside, MeetsEntry, MeetsOne, IsMarkOfCell};
+ghost use Rattle.lf_occupancy.specs.Lanes.{HasNoMarkFrom, MarkIsOf, all_padded, entries_in, entry_in, entry_of_box, others_in, part_in, some_box, spans_in};
+ghost use Rattle.lf_occupancy.specs.Lanes.{wider_range, x_range};
+
+use crate::boxes::Boxes;
+use crate::free_spans::{common_range, part_before, part_behind, push_filled};
+use lf_cells::CellId;
+use lf_spans::{Span, free_in};
+use lf_units::Rect;
+use std::alloc::{AllocError, Global};
+
+/// The part of a strip, felt around, where the box of a cell lies, in database units. A point lies in
+/// it.
+#[derive(Clone, Copy, Debug, PartialEq, Eq)]
+pub(crate) struct Entry {
+    /// The position of the cell among its team's cells.
+    pub(crate) own: u32,
+    pub(crate) area: Rect,
+}
+
+/// What is kept of an entry: the cell's position among its team's cells, and the entry's left edge and
+/// width, in database units; of a width of 2^32 - 1 or more that number. The rest of it follows from the
+/// cell's box.
+#[derive(Clone, Copy, Debug, PartialEq, Eq)]
+pub(crate) struct Mark {
+    pub(crate) own: u32,
+    pub(crate) left: i32,
+    pub(crate) width: u32,
+}
+
+/// The marks of the entries of one strip, felt around, in the order of their left edges, and a width
+/// that no entry exceeds, in database units.
+#[derive(Drop)]
+pub(crate) struct StripMarks {
+    pub(crate) marks: Vec<Mark>,
+    pub(crate) widest: i64,
+}
+
+/// The x range of a rectangle.
+pub(crate) fn x_range_of(rect: &Rect) -> Span
+    ensures { result ≡ x_range rect.now }
+{
+    Span {
+        lo: rect.x1,
+        hi: rect.x2,
+    }
+}
+
+/// The part of the first rectangle that the second one covers.
+pub(crate) fn part_of(a: &Rect, b: &Rect) -> Rect
+    ensures { result ≡ part_in a.now b.now }
+{
+    Rect {
+        x1: a.x1.max(b.x1),
+        y1: a.y1.max(b.y1),
+        x2: a.x2.min(b.x2),
+        y2: a.y2.min(b.y2),
+    }
+}
+
+/// Whether a point lies in the rectangle.
+pub(crate) fn has_points(rect: &Rect) -> bool
+    ensures { IsTrue result ↔ HasPoints rect.now }
+{
+    if rect.x2 <= rect.x1 {
+        return false;
+    }
+    rect.y1 < rect.y2
+}
+
+/// The box; a rectangle without points if there is none.
+fn box_or_none(found: &Option<Rect>) -> Rect
+    ensures { result ≡ some_box found.now }
+{
+    match found {
+        Some(rect) => *rect,
+        None => Rect {
+            x1: 0,
+            y1: 0,
+            x2: 0,
+            y2: 0,
+        },
+    }
+}
+
+/// The entry of a cell of this box in a strip of that area.
+fn entry_of(area: &Rect, found: &Option<Rect>, own: u32) -> Entry
+    ensures { result ≡ entry_of_box area.now found.now own }
+{
+    Entry {
+        own,
+        area: part_of(area, &box_or_none(found)),
+    }
+}
+
+/// The entry that is marked in a strip of the team, of that area.
+fn entry_at(boxes: &Boxes<'_>, team: u32, area: &Rect, mark: &Mark) -> Entry
+    ensures { result ≡ entry_in (slice_index_or boxes.now team []) area.now mark.now }
+{
+    let id = CellId {
+        team,
+        own: mark.own,
+    };
+    entry_of(area, &boxes.get(&id), mark.own)
+}
+
+/// The same, of a team of that number.
+fn entry_of_team(boxes: &Boxes<'_>, team: usize, area: &Rect, mark: &Mark) -> Entry
+    ensures { result ≡ entry_in (slice_index_or boxes.now team []) area.now mark.now }
+{
+    entry_of(area, &boxes.get_in(team, mark.own), mark.own)
+}
+
+/// The x range of the entry that is marked in a strip of the team, of that area. The cell is asked only
+/// where its mark does not tell the width.
+fn range_at(boxes: &Boxes<'_>, team: usize, area: &Rect, mark: &Mark) -> Span
+    requires { MarkIsOf (entry_in (slice_index_or boxes.now team []) area.now mark.now) mark.now }
+    ensures { result ≡ x_range (entry_in (slice_index_or boxes.now team []) area.now mark.now).area }
+{
+    if mark.width == u32::MAX {
+        return x_range_of(&entry_of_team(boxes, team, area, mark).area);
+    }
+    let lo = i64::from(mark.left);
+    Span {
+        lo,
+        hi: lo + i64::from(mark.width),
+    }
+}
+
+/// Whether the mark lies farther right.
+fn is_beyond(mark: &Mark, left: &i64) -> bool
+    ensures { IsTrue result ↔ (left.now <ℤ mark.now.left) }
+{
+    i64::from(mark.left) > *left
+}
+
+/// How many of the marks are before x. They are found at one look where all are, and else by bisection.
+pub(crate) fn count_before(marks: &[Mark], x: &i64) -> usize
+    requires { AreRising marks.now }
+    ensures within { result ≤ length marks.now }
+    ensures below { (k : ℕ) → (d : Mark) → k < result → (slice_index_or marks.now k d).left <ℤ x.now }
+    ensures rest { (k : ℕ) → (d : Mark) → result ≤ k → k < length marks.now → x.now ≤ℤ (slice_index_or marks.now k d).left }
+{
+    let many = marks.len();
+    if 0 < many && i64::from(marks[many - 1].left) < *x {
+        return many;
+    }
+    marks.partition_point(|mark| i64::from(mark.left) < *x)
+}
+
+/// The marks of the entries that lie near a range of x. They are found by bisection.
+pub(crate) fn near_marks<'a>(lane: &'a StripMarks, lo: &i64, hi: &i64) -> &'a [Mark]
+    requires rising { AreRising lane.now.marks.items }
+    requires some { pos 0 ≤ℤ lane.now.widest }
+    requires most { lane.now.widest ≤ℤ pos 1099511627776 }
+    requires low { negsuc 4611686018427387903 ≤ℤ lo.now }
+    ensures near { (cells : List (Option Rect)) → (area : Rect) → IsMarked cells area lane.now →
+        IsNearRun (entries_in cells area lane.now.marks.items) lo.now hi.now (entries_in cells area result.now) }
+    ensures told { (cells : List (Option Rect)) → (area : Rect) → IsMarked cells area lane.now → MarksAreOf cells area result.now }
+{
+    let marks = lane.marks.as_slice();
+    let from = *lo - lane.widest;
+    let rest = &marks[count_before(marks, &from)..];
+    &rest[..count_before(rest, hi)]
+}
+
+/// Whether no number lies in the range and in the x range of the rectangle.
+fn lies_beside(range: &Span, rect: &Rect) -> bool
+    ensures { IsTrue result ↔ LiesBeside range.now rect.now }
+{
+    range.hi <= rect.x1 || rect.x2 <= range.lo
+}
+
+/// The number of the cell if it is the lesser one, is not `but`, and its entry shares a point with
+/// the rectangle; else the number so far.
+fn lesser(
+    boxes: &Boxes<'_>,
+    team: u32,
+    area: &Rect,
+    mark: &Mark,
+    rect: &Rect,
+    but: u32,
+    so_far: Option<u32>,
+) -> Option<u32>
+    requires { MarkIsOf (entry_in (slice_index_or boxes.now team []) area.now mark.now) mark.now }
+    ensures { IsLeast (λ own. MeetsEntry rect.now but own (entry_in (slice_index_or boxes.now team []) area.now mark.now)) so_far result }
+{
+    if mark.own == but {
+        return so_far;
+    }
+    if let Some(least) = so_far
+        && least <= mark.own
+    {
+        return so_far;
+    }
+    if !lies_beside(&range_at(boxes, team as usize, area, mark), rect)
+        && rect.overlaps(&entry_at(boxes, team, area, mark).area)
+    {
+        Some(mark.own)
+    } else {
+        so_far
+    }
+}
+
+/// The same over each of the marks, one after another.
+fn least_in(
+    boxes: &Boxes<'_>,
+    team: u32,
+    area: &Rect,
+    marks: &[Mark],
+    rect: &Rect,
+    but: u32,
+    so_far: Option<u32>,
+) -> Option<u32>
+    requires { MarksAreOf (slice_index_or boxes.now team []) area.now marks.now }
+    ensures { IsLeast (MeetsOne (entries_in (slice_index_or boxes.now team []) area.now marks.now) rect.now but) so_far result }
+{
+    let mut least = so_far;
+    for mark in marks {
+        least = lesser(boxes, team, area, mark, rect, but, least);
+    }
+    least
+}
+
+/// The same over the marks of the lane of a strip of that area. Only those near the rectangle are looked
+/// at.
+pub(crate) fn least_in_lane(
+    boxes: &Boxes<'_>,
+    team: u32,
+    lane: &StripMarks,
+    area: &Rect,
+    rect: &Rect,
+    but: u32,
+    so_far: Option<u32>,
+) -> Option<u32>
+    requires marked { IsMarked (slice_index_or boxes.now team []) area.now lane.now }
+    requires near { IsNearZero area.now }
+    ensures { IsLeast (MeetsOne (entries_in (slice_index_or boxes.now team []) area.now lane.now.marks.items) rect.now but) so_far result }
+{
+    let lo = rect.x1.max(area.x1);
+    let near = near_marks(lane, &lo, &rect.x2);
+    least_in(boxes, team, area, near, rect, but, so_far)
+}
+
+/// The range made wider by the padding on its left and on its right.
+fn padded_range(range: &Span, padding: &i64) -> Span
+    requires short { IsShort padding.now }
+    requires low { negsuc 4611686018427387903 ≤ℤ range.now.lo }
+    requires high { range.now.hi ≤ℤ pos 4611686018427387904 }
+    ensures { result ≡ wider_range padding.now range.now }
+{
+    Span {
+        lo: range.lo - *padding,
+        hi: range.hi + *padding,
+    }
+}
+
+/// The x ranges of the entries that are marked in a strip of the team, of that area, each made wider by
+/// the padding.
+fn padded_of(
+    alloc: Global,
+    boxes: &Boxes<'_>,
+    team: usize,
+    area: &Rect,
+    marks: &[Mark],
+    padding: &i64,
+) -> Result<Vec<Span>, AllocError>
+    requires short { IsShort padding.now }
+    requires told { MarksAreOf (slice_index_or boxes.now team []) area.now marks.now }
+    requires around { All (λ e. HasRoomAround e.area) (entries_in (slice_index_or boxes.now team []) area.now marks.now) }
+    ensures { IfOk result (λ list. list.items ≡ spans_in (all_padded padding.now (entries_in (slice_index_or boxes.now team []) area.now marks.now))) }
+{
+    let mut list = Vec::with_capacity(alloc, marks.len())?;
+    for mark in marks {
+        let range = range_at(boxes, team, area, mark);
+        list.push(padded_range(&range, padding))?;
+    }
+    Ok(list)
+}
+
+/// The spans of a range that the entries of other cells than this one leave free, with the padding around each; they are marked in
+/// a strip of that area, from left to right.
+fn free_beside(
+    alloc: Global,
+    boxes: &Boxes<'_>,
+    id: &CellId,
+    area: &Rect,
+    marks: &[Mark],
+    padding: &i64,
+    range: &Span,
+) -> Result<Vec<Span>, AllocError>
+    requires short { IsShort padding.now }
+    requires told { MarksAreOf (slice_index_or boxes.now id.now.team []) area.now marks.now }
+    requires around { All (λ e. HasRoomAround e.area) (entries_in (slice_index_or boxes.now id.now.team []) area.now marks.now) }
+    requires whole { All (λ e. HasPoints e.area) (entries_in (slice_index_or boxes.now id.now.team []) area.now marks.now) }
+    requires order { IsInOrder
+        (spans_in (others_in (all_padded padding.now (entries_in (slice_index_or boxes.now id.now.team []) area.now marks.now)) id.now.own)) }
+    ensures { IfOk result (λ free. IsFree range.now
+        (spans_in (others_in (all_padded padding.now (entries_in (slice_index_or boxes.now id.now.team []) area.now marks.now)) id.now.own)) free.items) }
+{
+    let mut free = Vec::with_capacity(alloc, marks.len().saturating_add(1))?;
+    let mut rest = *range;
+    for mark in marks {
+        if mark.own == id.own {
+            continue;
+        }
+        let reach = range_at(boxes, id.team as usize, area, mark);
+        let span = padded_range(&reach, padding);
+        push_filled(&part_before(&rest, &span), &mut free)?;
+        rest = part_behind(&rest, &span);
+    }
+    push_filled(&rest, &mut free)?;
+    Ok(free)
+}
+
+/// A width that no entry of the lane exceeds that is made wider by the padding.
+fn widest_padded(lane: &StripMarks, padding: &i64) -> i64
+    requires some { pos 0 ≤ℤ lane.now.widest }
+    requires most { lane.now.widest ≤ℤ pos 1099511627776 }
+    requires short { IsShort padding.now }
+    ensures { result ≡ lane.now.widest +ℤ (pos 2 *ℤ padding.now) }
+{
+    lane.widest + 2 * *padding
+}
+
+/// Within a window, the spans of a strip that other cells of its team than this one leave free, with the
+/// padding around each; the strip has that area, felt around. Only marks near the window are looked at.
+pub(crate) fn free_in_lane(
+    alloc: Global,
+    boxes: &Boxes<'_>,
+    id: &CellId,
+    lane: &StripMarks,
+    area: &Rect,
+    strip: &Span,
+    window: &Span,
+    padding: &i64,
+) -> Result<Vec<Span>, AllocError>
+    requires marked { IsMarked (slice_index_or boxes.now id.now.team []) area.now lane.now }
+    requires near { IsNearZero area.now }
+    requires short { IsShort padding.now }
+    requires left { negsuc 2147483647 ≤ℤ strip.now.lo }
+    requires right { strip.now.hi ≤ℤ pos 2147483647 }
+    requires low { negsuc 4611686018427387903 ≤ℤ window.now.lo }
+    ensures { IfOk result (λ free. IsFreeIn strip.now
+        (spans_in (others_in (all_padded padding.now (entries_in (slice_index_or boxes.now id.now.team []) area.now lane.now.marks.items)) id.now.own))
+        window.now free.items) }
+{
+    let range = common_range(window, strip);
+    let lo = range.lo - *padding;
+    let hi = range.hi + *padding;
+    let near = near_marks(lane, &lo, &hi);
+    free_beside(alloc, boxes, id, area, near, padding, &range)
+}
+
+/// The spans of a strip that its team's cells leave free, with the padding around each; the strip has
+/// that area, felt around.
+pub(crate) fn free_of_all(
+    alloc: Global,
+    boxes: &Boxes<'_>,
+    team: usize,
+    lane: &StripMarks,
+    area: &Rect,
+    strip: &Span,
+    padding: &i64,
+) -> Result<Vec<Span>, AllocError>
+    requires marked { IsMarked (slice_index_or boxes.now team []) area.now lane.now }
+    requires near { IsNearZero area.now }
+    requires short { IsShort padding.now }
+    requires low { negsuc 4611686018427387903 ≤ℤ strip.now.lo }
+    ensures { IfOk result (λ free. IsFreeIn strip.now
+        (spans_in (all_padded padding.now (entries_in (slice_index_or boxes.now team []) area.now lane.now.marks.items))) strip.now free.items) }
+{
+    let all = padded_of(alloc, boxes, team, area, lane.marks.as_slice(), padding)?;
+    free_in(
+        alloc,
+        strip,
+        all.as_slice(),
+        widest_padded(lane, padding),
+        strip,
+    )
+}
+
+/// The position of the cell's mark, which is at `left` if there is one, among those from a position on;
+/// none if it has none there. Marks farther right are not looked at.
+fn place_from(marks: &[Mark], own: u32, from: usize, left: &i64) -> Option<usize>
+    requires bound { from ≤ length marks.now }
+    requires order { AreRising marks.now }
+    requires begins { All (λ m. m.own ≡ own → m.left ≡ left.now) marks.now }
+    ensures { MatchOption result (HasNoMarkFrom marks.now own from) (IsMarkOfCell marks.now own) }
+{
+    for n in from..marks.len() {
+        if marks[n].own == own {
+            return Some(n);
+        }
+        if is_beyond(&marks[n], left) {
+            return None;
+        }
+    }
+    None
+}
+
+/// Takes the cell's mark out, which is at `left` if there is one. It is found by bisection.
+pub(crate) fn unmark(lane: &mut StripMarks, own: u32, left: &i64)
+    requires { HasAtMostOne own left.now lane.old }
+    ensures { IsUnmarked own lane.old lane.new }
+{
+    let marks = lane.marks.as_slice();
+    if let Some(n) = place_from(marks, own, count_before(marks, left), left) {
+        lane.marks.remove(n);
+    }
+}
+
+/// Makes room for this many more marks, where there is none for a quarter more than there are, but for two
+/// at least: lanes are many, and doubling each would cost too much.
+pub(crate) fn make_room(lane: &mut StripMarks, more: usize) -> Result<(), AllocError>
+    ensures kept { IsKept lane.old lane.new }
+    ensures ok { OnOk result (HasRoomOf more lane.new) }
+{
+    let marks = &mut lane.marks;
+    if more <= marks.capacity().saturating_sub(marks.len()) {
+        return Ok(());
+    }
+    marks.reserve_exact(more.max(marks.len() / 4).max(2))
+}
+
+/// Inserts the mark at that position. It allocates nothing.
+fn insert_at(marks: &mut Vec<Mark>, at: usize, mark: &Mark)
+    requires bound { at ≤ vec_len marks.old }
+    requires room { vec_len marks.old < vec_capacity marks.old }
+    ensures items { marks.new.items ≡ insert marks.old.items at mark.now }
+    ensures more { vec_len marks.new ≡ vec_len marks.old + 1 }
+    ensures room { vec_capacity marks.new ≡ vec_capacity marks.old }
+{
+    if at == marks.len() {
+        marks.push_reserved(*mark);
+        return;
+    }
+    if marks.insert(at, *mark).is_err() {
+        unreachable!();
+    }
+}
+
+/// Inserts the mark of an entry of that area at its place in the order. It allocates nothing.
+fn join(lane: &mut StripMarks, mark: &Mark, area: &Rect)
+    requires order { AreRising lane.old.marks.items }
+    requires left { negsuc 549755813887 ≤ℤ area.now.x1 }
+    requires right { area.now.x2 ≤ℤ pos 549755813888 }
+    requires whole { HasPoints area.now }
+    requires room { HasRoom lane.old }
+    ensures { IsJoined mark.now (area.now.x2 -ℤ area.now.x1) lane.old lane.new }
+{
+    let at = count_before(lane.marks.as_slice(), &i64::from(mark.left));
+    lane.widest = lane.widest.max(area.x2 - area.x1);
+    insert_at(&mut lane.marks, at, mark);
+}
+
+/// The width of the part as a mark keeps it: one of 2^32 - 1 or more as that number.
+fn kept_width(part: &Rect) -> u32
+    requires left { IsPlaceX part.now.x1 }
+    requires right { part.now.x2 ≤ℤ pos 549755813888 }
+    requires whole { HasPoints part.now }
+    ensures { IsKeptAs (part.now.x2 -ℤ part.now.x1) result }
+{
+    match u32::try_from(part.x2 - part.x1) {
+        Ok(kept) => kept,
+        Err(_) => u32::MAX,
+    }
+}
+
+/// The mark of a cell for a part of its strip.
+fn mark_of(own: u32, part: &Rect) -> Mark
+    requires left { IsPlaceX part.now.x1 }
+    requires right { part.now.x2 ≤ℤ pos 549755813888 }
+    requires whole { HasPoints part.now }
+    ensures is { result.own ≡ own }
+    ensures left { result.left ≡ part.now.x1 }
+    ensures width { IsKeptAs (part.now.x2 -ℤ part.now.x1) result.width }
+{
+    Mark {
+        own,
+        left: part.x1 as i32,
+        width: kept_width(part),
+    }
+}
+
+/// Marks the part of the cell's box that lies in the strip's area, if there is one. It allocates
+/// nothing.
+pub(crate) fn put_in(lane: &mut StripMarks, area: &Rect, own: u32, rect: &Rect)
+    requires order { AreRising lane.old.marks.items }
+    requires within { IsNearZero area.now }
+    requires edge { IsPlaceX rect.now.x1 }
+    requires room { HasPoints (part_in area.now rect.now) → HasRoom lane.old }
+    ensures { IsPutIn own rect.now area.now lane.old lane.new }
+{
+    let part = part_of(area, rect);
+    if has_points(&part) {
+        join(lane, &mark_of(own, &part), &part);
+    }
+}

@@ -1,0 +1,43 @@
+use Rattle.std.proofs.Common.{◌≡◌, List, [], ◌∷◌, Option, length, get_or, map, subst, ap, ◌∙◌, arith}
+use Rattle.std.specs.Prelude.{All, IfSome, OnOk}
+use Rattle.lf_cells.specs.declared.cell.CellId.{CellId}
+use Rattle.lf_cells.specs.Cells.{cells_of}
+use Rattle.lf_units.specs.declared.geometry.Rect.{Rect}
+use Rattle.lf_occupancy.specs.Floorplans.{box_of, boxes_in}
+use Rattle.lf_occupancy.specs.Occupied.{FitIn, HasRoomFor}
+use Rattle.lf_occupancy.specs.Strips.{with_boxes}
+use Rattle.lf_occupancy.proofs.Building.{boxes_there}
+use Rattle.lf_undo.specs.declared.moves.Move.{Move}
+use Rattle.lf_placement.specs.Placings.{moves_applied}
+use Rattle.lf_placement.proofs.Counts.{room_made}
+use Rattle.lf_placement.proofs.capacity.reserve_moves.Goals as goal
+
+one_move : (moves : List Move) (next : Move) → length moves ≡ 1 → next ≡ get_or moves 0 next → next ∷ [] ≡ moves
+one_move [] next one is = absurd (omega (arith, one))
+one_move (m ∷ []) next one is = ap (λ (x : Move). x ∷ []) is
+one_move (m ∷ n ∷ ms) next one is = absurd (omega (arith, one))
+
+pub returns-then-moves-eq1-clause-ok : goal.returns-then-moves-eq1-clause-ok
+returns-then-moves-eq1-clause-ok c =
+    let team = c.args.team in
+    subst (λ (moves : List Move). OnOk c.make_room_for.result
+    (FitIn (with_boxes c.make_room_for.new.occupancy (boxes_in c.args.frame.now c.args.cells.now)) team
+    (map (box_of c.args.frame.now) (moves_applied moves (cells_of c.args.cells.now team)))))
+    (one_move c.args.moves.now c.index-moves-0.result (omega arith) c.index-moves-0.is) c.make_room_for.ensures.ok
+
+pub returns-clause-ok : goal.returns-clause-ok
+returns-clause-ok c =
+    let team = c.args.team in
+    let boxes = boxes_in c.args.frame.now c.args.cells.now in
+    let o = with_boxes c.reserve_for.new.self boxes in
+    room_made c.args.frame.now team (cells_of c.args.cells.now team) c.args.moves.now o
+    (boxes_there c.args.frame.now c.args.cells.now team)
+    (c.boxes_fit.ensures boxes (c.in_ok-reserve_for.ensures.holds boxes c.requires.holds) team)
+    (subst (λ (asked : List (CellId × Option Rect)). All (λ m. IfSome m.1 (λ r. HasRoomFor o m.0.team r (length asked))) asked)
+    (c.as_slice.ensures.value ∙ c.in_ok-asked.ensures) (c.in_ok-reserve_for.ensures.ok boxes c.requires.holds))
+
+pub returns-in_err-reserve_for-clause-holds : goal.returns-in_err-reserve_for-clause-holds
+returns-in_err-reserve_for-clause-holds c = c.in_err-reserve_for.ensures.holds (boxes_in c.args.frame.now c.args.cells.now) c.requires.holds
+
+pub returns-clause-holds : goal.returns-clause-holds
+returns-clause-holds c = c.in_ok-reserve_for.ensures.holds (boxes_in c.args.frame.now c.args.cells.now) c.requires.holds

@@ -1,0 +1,14 @@
+use Rattle.std.proofs.Common.{[]}
+use Rattle.lf_occupancy.specs.Occupied.{KeepsCapacities}
+use Rattle.lf_occupancy.specs.Strips.{with_boxes, capacities_in}
+use Rattle.lf_placement.specs.Steps.{KeepsMarks}
+use Rattle.lf_placement.proofs.Tallying.{HalfCommitted}
+use Rattle.lf_placement.proofs.counted_capacity.fit_all_committed.Given as goal
+
+-- the teams passed are counted at their committed places
+abbrev pub invariant-loop-team : goal.invariant-loop-team
+invariant-loop-team l = record {
+  half : HalfCommitted l.frame l.cells (with_boxes l.occupancy []) l.team l.tally;
+  gains : KeepsMarks l.fn.occupancy l.occupancy;
+  room : KeepsCapacities l.tally (capacities_in l.occupancy.lanes);
+}

@@ -1,9 +1,0 @@
-use Rattle.lf_placement.proofs.Changing.{macs_committed, macs_same}
-use Rattle.lf_placement.proofs.Keeping.{last}
-use Rattle.lf_placement.proofs.laws.fits_last.Goals as goal
-
-pub returns-clause-last : goal.returns-clause-last
-returns-clause-last c = last
-
-pub returns-clause-macros : goal.returns-clause-macros
-returns-clause-macros c = record { moved = macs_same; committed = macs_committed }

@@ -1,0 +1,5 @@
+use Rattle.lf_placement.proofs.Judging.{alone_lasts}
+use Rattle.lf_placement.proofs.laws.frame_rule_is_stable.Goals as goal
+
+pub returns : goal.returns
+returns c = alone_lasts

@@ -1,0 +1,38 @@
+use Rattle.std.proofs.Common.{refl, subst, sym}
+use Rattle.lf_cells.specs.Cells.{cells_of}
+use Rattle.lf_occupancy.specs.Floorplans.{boxes_in}
+use Rattle.lf_occupancy.specs.Occupied.{KeepsCapacities}
+use Rattle.lf_placement.specs.Placings.{BoundsAt, Placing, SameButRooms, boxes_at, placing_of}
+use Rattle.lf_placement.proofs.Keeping.{placing_grown}
+use Rattle.lf_placement.proofs.placement.Placement.reserve_change.Goals as goal
+
+pub reserve_change-requires-clause-sized : goal.reserve_change-requires-clause-sized
+reserve_change-requires-clause-sized c = c.self.invariant.placing.sized c.args.team
+
+pub reserve_change-requires-clause-room : goal.reserve_change-requires-clause-room
+reserve_change-requires-clause-room c = subst (λ (p : Placing). KeepsCapacities c.args.tally.now p.held.rooms) (sym c.self.view_is) c.requires
+
+pub invariant_of-self : goal.invariant_of-self
+invariant_of-self c =
+    let f = c.self.inside.frame in
+    let cells = c.self.inside.cells in
+    let gains = c.reserve_change.ensures.gains in
+    record {
+      holds = gains.holds (boxes_in f cells) c.self.invariant.holds;
+      placing = placing_grown f cells c.self.inside.occupancy c.reserve_change.new.occupancy c.self.invariant.placing gains.index gains.site gains.rooms;
+    }
+
+pub returns-clause-own : goal.returns-clause-own
+returns-clause-own c = λ places is bounds.
+    c.reserve_change.ensures.own places is (subst (λ (p : Placing). BoundsAt p c.args.team places c.args.tally.now) (sym c.self.view_is) bounds)
+
+pub returns-clause-others : goal.returns-clause-others
+returns-clause-others c = λ places other differ bounds.
+    c.reserve_change.ensures.others (boxes_at c.self.inside.frame (cells_of c.self.inside.cells other) places) other differ
+    (subst (λ (p : Placing). BoundsAt p other places c.args.tally.now) (sym c.self.view_is) bounds)
+
+pub returns-clause-same : goal.returns-clause-same
+returns-clause-same c =
+    let gains = c.reserve_change.ensures.gains in
+    subst (λ (p : Placing). SameButRooms p (placing_of c.self.inside.frame c.self.inside.cells c.reserve_change.new.occupancy)) c.self.view_is
+    record { frame = refl; cells = refl; index = gains.index; site = gains.site; boxes = refl; rooms = gains.rooms }

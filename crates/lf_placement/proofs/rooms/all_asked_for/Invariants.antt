@@ -1,7 +1,0 @@
-use Rattle.std.proofs.Common.{◌≡◌, map, take}
-use Rattle.lf_cells.specs.Cells.{cells_of}
-use Rattle.lf_placement.specs.Steps.{asked_for}
-use Rattle.lf_placement.proofs.rooms.all_asked_for.Given as goal
-
-abbrev pub invariant-loop-next : goal.invariant-loop-next
-invariant-loop-next l = l.list.items ≡ map (asked_for l.frame l.team (cells_of l.cells l.team)) (take l.next-index l.moves)

@@ -1,0 +1,16 @@
+use Rattle.std.proofs.Common.{◌≡◌, ◌≢◌, ℕ, length, take}
+use Rattle.lf_occupancy.specs.Occupied.{KeepsCapacities}
+use Rattle.lf_undo.specs.Entries.{Places, moves_taken_back}
+use Rattle.lf_placement.specs.Placings.{BoundsAt, SameButRooms}
+use Rattle.lf_placement.proofs.undo_capacity.fit_moves_back.Given as goal
+
+-- the moves that are left lead back to where all of them lead
+abbrev pub invariant-loop-at : goal.invariant-loop-at
+invariant-loop-at l = record {
+  left : moves_taken_back (take l.at l.moves) l.places ≡ moves_taken_back l.fn.moves l.fn.places;
+  many : length l.places ≡ length l.fn.places;
+  room : KeepsCapacities l.tally l.placement.held.rooms;
+  bounds : BoundsAt l.placement l.team l.places l.tally;
+  others : (at : Places) (other : ℕ) → other ≢ l.team → BoundsAt l.fn.placement other at l.fn.tally → BoundsAt l.placement other at l.tally;
+  same : SameButRooms l.fn.placement l.placement;
+}

@@ -1,0 +1,165 @@
+//! Room for places, found by counting: no cell is moved.
+
+ghost use Rattle.std.specs.Prelude.{◌≡◌, ◌≢◌, ◌<◌, ◌≤◌, [], All, IfOk, List, None, OnOk, Option, Some, length, option_map, slice_get, slice_set, ℕ};
+ghost use Rattle.lf_units.specs.declared.geometry.Rect.{Rect};
+ghost use Rattle.lf_floorplan.specs.Boxes.{IsSized, size_of};
+ghost use Rattle.lf_floorplan.specs.Sizes.{box_at, turned};
+ghost use Rattle.lf_cells.specs.Cells.{cells_of, committed_at, working_at};
+ghost use Rattle.lf_legalize.specs.Members.{IsSizedCell};
+ghost use Rattle.lf_occupancy.specs.Floorplans.{boxes_in};
+ghost use Rattle.lf_occupancy.specs.Occupied.{Bounds, FitIn, KeepsCapacities};
+ghost use Rattle.lf_occupancy.specs.Strips.{MarksBoxes, with_boxes, capacities_in};
+ghost use Rattle.lf_undo.specs.Entries.{Places};
+ghost use Rattle.lf_placement.specs.Placings.{AreSized, boxes_at, committed_of, places_of};
+ghost use Rattle.lf_placement.specs.Steps.{KeepsMarks, box_moved};
+
+use lf_cells::{CellId, CellTable};
+use lf_floorplan::{Frame, Macro, PackedPlace, Place, same_place};
+use lf_occupancy::{Occupancy, StripCounts, team_count};
+use lf_rules::box_of;
+use lf_units::Rect;
+use std::alloc::{AllocError, Global};
+
+/// A cell of a team, by its position, and two places of it.
+#[derive(Clone, Copy)]
+pub(crate) struct Change {
+    pub(crate) own: u32,
+    pub(crate) from: PackedPlace,
+    pub(crate) to: PackedPlace,
+}
+
+/// The box of a cell of this macro at a place; none where there is none.
+fn box_of_macro(frame: &Frame, mac: &Macro, place: Option<Place>) -> Option<Rect>
+    requires { IsSized frame.now mac.now }
+    ensures { result ≡ option_map (λ p. box_at (turned (size_of frame.now mac.now) p.orient) p.x p.y) place }
+{
+    Some(box_of(frame, mac, &place?))
+}
+
+/// The boxes of the team's cell of that position at both places of a change; none where there is no such
+/// cell, or no place.
+fn boxes_of_change(
+    frame: &Frame,
+    cells: &CellTable,
+    team: usize,
+    change: &Change,
+) -> (Option<Rect>, Option<Rect>)
+    requires { All (IsSizedCell frame.now) (cells_of cells.now team) }
+    ensures from { result.0 ≡ box_moved frame.now (slice_get (cells_of cells.now team) change.now.own) change.now.from }
+    ensures to { result.1 ≡ box_moved frame.now (slice_get (cells_of cells.now team) change.now.own) change.now.to }
+{
+    let Some(id) = cells.cell_of(team, change.own as usize) else {
+        return (None, None);
+    };
+    let Some(standing) = cells.placement_of(id) else {
+        return (None, None);
+    };
+    let mac = &frame.macros.as_slice()[standing.mac];
+    let from = box_of_macro(frame, mac, change.from.place());
+    let to = box_of_macro(frame, mac, change.to.place());
+    (from, to)
+}
+
+/// Counts a cell at one place in place of another, and makes the room that is lacking then.
+///
+/// `Err` if an allocation fails.
+pub(crate) fn reserve_change(
+    frame: &Frame,
+    cells: &CellTable,
+    occupancy: &mut Occupancy,
+    tally: &mut StripCounts,
+    team: usize,
+    change: &Change,
+) -> Result<(), AllocError>
+    requires sized { All (IsSizedCell frame.now) (cells_of cells.now team) }
+    requires room { KeepsCapacities tally.old (capacities_in occupancy.old.lanes) }
+    ensures room { OnOk result (KeepsCapacities tally.new (capacities_in occupancy.new.lanes)) }
+    ensures own { (places : Places) → slice_get places change.now.own ≡ Some change.now.from
+        → Bounds (with_boxes occupancy.old []) team (boxes_at frame.now (cells_of cells.now team) places) tally.old
+        → OnOk result (Bounds (with_boxes occupancy.new []) team
+        (boxes_at frame.now (cells_of cells.now team) (slice_set places change.now.own change.now.to)) tally.new) }
+    ensures others { (boxes : List (Option Rect)) → (other : ℕ) → other ≢ team → Bounds (with_boxes occupancy.old []) other boxes tally.old
+        → OnOk result (Bounds (with_boxes occupancy.new []) other boxes tally.new) }
+    ensures gains { KeepsMarks occupancy.old occupancy.new }
+{
+    let (from, to) = boxes_of_change(frame, cells, team, change);
+    occupancy.reserve_counted(tally, team, &from, &to)
+}
+
+/// Counts a cell at its committed place in place of its working one.
+fn fit_committed(
+    frame: &Frame,
+    cells: &CellTable,
+    occupancy: &mut Occupancy,
+    tally: &mut StripCounts,
+    id: &CellId,
+) -> Result<(), AllocError>
+    requires sized { All (IsSizedCell frame.now) (cells_of cells.now id.now.team) }
+    requires room { KeepsCapacities tally.old (capacities_in occupancy.old.lanes) }
+    ensures room { OnOk result (KeepsCapacities tally.new (capacities_in occupancy.new.lanes)) }
+    ensures own { (places : Places) → slice_get places id.now.own ≡ Some (working_at (cells_of cells.now id.now.team) id.now.own)
+        → Bounds (with_boxes occupancy.old []) id.now.team (boxes_at frame.now (cells_of cells.now id.now.team) places) tally.old
+        → OnOk result (Bounds (with_boxes occupancy.new []) id.now.team (boxes_at frame.now (cells_of cells.now id.now.team)
+        (slice_set places id.now.own (committed_at (cells_of cells.now id.now.team) id.now.own))) tally.new) }
+    ensures others { (boxes : List (Option Rect)) → (other : ℕ) → other ≢ id.now.team → Bounds (with_boxes occupancy.old []) other boxes tally.old
+        → OnOk result (Bounds (with_boxes occupancy.new []) other boxes tally.new) }
+    ensures gains { KeepsMarks occupancy.old occupancy.new }
+{
+    let from = cells.working(*id);
+    let to = cells.committed(*id);
+    if same_place(from, to) {
+        return Ok(());
+    }
+    let change = Change {
+        own: id.own,
+        from: PackedPlace::of(from),
+        to: PackedPlace::of(to),
+    };
+    reserve_change(frame, cells, occupancy, tally, id.team as usize, &change)
+}
+
+/// Counts each cell of the team at its committed place in place of its working one.
+fn fit_team(
+    frame: &Frame,
+    cells: &CellTable,
+    occupancy: &mut Occupancy,
+    tally: &mut StripCounts,
+    team: usize,
+) -> Result<(), AllocError>
+    requires sized { All (IsSizedCell frame.now) (cells_of cells.now team) }
+    requires room { KeepsCapacities tally.old (capacities_in occupancy.old.lanes) }
+    ensures room { OnOk result (KeepsCapacities tally.new (capacities_in occupancy.new.lanes)) }
+    ensures own { Bounds (with_boxes occupancy.old []) team (boxes_at frame.now (cells_of cells.now team) (places_of (cells_of cells.now team))) tally.old
+        → OnOk result (Bounds (with_boxes occupancy.new []) team
+        (boxes_at frame.now (cells_of cells.now team) (committed_of (cells_of cells.now team))) tally.new) }
+    ensures others { (boxes : List (Option Rect)) → (other : ℕ) → other ≢ team → Bounds (with_boxes occupancy.old []) other boxes tally.old
+        → OnOk result (Bounds (with_boxes occupancy.new []) other boxes tally.new) }
+    ensures gains { KeepsMarks occupancy.old occupancy.new }
+{
+    for id in cells.cells_of(team) {
+        fit_committed(frame, cells, occupancy, tally, id)?;
+    }
+    Ok(())
+}
+
+/// Makes room for the committed places of all cells, which stand at their working places.
+///
+/// `Err` if an allocation fails.
+pub(crate) fn fit_all_committed(
+    alloc: Global,
+    frame: &Frame,
+    cells: &CellTable,
+    occupancy: &mut Occupancy,
+) -> Result<(), AllocError>
+    requires sized { AreSized frame.now cells.now }
+    requires holds { MarksBoxes occupancy.old (boxes_in frame.now cells.now) }
+    ensures fits { (team : ℕ) → OnOk result (FitIn (with_boxes occupancy.new []) team
+        (boxes_at frame.now (cells_of cells.now team) (committed_of (cells_of cells.now team)))) }
+    ensures gains { KeepsMarks occupancy.old occupancy.new }
+{
+    let mut tally = occupancy.strip_counts(alloc)?;
+    for team in 0..team_count(cells.cell_ids()) {
+        fit_team(frame, cells, occupancy, &mut tally, team)?;
+    }
+    Ok(())
+}

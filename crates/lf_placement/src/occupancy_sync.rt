@@ -1,0 +1,158 @@
+//! Cells of a team are taken out of the strips, and put where they are to stand.
+
+ghost use Rattle.std.specs.Prelude.{◌≡◌, All, IfSome, List, None, Option, Some, [], length, slice_index_or};
+ghost use Rattle.lf_units.specs.declared.geometry.Rect.{Rect};
+ghost use Rattle.lf_cells.specs.Cells.{cell_at, cells_of};
+ghost use Rattle.lf_legalize.specs.Members.{IsSizedCell};
+ghost use Rattle.lf_occupancy.specs.Floorplans.{boxes_in};
+ghost use Rattle.lf_occupancy.specs.Lanes.{IsPlaceX};
+ghost use Rattle.lf_occupancy.specs.Occupied.{cell_box};
+ghost use Rattle.lf_occupancy.specs.Strips.{MarksBoxes, IsAt, with_boxes};
+ghost use Rattle.lf_placement.specs.Steps.{MovedMayBeInserted, MarksSome, IsPartly, KeepsRooms, CellMayBeInserted, BoxMayBeInserted, BoxesMayBeInserted, RemovesFirst, box_moved, box_set, moved_positions, working_boxes};
+
+use lf_cells::{CellId, CellTable};
+use lf_floorplan::{Frame, Place};
+use lf_occupancy::Occupancy;
+use lf_rules::box_of;
+use lf_undo::Move;
+use lf_units::Rect;
+
+/// The box of a cell at a place; none where there is no such cell, or no place.
+pub(crate) fn box_at(
+    frame: &Frame,
+    cells: &CellTable,
+    id: CellId,
+    place: Option<Place>,
+) -> Option<Rect>
+    requires { All (IsSizedCell frame.now) (cells_of cells.now id.team) }
+    ensures is { result ≡ box_moved frame.now (cell_at cells.now id) place }
+    ensures edge { IfSome result (λ rect. IsPlaceX rect.x1) }
+{
+    let standing = cells.placement_of(id)?;
+    let place = place?;
+    let mac = &frame.macros.as_slice()[standing.mac];
+    Some(box_of(frame, mac, &place))
+}
+
+/// The box of a cell at its working place.
+fn working_box(frame: &Frame, cells: &CellTable, id: CellId) -> Option<Rect>
+    requires { All (IsSizedCell frame.now) (cells_of cells.now id.team) }
+    ensures is { result ≡ cell_box (working_boxes frame.now cells.now id.team) id.own }
+    ensures edge { IfSome result (λ rect. IsPlaceX rect.x1) }
+{
+    box_at(frame, cells, id, cells.working(id))
+}
+
+/// Takes the team's cell of that position, which is out or stands at its working place, out of the
+/// strips, where there is one.
+fn remove_cell(frame: &Frame, occupancy: &mut Occupancy, cells: &CellTable, team: usize, own: u32)
+    requires sized { All (IsSizedCell frame.now) (cells_of cells.now team) }
+    requires part { MarksSome (IsPartly team (working_boxes frame.now cells.now team)) occupancy.old }
+    ensures holds { (boxes : List (List (Option Rect))) → IsPartly team (working_boxes frame.now cells.now team) (with_boxes occupancy.old boxes)
+        → MarksBoxes occupancy.old boxes → MarksBoxes occupancy.new (box_set boxes team own None) }
+    ensures rooms { KeepsRooms occupancy.old occupancy.new }
+{
+    let Some(id) = cells.cell_of(team, own as usize) else {
+        return;
+    };
+    let Some(rect) = working_box(frame, cells, id) else {
+        return;
+    };
+    occupancy.remove(id, &rect);
+}
+
+/// Takes the cells of the moves out of the strips.
+pub(crate) fn remove_moved(
+    frame: &Frame,
+    occupancy: &mut Occupancy,
+    cells: &CellTable,
+    team: usize,
+    moves: &[Move],
+)
+    requires sized { All (IsSizedCell frame.now) (cells_of cells.now team) }
+    requires holds { MarksBoxes occupancy.old (boxes_in frame.now cells.now) }
+    ensures out { MarksSome (RemovesFirst team (moved_positions moves.now) (length moves.now) (with_boxes occupancy.old (boxes_in frame.now cells.now))) occupancy.new }
+    ensures rooms { KeepsRooms occupancy.old occupancy.new }
+{
+    for next in moves {
+        remove_cell(frame, occupancy, cells, team, next.own);
+    }
+}
+
+/// Puts a cell, which is out of the strips or has this box already, where this box is.
+fn replace_box(occupancy: &mut Occupancy, id: CellId, rect: &Rect)
+    requires edge { IsPlaceX rect.now.x1 }
+    requires may { MarksSome (BoxMayBeInserted id rect.now) occupancy.old }
+    ensures holds { (boxes : List (List (Option Rect))) → IsAt boxes id rect.now → MarksBoxes occupancy.old boxes
+        → MarksBoxes occupancy.new (box_set boxes id.team id.own (Some rect.now)) }
+    ensures rooms { KeepsRooms occupancy.old occupancy.new }
+{
+    occupancy.remove(id, rect);
+    occupancy.insert(id, rect);
+}
+
+/// Puts the team's cell of that position, which is out or stands there already, to its working place,
+/// where there is such a cell.
+fn replace_at_working(
+    frame: &Frame,
+    occupancy: &mut Occupancy,
+    cells: &CellTable,
+    team: usize,
+    own: u32,
+)
+    requires sized { All (IsSizedCell frame.now) (cells_of cells.now team) }
+    requires may { MarksSome (BoxesMayBeInserted team (working_boxes frame.now cells.now team)) occupancy.old }
+    ensures holds { (boxes : List (List (Option Rect))) → IsPartly team (working_boxes frame.now cells.now team) (with_boxes occupancy.old boxes)
+        → MarksBoxes occupancy.old boxes → MarksBoxes occupancy.new (box_set boxes team own (cell_box (working_boxes frame.now cells.now team) own)) }
+    ensures rooms { KeepsRooms occupancy.old occupancy.new }
+{
+    let Some(id) = cells.cell_of(team, own as usize) else {
+        return;
+    };
+    let Some(rect) = working_box(frame, cells, id) else {
+        return;
+    };
+    replace_box(occupancy, id, &rect);
+}
+
+/// Puts the team's cell of that position, which stands nowhere, to its working place, where there is
+/// such a cell.
+fn insert_absent(frame: &Frame, occupancy: &mut Occupancy, cells: &CellTable, team: usize, own: u32)
+    requires sized { All (IsSizedCell frame.now) (cells_of cells.now team) }
+    requires may { MarksSome (CellMayBeInserted team (working_boxes frame.now cells.now team) own) occupancy.old }
+    ensures holds { (boxes : List (List (Option Rect))) → cell_box (slice_index_or boxes team []) own ≡ None
+        → IsPartly team (working_boxes frame.now cells.now team) (with_boxes occupancy.old boxes)
+        → MarksBoxes occupancy.old boxes → MarksBoxes occupancy.new (box_set boxes team own (cell_box (working_boxes frame.now cells.now team) own)) }
+    ensures rooms { KeepsRooms occupancy.old occupancy.new }
+{
+    let Some(id) = cells.cell_of(team, own as usize) else {
+        return;
+    };
+    let Some(rect) = working_box(frame, cells, id) else {
+        return;
+    };
+    occupancy.insert(id, &rect);
+}
+
+/// Puts the cells of the moves, which are out of the strips, to their working places. Moves may name a
+/// cell twice, so of several each is taken out once more before it is put in. It allocates nothing.
+pub(crate) fn insert_moved(
+    frame: &Frame,
+    occupancy: &mut Occupancy,
+    cells: &CellTable,
+    team: usize,
+    moves: &[Move],
+)
+    requires sized { All (IsSizedCell frame.now) (cells_of cells.now team) }
+    requires may { MarksSome (MovedMayBeInserted frame.now cells.now team (moved_positions moves.now)) occupancy.old }
+    ensures holds { MarksBoxes occupancy.new (boxes_in frame.now cells.now) }
+    ensures rooms { KeepsRooms occupancy.old occupancy.new }
+{
+    if moves.len() == 1 {
+        insert_absent(frame, occupancy, cells, team, moves[0].own);
+        return;
+    }
+    for next in moves {
+        replace_at_working(frame, occupancy, cells, team, next.own);
+    }
+}

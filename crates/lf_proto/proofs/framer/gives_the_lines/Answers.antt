@@ -1,5 +1,0 @@
-use Rattle.lf_proto.proofs.Cuttings.{gives_lines}
-use Rattle.lf_proto.proofs.framer.gives_the_lines.Goals as goal
-
-pub returns : goal.returns
-returns c = gives_lines

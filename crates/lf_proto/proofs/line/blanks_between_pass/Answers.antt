@@ -1,5 +1,0 @@
-use Rattle.lf_proto.proofs.Blanks.{passes_between}
-use Rattle.lf_proto.proofs.line.blanks_between_pass.Goals as goal
-
-pub returns : goal.returns
-returns c = passes_between

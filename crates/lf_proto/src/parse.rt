@@ -1,0 +1,277 @@
+//! Request lines.
+
+ghost use Rattle.std.specs.Prelude.{◌≡◌, MatchResult, None, Some, true, option_map};
+ghost use Rattle.std.specs.List.{list_all};
+ghost use Rattle.lf_proto.specs.Commands.{command_of};
+ghost use Rattle.lf_proto.specs.Lines.{fields, is_line_byte};
+ghost use Rattle.lf_proto.specs.Requests.{command_in, command_on, orient_named, place_of, place_written, target_of};
+ghost use Rattle.lf_proto.specs.Requests.{action_by, alone_of, bye_of, cell_at_of, cell_of, cell_to_of, cells_of, open_of};
+ghost use Rattle.lf_proto.specs.Requests.{operands_by, outside_of, sites_of, within_of};
+ghost use Rattle.lf_proto.specs.Verbs.{action_of, operands_of};
+ghost use Rattle.lf_proto.specs.Printed.{PassesBlanksAround, PassesBlanksBetween, ReadsBack};
+
+use crate::numbers::{coordinate_of, padding_of, session_of};
+use crate::request::{Command, Request, TeamCommand};
+use crate::verb::{
+    Action, Operands, Shape, Verb, copies_join, join, names_read_back, parts_join, verb_of,
+};
+use bstr::{ByteSlice, Fields};
+use lf_floorplan::Place;
+use lf_orient::Orient;
+use lf_units::Point;
+
+/// The line is no request.
+#[derive(Clone, Copy, Debug, PartialEq, Eq)]
+pub struct BadRequest;
+
+/// The orientation of that name.
+fn orient_of(word: &[u8]) -> Option<Orient>
+    ensures { result ≡ orient_named word.now }
+{
+    match word {
+        b"N" => Some(Orient::N),
+        b"W" => Some(Orient::W),
+        b"S" => Some(Orient::S),
+        b"E" => Some(Orient::E),
+        b"FN" => Some(Orient::FN),
+        b"FW" => Some(Orient::FW),
+        b"FS" => Some(Orient::FS),
+        b"FE" => Some(Orient::FE),
+        _ => None,
+    }
+}
+
+/// The place that three words write.
+fn read_place(x: &[u8], y: &[u8], orient: &[u8]) -> Option<Place>
+    ensures { result ≡ place_written x.now y.now orient.now }
+{
+    let x = coordinate_of(x)?;
+    let y = coordinate_of(y)?;
+    let orient = orient_of(orient)?;
+    Some(Place::new(x, y, orient))
+}
+
+/// The place `X Y O` of the last fields.
+fn last_place(mut fields: Fields<'_>) -> Option<Place>
+    ensures { result ≡ place_of fields.entry }
+{
+    let x = fields.next()?;
+    let y = fields.next()?;
+    let orient = fields.next()?;
+    if fields.next().is_some() {
+        return None;
+    }
+    read_place(x, y, orient)
+}
+
+/// The target `X Y` of the last fields.
+fn last_target(mut fields: Fields<'_>) -> Option<Point>
+    ensures { result ≡ target_of fields.entry }
+{
+    let x = fields.next()?;
+    let y = fields.next()?;
+    if fields.next().is_some() {
+        return None;
+    }
+    let x = coordinate_of(x)?;
+    let y = coordinate_of(y)?;
+    Some(Point {
+        x: i64::from(x),
+        y: i64::from(y),
+    })
+}
+
+/// The fields of a verb that has none of its own.
+fn alone<'a>(mut fields: Fields<'a>) -> Option<Operands<&'a [u8]>>
+    ensures { option_map operands_of result ≡ alone_of fields.entry }
+{
+    if fields.next().is_some() {
+        return None;
+    }
+    Some(Operands::Alone)
+}
+
+/// The field `CELL`.
+fn cell<'a>(mut fields: Fields<'a>) -> Option<Operands<&'a [u8]>>
+    ensures { option_map operands_of result ≡ cell_of fields.entry }
+{
+    let cell = fields.next()?;
+    if fields.next().is_some() {
+        return None;
+    }
+    Some(Operands::Cell(cell))
+}
+
+/// The fields `CELL X Y O`.
+fn cell_at<'a>(mut fields: Fields<'a>) -> Option<Operands<&'a [u8]>>
+    ensures { option_map operands_of result ≡ cell_at_of fields.entry }
+{
+    let cell = fields.next()?;
+    let place = last_place(fields)?;
+    Some(Operands::CellAt(cell, place))
+}
+
+/// The fields `CELL X Y`.
+fn cell_to<'a>(mut fields: Fields<'a>) -> Option<Operands<&'a [u8]>>
+    ensures { option_map operands_of result ≡ cell_to_of fields.entry }
+{
+    let cell = fields.next()?;
+    let target = last_target(fields)?;
+    Some(Operands::CellTo(cell, target))
+}
+
+/// The fields `CELL CELL`.
+fn cells<'a>(mut fields: Fields<'a>) -> Option<Operands<&'a [u8]>>
+    ensures { option_map operands_of result ≡ cells_of fields.entry }
+{
+    let first = fields.next()?;
+    let second = fields.next()?;
+    if fields.next().is_some() {
+        return None;
+    }
+    Some(Operands::Cells(first, second))
+}
+
+/// The field `P`.
+fn sites<'a>(mut fields: Fields<'a>) -> Option<Operands<&'a [u8]>>
+    ensures { option_map operands_of result ≡ sites_of fields.entry }
+{
+    let sites = fields.next()?;
+    if fields.next().is_some() {
+        return None;
+    }
+    let padding = padding_of(sites)?;
+    Some(Operands::Sites(padding))
+}
+
+/// The fields of that shape.
+fn operands_in<'a>(shape: Shape, fields: Fields<'a>) -> Option<Operands<&'a [u8]>>
+    ensures { option_map operands_of result ≡ operands_by shape fields.entry }
+{
+    match shape {
+        Shape::Alone => alone(fields),
+        Shape::Cell => cell(fields),
+        Shape::CellAt => cell_at(fields),
+        Shape::CellTo => cell_to(fields),
+        Shape::Cells => cells(fields),
+        Shape::Sites => sites(fields),
+    }
+}
+
+/// A session's action, from its verb and the fields after its number.
+fn action_in<'a>(verb: Verb, fields: Fields<'a>) -> Option<Action<&'a [u8]>>
+    ensures { option_map action_of result ≡ action_by verb fields.entry }
+{
+    copies_join();
+    let operands = operands_in(verb.shape(), fields)?;
+    join(verb, operands)
+}
+
+/// The request of `bye`, without the verb.
+fn bye_request<'a>(mut fields: Fields<'a>) -> Option<Request<'a>>
+    ensures { option_map command_of result ≡ bye_of fields.entry }
+{
+    if fields.next().is_some() {
+        return None;
+    }
+    Some(Command::Bye)
+}
+
+/// The request of `open TEAM`, without the verb.
+fn open_request<'a>(mut fields: Fields<'a>) -> Option<Request<'a>>
+    ensures { option_map command_of result ≡ open_of fields.entry }
+{
+    let team = fields.next()?;
+    if fields.next().is_some() {
+        return None;
+    }
+    Some(Command::To {
+        team,
+        order: TeamCommand::Open,
+    })
+}
+
+/// The request of a session's verb: `TEAM N` and the verb's own fields, without the verb.
+fn session_request<'a>(verb: Verb, mut fields: Fields<'a>) -> Option<Request<'a>>
+    ensures { option_map command_of result ≡ within_of verb fields.entry }
+{
+    let team = fields.next()?;
+    let session = session_of(fields.next()?)?;
+    let action = action_in(verb, fields)?;
+    Some(Command::To {
+        team,
+        order: TeamCommand::Within { session, action },
+    })
+}
+
+/// The request of `bye` or `open`, from that word and the fields after it.
+fn outside_request<'a>(word: &[u8], fields: Fields<'a>) -> Option<Request<'a>>
+    ensures { option_map command_of result ≡ outside_of word.now fields.entry }
+{
+    match word {
+        b"bye" => bye_request(fields),
+        b"open" => open_request(fields),
+        _ => None,
+    }
+}
+
+/// The request that the fields of a line make.
+fn request_in<'a>(mut fields: Fields<'a>) -> Option<Request<'a>>
+    ensures { option_map command_of result ≡ command_in fields.entry }
+{
+    let word = fields.next()?;
+    match verb_of(word) {
+        Some(verb) => session_request(verb, fields),
+        None => outside_request(word, fields),
+    }
+}
+
+/// Whether each byte may occur in a line.
+fn is_line(line: &[u8]) -> bool
+    ensures { result ≡ list_all is_line_byte line.now }
+{
+    line.iter()
+        .all(|byte| matches!(*byte, b' ' | b'\t' | b'!'..=b'~'))
+}
+
+/// The runs of bytes between the blanks.
+fn fields_of<'a>(line: &'a [u8]) -> Fields<'a>
+    requires { list_all is_line_byte line.now ≡ true }
+    ensures { result ≡ fields line.now }
+{
+    line.fields()
+}
+
+/// The request that a line is; the line is given without its line feed and the carriage return before it.
+/// `BadRequest` iff it is none.
+///
+/// Names are slices of the line, and nothing is allocated.
+pub fn parse_line<'a>(line: &'a [u8]) -> Result<Request<'a>, BadRequest>
+    ensures { MatchResult result (λ request. command_on line.now ≡ Some (command_of request)) (λ _. command_on line.now ≡ None) }
+{
+    if !is_line(line) {
+        return Err(BadRequest);
+    }
+    request_in(fields_of(line)).ok_or(BadRequest)
+}
+
+/// A line that prints a request, its fields in order with one space between each two, reads as that request: for every
+/// request whose names are of visible bytes and whose numbers have 32 bits. So what `parse_line` gives for a printed
+/// request is that request.
+pub fn printed_reads_back()
+    ensures { ReadsBack }
+{
+    names_read_back();
+    parts_join();
+}
+
+/// Blanks before and after a line do not matter: with one more it is the same request, or none as before.
+pub fn blanks_around_pass()
+    ensures { PassesBlanksAround }
+{}
+
+/// How many blanks are between two fields does not matter, nor whether they are spaces or tabs: two in a row are as
+/// good as any one.
+pub fn blanks_between_pass()
+    ensures { PassesBlanksBetween }
+{}

@@ -1,0 +1,105 @@
+//! The violations of cells that a report names by their numbers.
+
+ghost use Rattle.std.specs.Prelude.{◌≡◌, ◌++◌, ℕ, All, IfOk, List, option_and_then, option_map, slice_get};
+ghost use Rattle.std.specs.List.{cons_option};
+ghost use Rattle.lf_floorplan.specs.Bounds.{IsName};
+ghost use Rattle.lf_rules.specs.declared.report_types.Violation.{Violation};
+ghost use Rattle.lf_proto.specs.ReportText.{violation_in, violations_text};
+
+use crate::report_text::put_violation;
+use lf_rules::{Broken, Violation};
+use lf_units::Name;
+use std::alloc::{AllocError, Global};
+
+/// The names of the cells that a report lists.
+pub trait Names {
+    /// The names, in loading order.
+    ghost names: { Self → List (List ℕ) };
+
+    /// The name of the cell of that number; none iff there is no such cell.
+    fn name(&self, own: usize) -> Option<&[u8]>
+        ensures { option_map (λ name. name.now) result ≡ slice_get (names self.now) own };
+}
+
+/// A copy of the name of the cell of that number; none if there is no such cell.
+fn name_of<N: Names>(alloc: Global, names: &N, own: usize) -> Result<Option<Name>, AllocError>
+    ensures { IfOk result (λ name. name ≡ slice_get (N.names names.now) own) }
+{
+    match names.name(own) {
+        Some(name) => Ok(Some(Name::from_slice(alloc, name)?)),
+        None => Ok(None),
+    }
+}
+
+/// A copy of the name of the other cell, if there is another.
+fn other_name<N: Names>(
+    alloc: Global,
+    names: &N,
+    other: Option<u32>,
+) -> Result<Option<Name>, AllocError>
+    ensures { IfOk result (λ name. name ≡ option_and_then (slice_get (N.names names.now)) other) }
+{
+    match other {
+        Some(own) => name_of(alloc, names, own as usize),
+        None => Ok(None),
+    }
+}
+
+/// The violation of the cell of that number, which breaks this rule first; none if there is no such cell.
+fn violation_of<N: Names>(
+    alloc: Global,
+    names: &N,
+    own: usize,
+    broken: Broken,
+) -> Result<Option<Violation>, AllocError>
+    ensures { IfOk result (λ violation. violation ≡ violation_in (N.names names.now) own broken) }
+{
+    let Some(cell) = name_of(alloc, names, own)? else {
+        return Ok(None);
+    };
+    let other = other_name(alloc, names, broken.other)?;
+    Ok(Some(Violation {
+        cell,
+        rule: broken.rule,
+        other,
+    }))
+}
+
+/// The violation of the cell of that number by its verdict; none if it breaks no rule.
+fn violation_by<N: Names>(
+    alloc: Global,
+    names: &N,
+    own: usize,
+    verdict: Option<Broken>,
+) -> Result<Option<Violation>, AllocError>
+    ensures { IfOk result (λ violation. violation ≡ option_and_then (violation_in (N.names names.now) own) verdict) }
+{
+    match verdict {
+        Some(broken) => violation_of(alloc, names, own, broken),
+        None => Ok(None),
+    }
+}
+
+/// Puts the violation of the cell of that number behind what is written of a report, if its verdict, the first rule that it
+/// breaks, is one, and returns whether there is a violation in the text then; `later` is whether there was one before. The
+/// names are names of a text.
+///
+/// `Err` if an allocation fails; a part of it may then stand there.
+pub fn put_verdict<N: Names>(
+    alloc: Global,
+    names: &N,
+    own: usize,
+    verdict: Option<Broken>,
+    text: &mut Vec<u8>,
+    later: bool,
+) -> Result<bool, AllocError>
+    requires { All IsName (N.names names.now) }
+    ensures { (rest : List Violation) → IfOk result (λ now. text.new.items ++ violations_text now rest
+        ≡ text.old.items ++ violations_text later (cons_option (option_and_then (violation_in (N.names names.now) own) verdict) rest)) }
+{
+    let Some(violation) = violation_by(alloc, names, own, verdict)? else {
+        return Ok(later);
+    };
+    put_violation(alloc, text, later, &violation)?;
+    Ok(true)
+}

@@ -1,7 +1,0 @@
-use Rattle.std.specs.Option.{option_copied}
-use Rattle.lf_refusals.specs.Meetings.{ClaimsBut}
-use Rattle.lf_claims.proofs.Firsts.{NoneBelow}
-use Rattle.lf_refusals.proofs.meetings.first_claiming.Given as goal
-
-abbrev pub invariant-loop-number : goal.invariant-loop-number
-invariant-loop-number l = NoneBelow (ClaimsBut l.regions l.name (option_copied l.told)) l.groups l.number

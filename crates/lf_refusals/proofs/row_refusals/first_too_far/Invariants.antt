@@ -1,6 +1,0 @@
-use Rattle.lf_refusals.specs.Refusals.{EndsTooFar}
-use Rattle.lf_claims.proofs.Firsts.{NoneBelow}
-use Rattle.lf_refusals.proofs.row_refusals.first_too_far.Given as goal
-
-abbrev pub invariant-loop-number : goal.invariant-loop-number
-invariant-loop-number l = NoneBelow (EndsTooFar l.core l.pitch.size) l.rows l.number

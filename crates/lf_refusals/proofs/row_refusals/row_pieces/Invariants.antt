@@ -1,6 +1,0 @@
-use Rattle.lf_refusals.specs.Sweep.{row_pieces}
-use Rattle.lf_refusals.proofs.Pieces.{HoldBelow}
-use Rattle.lf_refusals.proofs.row_refusals.row_pieces.Given as goal
-
-abbrev pub invariant-loop-number : goal.invariant-loop-number
-invariant-loop-number l = HoldBelow (row_pieces l.core l.pitch.size) l.rows l.number l.pieces.items

@@ -1,0 +1,173 @@
+//! A floor without cells, on which a cell of any team and macro of a design can be asked for.
+
+ghost use Rattle.std.specs.Prelude.{◌≡◌, ◌≢◌, All, IfOk, IfSome, None, OnOk, Some, option_map};
+ghost use Rattle.lf_floorplan.specs.Design.{MakeDesign};
+ghost use Rattle.lf_floorplan.specs.LoadedCells.{borrowed_cell, with_name};
+ghost use Rattle.lf_cells.specs.Cells.{cell_at};
+ghost use Rattle.lf_repair_bounds.specs.Copies.{AreCopies};
+ghost use Rattle.lf_repair_bounds.specs.Bare.{AreUnplaced, IsEmptyFloorOf, IsEmptyTable, IsKeptOr, unplaced};
+
+use crate::frame_copy::clone_frame;
+use lf_cells::{CellId, CellTable};
+use lf_floorplan::{CellRef, Frame, Loaded, LoadedCells, PackedPlace, UnnamedCell};
+use lf_occupancy::Occupancy;
+use lf_segments::FrameIndex;
+use std::alloc::{AllocError, Global};
+
+/// The first cell of a macro in a team: which of the team's cells on the floor without cells it is.
+#[derive(Clone, Copy)]
+struct First {
+    mac: usize,
+    own: usize,
+}
+
+/// For each team the first cells, in order of their macros.
+type Firsts = Vec<Vec<First>>;
+
+/// The frame's strips with no cell in them, and the first cells of all macros and teams, unplaced.
+#[derive(Drop)]
+pub(crate) struct EmptyFloor {
+    pub(crate) table: CellTable,
+    pub(crate) occupancy: Occupancy,
+    firsts: Firsts,
+}
+
+/// The position in the team of its first cell of the macro.
+fn own_of(firsts: &[First], mac: usize) -> Option<usize> {
+    let at = firsts.partition_point(|first| first.mac < mac);
+    let first = firsts.get(at)?;
+    if first.mac == mac {
+        Some(first.own)
+    } else {
+        None
+    }
+}
+
+/// Whether the macro is a new one of the team; it is then one of the team's.
+fn is_new(firsts: &mut Firsts, team: usize, mac: usize) -> Result<bool, AllocError> {
+    let Some(own) = firsts.get_mut(team) else {
+        return Ok(false);
+    };
+    if own_of(own, mac).is_some() {
+        return Ok(false);
+    }
+    let at = own.partition_point(|first| first.mac < mac);
+    let first = First {
+        mac,
+        own: own.len(),
+    };
+    own.insert(at, first)?;
+    Ok(true)
+}
+
+/// The cell, unplaced, as the entry of that position; none if a number of it is past what a design keeps.
+fn plain_of(cell: &CellRef<'_>, at: usize) -> Option<UnnamedCell>
+    ensures { IfSome result (λ plain. with_name cell.now.name.now plain ≡ unplaced at (borrowed_cell cell.now)) }
+{
+    Some(UnnamedCell {
+        team: u32::try_from(cell.team).ok()?,
+        mac: u32::try_from(cell.mac).ok()?,
+        component: u32::try_from(at).ok()?,
+        place: PackedPlace::of(None),
+    })
+}
+
+/// Keeps the cell, unplaced, if it is the first of its macro in its team.
+fn keep_first(
+    kept: &mut LoadedCells,
+    firsts: &mut Firsts,
+    cell: &CellRef<'_>,
+    at: usize,
+) -> Result<(), AllocError>
+    requires { All (λ c. c.name ≢ cell.now.name.now) kept.old }
+    ensures { OnOk result (IsKeptOr at (borrowed_cell cell.now) kept.old kept.new) }
+{
+    let Some(plain) = plain_of(cell, at) else {
+        return Ok(());
+    };
+    if is_new(firsts, cell.team, cell.mac)? {
+        kept.push(cell.name, plain)?;
+    }
+    Ok(())
+}
+
+/// The first cells of all macros and teams, unplaced.
+fn first_cells(
+    alloc: Global,
+    loaded: &Loaded,
+    firsts: &mut Firsts,
+) -> Result<LoadedCells, AllocError>
+    ensures design { IfOk result (λ kept. MakeDesign loaded.now.frame kept) }
+    ensures unplaced { IfOk result (λ kept. AreUnplaced kept) }
+{
+    let mut kept = LoadedCells::new(alloc);
+    for at in 0..loaded.cells.len() {
+        let cell = loaded.cells.get(at).unwrap();
+        keep_first(&mut kept, firsts, &cell, at)?;
+    }
+    Ok(kept)
+}
+
+/// The design of a copy of the frame and these cells.
+fn design_with(alloc: Global, frame: &Frame, cells: LoadedCells) -> Result<Loaded, AllocError>
+    requires { MakeDesign frame.now cells }
+    ensures frame { IfOk result (λ design. AreCopies frame.now design.frame) }
+    ensures cells { IfOk result (λ design. design.cells ≡ cells) }
+{
+    let frame = clone_frame(alloc, frame)?;
+    Ok(Loaded { frame, cells })
+}
+
+/// The table of these cells on a copy of the frame.
+fn table_of(alloc: Global, frame: &Frame, cells: LoadedCells) -> Result<CellTable, AllocError>
+    requires design { MakeDesign frame.now cells }
+    requires unplaced { AreUnplaced cells }
+    ensures { IfOk result (λ table. IsEmptyTable frame.now table) }
+{
+    let design = design_with(alloc, frame, cells)?;
+    let built = CellTable::build(alloc, design)?;
+    let (_, table) = built;
+    Ok(table)
+}
+
+/// No first cells yet, of so many teams.
+fn no_firsts(alloc: Global, teams: usize) -> Result<Firsts, AllocError> {
+    let mut firsts = Vec::new(alloc);
+    for _ in 0..teams {
+        firsts.push(Vec::new(alloc))?;
+    }
+    Ok(firsts)
+}
+
+/// The floor of the design's frame without cells.
+///
+/// `Err` if an allocation fails.
+pub(crate) fn empty_floor(alloc: Global, loaded: &Loaded) -> Result<EmptyFloor, AllocError>
+    ensures { IfOk result (λ bare. IsEmptyFloorOf loaded.now.frame bare) }
+{
+    let frame = &loaded.frame;
+    let mut firsts = no_firsts(alloc, frame.teams.len() + 1)?;
+    let cells = first_cells(alloc, loaded, &mut firsts)?;
+    let table = table_of(alloc, frame, cells)?;
+    let index = FrameIndex::build(alloc, frame)?;
+    let occupancy = Occupancy::build(alloc, frame, index, &table)?;
+    Ok(EmptyFloor {
+        table,
+        occupancy,
+        firsts,
+    })
+}
+
+/// A cell of the team and of the macro of these numbers on the floor without cells; none if none is found.
+pub(crate) fn id_of(bare: &EmptyFloor, team: usize, mac: usize) -> Option<CellId>
+    ensures team { IfSome result (λ id. id.team ≡ team) }
+    ensures mac { IfSome result (λ id. option_map (λ c. c.mac) (cell_at bare.now.table id) ≡ Some mac) }
+{
+    let own = own_of(bare.firsts.get(team)?, mac)?;
+    let id = bare.table.cell_of(team, own)?;
+    let standing = bare.table.placement_of(id)?;
+    if standing.mac == mac {
+        return Some(id);
+    }
+    None
+}

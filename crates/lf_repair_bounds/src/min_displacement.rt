@@ -1,0 +1,115 @@
+//! The least ways of cells, and the largest of them in each team.
+
+ghost use Rattle.std.specs.Prelude.{◌≡◌, ◌+◌, IfOk, Some, length, option_map, replicate};
+ghost use Rattle.lf_floorplan.specs.Design.{IsCell};
+ghost use Rattle.lf_floorplan.specs.LoadedCells.{borrowed_cell};
+ghost use Rattle.lf_rules.specs.Choice.{distance, spot_of};
+ghost use Rattle.lf_repair_bounds.specs.Alone.{AreMaxMinDisplacements, IsMinDisplacementOrNone, corner as corner_of};
+ghost use Rattle.lf_repair_bounds.specs.Bare.{IsEmptyFloorOf, IsRaised};
+
+use crate::empty_floor::{EmptyFloor, empty_floor};
+use crate::nearest_place::{is_legal_alone, nearest};
+use lf_floorplan::{CellRef, Frame, Loaded, Place};
+use lf_units::Point;
+use std::alloc::{AllocError, Global};
+
+/// The corner of the place.
+fn corner(place: &Place) -> Point
+    ensures { result ≡ corner_of place.now }
+{
+    Point {
+        x: i64::from(place.x),
+        y: i64::from(place.y),
+    }
+}
+
+/// The way from a place to another one.
+fn displacement(from: &Place, to: &Place) -> u64
+    ensures { result ≡ distance (corner_of from.now) (spot_of to.now) }
+{
+    u64::from(to.x.abs_diff(from.x)) + u64::from(to.y.abs_diff(from.y))
+}
+
+/// The way to the place that was found, if one was.
+fn displacement_to(home: &Place, found: &Option<Place>) -> Option<u64>
+    ensures { result ≡ option_map (λ place. distance (corner_of home.now) (spot_of place)) found.now }
+{
+    match found {
+        Some(place) => Some(displacement(home, place)),
+        None => None,
+    }
+}
+
+/// The least way of a cell that stands there; none if it may go nowhere.
+fn min_displacement_from(
+    alloc: Global,
+    frame: &Frame,
+    bare: &EmptyFloor,
+    cell: &CellRef<'_>,
+    home: &Place,
+) -> Result<Option<u64>, AllocError>
+    requires bare { IsEmptyFloorOf frame.now bare.now }
+    requires cell { IsCell frame.now (borrowed_cell cell.now) }
+    requires home { cell.now.place ≡ Some home.now }
+    ensures { IfOk result (IsMinDisplacementOrNone frame.now (borrowed_cell cell.now)) }
+{
+    if is_legal_alone(frame, bare, cell, home) {
+        return Ok(Some(0));
+    }
+    let from = corner(home);
+    let found = nearest(alloc, frame, bare, cell, &from)?;
+    Ok(displacement_to(home, &found))
+}
+
+/// The cell's least way; none if it is unplaced, or may go nowhere.
+fn min_displacement(
+    alloc: Global,
+    frame: &Frame,
+    bare: &EmptyFloor,
+    cell: &CellRef<'_>,
+) -> Result<Option<u64>, AllocError>
+    requires bare { IsEmptyFloorOf frame.now bare.now }
+    requires cell { IsCell frame.now (borrowed_cell cell.now) }
+    ensures { IfOk result (IsMinDisplacementOrNone frame.now (borrowed_cell cell.now)) }
+{
+    match cell.place {
+        Some(home) => min_displacement_from(alloc, frame, bare, cell, &home),
+        None => Ok(None),
+    }
+}
+
+/// Raises the team's number to the way, if that is larger.
+fn raise(largest: &mut Vec<u64>, team: usize, way: Option<u64>)
+    ensures { IsRaised team way largest.old.items largest.new.items }
+{
+    let Some(way) = way else {
+        return;
+    };
+    if team < largest.len() {
+        largest[team] = largest[team].max(way);
+    }
+}
+
+/// So many zeros.
+fn zeros(alloc: Global, count: usize) -> Result<Vec<u64>, AllocError>
+    ensures { IfOk result (λ list. list.items ≡ replicate count 0) }
+{
+    vec![in alloc; 0; count]
+}
+
+/// For each team, by its number, the largest of the least ways of its cells; 0 if none has one.
+///
+/// `Err` if an allocation fails.
+pub fn max_min_displacements(alloc: Global, loaded: &Loaded) -> Result<Vec<u64>, AllocError>
+    ensures many { IfOk result (λ list. length list.items ≡ length loaded.now.frame.teams + 1) }
+    ensures each { IfOk result (λ list. AreMaxMinDisplacements loaded.now.frame loaded.now.cells list.items) }
+{
+    let bare = empty_floor(alloc, loaded)?;
+    let mut largest = zeros(alloc, loaded.frame.teams.len() + 1)?;
+    for at in 0..loaded.cells.len() {
+        let cell = loaded.cells.get(at).unwrap();
+        let way = min_displacement(alloc, &loaded.frame, &bare, &cell)?;
+        raise(&mut largest, cell.team, way);
+    }
+    Ok(largest)
+}

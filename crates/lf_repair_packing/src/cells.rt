@@ -1,0 +1,57 @@
+//! A cell in a span.
+
+ghost use Rattle.std.specs.Prelude.{◌≡◌, ◌+◌, ◌<◌, ◌≤◌, ◌^◌, ◌↔◌, IsTrue, length};
+ghost use Rattle.lf_repair_packing.specs.Packing.{total_displacement, total_width};
+
+/// A cell of one row's height, in sites from the first one of its span.
+#[derive(Clone, Copy, Debug, PartialEq, Eq)]
+pub struct Cell {
+    /// The caller's number of it.
+    pub number: u32,
+    /// How many sites it takes.
+    pub width: u32,
+    /// Where it is wanted.
+    pub wanted: u32,
+    /// Where it stands.
+    pub at: u32,
+}
+
+/// How many sites the cells take.
+pub(crate) fn width_of(cells: &[Cell]) -> u32
+    requires { total_width cells.now < 2 ^ 32 }
+    ensures { result ≡ total_width cells.now }
+{
+    let mut width = 0;
+    for cell in cells {
+        width += cell.width;
+    }
+    width
+}
+
+/// Whether the cells have room side by side between two sites.
+pub(crate) fn have_room(cells: &[Cell], start: u64, end: u64) -> bool
+    requires { end < 2 ^ 63 }
+    ensures { IsTrue result ↔ start + total_width cells.now ≤ end }
+{
+    let mut free = start;
+    for cell in cells {
+        if end < free {
+            return false;
+        }
+        free += cell.width as u64;
+    }
+    free <= end
+}
+
+/// How far the cells stand from where they are wanted, together.
+pub(crate) fn total_displacement(cells: &[Cell]) -> u64
+    requires { length cells.now ≤ 2 ^ 30 }
+    ensures way { result ≡ total_displacement cells.now }
+    ensures far { result < 2 ^ 63 }
+{
+    let mut way = 0;
+    for cell in cells {
+        way += cell.at.abs_diff(cell.wanted) as u64;
+    }
+    way
+}

@@ -1,0 +1,165 @@
+//! What the ways of cells cost while one of them is moved along its row.
+
+ghost use Rattle.std.specs.Prelude.{◌≡◌, ◌≤◌, ◌<◌};
+
+use crate::cells::Cell;
+use std::alloc::{AllocError, Global};
+
+/// A site at which the slope changes, and by how much.
+#[derive(Clone, Copy)]
+struct Breakpoint {
+    at: u32,
+    bend: i32,
+}
+
+/// A cost over the sites of a range, in straight pieces: its value and its slope at the first of them, and its kinks behind it, which
+/// rise. Sums stop at the ends of their type.
+#[derive(Drop)]
+pub struct CostCurve {
+    low: u32,
+    high: u32,
+    value: i64,
+    slope: i64,
+    kinks: Vec<Breakpoint>,
+}
+
+/// Where a curve is least, and how much it is there.
+#[derive(Clone, Copy)]
+pub(crate) struct Least {
+    pub(crate) at: u32,
+    pub(crate) value: i64,
+}
+
+/// The lesser of the least so far and what the curve is at a site.
+fn lesser(least: Least, at: u32, value: i64) -> Least {
+    if value < least.value {
+        Least { at, value }
+    } else {
+        least
+    }
+}
+
+/// Moves the last kink before those that are right of it.
+fn sift_last(kinks: &mut [Breakpoint]) {
+    let mut place = kinks.len();
+    while 1 < place {
+        place -= 1;
+        let (before, kink) = (kinks[place - 1], kinks[place]);
+        if before.at <= kink.at {
+            return;
+        }
+        kinks[place - 1] = kink;
+        kinks[place] = before;
+    }
+}
+
+/// Puts a kink in behind those that are not right of it.
+fn insert_breakpoint(kinks: &mut Vec<Breakpoint>, kink: Breakpoint) -> Result<(), AllocError> {
+    kinks.push(kink)?;
+    sift_last(kinks.as_mut_slice());
+    Ok(())
+}
+
+impl CostCurve {
+    /// The curve of no cells, which allocates nothing. It is the working memory of trials.
+    pub fn new(alloc: Global) -> CostCurve {
+        CostCurve {
+            low: 0,
+            high: 0,
+            value: 0,
+            slope: 0,
+            kinks: Vec::new(alloc),
+        }
+    }
+
+    /// Begins again with no cells, over these sites.
+    pub(crate) fn begin(&mut self, low: u32, high: u32) {
+        self.low = low;
+        self.high = high;
+        self.value = 0;
+        self.slope = 0;
+        self.kinks.clear();
+    }
+
+    /// Adds to the value and to the slope at the first site.
+    fn raise(&mut self, value: i64, slope: i64) {
+        self.value = self.value.saturating_add(value);
+        self.slope = self.slope.saturating_add(slope);
+    }
+
+    /// From this site on the slope is greater by so much.
+    fn bend(&mut self, at: i64, bend: i32) -> Result<(), AllocError> {
+        if at <= self.low as i64 {
+            self.raise(0, bend as i64);
+            return Ok(());
+        }
+        if self.high as i64 <= at {
+            return Ok(());
+        }
+        insert_breakpoint(
+            &mut self.kinks,
+            Breakpoint {
+                at: at as u32,
+                bend,
+            },
+        )
+    }
+
+    /// Adds the way of the cell that is moved, of which each site beyond the first `near` counts as `weight`.
+    pub(crate) fn add_own(
+        &mut self,
+        wanted: u32,
+        near: u32,
+        weight: u16,
+    ) -> Result<(), AllocError> {
+        let (wanted, near) = (wanted as i64, near as i64);
+        let more = weight as i32 - 1;
+        let way = (wanted - self.low as i64).abs();
+        let beyond = (way - near).max(0).saturating_mul(more as i64);
+        self.raise(way.saturating_add(beyond), -(weight as i64));
+        self.bend(wanted - near, more)?;
+        self.bend(wanted, 2)?;
+        self.bend(wanted + near, more)
+    }
+
+    /// Adds a cell that is pushed to the left where the one that is moved comes nearer than this distance.
+    pub(crate) fn add_left(&mut self, cell: &Cell, distance: u32) -> Result<(), AllocError> {
+        let (at, wanted, distance) = (cell.at as i64, cell.wanted as i64, distance as i64);
+        let pushed = at.min(self.low as i64 - distance);
+        self.raise((pushed - wanted).abs() - (at - wanted).abs(), -1);
+        if at <= wanted {
+            return self.bend(at + distance, 1);
+        }
+        self.bend(wanted + distance, 2)?;
+        self.bend(at + distance, -1)
+    }
+
+    /// Adds a cell that is pushed to the right where the one that is moved comes nearer than this distance.
+    pub(crate) fn add_right(&mut self, cell: &Cell, distance: u32) -> Result<(), AllocError> {
+        let (at, wanted, distance) = (cell.at as i64, cell.wanted as i64, distance as i64);
+        let pushed = at.max(self.low as i64 + distance);
+        self.raise((pushed - wanted).abs() - (at - wanted).abs(), 0);
+        if wanted <= at {
+            return self.bend(at - distance, 1);
+        }
+        self.bend(at - distance, -1)?;
+        self.bend(wanted - distance, 2)
+    }
+
+    /// Where the curve is least; the first of several such sites.
+    pub(crate) fn least(&self) -> Least {
+        let mut at = self.low;
+        let mut value = self.value;
+        let mut slope = self.slope;
+        let mut least = Least { at, value };
+        for kink in &self.kinks {
+            value = value.saturating_add(slope.saturating_mul(kink.at as i64 - at as i64));
+            at = kink.at;
+            slope = slope.saturating_add(kink.bend as i64);
+            least = lesser(least, at, value);
+        }
+        let rest = self.high as i64 - at as i64;
+        value = value.saturating_add(slope.saturating_mul(rest));
+        lesser(least, self.high, value)
+    }
+}

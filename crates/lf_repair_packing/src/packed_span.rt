@@ -1,0 +1,195 @@
+//! The cells of one free span.
+
+ghost use Rattle.std.specs.Prelude.{◌≡◌, ◌+◌, ◌≤◌, ◌<◌, ◌^◌, ◌+ℤ◌, ◌↔◌, pos, []};
+ghost use Rattle.std.specs.Prelude.{IfOk, IfSome, IsTrue, OnOk, OnErr, insert, length, remove, set, slice_index_or, vec_len};
+ghost use Rattle.lf_repair_packing.specs.declared.cells.Cell.{Cell};
+ghost use Rattle.lf_repair_packing.specs.Packing.{AreSameCells, IsPacked, at_place_of, total_displacement, total_width};
+
+use crate::cells::{Cell, total_displacement};
+use crate::cost_curve::CostCurve;
+use crate::insertion::{Insertion, SearchEffort, try_gap};
+use crate::window::insert_cell;
+use std::alloc::{AllocError, Global};
+use std::marker::Model;
+
+/// The cells that stand in a free span of so many sites, from left to right, none over another.
+///
+/// Contracts see the room of the span and the cells.
+#[derive(Drop)]
+pub struct PackedSpan {
+    room: u32,
+    taken: u32,
+    cells: Vec<Cell>,
+}
+
+impl Model for PackedSpan {
+    ghost use Rattle.lf_repair_packing.specs.Packing.{Packing};
+
+    ghost Value = { Packing };
+
+    ghost view = { λ s. record { room = s.room; cells = s.cells.items } };
+
+    ghost use Rattle.lf_repair_packing.specs.Segments.{IsSegment};
+
+    ghost invariant = { λ s. IsSegment s.room s.taken s.cells.items };
+}
+
+/// The first cell whose middle lies right of that of a cell at its wanted place.
+fn gap_near(cells: &[Cell], wanted: u32, width: u32) -> usize
+    ensures { result ≤ length cells.now }
+{
+    let middle = 2 * wanted as u64 + width as u64;
+    cells.partition_point(|cell| 2 * cell.at as u64 + (cell.width as u64) < middle)
+}
+
+/// Whether the cell of this position has this number.
+fn is_numbered(cells: &[Cell], own: usize, number: u32) -> bool
+    ensures within { IsTrue result → own < length cells.now }
+    ensures number { (d : Cell) → IsTrue result → (slice_index_or cells.now own d).number ≡ number }
+{
+    match cells.get(own) {
+        Some(cell) => cell.number == number,
+        None => false,
+    }
+}
+
+/// The cell of this number, looked for from the one at this site on outwards.
+fn find_near(cells: &[Cell], number: u32, near: u32) -> Option<usize>
+    ensures within { IfSome result (λ own. own < length cells.now) }
+    ensures number { (d : Cell) → IfSome result (λ own. (slice_index_or cells.now own d).number ≡ number) }
+{
+    let middle = cells.partition_point(|cell| cell.at < near);
+    for away in 0..cells.len() {
+        if is_numbered(cells, middle.saturating_add(away), number) {
+            return Some(middle.saturating_add(away));
+        }
+        if away < middle && is_numbered(cells, middle - away - 1, number) {
+            return Some(middle - away - 1);
+        }
+    }
+    None
+}
+
+/// Another cell stands where the one of this position stands.
+fn replace_cell(cells: &mut Vec<Cell>, own: usize, cell: Cell)
+    requires { own < vec_len cells.old }
+    ensures { cells.new.items ≡ set cells.old.items own (at_place_of (slice_index_or cells.old.items own cell) cell) }
+{
+    let at = cells[own].at;
+    cells[own] = Cell { at, ..cell };
+}
+
+impl PackedSpan {
+    /// A span without cells.
+    pub fn new(alloc: Global, room: u32) -> PackedSpan
+        ensures { result ≡ record { room = room; cells = [] } }
+    {
+        PackedSpan {
+            room,
+            taken: 0,
+            cells: Vec::new(alloc),
+        }
+    }
+
+    /// How many cells there are.
+    pub fn len(&self) -> usize
+        ensures { result ≡ length self.now.cells }
+    {
+        self.cells.len()
+    }
+
+    /// The cells, from left to right.
+    pub fn as_slice(&self) -> &[Cell]
+        ensures cells { result.now ≡ self.now.cells }
+        ensures packed { IsPacked self.now.room result.now }
+    {
+        self.cells.as_slice()
+    }
+
+    /// Whether the sites that are free are as many as this, wherever they are.
+    pub fn has_room(&self, width: u32) -> bool
+        ensures { IsTrue result ↔ total_width self.now.cells + width ≤ self.now.room }
+    {
+        width <= self.room - self.taken
+    }
+
+    /// The position of a cell of this number, looked for from this site on outwards. No clause says when there is none.
+    pub fn find(&self, number: u32, near: u32) -> Option<usize>
+        ensures within { IfSome result (λ own. own < length self.now.cells) }
+        ensures number { (d : Cell) → IfSome result (λ own. (slice_index_or self.now.cells own d).number ≡ number) }
+    {
+        find_near(self.cells.as_slice(), number, near)
+    }
+
+    /// How far the cells stand from where they are wanted, together.
+    pub fn displacement(&self) -> u64
+        requires few { length self.now.cells ≤ 2 ^ 30 }
+        ensures way { result ≡ total_displacement self.now.cells }
+    {
+        total_displacement(self.cells.as_slice())
+    }
+
+    /// The gap in which a cell is looked for first: before the first one whose middle lies right of its own at its wanted place.
+    pub fn gap_near(&self, cell: &Cell) -> usize
+        ensures { result ≤ length self.now.cells }
+    {
+        gap_near(self.cells.as_slice(), cell.wanted, cell.width)
+    }
+
+    /// The place of a gap at which the ways grow least if the cell comes to stand there; none if the effort finds no room.
+    ///
+    /// `Err` if an allocation fails.
+    pub fn try_insertion(
+        &self,
+        gap: usize,
+        cell: &Cell,
+        effort: &SearchEffort,
+        curve: &mut CostCurve,
+    ) -> Result<Option<Insertion>, AllocError>
+        requires gap { gap ≤ length self.now.cells }
+        ensures gap { IfOk result (λ found. IfSome found (λ trial. trial.gap ≡ gap)) }
+    {
+        try_gap(self.cells.as_slice(), self.room, gap, cell, effort, curve)
+    }
+
+    /// Puts a cell in as the one of this position, at its place where that is free, else near to it: the others make room. Tells by
+    /// how much the cells together are farther from where they are wanted.
+    ///
+    /// `Err` if an allocation fails; then nothing has changed.
+    pub fn insert(&mut self, gap: usize, cell: Cell) -> Result<i64, AllocError>
+        requires gap { gap ≤ length self.old.cells }
+        requires few { length self.old.cells < 2 ^ 30 }
+        requires fits { total_width self.old.cells + cell.width ≤ self.old.room }
+        ensures room { self.new.room ≡ self.old.room }
+        ensures cells { OnOk result (AreSameCells (insert self.old.cells gap cell) self.new.cells) }
+        ensures free { OnOk result (IsPacked self.old.room (insert self.old.cells gap cell) → self.new.cells ≡ insert self.old.cells gap cell) }
+        ensures cost { IfOk result (λ cost. pos (total_displacement self.new.cells) ≡ (pos (total_displacement self.old.cells) +ℤ cost)) }
+        ensures failed { OnErr result (self.new ≡ self.old) }
+    {
+        let cost = insert_cell(&mut self.cells, gap, cell, self.room)?;
+        self.taken += cell.width;
+        Ok(cost)
+    }
+
+    /// Takes the cell of this position out; the others stay.
+    pub fn remove(&mut self, own: usize) -> Cell
+        requires { own < length self.old.cells }
+        ensures cell { result ≡ slice_index_or self.old.cells own result }
+        ensures room { self.new.room ≡ self.old.room }
+        ensures cells { self.new.cells ≡ remove self.old.cells own }
+    {
+        let cell = self.cells.remove(own);
+        self.taken -= cell.width;
+        cell
+    }
+
+    /// Another cell, as wide, stands where the one of this position stands.
+    pub fn replace(&mut self, own: usize, cell: Cell)
+        requires own { own < length self.old.cells }
+        requires width { (slice_index_or self.old.cells own cell).width ≡ cell.width }
+        ensures room { self.new.room ≡ self.old.room }
+        ensures cells { self.new.cells ≡ set self.old.cells own (at_place_of (slice_index_or self.old.cells own cell) cell) }
+    {
+        replace_cell(&mut self.cells, own, cell);
+    }
+}

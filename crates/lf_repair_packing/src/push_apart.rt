@@ -1,0 +1,57 @@
+//! Any wish made legal.
+
+ghost use Rattle.std.specs.Prelude.{◌≡◌, ◌+◌, ◌≤◌, ◌<◌, ℕ, length};
+ghost use Rattle.lf_repair_packing.specs.Packing.{AreSameCells, IsPackedWithin, total_width};
+
+use crate::cells::{Cell, width_of};
+
+/// Moves the cells, in their order, to where they stand apart between the two sites, as near to where they stood as one look
+/// from left to right finds. Cells that are packed stay.
+fn push_apart(cells: &mut [Cell], start: u32, end: u32)
+    requires fits { start + total_width cells.old ≤ end }
+    ensures packed { IsPackedWithin start end cells.new }
+    ensures same { AreSameCells cells.old cells.new }
+    ensures kept { IsPackedWithin start end cells.old → cells.new ≡ cells.old }
+{
+    let mut rest = width_of(cells);
+    let mut free = start;
+    for cell in cells.iter_mut() {
+        let last = end - rest;
+        cell.at = cell.at.min(last).max(free);
+        free = cell.at + cell.width;
+        rest -= cell.width;
+    }
+}
+
+/// Pushes cells that are in the way of the one behind them to the left, the nearer ones first, up to the first that is not, or
+/// that has no room to the left. `from` is the cell that stays.
+fn push_left(cells: &mut [Cell], from: usize)
+    requires { from < length cells.old }
+    ensures same { AreSameCells cells.old cells.new }
+    ensures kept { (start end : ℕ) → IsPackedWithin start end cells.old → cells.new ≡ cells.old }
+{
+    let mut end = cells[from].at;
+    let mut own = from;
+    while 0 < own {
+        own -= 1;
+        let cell = cells[own];
+        if end < cell.width || cell.at <= end - cell.width {
+            return;
+        }
+        end -= cell.width;
+        cells[own].at = end;
+    }
+}
+
+/// Moves the cells, in their order, to where they stand apart between the two sites; those to the left of this one make room to
+/// the left for it first. Cells that are packed stay.
+pub(crate) fn settle_around(cells: &mut [Cell], from: usize, start: u32, end: u32)
+    requires from { from < length cells.old }
+    requires fits { start + total_width cells.old ≤ end }
+    ensures packed { IsPackedWithin start end cells.new }
+    ensures same { AreSameCells cells.old cells.new }
+    ensures kept { IsPackedWithin start end cells.old → cells.new ≡ cells.old }
+{
+    push_left(cells, from);
+    push_apart(cells, start, end);
+}

@@ -1,0 +1,84 @@
+//! The free ground of a team, row after row, in sites.
+
+ghost use Rattle.std.specs.Prelude.{◌<ℤ◌, pos};
+
+use std::alloc::Global;
+
+/// How a row is oriented.
+#[derive(Clone, Copy, Debug, PartialEq, Eq)]
+pub enum RowKind {
+    N,
+    S,
+    FN,
+    FS,
+}
+
+/// The kinds of rows that a cell may stand on.
+#[derive(Clone, Copy)]
+pub struct RowKinds {
+    pub n: bool,
+    pub s: bool,
+    pub fn_: bool,
+    pub fs: bool,
+}
+
+impl RowKinds {
+    /// Whether a row of this kind is one of them.
+    pub(crate) fn has(&self, kind: RowKind) -> bool {
+        match kind {
+            RowKind::N => self.n,
+            RowKind::S => self.s,
+            RowKind::FN => self.fn_,
+            RowKind::FS => self.fs,
+        }
+    }
+}
+
+/// A free span of a row: the x of its first site and how far its sites are apart, in database units, and how many there are.
+#[derive(Clone, Copy)]
+pub struct FreeSpan {
+    pub first: i32,
+    pub step: u32,
+    pub count: u32,
+}
+
+impl FreeSpan {
+    /// How far the sites are apart, at least 1.
+    pub(crate) fn pitch(&self) -> i64
+        ensures some { pos 0 <ℤ result }
+        ensures short { result <ℤ pos 4294967296 }
+    {
+        self.step.max(1) as i64
+    }
+
+    /// Where the last site ends.
+    pub(crate) fn end(&self) -> i64 {
+        (self.first as i64).saturating_add(self.pitch().saturating_mul(self.count as i64))
+    }
+}
+
+/// A row with the positions of its spans in the land's list of spans: from the first on, up to before the last.
+#[derive(Clone, Copy)]
+pub struct PlannerRow {
+    pub y: i32,
+    pub kind: RowKind,
+    pub first: usize,
+    pub last: usize,
+}
+
+/// Rows by rising y, and the free spans of all of them, those of a row from left to right.
+#[derive(Drop)]
+pub struct FreeRows {
+    pub rows: Vec<PlannerRow>,
+    pub spans: Vec<FreeSpan>,
+}
+
+impl FreeRows {
+    /// No rows, which allocates nothing.
+    pub fn new(alloc: Global) -> FreeRows {
+        FreeRows {
+            rows: Vec::new(alloc),
+            spans: Vec::new(alloc),
+        }
+    }
+}

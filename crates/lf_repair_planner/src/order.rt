@@ -1,0 +1,118 @@
+//! The order in which cells get their places: wide ones first, and neighbours not one after the other.
+
+ghost use Rattle.std.specs.Prelude.{◌<◌};
+
+use crate::plan::PlannerCell;
+use crate::search_limits::number_of;
+use std::alloc::{AllocError, Global};
+
+/// So many rows are a tile's side.
+const TILE: i64 = 64;
+
+/// What the order of a cell is by.
+#[derive(Clone, Copy, PartialEq, Eq, PartialOrd, Ord)]
+struct Key {
+    /// The farther its nearest place alone, the less; the same for all that have one near.
+    nearness: i64,
+    class: u8,
+    tile_y: i64,
+    tile_x: i64,
+    /// Its number, scattered.
+    scattered: u32,
+    number: u32,
+}
+
+/// The mean width of the cells, at least 1.
+fn mean_width(wishes: &[PlannerCell]) -> u64
+    ensures { 0 < result }
+{
+    let mut sum: u64 = 0;
+    for wish in wishes {
+        sum = sum.saturating_add(wish.width as u64);
+    }
+    (sum / (wishes.len() as u64).max(1)).max(1)
+}
+
+/// The class of a width: from four times, twice and once the mean on, and the rest.
+fn class_of(width: u32, mean: u64) -> u8 {
+    let width = width as u64;
+    if mean.saturating_mul(4) <= width {
+        0
+    } else if mean.saturating_mul(2) <= width {
+        1
+    } else if mean <= width {
+        2
+    } else {
+        3
+    }
+}
+
+/// The number of the tile in which a coordinate lies.
+fn tile_of(coordinate: i32, height: u32) -> i64 {
+    (coordinate as i64).div_euclid((height.max(1) as i64) * TILE)
+}
+
+fn key_of(wish: &PlannerCell, number: u32, away: i64, mean: u64, height: u32) -> Key {
+    let nearness = if (height as i64) < away {
+        -away.max(0)
+    } else {
+        0
+    };
+    Key {
+        nearness,
+        class: class_of(wish.width, mean),
+        tile_y: tile_of(wish.y, height),
+        tile_x: tile_of(wish.x, height),
+        scattered: number.wrapping_mul(2_654_435_761),
+        number,
+    }
+}
+
+/// The numbers of the cells in their order; `away` has for each how far its nearest place alone is.
+pub(crate) fn order_of(
+    alloc: Global,
+    wishes: &[PlannerCell],
+    away: &[i64],
+    height: u32,
+) -> Result<Vec<u32>, AllocError> {
+    let mean = mean_width(wishes);
+    let mut keys = Vec::with_capacity(alloc, wishes.len())?;
+    for (number, (wish, away)) in wishes.iter().zip(away.iter()).enumerate() {
+        keys.push(key_of(wish, number_of(number), *away, mean, height))?;
+    }
+    keys.sort_unstable();
+    let mut order = Vec::with_capacity(alloc, keys.len())?;
+    for key in &keys {
+        order.push(key.number)?;
+    }
+    Ok(order)
+}
+
+/// What the order by widths is by.
+#[derive(Clone, Copy, PartialEq, Eq, PartialOrd, Ord)]
+struct Width {
+    /// The wider, the less.
+    narrowness: u32,
+    /// Its number, scattered.
+    scattered: u32,
+    number: u32,
+}
+
+/// The numbers of the cells, the widest first.
+pub(crate) fn widest_first(alloc: Global, wishes: &[PlannerCell]) -> Result<Vec<u32>, AllocError> {
+    let mut widths = Vec::with_capacity(alloc, wishes.len())?;
+    for (number, wish) in wishes.iter().enumerate() {
+        let number = number_of(number);
+        widths.push(Width {
+            narrowness: u32::MAX - wish.width,
+            scattered: number.wrapping_mul(2_654_435_761),
+            number,
+        })?;
+    }
+    widths.sort_unstable();
+    let mut order = Vec::with_capacity(alloc, widths.len())?;
+    for width in &widths {
+        order.push(width.number)?;
+    }
+    Ok(order)
+}

@@ -1,0 +1,204 @@
+//! A plan: for each cell a place or none.
+
+ghost use Rattle.std.specs.Prelude.{◌≡◌, ◌⊎◌, ◌+◌, ◌-◌, ◌*◌, ◌<◌, ◌^◌, IfOk, IsTrue, None, Some, length, set, slice_get, vec_len};
+ghost use Rattle.lf_repair_planner.specs.Plans.{IsFilledTo, IsPlan};
+
+use crate::free_rows::{FreeRows, RowKinds};
+use crate::order::{order_of, widest_first};
+use crate::passes::{PlanCost, PlannerInput, nearest_alone};
+use crate::plan_state::PlanState;
+use crate::scored_plan::{ScoredPlan, initial_limits, try_order};
+use lf_repair_packing::{Cell, CostCurve, PackedSpan};
+use std::alloc::{AllocError, Global};
+
+/// A cell: where it is wanted and how wide it is, in database units, and on what rows it may stand.
+#[derive(Clone, Copy)]
+pub struct PlannerCell {
+    pub x: i32,
+    pub y: i32,
+    pub width: u32,
+    pub kinds: RowKinds,
+}
+
+/// A place of a plan: the position of a span in the land, and a site of the span.
+#[derive(Clone, Copy, Debug, PartialEq, Eq)]
+pub struct PlannedSite {
+    pub span: usize,
+    pub at: u32,
+}
+
+/// How many passes go over all cells, how many rounds over those that are farthest off, and whether a second order of the cells is
+/// tried where the first leaves one without a place or sends it far.
+#[derive(Clone, Copy)]
+pub struct PlanOptions {
+    pub passes: usize,
+    pub rounds: usize,
+    pub two_orders: bool,
+}
+
+/// How far so many sites reach.
+fn length_of(count: u32, step: u32) -> u64
+    ensures is { result ≡ count * step }
+    ensures short { result < 2 ^ 64 - 2 ^ 32 }
+{
+    count as u64 * step as u64
+}
+
+/// Gives the cell of that position this spot.
+fn set_spot(spots: &mut Vec<Option<PlannedSite>>, own: usize, spot: PlannedSite)
+    requires { own < vec_len spots.old }
+    ensures { spots.new.items ≡ set spots.old.items own (Some spot) }
+{
+    spots[own] = Some(spot);
+}
+
+/// Whether the cell of that position is one that has no spot.
+fn is_open(spots: &[Option<PlannedSite>], own: usize) -> bool
+    ensures is { IsTrue result → slice_get spots.now own ≡ Some None }
+    ensures within { IsTrue result → own < length spots.now }
+{
+    match spots.get(own) {
+        Some(spot) => spot.is_none(),
+        None => false,
+    }
+}
+
+/// Notes where a cell of a span stands, behind those before it, and returns where it ends. One that is no cell of the plan, or
+/// that lies in another's way or past the span's end, is passed over.
+fn note_cell(
+    spots: &mut Vec<Option<PlannedSite>>,
+    given: &PlannerInput,
+    span: usize,
+    cell: &Cell,
+    free: u64,
+) -> u64
+    requires { IsFilledTo given.now.land.now.spans.items given.now.wishes.now span free spots.old.items }
+    ensures filled { IsFilledTo given.now.land.now.spans.items given.now.wishes.now span result spots.new.items }
+    ensures count { vec_len spots.new ≡ vec_len spots.old }
+{
+    let own = cell.number as usize;
+    let (Some(sites), Some(wish)) = (given.land.spans.get(span), given.wishes.get(own)) else {
+        return free;
+    };
+    let start = length_of(cell.at, sites.step);
+    let end = start + wish.width as u64;
+    if start < free || length_of(sites.count, sites.step) < end || !is_open(spots, own) {
+        return free;
+    }
+    set_spot(spots, own, PlannedSite { span, at: cell.at });
+    end
+}
+
+/// Notes where the cells of a span stand.
+fn note_span(
+    spots: &mut Vec<Option<PlannedSite>>,
+    given: &PlannerInput,
+    span: usize,
+    cells: &[Cell],
+)
+    requires { IsFilledTo given.now.land.now.spans.items given.now.wishes.now span 0 spots.old.items }
+    ensures filled { IsFilledTo given.now.land.now.spans.items given.now.wishes.now (span + 1) 0 spots.new.items }
+    ensures count { vec_len spots.new ≡ vec_len spots.old }
+{
+    let mut free = 0;
+    for cell in cells {
+        free = note_cell(spots, given, span, cell, free);
+    }
+}
+
+/// Notes where the cells of all spans stand.
+fn note_spans(spots: &mut Vec<Option<PlannedSite>>, given: &PlannerInput, segments: &[PackedSpan])
+    requires { IsFilledTo given.now.land.now.spans.items given.now.wishes.now 0 0 spots.old.items }
+    ensures plan { IsPlan given.now.land.now.spans.items given.now.wishes.now spots.new.items }
+    ensures count { vec_len spots.new ≡ vec_len spots.old }
+{
+    for (span, segment) in segments.iter().enumerate() {
+        note_span(spots, given, span, segment.as_slice());
+    }
+}
+
+/// Where each of the cells stands.
+pub(crate) fn spots_of(
+    alloc: Global,
+    given: &PlannerInput,
+    board: &PlanState,
+) -> Result<Vec<Option<PlannedSite>>, AllocError>
+    ensures plan { IfOk result (λ spots. IsPlan given.now.land.now.spans.items given.now.wishes.now spots.items) }
+    ensures count { IfOk result (λ spots. vec_len spots ≡ length given.now.wishes.now) }
+{
+    let mut spots = vec![in alloc; None; given.wishes.len()]?;
+    note_spans(&mut spots, given, board.segments.as_slice());
+    Ok(spots)
+}
+
+/// The least distance of two rows that follow one another; 1 if there are none.
+fn row_height(land: &FreeRows) -> u32 {
+    let mut height = u32::MAX;
+    let mut last = None;
+    for row in &land.rows {
+        if let Some(y) = last {
+            let step = row.y.abs_diff(y);
+            if 0 < step {
+                height = height.min(step);
+            }
+        }
+        last = Some(row.y);
+    }
+    if height == u32::MAX { 1 } else { height }
+}
+
+/// The order of the cells: those that are far from any place first.
+fn first_order(alloc: Global, given: &PlannerInput) -> Result<Vec<u32>, AllocError> {
+    let mut curve = CostCurve::new(alloc);
+    let away = nearest_alone(alloc, given, &initial_limits(given.height), &mut curve)?;
+    order_of(alloc, given.wishes, away.as_slice(), given.height)
+}
+
+/// A plan goes far if a cell of it has no spot or goes farther than so many rows.
+const FAR: i64 = 8;
+
+/// Whether a plan leaves a cell without a spot, or sends one far.
+fn goes_far(worth: &PlanCost, height: u32) -> bool {
+    0 < worth.left || FAR * (height as i64) < worth.longest
+}
+
+/// The spots of the better of two plans; of the first if they are worth the same.
+fn better(first: ScoredPlan, second: ScoredPlan) -> Vec<Option<PlannedSite>>
+    ensures { (result ≡ first.spots) ⊎ (result ≡ second.spots) }
+{
+    if second.worth < first.worth {
+        second.spots
+    } else {
+        first.spots
+    }
+}
+
+/// Plans a place for each cell: all in turn, then passes, then rounds over those farthest off. Where that leaves a cell or sends one
+/// far, and two orders are asked for, it is done once more with the widest cells first, and the better plan taken. A cell with no
+/// spot found no room. Each cell that has one lies within its span there, and two cells of one span lie apart.
+///
+/// `Err` if an allocation fails.
+pub fn plan_cells(
+    alloc: Global,
+    land: &FreeRows,
+    wishes: &[PlannerCell],
+    steps: &PlanOptions,
+) -> Result<Vec<Option<PlannedSite>>, AllocError>
+    ensures plan { IfOk result (λ spots. IsPlan land.now.spans.items wishes.now spots.items) }
+    ensures count { IfOk result (λ spots. vec_len spots ≡ length wishes.now) }
+{
+    let height = row_height(land);
+    let given = PlannerInput {
+        land,
+        wishes,
+        height,
+    };
+    let order = first_order(alloc, &given)?;
+    let first = try_order(alloc, &given, order.as_slice(), steps)?;
+    if !steps.two_orders || !goes_far(&first.worth, height) {
+        return Ok(first.spots);
+    }
+    let order = widest_first(alloc, wishes)?;
+    let second = try_order(alloc, &given, order.as_slice(), steps)?;
+    Ok(better(first, second))
+}

@@ -1,0 +1,90 @@
+//! One try at a plan: the cells in one order, passes that improve it, and what it is worth.
+
+ghost use Rattle.std.specs.Prelude.{◌≡◌, IfOk, length, vec_len};
+ghost use Rattle.lf_repair_planner.specs.Plans.{IsPlan};
+
+use crate::passes::{PlanCost, PlannerInput, cost_of_plan, long_displacement, pass, place_all};
+use crate::plan::{PlanOptions, PlannedSite, spots_of};
+use crate::plan_state::PlanState;
+use crate::search_limits::SearchLimits;
+use lf_repair_packing::CostCurve;
+use std::alloc::{AllocError, Global};
+
+/// A plan, and what it is worth.
+#[derive(Drop)]
+pub(crate) struct ScoredPlan {
+    pub(crate) spots: Vec<Option<PlannedSite>>,
+    pub(crate) worth: PlanCost,
+}
+
+/// How cells are searched for at first, over rows of this height.
+pub(crate) fn initial_limits(height: u32) -> SearchLimits {
+    SearchLimits {
+        gaps: 1,
+        most: 10,
+        near: 2 * height as i64,
+        weight: 3,
+    }
+}
+
+/// Passes over all cells, and then rounds over those whose ways are the longest.
+fn improve(
+    alloc: Global,
+    given: &PlannerInput,
+    order: &[u32],
+    steps: &PlanOptions,
+    board: &mut PlanState,
+) -> Result<(), AllocError> {
+    let mut curve = CostCurve::new(alloc);
+    let how = initial_limits(given.height);
+    for _ in 0..steps.passes {
+        pass(given, order, 0, &how, board, &mut curve)?;
+    }
+    let long = long_displacement(alloc, given, board)?;
+    let last = SearchLimits {
+        gaps: 12,
+        most: 160,
+        near: long,
+        weight: 10,
+    };
+    for _ in 0..steps.rounds {
+        pass(given, order, long, &last, board, &mut curve)?;
+    }
+    Ok(())
+}
+
+/// All cells in turn, and then what improves their places.
+fn placed_state(
+    alloc: Global,
+    given: &PlannerInput,
+    order: &[u32],
+    steps: &PlanOptions,
+) -> Result<PlanState, AllocError> {
+    let mut curve = CostCurve::new(alloc);
+    let mut board = PlanState::new(alloc, given.land, given.wishes.len())?;
+    place_all(
+        given,
+        order,
+        &initial_limits(given.height),
+        &mut board,
+        &mut curve,
+    )?;
+    improve(alloc, given, order, steps, &mut board)?;
+    Ok(board)
+}
+
+/// A plan by this order of the cells.
+pub(crate) fn try_order(
+    alloc: Global,
+    given: &PlannerInput,
+    order: &[u32],
+    steps: &PlanOptions,
+) -> Result<ScoredPlan, AllocError>
+    ensures plan { IfOk result (λ tried. IsPlan given.now.land.now.spans.items given.now.wishes.now tried.spots.items) }
+    ensures count { IfOk result (λ tried. vec_len tried.spots ≡ length given.now.wishes.now) }
+{
+    let board = placed_state(alloc, given, order, steps)?;
+    let worth = cost_of_plan(given, &board);
+    let spots = spots_of(alloc, given, &board)?;
+    Ok(ScoredPlan { spots, worth })
+}

@@ -1,0 +1,273 @@
+//! The gap at which the ways grow least: rows outward from the wanted y, in a row spans outward from the wanted x, in a span the gap
+//! there and those beside it.
+
+use crate::free_rows::{FreeRows, FreeSpan, PlannerRow};
+use crate::plan::PlannerCell;
+use crate::plan_state::Gap;
+use crate::search_limits::{SearchLimits, apart, cost_of};
+use lf_repair_packing::{Cell, CostCurve, PackedSpan, SearchEffort};
+use std::alloc::AllocError;
+
+/// A cell that is looked a place for, and where.
+#[derive(Clone, Copy)]
+pub(crate) struct Search<'a> {
+    pub(crate) land: &'a FreeRows,
+    pub(crate) segments: &'a [PackedSpan],
+    pub(crate) number: u32,
+    pub(crate) wish: &'a PlannerCell,
+    pub(crate) how: &'a SearchLimits,
+}
+
+/// The best gap so far, and what it costs; without one, what it is to cost less than.
+#[derive(Clone, Copy)]
+pub(crate) struct Best {
+    pub(crate) cost: i64,
+    pub(crate) gap: Option<Gap>,
+}
+
+/// The cell as it is tried in a span, and what it costs there before it is moved along it.
+#[derive(Clone, Copy)]
+struct SpanTrial {
+    span: usize,
+    cell: Cell,
+    effort: SearchEffort,
+    pitch: i64,
+    base: i64,
+}
+
+/// A number of 32 bits, which the greatest stands for where it is greater, and 0 where it is less.
+fn clipped(number: i64) -> u32 {
+    number.clamp(0, 4_294_967_295) as u32
+}
+
+/// The number of the site that is nearest to an x.
+fn site_at(sites: &FreeSpan, x: i32) -> i64 {
+    let pitch = sites.pitch();
+    (x as i64 - sites.first as i64 + pitch / 2).div_euclid(pitch)
+}
+
+/// A cell of this number and width that stands where it is wanted.
+fn cell_at(number: u32, width: u32, wanted: u32) -> Cell {
+    Cell {
+        number,
+        width,
+        wanted,
+        at: wanted,
+    }
+}
+
+/// How the cell is tried in a span of a row that is so far away; none if it is too wide for the span or costs too much there.
+fn try_of(
+    search: &Search,
+    span: usize,
+    sites: &FreeSpan,
+    dy: i64,
+    best: &Best,
+) -> Option<SpanTrial> {
+    let pitch = sites.pitch();
+    let width = (search.wish.width as i64 + pitch - 1) / pitch;
+    let last = sites.count as i64 - width;
+    if last < 0 {
+        return None;
+    }
+    let site = site_at(sites, search.wish.x);
+    let wanted = site.max(0).min(last);
+    let outside = site.saturating_sub(wanted).saturating_abs();
+    let row = cost_of(dy, search.how);
+    let left = best
+        .cost
+        .saturating_sub(row)
+        .saturating_add(pitch - 1)
+        .div_euclid(pitch);
+    if left <= outside {
+        return None;
+    }
+    let near = search.how.near.saturating_sub(dy).max(0).div_euclid(pitch);
+    let along = SearchLimits {
+        near,
+        ..*search.how
+    };
+    let way = cost_of(outside, &along).saturating_mul(pitch);
+    let effort = SearchEffort {
+        reach: clipped(left.saturating_sub(outside)),
+        most: search.how.most,
+        near: clipped(near.saturating_sub(outside)),
+        weight: search.how.weight,
+    };
+    Some(SpanTrial {
+        span,
+        cell: cell_at(search.number, clipped(width), clipped(wanted)),
+        effort,
+        pitch,
+        base: row.saturating_add(way),
+    })
+}
+
+/// Tries one gap of a span.
+fn try_gap(
+    segment: &PackedSpan,
+    gap: usize,
+    tried: &SpanTrial,
+    best: &mut Best,
+    curve: &mut CostCurve,
+) -> Result<(), AllocError> {
+    if segment.len() < gap {
+        return Ok(());
+    }
+    let Some(trial) = segment.try_insertion(gap, &tried.cell, &tried.effort, curve)? else {
+        return Ok(());
+    };
+    let cost = tried
+        .base
+        .saturating_add(trial.cost.saturating_mul(tried.pitch));
+    if cost < best.cost {
+        let cell = Cell {
+            at: trial.at,
+            ..tried.cell
+        };
+        *best = Best {
+            cost,
+            gap: Some(Gap {
+                span: tried.span,
+                gap,
+                cell,
+            }),
+        };
+    }
+    Ok(())
+}
+
+/// Tries the gap at the wanted place and so many on each side; where any place will do and none was found, all.
+fn try_gaps(
+    segment: &PackedSpan,
+    gaps: usize,
+    tried: &SpanTrial,
+    best: &mut Best,
+    curve: &mut CostCurve,
+) -> Result<(), AllocError> {
+    let middle = segment.gap_near(&tried.cell);
+    try_gap(segment, middle, tried, best, curve)?;
+    for away in 1..segment.len().saturating_add(1) {
+        if gaps < away && best.cost < i64::MAX {
+            return Ok(());
+        }
+        if away <= middle {
+            try_gap(segment, middle - away, tried, best, curve)?;
+        }
+        try_gap(segment, middle.saturating_add(away), tried, best, curve)?;
+    }
+    Ok(())
+}
+
+/// Tries a span of a row that is so far away.
+fn try_span(
+    search: &Search,
+    span: usize,
+    dy: i64,
+    best: &mut Best,
+    curve: &mut CostCurve,
+) -> Result<(), AllocError> {
+    let (Some(sites), Some(segment)) = (search.land.spans.get(span), search.segments.get(span))
+    else {
+        return Ok(());
+    };
+    let Some(tried) = try_of(search, span, sites, dy, best) else {
+        return Ok(());
+    };
+    if !segment.has_room(tried.cell.width) {
+        return Ok(());
+    }
+    try_gaps(segment, search.how.gaps, &tried, best, curve)
+}
+
+/// Whether what is so far away along a row that is itself so far away costs too much.
+fn is_beyond(search: &Search, dy: i64, dx: i64, best: &Best) -> bool {
+    best.cost <= cost_of(dy, search.how).saturating_add(dx.max(0))
+}
+
+/// Tries a row: its spans from the wanted x to the right, and then to the left.
+fn try_row(
+    search: &Search,
+    row: &PlannerRow,
+    best: &mut Best,
+    curve: &mut CostCurve,
+) -> Result<(), AllocError> {
+    let spans = search.land.spans.as_slice();
+    if row.last < row.first || spans.len() < row.last || !search.wish.kinds.has(row.kind) {
+        return Ok(());
+    }
+    let (x, dy) = (search.wish.x as i64, apart(row.y, search.wish.y));
+    let middle = row.first + spans[row.first..row.last].partition_point(|span| span.end() <= x);
+    for span in middle..row.last {
+        if is_beyond(search, dy, spans[span].first as i64 - x, best) {
+            break;
+        }
+        try_span(search, span, dy, best, curve)?;
+    }
+    for back in 0..middle - row.first {
+        let span = middle - 1 - back;
+        if is_beyond(search, dy, x.saturating_sub(spans[span].end()), best) {
+            return Ok(());
+        }
+        try_span(search, span, dy, best, curve)?;
+    }
+    Ok(())
+}
+
+/// How far the row of a position is from a y; the greatest number where there is none.
+fn row_away(rows: &[PlannerRow], position: usize, y: i32) -> i64 {
+    match rows.get(position) {
+        Some(row) => apart(row.y, y),
+        None => i64::MAX,
+    }
+}
+
+/// The nearer row of the next one above and the one before the next one below; none if both cost too much.
+fn next_row(search: &Search, above: usize, below: usize, best: &Best) -> Option<usize> {
+    let rows = search.land.rows.as_slice();
+    let up = row_away(rows, above, search.wish.y);
+    if below == 0 {
+        if is_beyond(search, up, 0, best) {
+            return None;
+        }
+        return Some(above);
+    }
+    let down = row_away(rows, below - 1, search.wish.y);
+    if is_beyond(search, up.min(down), 0, best) {
+        return None;
+    }
+    if up < down {
+        Some(above)
+    } else {
+        Some(below - 1)
+    }
+}
+
+/// The gap that costs least, if it costs less than the limit.
+pub(crate) fn best_gap(
+    search: &Search,
+    limit: i64,
+    curve: &mut CostCurve,
+) -> Result<Best, AllocError> {
+    let rows = search.land.rows.as_slice();
+    let mut best = Best {
+        cost: limit,
+        gap: None,
+    };
+    let mut above = rows.partition_point(|row| row.y < search.wish.y);
+    let mut below = above;
+    for _ in 0..rows.len() {
+        let Some(next) = next_row(search, above, below, &best) else {
+            return Ok(best);
+        };
+        if above <= next {
+            above = next.saturating_add(1);
+        } else {
+            below = next;
+        }
+        if let Some(row) = rows.get(next) {
+            try_row(search, row, &mut best, curve)?;
+        }
+    }
+    Ok(best)
+}

@@ -1,0 +1,109 @@
+//! The lines as JSON.
+
+ghost use Rattle.std.specs.Prelude.{◌≡◌, ◌++◌, IfOk, OnOk, map};
+ghost use Rattle.serde_json.specs.Data.{array};
+ghost use Rattle.serde_json.specs.View.{items_of, view};
+ghost use Rattle.lf_repair_report.specs.Told.{all_data, cell_names, count_data, name_of_cell, text_data, team_data};
+
+use crate::totals::{Totals, mean_displacement};
+use lf_describe::name_value;
+use lf_floor::Floor;
+use lf_legalize::Seeker;
+use lf_repair_strategy::RepairStats;
+use serde_json::{Value, json};
+use std::alloc::{AllocError, Global};
+
+/// Appends the name of the team's cell of that position, if there is one.
+fn push_name<S: Seeker + Drop>(
+    alloc: Global,
+    floor: &Floor<S>,
+    team: &[u8],
+    own: u32,
+    names: &mut Vec<Value>,
+) -> Result<(), AllocError>
+    ensures { OnOk result (map view names.new.items ≡ map view names.old.items ++ map text_data (name_of_cell floor.now team.now own)) }
+{
+    let Some(name) = floor.name_of(team, own as usize) else {
+        return Ok(());
+    };
+    let value = name_value(alloc, name)?;
+    names.push(value)?;
+    Ok(())
+}
+
+/// The names of the team's cells of these positions.
+pub(crate) fn name_values<S: Seeker + Drop>(
+    alloc: Global,
+    floor: &Floor<S>,
+    team: &[u8],
+    owns: &[u32],
+) -> Result<Vec<Value>, AllocError>
+    ensures { IfOk result (λ values. map view values.items ≡ map text_data (cell_names floor.now team.now owns.now)) }
+{
+    let mut names = Vec::with_capacity(alloc, owns.len())?;
+    for own in owns {
+        push_name(alloc, floor, team, *own, &mut names)?;
+    }
+    Ok(names)
+}
+
+/// A whole number.
+fn count_value(count: u64) -> Value
+    ensures { view result ≡ count_data count }
+{
+    Value::from(count)
+}
+
+/// The numbers, in their order.
+pub(crate) fn count_values(alloc: Global, counts: &[u64]) -> Result<Vec<Value>, AllocError>
+    ensures { IfOk result (λ values. map view values.items ≡ map count_data counts.now) }
+{
+    let mut values = Vec::with_capacity(alloc, counts.len())?;
+    for count in counts {
+        values.push(count_value(*count))?;
+    }
+    Ok(values)
+}
+
+/// The values, in their order.
+pub(crate) fn array_value(values: Vec<Value>) -> Value
+    ensures { view result ≡ array (items_of (map view values.items)) }
+{
+    Value::Array(values)
+}
+
+/// The line of a team: its name, the names of the cells that are left, the gaps near them, and the largest of the least ways.
+pub(crate) fn team_value(
+    alloc: Global,
+    name: Value,
+    left: Value,
+    gaps: Value,
+    least: u64,
+    repaired: &RepairStats,
+) -> Result<Value, AllocError>
+    ensures { IfOk result (λ v. view v ≡ team_data (view name) (view left) (view gaps) least repaired.now) }
+{
+    let mean = mean_displacement(repaired.total, u64::from(repaired.moved));
+    let (cells, kept, largest) = (repaired.cells, repaired.kept, repaired.largest);
+    let (moved, placed, pushed) = (repaired.moved, repaired.placed, repaired.pushed);
+    let (total, turned) = (repaired.total, repaired.turned);
+    json!(in alloc; {
+        "cells": cells, "gaps": gaps, "kept": kept, "largest": largest, "least_largest": least, "left": left, "mean": mean,
+        "moved": moved, "placed": placed, "pushed": pushed, "team": name, "total": total, "turned": turned
+    })
+}
+
+/// The line of all teams; the design is then fully legal or not.
+pub(crate) fn all_value(alloc: Global, sums: &Totals, legal: bool) -> Result<Value, AllocError>
+    ensures { IfOk result (λ v. view v ≡ all_data sums.now legal) }
+{
+    let mean = mean_displacement(sums.total, sums.moved);
+    let (cells, kept, largest, left) = (sums.cells, sums.kept, sums.largest, sums.left);
+    let least = sums.least_largest;
+    let (moved, placed, pushed) = (sums.moved, sums.placed, sums.pushed);
+    let (teams, total, turned) = (sums.teams, sums.total, sums.turned);
+    json!(in alloc; {
+        "cells": cells, "kept": kept, "largest": largest, "least_largest": least, "left_cells": left, "legal": legal, "mean": mean,
+        "moved": moved, "placed": placed, "pushed": pushed, "teams": teams, "total": total, "turned": turned
+    })
+}

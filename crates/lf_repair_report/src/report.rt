@@ -1,0 +1,109 @@
+//! The lines so far.
+
+ghost use Rattle.std.specs.Prelude.{◌≡◌, ◌++◌, [], IfOk, OnOk, false};
+ghost use Rattle.serde_json.specs.View.{view};
+ghost use Rattle.serde_json.specs.Written.{has_float};
+ghost use Rattle.lf_repair_report.specs.Told.{IsOneMore, IsTeamData, all_line, least_for, line_text, no_sums};
+
+use crate::gaps::gaps_near;
+use crate::json::{all_value, array_value, count_values, name_values, team_value};
+use crate::totals::{Totals, none, with_one};
+use lf_describe::name_value;
+use lf_floor::Floor;
+use lf_legalize::Seeker;
+use lf_repair_strategy::RepairStats;
+use serde_json::Value;
+use std::alloc::{AllocError, Global};
+
+/// The lines so far, and the sums of their teams.
+#[derive(Drop)]
+pub struct RepairReport {
+    /// The lines, each with its line feed.
+    pub text: Vec<u8>,
+    /// The sums over the teams that have a line.
+    pub sums: Totals,
+    /// For each team of the frame, the ground's last, the largest of the least ways of its cells before any is repaired, in
+    /// database units.
+    pub least: Vec<u64>,
+}
+
+/// The number of that position; 0 if there is none.
+fn least_at(least: &[u64], number: Option<usize>) -> u64
+    ensures { result ≡ least_for least.now number }
+{
+    let Some(number) = number else {
+        return 0;
+    };
+    match least.get(number) {
+        Some(least) => *least,
+        None => 0,
+    }
+}
+
+/// Appends the value as a line.
+fn push_line(alloc: Global, text: &mut Vec<u8>, value: &Value) -> Result<(), AllocError>
+    requires { has_float (view value.now) ≡ false }
+    ensures { OnOk result (text.new.items ≡ text.old.items ++ line_text (view value.now)) }
+{
+    let line = value.to_string(alloc)?;
+    text.extend_from_slice(line.as_bytes())?;
+    text.push(b'\n')?;
+    Ok(())
+}
+
+/// The line of a team, which was repaired so on the floor, and of whose cells the largest of the least ways is this.
+fn line_of<S: Seeker + Drop>(
+    alloc: Global,
+    floor: &Floor<S>,
+    team: &[u8],
+    repaired: &RepairStats,
+    least: u64,
+) -> Result<Value, AllocError>
+    ensures { IfOk result (λ v. IsTeamData floor.now team.now repaired.now least (view v)) }
+{
+    let found = gaps_near(alloc, floor, team, &repaired.left)?;
+    let gaps = array_value(count_values(alloc, &found)?);
+    let left = array_value(name_values(alloc, floor, team, &repaired.left)?);
+    let name = name_value(alloc, team)?;
+    team_value(alloc, name, left, gaps, least, repaired)
+}
+
+impl RepairReport {
+    /// No line yet; for each team the largest of the least ways of its cells is this. `Err` if an allocation fails.
+    pub fn new(alloc: Global, least: &[u64]) -> Result<RepairReport, AllocError>
+        ensures text { IfOk result (λ report. report.text.items ≡ []) }
+        ensures sums { IfOk result (λ report. report.sums ≡ no_sums) }
+        ensures least { IfOk result (λ report. report.least.items ≡ least.now) }
+    {
+        Ok(RepairReport {
+            text: Vec::new(alloc),
+            sums: none(),
+            least: Vec::from_slice(alloc, least)?,
+        })
+    }
+
+    /// Appends the line of a team, which was repaired so on the floor. `Err` if an allocation fails.
+    pub fn add<S: Seeker + Drop>(
+        &mut self,
+        alloc: Global,
+        floor: &Floor<S>,
+        team: &[u8],
+        repaired: &RepairStats,
+    ) -> Result<(), AllocError>
+        ensures { OnOk result (IsOneMore floor.now team.now repaired.now self.old self.new) }
+    {
+        let least = least_at(&self.least, floor.team_number(team));
+        let line = line_of(alloc, floor, team, repaired, least)?;
+        push_line(alloc, &mut self.text, &line)?;
+        self.sums = with_one(&self.sums, repaired, least);
+        Ok(())
+    }
+
+    /// Appends the line of all teams; the design is then fully legal or not. `Err` if an allocation fails.
+    pub fn close(&mut self, alloc: Global, legal: bool) -> Result<(), AllocError>
+        ensures { OnOk result (self.new.text.items ≡ self.old.text.items ++ all_line self.old.sums legal) }
+    {
+        let line = all_value(alloc, &self.sums, legal)?;
+        push_line(alloc, &mut self.text, &line)
+    }
+}

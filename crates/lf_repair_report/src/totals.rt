@@ -1,0 +1,81 @@
+//! Sums over the teams of a repair.
+
+ghost use Rattle.std.specs.Prelude.{◌≡◌};
+ghost use Rattle.lf_repair_report.specs.Told.{mean_displacement, no_sums, with_team};
+
+use lf_repair_strategy::RepairStats;
+
+/// What became of the cells of all teams that are told of, lengths in database units; the greatest number stands for a sum past it.
+#[derive(Clone, Copy)]
+pub struct Totals {
+    /// How many teams there are.
+    pub teams: u64,
+    /// How many cells broke a rule or had no place.
+    pub cells: u64,
+    /// How many of those that stood legally stand where they stood.
+    pub kept: u64,
+    /// How many had a place and are at another corner now.
+    pub moved: u64,
+    /// How many had no place and have one now.
+    pub placed: u64,
+    /// How many of those that stood legally stand otherwise now.
+    pub pushed: u64,
+    /// How many had a place and face otherwise now.
+    pub turned: u64,
+    /// How many are unplaced or break a rule.
+    pub left: u64,
+    /// The ways of all cells together.
+    pub total: u64,
+    /// The longest way.
+    pub largest: u64,
+    /// The largest of the teams' largest least ways.
+    pub least_largest: u64,
+}
+
+/// The sums of no team.
+pub(crate) fn none() -> Totals
+    ensures { result ≡ no_sums }
+{
+    Totals {
+        teams: 0,
+        cells: 0,
+        kept: 0,
+        moved: 0,
+        placed: 0,
+        pushed: 0,
+        turned: 0,
+        left: 0,
+        total: 0,
+        largest: 0,
+        least_largest: 0,
+    }
+}
+
+/// The sums with those of one more team, of whose cells the largest of the least ways is this.
+pub(crate) fn with_one(sums: &Totals, repaired: &RepairStats, least: u64) -> Totals
+    ensures { result ≡ with_team sums.now repaired.now least }
+{
+    Totals {
+        teams: sums.teams.saturating_add(1),
+        cells: sums.cells.saturating_add(u64::from(repaired.cells)),
+        kept: sums.kept.saturating_add(u64::from(repaired.kept)),
+        moved: sums.moved.saturating_add(u64::from(repaired.moved)),
+        placed: sums.placed.saturating_add(u64::from(repaired.placed)),
+        pushed: sums.pushed.saturating_add(u64::from(repaired.pushed)),
+        turned: sums.turned.saturating_add(u64::from(repaired.turned)),
+        left: sums.left.saturating_add(repaired.left.len() as u64),
+        total: sums.total.saturating_add(repaired.total),
+        largest: sums.largest.max(repaired.largest),
+        least_largest: sums.least_largest.max(least),
+    }
+}
+
+/// The mean way of the cells that moved, rounded down; 0 if none did.
+pub(crate) fn mean_displacement(total: u64, moved: u64) -> u64
+    ensures { result ≡ mean_displacement total moved }
+{
+    if moved == 0 {
+        return 0;
+    }
+    total / moved
+}

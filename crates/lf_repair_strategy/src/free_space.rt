@@ -1,0 +1,208 @@
+//! The free ground of a team, in sites.
+
+ghost use Rattle.std.specs.Prelude.{◌<ℤ◌, negsuc};
+
+use lf_floorplan::Frame;
+use lf_orient::Orient;
+use lf_repair_planner::{FreeRows, FreeSpan, PlannerRow, RowKind};
+use lf_rules::Padding;
+use lf_segments::{IndexedFrame, Segment};
+use std::alloc::{AllocError, Global};
+
+/// The team of that number, and how far apart it keeps its cells, in database units.
+#[derive(Clone, Copy)]
+pub struct PaddedTeam {
+    pub team: usize,
+    pub(crate) pad: i64,
+}
+
+impl PaddedTeam {
+    /// The team of that number on this frame, whose cells keep so much free beside them.
+    pub fn new(frame: &Frame, team: usize, padding: Padding) -> PaddedTeam {
+        PaddedTeam {
+            team,
+            pad: (padding.sites as i64).saturating_mul(frame.pitch.x),
+        }
+    }
+}
+
+/// What is taken of a row, from one x on and below another, in database units.
+#[derive(Clone, Copy, PartialEq, Eq, PartialOrd, Ord)]
+pub(crate) struct BlockedSpan {
+    row: usize,
+    lo: i64,
+    hi: i64,
+}
+
+/// A range of x and one of y, in database units, which a cell takes.
+#[derive(Clone, Copy)]
+pub(crate) struct Area {
+    pub(crate) x1: i64,
+    pub(crate) x2: i64,
+    pub(crate) y1: i64,
+    pub(crate) y2: i64,
+}
+
+/// The sites of a row: where the first one begins, and how far they are apart; a cell needs so much more room to its right.
+#[derive(Clone, Copy)]
+struct Grid {
+    x: i64,
+    step: i64,
+    pad: i64,
+}
+
+/// Notes what an area takes of each row that it lies on, and as much beside it.
+pub(crate) fn take_area(
+    plan: &IndexedFrame<'_>,
+    area: &Area,
+    pad: i64,
+    taken: &mut Vec<BlockedSpan>,
+) -> Result<(), AllocError> {
+    for entry in plan.rows_between(area.y1, area.y2) {
+        taken.push(BlockedSpan {
+            row: entry.row,
+            lo: area.x1.saturating_sub(pad),
+            hi: area.x2.saturating_add(pad),
+        })?;
+    }
+    Ok(())
+}
+
+/// Notes what soft blockages take of the team's segments.
+pub(crate) fn take_soft(
+    plan: &IndexedFrame<'_>,
+    team: usize,
+    taken: &mut Vec<BlockedSpan>,
+) -> Result<(), AllocError> {
+    for (number, segment) in plan.index().segments().as_slice().iter().enumerate() {
+        if segment.team == team {
+            for span in plan.soft_of(number) {
+                taken.push(BlockedSpan {
+                    row: segment.row,
+                    lo: span.lo,
+                    hi: span.hi,
+                })?;
+            }
+        }
+    }
+    Ok(())
+}
+
+/// A number of 32 bits; one that is out of range is moved to its end.
+fn clipped(number: i64) -> u32 {
+    number.clamp(0, 4_294_967_295) as u32
+}
+
+/// A coordinate of DEF; one that is out of range is moved to its end.
+pub(crate) fn coordinate(number: i64) -> i32
+    ensures { negsuc 2147483647 <ℤ result }
+{
+    number.clamp(-2_147_483_647, 2_147_483_647) as i32
+}
+
+/// Notes the sites from one x on and below another.
+fn push_sites(spans: &mut Vec<FreeSpan>, lo: i64, hi: i64, grid: &Grid) -> Result<(), AllocError> {
+    let step = grid.step.max(1);
+    let before = lo.saturating_sub(grid.x).saturating_add(step - 1);
+    let first = before
+        .div_euclid(step)
+        .saturating_mul(step)
+        .saturating_add(grid.x);
+    let count = hi
+        .saturating_add(grid.pad)
+        .saturating_sub(first)
+        .div_euclid(step);
+    if 0 < count {
+        spans.push(FreeSpan {
+            first: coordinate(first),
+            step: clipped(step),
+            count: clipped(count),
+        })?;
+    }
+    Ok(())
+}
+
+/// Notes the free sites of a segment: those that nothing of the list takes.
+fn push_free(
+    spans: &mut Vec<FreeSpan>,
+    taken: &[BlockedSpan],
+    segment: &Segment,
+    grid: &Grid,
+) -> Result<(), AllocError> {
+    let begin = taken.partition_point(|one| one.row < segment.row);
+    let mut lo = segment.span.lo;
+    for one in &taken[begin..] {
+        if one.row != segment.row || segment.span.hi <= one.lo {
+            break;
+        }
+        if lo < one.lo {
+            push_sites(spans, lo, one.lo, grid)?;
+        }
+        lo = lo.max(one.hi);
+    }
+    if lo < segment.span.hi {
+        push_sites(spans, lo, segment.span.hi, grid)?;
+    }
+    Ok(())
+}
+
+/// The kind of a row of this orientation.
+fn kind_of(orient: Orient) -> RowKind {
+    match orient {
+        Orient::S => RowKind::S,
+        Orient::FN => RowKind::FN,
+        Orient::FS => RowKind::FS,
+        _ => RowKind::N,
+    }
+}
+
+/// Notes the free sites of the team in the row of that position.
+fn push_row(
+    plan: &IndexedFrame<'_>,
+    frame: &Frame,
+    owner: &PaddedTeam,
+    number: usize,
+    taken: &[BlockedSpan],
+    land: &mut FreeRows,
+) -> Result<(), AllocError> {
+    let Some(row) = frame.rows.as_slice().get(number) else {
+        return Ok(());
+    };
+    let grid = Grid {
+        x: row.x as i64,
+        step: frame.pitch.x,
+        pad: owner.pad,
+    };
+    let first = land.spans.len();
+    for segment in plan.index().segments().of_row(number, owner.team) {
+        push_free(&mut land.spans, taken, segment, &grid)?;
+    }
+    let last = land.spans.len();
+    if first < last {
+        land.rows.push(PlannerRow {
+            y: row.y,
+            kind: kind_of(row.orient),
+            first,
+            last,
+        })?;
+    }
+    Ok(())
+}
+
+/// The free sites of the team, where these are taken: rows by rising y.
+///
+/// `Err` if an allocation fails.
+pub(crate) fn free_rows_beside(
+    alloc: Global,
+    plan: &IndexedFrame<'_>,
+    frame: &Frame,
+    owner: &PaddedTeam,
+    taken: &mut Vec<BlockedSpan>,
+) -> Result<FreeRows, AllocError> {
+    taken.sort_unstable();
+    let mut land = FreeRows::new(alloc);
+    for entry in plan.rows_between(i64::MIN, i64::MAX) {
+        push_row(plan, frame, owner, entry.row, taken.as_slice(), &mut land)?;
+    }
+    Ok(land)
+}

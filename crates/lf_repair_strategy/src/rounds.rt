@@ -1,0 +1,436 @@
+//! What is asked for which cells.
+
+use crate::edit::{CellEdit, Edit};
+use crate::free_space::{
+    Area, BlockedSpan, PaddedTeam, coordinate, free_rows_beside, take_area, take_soft,
+};
+use crate::pass::Pass;
+use lf_cells::CellId;
+use lf_floorplan::{Frame, Macro, Place};
+use lf_legalize::anchor;
+use lf_orient::{Orient, equal_under, is_candidate};
+use lf_placement::Placement;
+use lf_repair_planner::{
+    FreeRows, PlanOptions, PlannedSite, PlannerCell, RowKind, RowKinds, plan_cells,
+};
+use lf_units::Point;
+use std::alloc::{AllocError, Global};
+
+/// How a plan for so many cells of a team is improved: where most of the team's cells are held fast, in two orders.
+fn steps_of(placement: &Placement, team: usize, loose: usize) -> PlanOptions {
+    PlanOptions {
+        passes: 1,
+        rounds: 2,
+        two_orders: loose <= placement.cells().cells_of(team).len() / 2,
+    }
+}
+
+/// The rounds in which deeds are asked.
+#[derive(Clone, Copy)]
+pub enum Phase {
+    /// Each cell that may move becomes unplaced.
+    Lift,
+    /// Those of several rows go to their best places, the largest area first.
+    Tall,
+    /// Those of one row go where a plan has them, row after row from left to right.
+    Plan,
+    /// Those that are still unplaced go to their best places, the largest area first.
+    Rest,
+}
+
+/// A cell that may move: its id, where it stood, and the size of its macro in database units.
+#[derive(Clone, Copy)]
+struct MovableCell<'a> {
+    id: CellId,
+    home: Option<Place>,
+    mac: &'a Macro,
+    width: i64,
+    height: i64,
+}
+
+/// A length of LEF in database units.
+fn length_of(frame: &Frame, micros: i64) -> i64 {
+    micros.saturating_mul(frame.header.units as i64) / 1_000_000
+}
+
+/// How wide a cell is, in database units.
+pub(crate) fn width_of(placement: &Placement, id: CellId) -> i64 {
+    let frame = placement.frame();
+    let Some(facts) = placement.cells().cell(id) else {
+        return 0;
+    };
+    match frame.macros.as_slice().get(facts.mac) {
+        Some(mac) => length_of(frame, mac.size.x),
+        None => 0,
+    }
+}
+
+/// The cell as one that may move; none if it is held fast.
+fn movable_cell<'a>(placement: &'a Placement, go: &Pass, id: CellId) -> Option<MovableCell<'a>> {
+    let frame = placement.frame();
+    if *go.marks.get(id.own as usize)? {
+        return None;
+    }
+    let home = *go.homes.get(id.own as usize)?;
+    let facts = placement.cells().cell(id)?;
+    let mac = frame.macros.as_slice().get(facts.mac)?;
+    Some(MovableCell {
+        id,
+        home,
+        mac,
+        width: length_of(frame, mac.size.x),
+        height: length_of(frame, mac.size.y),
+    })
+}
+
+/// How many cells may move.
+fn movable_count(go: &Pass) -> usize {
+    let mut count = 0usize;
+    for held in &go.marks {
+        if !*held {
+            count = count.saturating_add(1);
+        }
+    }
+    count
+}
+
+/// Where a cell is wanted: where it stood, or at the team's anchor.
+fn target_of(frame: &Frame, cell: &MovableCell<'_>) -> Point {
+    match cell.home {
+        Some(place) => Point {
+            x: place.x as i64,
+            y: place.y as i64,
+        },
+        None => anchor(frame, cell.id.team as usize),
+    }
+}
+
+/// What the order of best places is by.
+#[derive(Clone, Copy, PartialEq, Eq, PartialOrd, Ord)]
+struct Key {
+    /// The larger the area, the less.
+    area: i64,
+    own: u32,
+    x: i64,
+    y: i64,
+}
+
+fn key_of(frame: &Frame, cell: &MovableCell<'_>) -> Key {
+    let target = target_of(frame, cell);
+    Key {
+        area: 0i64.saturating_sub(cell.width.saturating_mul(cell.height)),
+        own: cell.id.own,
+        x: target.x,
+        y: target.y,
+    }
+}
+
+/// Best places for these cells, in the order of their keys.
+fn best_places(alloc: Global, keys: &mut Vec<Key>) -> Result<Vec<CellEdit>, AllocError> {
+    keys.sort_unstable();
+    let mut deeds = Vec::with_capacity(alloc, keys.len())?;
+    for key in keys.iter() {
+        deeds.push(CellEdit {
+            own: key.own,
+            step: Edit::Legalize(Point { x: key.x, y: key.y }),
+        })?;
+    }
+    Ok(deeds)
+}
+
+/// Takes all cells off the floor that may move.
+fn unplace_movable(
+    alloc: Global,
+    placement: &Placement,
+    number: usize,
+    go: &Pass,
+) -> Result<Vec<CellEdit>, AllocError> {
+    let mut deeds = Vec::with_capacity(alloc, movable_count(go))?;
+    for id in placement.cells().cells_of(number) {
+        if let Some(cell) = movable_cell(placement, go, *id) {
+            if placement.cells().working(*id).is_some() {
+                deeds.push(CellEdit {
+                    own: cell.id.own,
+                    step: Edit::Unplace,
+                })?;
+            }
+        }
+    }
+    Ok(deeds)
+}
+
+/// Best places for the cells of several rows that may move.
+fn legalize_tall(
+    alloc: Global,
+    placement: &Placement,
+    number: usize,
+    go: &Pass,
+) -> Result<Vec<CellEdit>, AllocError> {
+    let frame = placement.frame();
+    let mut keys = Vec::new(alloc);
+    for id in placement.cells().cells_of(number) {
+        if let Some(cell) = movable_cell(placement, go, *id) {
+            if frame.pitch.y < cell.height {
+                keys.push(key_of(frame, &cell))?;
+            }
+        }
+    }
+    best_places(alloc, &mut keys)
+}
+
+/// Best places for the cells that have no place now.
+fn legalize_unplaced(
+    alloc: Global,
+    placement: &Placement,
+    number: usize,
+    go: &Pass,
+) -> Result<Vec<CellEdit>, AllocError> {
+    let frame = placement.frame();
+    let mut keys = Vec::new(alloc);
+    for id in placement.cells().cells_of(number) {
+        if let Some(cell) = movable_cell(placement, go, *id) {
+            if placement.cells().working(*id).is_none() {
+                keys.push(key_of(frame, &cell))?;
+            }
+        }
+    }
+    best_places(alloc, &mut keys)
+}
+
+/// What the team's placed cells take of its rows, and soft blockages.
+fn blocked_spans(
+    alloc: Global,
+    placement: &Placement,
+    owner: &PaddedTeam,
+) -> Result<Vec<BlockedSpan>, AllocError> {
+    let plan = placement.indexed_frame();
+    let frame = placement.frame();
+    let mut taken = Vec::new(alloc);
+    for id in placement.cells().cells_of(owner.team) {
+        let (Some(place), Some(facts)) = (
+            placement.cells().working(*id),
+            placement.cells().cell(*id),
+        ) else {
+            continue;
+        };
+        let Some(mac) = frame.macros.as_slice().get(facts.mac) else {
+            continue;
+        };
+        take_area(&plan, &area_of(frame, mac, &place), owner.pad, &mut taken)?;
+    }
+    take_soft(&plan, owner.team, &mut taken)?;
+    Ok(taken)
+}
+
+/// The free sites of the team.
+pub(crate) fn free_rows(
+    alloc: Global,
+    placement: &Placement,
+    owner: &PaddedTeam,
+) -> Result<FreeRows, AllocError> {
+    let mut taken = blocked_spans(alloc, placement, owner)?;
+    free_rows_beside(
+        alloc,
+        &placement.indexed_frame(),
+        placement.frame(),
+        owner,
+        &mut taken,
+    )
+}
+
+/// What a cell takes that stands there, not on its side.
+fn area_of(frame: &Frame, mac: &Macro, place: &Place) -> Area {
+    let (x, y) = (place.x as i64, place.y as i64);
+    Area {
+        x1: x,
+        x2: x.saturating_add(length_of(frame, mac.size.x)),
+        y1: y,
+        y2: y.saturating_add(length_of(frame, mac.size.y)),
+    }
+}
+
+/// Whether a cell of one row's height may stand so on a row of that orientation.
+fn fits_on(frame: &Frame, mac: &Macro, orient: Orient, row: Orient) -> bool {
+    is_candidate(mac.symmetry, orient) && equal_under(frame.site.symmetry, orient, row)
+}
+
+/// How a cell stands on a row of that orientation: as it did where it may, else as the first of N, S, FN and FS that it may.
+fn orient_on(frame: &Frame, mac: &Macro, home: Orient, row: Orient) -> Option<Orient> {
+    if fits_on(frame, mac, home, row) {
+        return Some(home);
+    }
+    for orient in [Orient::N, Orient::S, Orient::FN, Orient::FS] {
+        if fits_on(frame, mac, orient, row) {
+            return Some(orient);
+        }
+    }
+    None
+}
+
+/// The kinds of rows on which a cell of one row's height may stand.
+fn kinds_of(frame: &Frame, mac: &Macro) -> RowKinds {
+    RowKinds {
+        n: orient_on(frame, mac, Orient::N, Orient::N).is_some(),
+        s: orient_on(frame, mac, Orient::N, Orient::S).is_some(),
+        fn_: orient_on(frame, mac, Orient::N, Orient::FN).is_some(),
+        fs: orient_on(frame, mac, Orient::N, Orient::FS).is_some(),
+    }
+}
+
+/// A site of a span, and the position in the team of the cell that goes there.
+#[derive(Clone, Copy, PartialEq, Eq, PartialOrd, Ord)]
+struct PlannedCell {
+    span: u32,
+    at: u32,
+    own: u32,
+}
+
+/// The positions of cells of one row's height, and what each wishes.
+#[derive(Drop)]
+struct PlannerCells {
+    owns: Vec<u32>,
+    wishes: Vec<PlannerCell>,
+}
+
+/// What a cell wishes that stood there.
+fn planner_cell(frame: &Frame, cell: &MovableCell<'_>, home: &Place, pad: i64) -> PlannerCell {
+    PlannerCell {
+        x: home.x,
+        y: home.y,
+        width: cell.width.saturating_add(pad).clamp(0, 4_294_967_295) as u32,
+        kinds: kinds_of(frame, cell.mac),
+    }
+}
+
+/// The cells of one row's height that may move and stood somewhere.
+fn planner_cells(
+    alloc: Global,
+    placement: &Placement,
+    owner: &PaddedTeam,
+    go: &Pass,
+) -> Result<PlannerCells, AllocError> {
+    let frame = placement.frame();
+    let most = movable_count(go);
+    let mut owns = Vec::with_capacity(alloc, most)?;
+    let mut wishes = Vec::with_capacity(alloc, most)?;
+    for id in placement.cells().cells_of(owner.team) {
+        let Some(cell) = movable_cell(placement, go, *id) else {
+            continue;
+        };
+        let Some(home) = cell.home else {
+            continue;
+        };
+        if cell.height <= frame.pitch.y {
+            owns.push(id.own)?;
+            wishes.push(planner_cell(frame, &cell, &home, owner.pad))?;
+        }
+    }
+    Ok(PlannerCells { owns, wishes })
+}
+
+/// The spots of a plan for cells of these positions, row after row from left to right.
+fn planned_cells(
+    alloc: Global,
+    owns: &[u32],
+    spots: &[Option<PlannedSite>],
+) -> Result<Vec<PlannedCell>, AllocError> {
+    let mut stops = Vec::with_capacity(alloc, spots.len())?;
+    for (own, spot) in owns.iter().zip(spots.iter()) {
+        if let Some(spot) = spot {
+            stops.push(PlannedCell {
+                span: spot.span.min(4_294_967_295) as u32,
+                at: spot.at,
+                own: *own,
+            })?;
+        }
+    }
+    stops.sort_unstable();
+    Ok(stops)
+}
+
+/// How a row of this kind is oriented.
+fn orient_of(kind: RowKind) -> Orient {
+    match kind {
+        RowKind::N => Orient::N,
+        RowKind::S => Orient::S,
+        RowKind::FN => Orient::FN,
+        RowKind::FS => Orient::FS,
+    }
+}
+
+/// The place of a cell at a site of a land.
+fn place_at(
+    frame: &Frame,
+    land: &FreeRows,
+    stop: &PlannedCell,
+    cell: &MovableCell<'_>,
+) -> Option<Place> {
+    let home = cell.home?;
+    let span = stop.span as usize;
+    let sites = land.spans.get(span)?;
+    let after = land.rows.partition_point(|row| row.first <= span);
+    let row = land.rows.get(after.checked_sub(1)?)?;
+    let orient = orient_on(frame, cell.mac, home.orient, orient_of(row.kind))?;
+    let x = (sites.first as i64).saturating_add((sites.step as i64).saturating_mul(stop.at as i64));
+    Some(Place::new(coordinate(x), coordinate(row.y as i64), orient))
+}
+
+/// The stops of a plan for the cells of one row's height that may move. What else a plan is made of is gone with it.
+fn all_planned_cells(
+    alloc: Global,
+    placement: &Placement,
+    owner: &PaddedTeam,
+    go: &Pass,
+    land: &FreeRows,
+) -> Result<Vec<PlannedCell>, AllocError> {
+    let PlannerCells { owns, wishes } = planner_cells(alloc, placement, owner, go)?;
+    let steps = steps_of(placement, owner.team, owns.as_slice().len());
+    let spots = plan_cells(alloc, land, wishes.as_slice(), &steps)?;
+    planned_cells(alloc, owns.as_slice(), spots.as_slice())
+}
+
+/// The places of a plan for the cells of one row's height that may move.
+fn place_by_plan(
+    alloc: Global,
+    placement: &Placement,
+    owner: &PaddedTeam,
+    go: &Pass,
+) -> Result<Vec<CellEdit>, AllocError> {
+    let frame = placement.frame();
+    let land = free_rows(alloc, placement, owner)?;
+    let stops = all_planned_cells(alloc, placement, owner, go, &land)?;
+    let mut deeds = Vec::with_capacity(alloc, stops.len())?;
+    for stop in &stops {
+        let Some(id) = placement.cells().cell_of(owner.team, stop.own as usize) else {
+            continue;
+        };
+        let Some(cell) = movable_cell(placement, go, id) else {
+            continue;
+        };
+        if let Some(place) = place_at(frame, &land, stop, &cell) {
+            deeds.push(CellEdit {
+                own: stop.own,
+                step: Edit::Place(place),
+            })?;
+        }
+    }
+    Ok(deeds)
+}
+
+/// What is asked in a round for the cells of the team: nothing for those that are held fast.
+///
+/// `Err` if an allocation fails.
+pub fn edits_for(
+    alloc: Global,
+    placement: &Placement,
+    owner: &PaddedTeam,
+    go: &Pass,
+    phase: Phase,
+) -> Result<Vec<CellEdit>, AllocError> {
+    match phase {
+        Phase::Lift => unplace_movable(alloc, placement, owner.team, go),
+        Phase::Tall => legalize_tall(alloc, placement, owner.team, go),
+        Phase::Plan => place_by_plan(alloc, placement, owner, go),
+        Phase::Rest => legalize_unplaced(alloc, placement, owner.team, go),
+    }
+}

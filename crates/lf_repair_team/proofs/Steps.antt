@@ -1,0 +1,148 @@
+-- What a step to a team does to it.
+use Rattle.std.proofs.Common.{◌≡◌, ◌⊎◌, inl, inr, ℕ, List, map, Bool, true, false, Option, Some, None, refl, ap, sym, ◌∙◌, subst}
+use Rattle.std.specs.Prelude.{MatchBool, slice_get, option_and_then}
+use Rattle.std.specs.Option.{option_map}
+use Rattle.lf_floorplan.specs.declared.place.Place.{Place}
+use Rattle.lf_rules.specs.Legalizer.{Legalizer}
+use Rattle.lf_proto.specs.declared.request.Command.{Command}
+use Rattle.lf_proto.specs.declared.request.Command.TheVariants.{Bye, To}
+use Rattle.lf_proto.specs.declared.request.TeamCommand.{TeamCommand}
+use Rattle.lf_proto.specs.declared.reply.Reply.{Reply}
+use Rattle.lf_cells.specs.declared.cell.Cell.{Cell}
+use Rattle.lf_cells.specs.Cells.{working_at}
+use Rattle.lf_floor_model.specs.States.{FloorState, TeamState}
+use Rattle.lf_floor_model.specs.Teams.{TeamRules, team_rules, state_at, state_of, team_number}
+use Rattle.lf_floor_model.specs.Outcomes.{Outcome, is_short}
+use Rattle.lf_floor_model.specs.Steps.{IsAnswerOf, IsTo, MayRunOutOfMemory, Step, answer_at, answer_by, answer_of, outcome_by_rules}
+use Rattle.lf_floor_model.specs.Verbs.{outcome_of}
+use Rattle.lf_floor_model.specs.VerbLaws.{QueryKeepsState, committed_places, is_change, is_commit}
+use Rattle.lf_floor_model.proofs.Answering.{own_answer}
+use Rattle.lf_floor_model.proofs.Cases.{Facts, names_stay, order_facts}
+use Rattle.lf_floor_model.proofs.Kept.{committed_stay}
+use Rattle.lf_repair_team.specs.Deeds.{KeepsCommittedPlaces, IsUnchangedOrStepped, SameCells}
+use Rattle.lf_repair_team.specs.Mending.{names_in, place_in}
+
+-- ---- the team before and after
+
+-- an order to no team changes nothing
+none_there : (l : Legalizer) (floor : FloorState) (team : List ℕ) (order : TeamCommand (List ℕ) Place) → state_of floor team ≡ None
+    → (answer_of l floor (To team order)).floor ≡ floor
+unfolding answer_of
+none_there l floor team order none = go (team_number floor.frame team) none where
+  by : (o : Option TeamState) (number : ℕ) → o ≡ None → (answer_by o l floor number order).floor ≡ floor
+  by None number e = refl
+  by (Some s) number e = absurd cc
+
+  go : (o : Option ℕ) → state_at floor.teams o ≡ None → (answer_at o l floor order).floor ≡ floor
+  go None e = refl
+  go (Some number) e = by (slice_get floor.teams number) number e
+
+-- the floor is as before, or the team is as its rules have it
+pub record IsServed (l : Legalizer) (old new : FloorState) (team : List ℕ) (order : TeamCommand (List ℕ) Place) : Type 0 where
+  pub number : ℕ
+  pub state : TeamState
+  pub named : team_number old.frame team ≡ Some number
+  pub before : state_of old team ≡ Some state
+  pub after : state_of new team ≡ Some (outcome_by_rules l old.frame number order state).team
+
+pub team_step : (l : Legalizer) (old new : FloorState) (team : List ℕ) (order : TeamCommand (List ℕ) Place) (reply : Reply) → Step l old (To team order) reply new
+    → (new ≡ old) ⊎ IsServed l old new team order
+team_step l old new team order reply step = short (is_short reply) step where
+  answered : IsAnswerOf l old (To team order) reply new → (o : Option ℕ) → team_number old.frame team ≡ o → (s : Option TeamState) → state_of old team ≡ s
+      → (new ≡ old) ⊎ IsServed l old new team order
+  answered answers o named None there = inl (answers.floor_is ∙ none_there l old team order there)
+  answered answers None named (Some s) there = absurd (none_some (sym (ap (λ (o : Option ℕ). state_at old.teams o) named) ∙ there)) where
+    none_some : None ≡ Some s → ⊥
+    none_some e = cc
+  answered answers (Some number) named (Some s) there = inr (record {
+    number = number;
+    state = s;
+    named = named;
+    before = there;
+    after = ap (λ (f : FloorState). state_of f team) answers.floor_is ∙ (own_answer l old team number order s named there).1;
+  })
+
+  short : (b : Bool) → MatchBool b (MayRunOutOfMemory l old (To team order) new) (IsAnswerOf l old (To team order) reply new)
+      → (new ≡ old) ⊎ IsServed l old new team order
+  short true runs = inl runs.short.kept
+  short false answers = answered answers (team_number old.frame team) refl (state_of old team) refl
+
+-- the same where it may be that nothing was asked
+pub asked_step : (l : Legalizer) (old new : FloorState) (team : List ℕ) (order : TeamCommand (List ℕ) Place) → IsUnchangedOrStepped l old (To team order) new
+    → (new ≡ old) ⊎ IsServed l old new team order
+asked_step l old new team order (inl same) = inl same
+asked_step l old new team order (inr (reply, step)) = team_step l old new team order reply step
+
+-- ---- places
+
+pub place_of_state : (floor : FloorState) (team : List ℕ) (own : ℕ) (s : TeamState) → state_of floor team ≡ Some s → place_in floor team own ≡ working_at s.cells own
+place_of_state floor team own s there = ap (λ (o : Option TeamState). option_and_then (λ (s : TeamState). working_at s.cells own) o) there
+
+-- the place of a cell stays where the rules leave it
+pub place_stays : (l : Legalizer) (old new : FloorState) (team : List ℕ) (order : TeamCommand (List ℕ) Place) (own : ℕ)
+    → IsUnchangedOrStepped l old (To team order) new
+    → ((number : ℕ) (s : TeamState) → state_of old team ≡ Some s → working_at (outcome_by_rules l old.frame number order s).team.cells own ≡ working_at s.cells own)
+    → place_in new team own ≡ place_in old team own
+place_stays l old new team order own asked stays = elim (asked_step l old new team order asked) [
+  | inl same ↦ ap (λ (f : FloorState). place_in f team own) same
+  | inr served ↦
+      place_of_state new team own (outcome_by_rules l old.frame served.number order served.state).team served.after
+      ∙ stays served.number served.state served.before
+      ∙ sym (place_of_state old team own served.state served.before)
+]
+
+-- a look leaves each cell
+pub look_same : (l : Legalizer) (old new : FloorState) (team : List ℕ) (order : TeamCommand (List ℕ) Place)
+    → QueryKeepsState → is_change order ≡ false → IsUnchangedOrStepped l old (To team order) new → SameCells team old new
+look_same l old new team order keeps look asked = elim (asked_step l old new team order asked) [
+  | inl same ↦ inl (ap (λ (f : FloorState). state_of f team) same)
+  | inr served ↦ inr (record {
+    before = served.state;
+    after = (outcome_by_rules l old.frame served.number order served.state).team;
+    was = served.before;
+    is = served.after;
+    keeps = keeps (team_rules l old.frame served.number served.state.padding) order served.state look;
+  })
+]
+
+-- ---- committed places
+
+-- they stay, unless the order is a commit
+pub committed_stays : (l : Legalizer) (old new : FloorState) (team : List ℕ) (order : TeamCommand (List ℕ) Place) → is_commit order ≡ false
+    → IsUnchangedOrStepped l old (To team order) new → KeepsCommittedPlaces team old new
+committed_stays l old new team order plain asked = elim (asked_step l old new team order asked) [
+  | inl same ↦ ap (λ (f : FloorState). option_map committed_places (state_of f team)) same
+  | inr served ↦
+      ap (λ (o : Option TeamState). option_map committed_places o) served.after
+      ∙ ap (λ (places : List (Option Place)). Some places) (committed_stay (team_rules l old.frame served.number served.state.padding) order served.state plain)
+      ∙ sym (ap (λ (o : Option TeamState). option_map committed_places o) served.before)
+]
+
+-- ---- names
+
+abbrev names_of : TeamState → List (List ℕ)
+names_of s = map (λ (c : Cell). c.name) s.cells
+
+verb_names : (t : TeamRules) (order : TeamCommand (List ℕ) Place) (s : TeamState) → names_of (outcome_of t order s).team ≡ names_of s
+verb_names t order s = by (outcome_of t order s) (order_facts t order s) where
+  by : (o : Outcome) → Facts t s order o → names_of o.team ≡ names_of s
+  by o (inl refusal) = ap (λ (o : Outcome). names_of o.team) refusal.is
+  by o (inr (inl look)) = elim look.team [ inl same ↦ ap names_of same | inr slot ↦ ap names_of slot.is ]
+  by o (inr (inr done)) = names_stay t s done.change o.team.cells done.is.cells
+
+order_names : (l : Legalizer) (old new : FloorState) (team : List ℕ) (order : TeamCommand (List ℕ) Place) (reply : Reply) → Step l old (To team order) reply new
+    → names_in new team ≡ names_in old team
+order_names l old new team order reply step = elim (team_step l old new team order reply step) [
+  | inl same ↦ ap (λ (f : FloorState). names_in f team) same
+  | inr served ↦
+      ap (λ (o : Option TeamState). option_map names_of o) served.after
+      ∙ ap (λ (names : List (List ℕ)). Some names) (verb_names (team_rules l old.frame served.number served.state.padding) order served.state)
+      ∙ sym (ap (λ (o : Option TeamState). option_map names_of o) served.before)
+]
+
+-- a team has the same cells after a command to it
+pub step_names : (l : Legalizer) (team : List ℕ) (command : Command (List ℕ) Place) (old new : FloorState) (reply : Reply) → IsTo team command
+    → Step l old command reply new → names_in new team ≡ names_in old team
+step_names l team Bye old new reply to step = absurd to
+step_names l team (To name order) old new reply to step =
+    subst (λ (n : List ℕ). names_in new n ≡ names_in old n) to (order_names l old new name order reply step)

@@ -1,0 +1,12 @@
+use Rattle.std.proofs.Common.{◌≡◌, ◌∙◌, true, false, ap, sym}
+use Rattle.std.specs.Prelude.{slice_get}
+use Rattle.lf_repair_team.proofs.run_edits.run_edit_unless_locked.Goals as goal
+
+false_true : false ≡ true → ⊥
+false_true e = cc
+
+pub returns-clause-marked : goal.returns-clause-marked
+returns-clause-marked g c = λ k marked.
+    let marks = c.args.marks.now in
+    let own = c.args.deed.now.own in
+    c.run_edit.ensures.cells k (λ (same : k ≡ own). false_true (sym c.if-is_locked.false ∙ c.is_locked.ensures.1 (ap (slice_get marks) (sym same) ∙ marked)))

@@ -1,0 +1,59 @@
+use Rattle.std.proofs.Common.{◌∙◌}
+use Rattle.lf_repair_team.proofs.Finding.{elsewhere_through, home_through}
+use Rattle.lf_repair_team.proofs.Legal.{all_left_through, but_committed, but_through, committed_through, left_committed, same_committed, same_places, uncommitted}
+use Rattle.lf_repair_team.proofs.Runs.{none_cut, then_cut, then_written}
+use Rattle.lf_repair_team.proofs.team.finish.Goals as goal
+
+pub returns-in-Ok-close-clause-run : goal.returns-in-Ok-close-clause-run
+returns-in-Ok-close-clause-run g c = λ l.
+    then_written l c.args.seat.now.team.now c.args.floor.now c.commit_if_clean.new.floor c.close.new.floor (g.K.Sink.contents c.args.lines.now)
+    (g.K.Sink.contents c.commit_if_clean.new.lines) (g.K.Sink.contents c.close.new.lines) (c.in-Ok-commit_if_clean.ensures.run l) (c.in-Ok-close.ensures.run l)
+
+pub returns-in-Err-close-clause-err : goal.returns-in-Err-close-clause-err
+returns-in-Err-close-clause-err g c = λ l.
+    then_cut l c.args.seat.now.team.now c.args.floor.now c.commit_if_clean.new.floor c.close.new.floor (g.K.Sink.contents c.args.lines.now)
+    (g.K.Sink.contents c.commit_if_clean.new.lines) (g.K.Sink.contents c.close.new.lines) (c.in-Ok-commit_if_clean.ensures.run l) (c.in-Err-close.ensures.err l)
+
+pub returns-in-Ok-close-clause-changed : goal.returns-in-Ok-close-clause-changed
+returns-in-Ok-close-clause-changed g c =
+    home_through c.args.seat.now.team.now c.args.homes.now c.args.floor.now c.close.new.floor c.in-Ok.found.changed.items
+    (c.in-Ok-close.ensures.only.names ∙ c.in-Ok-commit_if_clean.ensures.only.names)
+    (λ own. same_places c.args.seat.now.team.now c.commit_if_clean.new.floor c.close.new.floor c.in-Ok-close.ensures.cells own ∙ c.in-Ok-commit_if_clean.ensures.places own)
+    c.in-Ok.ensures.changed
+
+pub returns-in-Ok-close-clause-moved : goal.returns-in-Ok-close-clause-moved
+returns-in-Ok-close-clause-moved g c =
+    elsewhere_through c.args.seat.now.team.now c.args.homes.now c.args.floor.now c.close.new.floor c.in-Ok.found.changed.items
+    (c.in-Ok-close.ensures.only.names ∙ c.in-Ok-commit_if_clean.ensures.only.names)
+    (λ own. same_places c.args.seat.now.team.now c.commit_if_clean.new.floor c.close.new.floor c.in-Ok-close.ensures.cells own ∙ c.in-Ok-commit_if_clean.ensures.places own)
+    c.in-Ok.ensures.moved
+
+pub returns-in-Ok-close-clause-named : goal.returns-in-Ok-close-clause-named
+returns-in-Ok-close-clause-named g c =
+    let team = c.args.seat.now.team.now in
+    let left = c.in-Ok.found.left.items in
+    let l = c.legalizer_exists.ensures in
+    but_through team c.commit_if_clean.new.floor c.close.new.floor left c.in-Ok-close.ensures.only.frame c.in-Ok-close.ensures.cells
+    (but_committed team c.args.floor.now c.commit_if_clean.new.floor c.as_slice.result.now left c.as_slice.ensures.value c.in-Ok-commit_if_clean.ensures.kept l
+    (c.in-Ok-commit_if_clean.ensures.committed l) c.in-Ok.ensures.named)
+
+pub returns-in-Ok-close-clause-illegal : goal.returns-in-Ok-close-clause-illegal
+returns-in-Ok-close-clause-illegal g c =
+    let team = c.args.seat.now.team.now in
+    let left = c.in-Ok.found.left.items in
+    all_left_through team c.commit_if_clean.new.floor c.close.new.floor left c.in-Ok-close.ensures.only.frame c.in-Ok-close.ensures.cells
+    (left_committed team c.args.floor.now c.commit_if_clean.new.floor c.as_slice.result.now left c.as_slice.ensures.value c.in-Ok-commit_if_clean.ensures.kept c.in-Ok.ensures.illegal)
+
+pub returns-in-Ok-close-clause-committed : goal.returns-in-Ok-close-clause-committed
+returns-in-Ok-close-clause-committed g c = λ l none.
+    committed_through l c.args.seat.now.team.now c.commit_if_clean.new.floor c.close.new.floor c.in-Ok-close.ensures.only.frame c.in-Ok-close.ensures.cells
+    (c.in-Ok-commit_if_clean.ensures.committed l (c.as_slice.ensures.value ∙ none))
+
+pub returns-in-Ok-close-clause-uncommitted : goal.returns-in-Ok-close-clause-uncommitted
+returns-in-Ok-close-clause-uncommitted g c = λ some.
+    same_committed c.args.seat.now.team.now c.commit_if_clean.new.floor c.close.new.floor c.in-Ok-close.ensures.cells
+    ∙ uncommitted c.args.seat.now.team.now c.args.floor.now c.commit_if_clean.new.floor c.as_slice.result.now c.in-Ok.found.left.items c.as_slice.ensures.value
+    c.in-Ok-commit_if_clean.ensures.kept some
+
+pub returns-in_default-clause-err : goal.returns-in_default-clause-err
+returns-in_default-clause-err g c = λ l. none_cut l c.args.seat.now.team.now c.args.floor.now (g.K.Sink.contents c.args.lines.now)

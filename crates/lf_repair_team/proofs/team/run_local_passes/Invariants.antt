@@ -1,0 +1,12 @@
+use Rattle.lf_rules.specs.Legalizer.{Legalizer}
+use Rattle.lf_repair_team.specs.Deeds.{KeepsCommittedPlaces}
+use Rattle.lf_repair_team.specs.Mending.{ChangesOnly}
+use Rattle.lf_repair_team.specs.Runs.{IsWrittenRun}
+use Rattle.lf_repair_team.proofs.team.run_local_passes.Given as goal
+
+abbrev pub invariant-loop-reach : goal.invariant-loop-reach
+invariant-loop-reach g l = record {
+  run : (lz : Legalizer) → IsWrittenRun lz l.seat.team.now l.fn.floor (g.K.Sink.contents l.fn.lines) (g.K.Sink.contents l.lines) l.floor;
+  only : ChangesOnly l.seat.team.now l.fn.floor l.floor;
+  committed : KeepsCommittedPlaces l.seat.team.now l.fn.floor l.floor;
+}

@@ -1,0 +1,50 @@
+-- Runs of one team's own commands, and the lines of them.
+use Rattle.std.specs.Prelude.{◌≡◌, ℕ, ◌≤◌, List, [], ◌∷◌, ◌++◌, All, Option, length, take, true}
+use Rattle.std.specs.List.{flat_map}
+use Rattle.std.specs.Io.KnownBytes.{Appends}
+use Rattle.lf_floorplan.specs.declared.place.Place.{Place}
+use Rattle.lf_proto.specs.Lines.{IsName}
+use Rattle.lf_rules.specs.Legalizer.{Legalizer}
+use Rattle.lf_proto.specs.declared.request.Command.{Command}
+use Rattle.lf_proto.specs.declared.reply.Reply.{Reply}
+use Rattle.lf_proto.specs.Printed.{printed}
+use Rattle.lf_proto.specs.Requests.{IsPlain}
+use Rattle.lf_floor_model.specs.States.{FloorState}
+use Rattle.lf_floor_model.specs.Steps.{IsTo}
+use Rattle.lf_floor_model.specs.Runs.{Run}
+use Rattle.lf_floor_model.specs.VerbLaws.{is_ok}
+
+-- the line that prints a command, with its line feed
+abbrev pub line_of : Command (List ℕ) Place → List ℕ
+line_of command = printed command ++ 10 ∷ []
+
+-- the lines of these commands
+abbrev pub lines_of : List (Command (List ℕ) Place) → List ℕ
+lines_of commands = flat_map line_of commands
+
+-- the floor goes from old to new by these commands, all of them to this team and each of them accepted; if the team's name is of
+-- visible bytes, a line can ask each, so that its line reads as that command
+pub record IsRunBy (commands : List (Command (List ℕ) Place)) (l : Legalizer) (team : List ℕ) (old new : FloorState) : Type 0 where
+  pub replies : List Reply
+  pub run : Run l old commands replies new
+  pub granted : All (λ reply. is_ok reply ≡ true) replies
+  pub own : All (IsTo team) commands
+  pub plain : IsName team → All IsPlain commands
+
+-- the floor goes so by some commands, whose lines are what has been written, where the writer's bytes are known
+abbrev pub IsWrittenRun : Legalizer → List ℕ → FloorState → Option (List ℕ) → Option (List ℕ) → FloorState → Type 0
+IsWrittenRun l team old before after new =
+    (commands : List (Command (List ℕ) Place)) × IsRunBy commands l team old new × Appends before after (lines_of commands)
+
+-- a front of these bytes has been written, where the writer's bytes are known: perhaps none of them, perhaps all
+abbrev pub AppendsFront : Option (List ℕ) → Option (List ℕ) → List ℕ → Type 0
+AppendsFront before after bytes = (count : ℕ) × Appends before after (take count bytes)
+
+-- the floor goes so by some commands and at most one more; what has been written are the lines of the former, and a front of that one's
+pub record IsRunWithCutLine (l : Legalizer) (team : List ℕ) (old : FloorState) (before after : Option (List ℕ)) (new : FloorState) : Type 0 where
+  pub commands : List (Command (List ℕ) Place)
+  pub last : List (Command (List ℕ) Place)
+  pub one : length last ≤ 1
+  pub run : IsRunBy (commands ++ last) l team old new
+  pub count : ℕ
+  pub written : Appends before after (lines_of commands ++ take count (lines_of last))

@@ -1,0 +1,119 @@
+//! A team after the rounds of its repair: which cells stand otherwise than before, and which are left.
+
+ghost use Rattle.std.specs.Prelude.{◌≡◌, All, IfOk, OnOk, Some};
+ghost use Rattle.lf_cells.specs.Cells.{cells_of};
+ghost use Rattle.lf_floor_model.specs.Teams.{team_number};
+ghost use Rattle.lf_repair_strategy.specs.Homes.{target_at};
+ghost use Rattle.lf_repair_team.specs.Deeds.{AreAtTargetsExcept, HaveLeftTargets, IsLegalOrListed, HoldsOrIsListed, TeamHasLeftTargets, TeamIsAtTargetsExcept};
+ghost use Rattle.lf_repair_team.specs.Mending.{AreLegalExcept, IsIllegalIn};
+
+use crate::run_edits::TeamSession;
+use lf_cells::CellId;
+use lf_floor::Floor;
+use lf_floorplan::{Place, same_place};
+use lf_legalize::Seeker;
+use lf_placement::Placement;
+use std::alloc::{AllocError, Global};
+
+/// Positions in a team of the cells that stand otherwise than before, and of those that are unplaced or break a rule.
+#[derive(Drop)]
+pub(crate) struct RepairOutcome {
+    pub(crate) changed: Vec<u32>,
+    pub(crate) left: Vec<u32>,
+}
+
+/// The place of that position in the list, if it has one there.
+pub(crate) fn target_place(homes: &[Option<Place>], own: usize) -> Option<Place>
+    ensures { result ≡ target_at homes.now own }
+{
+    *homes.get(own)?
+}
+
+/// Names the cell of that position, unless it stands where it stood.
+fn name_changed(
+    now: Option<Place>,
+    home: Option<Place>,
+    own: u32,
+    changed: &mut Vec<u32>,
+) -> Result<(), AllocError>
+    ensures { OnOk result (HoldsOrIsListed (now ≡ home) (now ≡ home → ⊥) own changed.old.items changed.new.items) }
+{
+    if same_place(now, home) {
+        return Ok(());
+    }
+    changed.push(own)?;
+    Ok(())
+}
+
+/// The positions of the team's cells that do not stand where they stood.
+fn changed_cells(
+    alloc: Global,
+    placement: &Placement,
+    number: usize,
+    homes: &[Option<Place>],
+) -> Result<Vec<u32>, AllocError>
+    ensures changed { IfOk result (λ changed. AreAtTargetsExcept (cells_of placement.now.cells number) homes.now changed.items) }
+    ensures moved { IfOk result (λ changed. HaveLeftTargets (cells_of placement.now.cells number) homes.now changed.items) }
+{
+    let mut changed = Vec::new(alloc);
+    for id in placement.cells().cells_of(number) {
+        let now = placement.cells().working(*id);
+        let home = target_place(homes, id.own as usize);
+        name_changed(now, home, id.own, &mut changed)?;
+    }
+    Ok(changed)
+}
+
+/// Names the cell, unless it stands legally.
+fn note_illegal<S: Seeker + Drop>(
+    floor: &Floor<S>,
+    seat: &TeamSession<'_>,
+    id: CellId,
+    left: &mut Vec<u32>,
+) -> Result<(), AllocError>
+    requires { team_number floor.now.frame seat.now.team.now ≡ Some seat.now.number }
+    ensures { OnOk result (IsLegalOrListed seat.now.team.now floor.now id.own left.old.items left.new.items) }
+{
+    if floor.is_cell_legal(seat.number, id.own as usize) {
+        return Ok(());
+    }
+    left.push(id.own)?;
+    Ok(())
+}
+
+/// The positions of the team's cells that do not stand legally.
+fn illegal_cells<S: Seeker + Drop>(
+    alloc: Global,
+    floor: &Floor<S>,
+    seat: &TeamSession<'_>,
+) -> Result<Vec<u32>, AllocError>
+    requires { team_number floor.now.frame seat.now.team.now ≡ Some seat.now.number }
+    ensures named { IfOk result (λ left. AreLegalExcept seat.now.team.now floor.now left.items) }
+    ensures illegal { IfOk result (λ left. All (λ own. IsIllegalIn floor.now seat.now.team.now own) left.items) }
+{
+    let mut left = Vec::new(alloc);
+    for id in floor.placement().cells().cells_of(seat.number) {
+        note_illegal(floor, seat, *id, &mut left)?;
+    }
+    Ok(left)
+}
+
+/// What is found of the team, whose cells stood at these places before.
+///
+/// `Err` if an allocation fails.
+pub(crate) fn found_of<S: Seeker + Drop>(
+    alloc: Global,
+    floor: &Floor<S>,
+    seat: &TeamSession<'_>,
+    homes: &[Option<Place>],
+) -> Result<RepairOutcome, AllocError>
+    requires { team_number floor.now.frame seat.now.team.now ≡ Some seat.now.number }
+    ensures changed { IfOk result (λ found. TeamIsAtTargetsExcept seat.now.team.now homes.now floor.now found.changed.items) }
+    ensures moved { IfOk result (λ found. TeamHasLeftTargets seat.now.team.now homes.now floor.now found.changed.items) }
+    ensures named { IfOk result (λ found. AreLegalExcept seat.now.team.now floor.now found.left.items) }
+    ensures illegal { IfOk result (λ found. All (λ own. IsIllegalIn floor.now seat.now.team.now own) found.left.items) }
+{
+    let changed = changed_cells(alloc, floor.placement(), seat.number, homes)?;
+    let left = illegal_cells(alloc, floor, seat)?;
+    Ok(RepairOutcome { changed, left })
+}

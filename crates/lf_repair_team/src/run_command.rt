@@ -1,0 +1,83 @@
+//! Commands that are asked of a floor, and written if it accepts them.
+
+ghost use Rattle.std.specs.Prelude.{◌≡◌, IfOk, List, OnErr, OnOk, ℕ};
+ghost use Rattle.std.specs.Io.KnownBytes.{Appends};
+ghost use Rattle.lf_proto.specs.Lines.{IsName};
+ghost use Rattle.lf_rules.specs.Legalizer.{Legalizer};
+ghost use Rattle.lf_proto.specs.Commands.{command_of};
+ghost use Rattle.lf_proto.specs.Requests.{IsPlain};
+ghost use Rattle.lf_floor_model.specs.VerbLaws.{is_ok};
+ghost use Rattle.lf_floor_model.specs.Steps.{CommitsLegally, IsTo};
+ghost use Rattle.lf_repair_team.specs.Deeds.{IsUnchangedOrStepped};
+ghost use Rattle.lf_repair_team.specs.Runs.{AppendsFront, IsRunWithCutLine, IsWrittenRun};
+ghost use Rattle.lf_repair_team.specs.Mending.{ChangesOnly};
+
+use crate::request_text::write_request;
+use lf_floor::Floor;
+use lf_io::{DeviceFault, Sink};
+use lf_legalize::Seeker;
+use lf_proto::{Refusal, Reply, Request};
+use lf_rules::legalizer_exists;
+
+/// Why the repair of a team broke off.
+#[derive(Clone, Copy, Debug, PartialEq, Eq)]
+pub enum RepairFault {
+    /// No team has the name; nothing was asked.
+    NoTeam,
+    /// An allocation failed.
+    OutOfMemory,
+    /// The lines could not be written: of the last command's line a front was, perhaps nothing.
+    Lines,
+    /// The floor refused to open a session, or to commit the team.
+    Refused(Refusal),
+}
+
+/// Whether the reply is no refusal.
+fn is_accepted(reply: &Reply) -> bool
+    ensures { result ≡ is_ok reply.now }
+{
+    !matches!(reply, Reply::Refused(_))
+}
+
+/// Writes all the bytes, in as many calls as it takes.
+fn write_whole<K: Sink>(lines: &mut K, bytes: &[u8]) -> Result<(), DeviceFault>
+    ensures ok { OnOk result (Appends (K.contents lines.old) (K.contents lines.new) bytes.now) }
+    ensures err { OnErr result (AppendsFront (K.contents lines.old) (K.contents lines.new) bytes.now) }
+{
+    let mut at = 0;
+    while at < bytes.len() {
+        at += lines.write(&bytes[at..])?;
+    }
+    Ok(())
+}
+
+/// Asks a command of the floor, and writes its line if the reply is no refusal. The line is made first: where there is no memory
+/// for it, nothing is asked.
+pub(crate) fn run_command<S: Seeker + Drop, K: Sink>(
+    floor: &mut Floor<S>,
+    request: &Request,
+    line: &mut Vec<u8>,
+    lines: &mut K,
+) -> Result<Reply, RepairFault>
+    ensures run { (l : Legalizer) (team : List ℕ) → IsTo team (command_of request.now) → (IsName team → IsPlain (command_of request.now))
+        → IfOk result (λ _. IsWrittenRun l team floor.old (K.contents lines.old) (K.contents lines.new) floor.new) }
+    ensures err { (l : Legalizer) (team : List ℕ) → IsTo team (command_of request.now) → (IsName team → IsPlain (command_of request.now))
+        → OnErr result (IsRunWithCutLine l team floor.old (K.contents lines.old) (K.contents lines.new) floor.new) }
+    ensures only { (team : List ℕ) → IsTo team (command_of request.now) → ChangesOnly team floor.old floor.new }
+    ensures asked { (l : Legalizer) → IsUnchangedOrStepped l floor.old (command_of request.now) floor.new }
+    ensures committed { (l : Legalizer) → IfOk result (λ reply. CommitsLegally l (command_of request.now) reply floor.new) }
+{
+    legalizer_exists();
+    line.clear();
+    if write_request(line, request).is_err() {
+        return Err(RepairFault::OutOfMemory);
+    }
+    let reply = floor.step(request);
+    if !is_accepted(&reply) {
+        return Ok(reply);
+    }
+    if write_whole(lines, line.as_slice()).is_err() {
+        return Err(RepairFault::Lines);
+    }
+    Ok(reply)
+}

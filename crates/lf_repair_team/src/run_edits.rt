@@ -1,0 +1,224 @@
+//! Changes of single cells, which leave all other cells where they stand.
+
+ghost use Rattle.std.specs.Prelude.{◌≡◌, ◌≢◌, ◌↔◌, IfOk, IsTrue, OnErr, Some, ℕ, slice_get, true};
+ghost use Rattle.lf_proto.specs.Lines.{IsName};
+ghost use Rattle.lf_rules.specs.Legalizer.{Legalizer};
+ghost use Rattle.lf_proto.specs.Requests.{IsInRange, IsPlainAction, IsTarget};
+ghost use Rattle.lf_proto.specs.Verbs.{change_of};
+ghost use Rattle.lf_proto.specs.declared.verb.Action.TheVariants.{Change as Changing};
+ghost use Rattle.lf_cells.specs.Cells.{cell_named};
+ghost use Rattle.lf_floor_model.specs.States.{TeamState};
+ghost use Rattle.lf_floor_model.specs.Outcomes.{name_at};
+ghost use Rattle.lf_floor_model.specs.Teams.{state_of};
+ghost use Rattle.lf_repair_team.specs.Deeds.{KeepsCommittedPlaces, IsOfCell, KeepsLockedPlaces};
+ghost use Rattle.lf_repair_team.specs.Mending.{ChangesOnly, place_in};
+ghost use Rattle.lf_repair_team.specs.Runs.{IsRunWithCutLine, IsWrittenRun};
+
+use crate::run_command::{RepairFault, run_command};
+use lf_floor::Floor;
+use lf_floorplan::Place;
+use lf_io::Sink;
+use lf_legalize::Seeker;
+use lf_proto::{Action, Change, Command, Refusal, Reply, TeamCommand};
+use lf_repair_strategy::{CellEdit, Edit};
+use lf_rules::legalizer_exists;
+use lf_units::Point;
+use std::alloc::{AllocError, Global};
+
+/// A session of a team.
+#[derive(Clone, Copy)]
+pub(crate) struct TeamSession<'a> {
+    pub(crate) team: &'a [u8],
+    pub(crate) number: usize,
+    pub(crate) session: u32,
+}
+
+/// The name of a cell, and the line of a command, while it is asked.
+#[derive(Drop)]
+pub(crate) struct Buffers {
+    pub(crate) name: Vec<u8>,
+    pub(crate) line: Vec<u8>,
+}
+
+impl Buffers {
+    /// Empty texts, which allocate nothing.
+    pub(crate) fn new(alloc: Global) -> Buffers {
+        Buffers {
+            name: Vec::new(alloc),
+            line: Vec::new(alloc),
+        }
+    }
+}
+
+/// The target, moved to the end of the range of coordinates that a line can write if it lies past it.
+fn target_in_range(target: &Point) -> Point
+    ensures { IsTarget result }
+{
+    Point {
+        x: target.x.clamp(-2_147_483_647, 2_147_483_647),
+        y: target.y.clamp(-2_147_483_647, 2_147_483_647),
+    }
+}
+
+/// The same place: that a line can write it follows from its numbers, which are read here.
+fn place_in_range(place: &Place) -> Place
+    ensures { IsInRange result }
+{
+    Place::new(place.x, place.y, place.orient)
+}
+
+/// The change of the cell of that name.
+fn change_of<'x>(step: &Edit, cell: &'x [u8]) -> Change<&'x [u8]>
+    requires { IsName cell.now }
+    ensures cell { IsOfCell cell.now (change_of result) }
+    ensures plain { IsPlainAction (Changing (change_of result)) }
+{
+    match step {
+        Edit::Unplace => Change::Unplace { cell },
+        Edit::Place(place) => Change::Place {
+            cell,
+            place: place_in_range(place),
+        },
+        Edit::Legalize(target) => Change::Legalize {
+            cell,
+            target: target_in_range(target),
+        },
+    }
+}
+
+/// What a reply to a change means for the repair: it goes on unless memory ran out.
+pub(crate) fn continue_unless_out_of_memory(reply: &Reply) -> Result<(), RepairFault> {
+    match reply {
+        Reply::Refused(Refusal::OutOfMemory) => Err(RepairFault::OutOfMemory),
+        _ => Ok(()),
+    }
+}
+
+/// Asks the step for the cell of that name.
+fn run_edit_of<S: Seeker + Drop, K: Sink>(
+    floor: &mut Floor<S>,
+    seat: &TeamSession<'_>,
+    cell: &[u8],
+    step: &Edit,
+    line: &mut Vec<u8>,
+    lines: &mut K,
+) -> Result<(), RepairFault>
+    requires { IsName cell.now }
+    ensures run { (l : Legalizer) → IfOk result (λ _. IsWrittenRun l seat.now.team.now floor.old (K.contents lines.old) (K.contents lines.new) floor.new) }
+    ensures err { (l : Legalizer) → OnErr result (IsRunWithCutLine l seat.now.team.now floor.old (K.contents lines.old) (K.contents lines.new) floor.new) }
+    ensures only { ChangesOnly seat.now.team.now floor.old floor.new }
+    ensures cells { (other : ℕ) → ((s : TeamState) → state_of floor.old seat.now.team.now ≡ Some s → cell_named cell.now s.cells ≡ Some other → ⊥)
+        → place_in floor.new seat.now.team.now other ≡ place_in floor.old seat.now.team.now other }
+    ensures committed { KeepsCommittedPlaces seat.now.team.now floor.old floor.new }
+{
+    legalizer_exists();
+    let request = Command::To {
+        team: seat.team,
+        order: TeamCommand::Within {
+            session: seat.session,
+            action: Action::Change(change_of(step, cell)),
+        },
+    };
+    match run_command(floor, &request, line, lines) {
+        Ok(reply) => continue_unless_out_of_memory(&reply),
+        Err(fault) => Err(fault),
+    }
+}
+
+/// Copies the name of the team's cell of that position; false if there is none, or no line can write it.
+fn copy_name<S: Seeker + Drop>(
+    floor: &Floor<S>,
+    team: &[u8],
+    own: usize,
+    name: &mut Vec<u8>,
+) -> Result<bool, AllocError>
+    ensures name { (s : TeamState) → IfOk result (λ there. IsTrue there → state_of floor.now team.now ≡ Some s → name_at s.cells own ≡ Some name.new.items) }
+    ensures plain { IfOk result (λ there. IsTrue there → IsName name.new.items) }
+{
+    name.clear();
+    let Some(bytes) = floor.name_of(team, own) else {
+        return Ok(false);
+    };
+    name.extend_from_slice(bytes)?;
+    Ok(!bytes.is_empty())
+}
+
+/// Asks the step for the team's cell of that position.
+fn run_edit<S: Seeker + Drop, K: Sink>(
+    floor: &mut Floor<S>,
+    seat: &TeamSession<'_>,
+    own: usize,
+    step: &Edit,
+    texts: &mut Buffers,
+    lines: &mut K,
+) -> Result<(), RepairFault>
+    ensures run { (l : Legalizer) → IfOk result (λ _. IsWrittenRun l seat.now.team.now floor.old (K.contents lines.old) (K.contents lines.new) floor.new) }
+    ensures err { (l : Legalizer) → OnErr result (IsRunWithCutLine l seat.now.team.now floor.old (K.contents lines.old) (K.contents lines.new) floor.new) }
+    ensures only { ChangesOnly seat.now.team.now floor.old floor.new }
+    ensures cells { (other : ℕ) → other ≢ own → place_in floor.new seat.now.team.now other ≡ place_in floor.old seat.now.team.now other }
+    ensures committed { KeepsCommittedPlaces seat.now.team.now floor.old floor.new }
+{
+    floor.teams_match_frame();
+    let Buffers { name, line } = texts;
+    match copy_name(floor, seat.team, own, name) {
+        Ok(true) => run_edit_of(floor, seat, name.as_slice(), step, line, lines),
+        Ok(false) => Ok(()),
+        Err(_) => Err(RepairFault::OutOfMemory),
+    }
+}
+
+/// Whether the cell of that position is marked.
+pub(crate) fn is_locked(marks: &[bool], own: usize) -> bool
+    ensures { IsTrue result ↔ slice_get marks.now own ≡ Some true }
+{
+    match marks.get(own) {
+        Some(marked) => *marked,
+        None => false,
+    }
+}
+
+/// Asks what the deed says, unless its cell is marked.
+fn run_edit_unless_locked<S: Seeker + Drop, K: Sink>(
+    floor: &mut Floor<S>,
+    seat: &TeamSession<'_>,
+    marks: &[bool],
+    deed: &CellEdit,
+    texts: &mut Buffers,
+    lines: &mut K,
+) -> Result<(), RepairFault>
+    ensures run { (l : Legalizer) → IfOk result (λ _. IsWrittenRun l seat.now.team.now floor.old (K.contents lines.old) (K.contents lines.new) floor.new) }
+    ensures err { (l : Legalizer) → OnErr result (IsRunWithCutLine l seat.now.team.now floor.old (K.contents lines.old) (K.contents lines.new) floor.new) }
+    ensures only { ChangesOnly seat.now.team.now floor.old floor.new }
+    ensures marked { KeepsLockedPlaces seat.now.team.now marks.now floor.old floor.new }
+    ensures committed { KeepsCommittedPlaces seat.now.team.now floor.old floor.new }
+{
+    let own = deed.own as usize;
+    if is_locked(marks, own) {
+        return Ok(());
+    }
+    run_edit(floor, seat, own, &deed.step, texts, lines)
+}
+
+/// Asks all deeds in their order, but for those of marked cells.
+pub(crate) fn run_edits<S: Seeker + Drop, K: Sink>(
+    floor: &mut Floor<S>,
+    seat: &TeamSession<'_>,
+    marks: &[bool],
+    deeds: &[CellEdit],
+    texts: &mut Buffers,
+    lines: &mut K,
+) -> Result<(), RepairFault>
+    ensures run { (l : Legalizer) → IfOk result (λ _. IsWrittenRun l seat.now.team.now floor.old (K.contents lines.old) (K.contents lines.new) floor.new) }
+    ensures err { (l : Legalizer) → OnErr result (IsRunWithCutLine l seat.now.team.now floor.old (K.contents lines.old) (K.contents lines.new) floor.new) }
+    ensures only { ChangesOnly seat.now.team.now floor.old floor.new }
+    ensures marked { KeepsLockedPlaces seat.now.team.now marks.now floor.old floor.new }
+    ensures committed { KeepsCommittedPlaces seat.now.team.now floor.old floor.new }
+{
+    for deed in deeds {
+        match run_edit_unless_locked(floor, seat, marks, deed, texts, lines) {
+            Ok(()) => {}
+            Err(fault) => return Err(fault),
+        }
+    }
+    Ok(())
+}

@@ -1,0 +1,409 @@
+//! The repair of one team.
+
+ghost use Rattle.std.specs.Prelude.{◌≡◌, ◌≢◌, ◌↔◌, [], All, IfOk, OnErr, Some, false, true};
+ghost use Rattle.lf_rules.specs.Legalizer.{Legalizer};
+ghost use Rattle.lf_floor_model.specs.Steps.{AllCommittedIn};
+ghost use Rattle.lf_floor_model.specs.Teams.{team_number};
+ghost use Rattle.lf_floor_model.specs.VerbLaws.{is_ok};
+ghost use Rattle.lf_repair_strategy.specs.declared.pass.MovePolicy.TheVariants.{Keep};
+ghost use Rattle.lf_repair_team.specs.Deeds.{KeepsCommittedPlaces, KeepsLockedPlaces, KeepsPlaces, SameCells, TeamHasLeftTargets, TeamIsAtTargetsExcept};
+ghost use Rattle.lf_repair_team.specs.Mending.{AllListedMove, AreLegalExcept, ChangesOnly, IsIllegalIn, KeepsLegalPlaces, OnlyListedMove, committed_in};
+ghost use Rattle.lf_repair_team.specs.Runs.{IsRunWithCutLine, IsWrittenRun};
+ghost use Rattle.lf_repair_team.specs.Tallies.{AreTeamStats};
+
+use crate::outcome::{RepairOutcome, found_of};
+use crate::repair_input::repair_input;
+use crate::run_command::{RepairFault, run_command};
+use crate::run_edits::{Buffers, TeamSession, continue_unless_out_of_memory, run_edits};
+use crate::stats::stats_of;
+use lf_floor::{Floor, query_keeps_state};
+use lf_floorplan::Place;
+use lf_io::Sink;
+use lf_legalize::Seeker;
+use lf_proto::{Action, Change, Command, Refusal, Reply, TeamCommand};
+use lf_repair_strategy::{
+    CellEdit, MovePolicy, Neighborhood, PaddedTeam, Pass, Phase, RepairInput, RepairStats,
+    edits_for, plan_local_pass, undo_edits,
+};
+use lf_rules::legalizer_exists;
+use std::alloc::{AllocError, Global};
+
+/// Opens a session of the team.
+fn open<S: Seeker + Drop, K: Sink>(
+    floor: &mut Floor<S>,
+    team: &[u8],
+    texts: &mut Buffers,
+    lines: &mut K,
+) -> Result<u32, RepairFault>
+    ensures run { (l : Legalizer) → IfOk result (λ _. IsWrittenRun l team.now floor.old (K.contents lines.old) (K.contents lines.new) floor.new) }
+    ensures err { (l : Legalizer) → OnErr result (IsRunWithCutLine l team.now floor.old (K.contents lines.old) (K.contents lines.new) floor.new) }
+    ensures only { ChangesOnly team.now floor.old floor.new }
+    ensures cells { SameCells team.now floor.old floor.new }
+{
+    legalizer_exists();
+    query_keeps_state();
+    let request = Command::To {
+        team,
+        order: TeamCommand::Open,
+    };
+    match run_command(floor, &request, &mut texts.line, lines) {
+        Ok(reply) => session_of(&reply),
+        Err(fault) => Err(fault),
+    }
+}
+
+/// The session that was opened.
+fn session_of(reply: &Reply) -> Result<u32, RepairFault> {
+    match reply {
+        Reply::Opened { session, .. } => Ok(*session),
+        Reply::Refused(refusal) => Err(RepairFault::Refused(*refusal)),
+        _ => Err(RepairFault::Refused(Refusal::NoSession)),
+    }
+}
+
+/// Commits the team.
+fn commit<S: Seeker + Drop, K: Sink>(
+    floor: &mut Floor<S>,
+    seat: &TeamSession<'_>,
+    texts: &mut Buffers,
+    lines: &mut K,
+) -> Result<(), RepairFault>
+    ensures run { (l : Legalizer) → IfOk result (λ _. IsWrittenRun l seat.now.team.now floor.old (K.contents lines.old) (K.contents lines.new) floor.new) }
+    ensures err { (l : Legalizer) → OnErr result (IsRunWithCutLine l seat.now.team.now floor.old (K.contents lines.old) (K.contents lines.new) floor.new) }
+    ensures only { ChangesOnly seat.now.team.now floor.old floor.new }
+    ensures places { KeepsPlaces seat.now.team.now floor.old floor.new }
+    ensures committed { (l : Legalizer) → IfOk result (λ _. AllCommittedIn l floor.new seat.now.team.now) }
+{
+    legalizer_exists();
+    let request = Command::To {
+        team: seat.team,
+        order: TeamCommand::Within {
+            session: seat.session,
+            action: Action::Change(Change::Commit),
+        },
+    };
+    match run_command(floor, &request, &mut texts.line, lines) {
+        Ok(reply) => accepted(&reply),
+        Err(fault) => Err(fault),
+    }
+}
+
+/// Whether the reply is no refusal: `Err` with the refusal if it is one.
+fn accepted(reply: &Reply) -> Result<(), RepairFault>
+    ensures { IfOk result (λ _. is_ok reply.now ≡ true) }
+{
+    match reply {
+        Reply::Refused(refusal) => Err(RepairFault::Refused(*refusal)),
+        _ => Ok(()),
+    }
+}
+
+/// Commits the team if no cell of it is left; else nothing is asked.
+fn commit_if_clean<S: Seeker + Drop, K: Sink>(
+    floor: &mut Floor<S>,
+    seat: &TeamSession<'_>,
+    left: &[u32],
+    texts: &mut Buffers,
+    lines: &mut K,
+) -> Result<(), RepairFault>
+    ensures run { (l : Legalizer) → IfOk result (λ _. IsWrittenRun l seat.now.team.now floor.old (K.contents lines.old) (K.contents lines.new) floor.new) }
+    ensures err { (l : Legalizer) → OnErr result (IsRunWithCutLine l seat.now.team.now floor.old (K.contents lines.old) (K.contents lines.new) floor.new) }
+    ensures only { ChangesOnly seat.now.team.now floor.old floor.new }
+    ensures places { KeepsPlaces seat.now.team.now floor.old floor.new }
+    ensures committed { (l : Legalizer) → left.now ≡ [] → IfOk result (λ _. AllCommittedIn l floor.new seat.now.team.now) }
+    ensures kept { left.now ≢ [] → floor.new ≡ floor.old }
+{
+    legalizer_exists();
+    if !left.is_empty() {
+        return Ok(());
+    }
+    commit(floor, seat, texts, lines)
+}
+
+/// Closes the session, so that its slot is free again.
+fn close<S: Seeker + Drop, K: Sink>(
+    floor: &mut Floor<S>,
+    seat: &TeamSession<'_>,
+    texts: &mut Buffers,
+    lines: &mut K,
+) -> Result<(), RepairFault>
+    ensures run { (l : Legalizer) → IfOk result (λ _. IsWrittenRun l seat.now.team.now floor.old (K.contents lines.old) (K.contents lines.new) floor.new) }
+    ensures err { (l : Legalizer) → OnErr result (IsRunWithCutLine l seat.now.team.now floor.old (K.contents lines.old) (K.contents lines.new) floor.new) }
+    ensures only { ChangesOnly seat.now.team.now floor.old floor.new }
+    ensures cells { SameCells seat.now.team.now floor.old floor.new }
+{
+    legalizer_exists();
+    query_keeps_state();
+    let request = Command::To {
+        team: seat.team,
+        order: TeamCommand::Within {
+            session: seat.session,
+            action: Action::Close,
+        },
+    };
+    match run_command(floor, &request, &mut texts.line, lines) {
+        Ok(reply) => continue_unless_out_of_memory(&reply),
+        Err(fault) => Err(fault),
+    }
+}
+
+/// Looks at what the rounds have left; commits the team if no cell is left; and closes the session.
+fn finish<S: Seeker + Drop, K: Sink>(
+    alloc: Global,
+    floor: &mut Floor<S>,
+    seat: &TeamSession<'_>,
+    homes: &[Option<Place>],
+    texts: &mut Buffers,
+    lines: &mut K,
+) -> Result<RepairOutcome, RepairFault>
+    requires { team_number floor.old.frame seat.now.team.now ≡ Some seat.now.number }
+    ensures run { (l : Legalizer) → IfOk result (λ _. IsWrittenRun l seat.now.team.now floor.old (K.contents lines.old) (K.contents lines.new) floor.new) }
+    ensures err { (l : Legalizer) → OnErr result (IsRunWithCutLine l seat.now.team.now floor.old (K.contents lines.old) (K.contents lines.new) floor.new) }
+    ensures only { ChangesOnly seat.now.team.now floor.old floor.new }
+    ensures places { KeepsPlaces seat.now.team.now floor.old floor.new }
+    ensures changed { IfOk result (λ found. TeamIsAtTargetsExcept seat.now.team.now homes.now floor.new found.changed.items) }
+    ensures moved { IfOk result (λ found. TeamHasLeftTargets seat.now.team.now homes.now floor.new found.changed.items) }
+    ensures named { IfOk result (λ found. AreLegalExcept seat.now.team.now floor.new found.left.items) }
+    ensures illegal { IfOk result (λ found. All (λ own. IsIllegalIn floor.new seat.now.team.now own) found.left.items) }
+    ensures committed { (l : Legalizer) → IfOk result (λ found. found.left.items ≡ [] → AllCommittedIn l floor.new seat.now.team.now) }
+    ensures uncommitted { IfOk result (λ found. found.left.items ≢ [] → KeepsCommittedPlaces seat.now.team.now floor.old floor.new) }
+{
+    legalizer_exists();
+    let Ok(found) = found_of(alloc, floor, seat, homes) else {
+        return Err(RepairFault::OutOfMemory);
+    };
+    match commit_if_clean(floor, seat, found.left.as_slice(), texts, lines) {
+        Ok(()) => {}
+        Err(fault) => return Err(fault),
+    }
+    match close(floor, seat, texts, lines) {
+        Ok(()) => Ok(found),
+        Err(fault) => Err(fault),
+    }
+}
+
+/// The rounds of a repair.
+const PHASES: [Phase; 4] = [Phase::Lift, Phase::Tall, Phase::Plan, Phase::Rest];
+
+/// What is asked in a round for the cells of the team of that number, as they stand on the floor.
+fn deeds_in<S: Seeker + Drop>(
+    alloc: Global,
+    floor: &Floor<S>,
+    number: usize,
+    go: &Pass,
+    phase: Phase,
+) -> Result<Vec<CellEdit>, AllocError> {
+    let placement = floor.placement();
+    let owner = PaddedTeam::new(placement.frame(), number, floor.padding_of(number));
+    edits_for(alloc, placement, &owner, go, phase)
+}
+
+/// All rounds of a go: what is asked in each is looked up on the floor as the round before left it.
+fn run_pass<S: Seeker + Drop, K: Sink>(
+    alloc: Global,
+    floor: &mut Floor<S>,
+    seat: &TeamSession<'_>,
+    go: &Pass,
+    texts: &mut Buffers,
+    lines: &mut K,
+) -> Result<(), RepairFault>
+    ensures run { (l : Legalizer) → IfOk result (λ _. IsWrittenRun l seat.now.team.now floor.old (K.contents lines.old) (K.contents lines.new) floor.new) }
+    ensures err { (l : Legalizer) → OnErr result (IsRunWithCutLine l seat.now.team.now floor.old (K.contents lines.old) (K.contents lines.new) floor.new) }
+    ensures only { ChangesOnly seat.now.team.now floor.old floor.new }
+    ensures marked { KeepsLockedPlaces seat.now.team.now go.now.marks.items floor.old floor.new }
+    ensures committed { KeepsCommittedPlaces seat.now.team.now floor.old floor.new }
+{
+    for phase in &PHASES {
+        let Ok(deeds) = deeds_in(alloc, floor, seat.number, go, *phase) else {
+            return Err(RepairFault::OutOfMemory);
+        };
+        match run_edits(
+            floor,
+            seat,
+            go.marks.as_slice(),
+            deeds.as_slice(),
+            texts,
+            lines,
+        ) {
+            Ok(()) => {}
+            Err(fault) => return Err(fault),
+        }
+    }
+    Ok(())
+}
+
+/// The further goes, each about more ground than the one before.
+const REACHES: [Neighborhood; 4] = [
+    Neighborhood::Near { rows: 2, sites: 16 },
+    Neighborhood::Near { rows: 8, sites: 64 },
+    Neighborhood::Near {
+        rows: 32,
+        sites: 256,
+    },
+    Neighborhood::All,
+];
+
+/// A further go, in which legal cells may move too: its cells are lifted and planned anew. It is taken back if it has mended nothing.
+fn run_local_pass<S: Seeker + Drop, K: Sink>(
+    alloc: Global,
+    floor: &mut Floor<S>,
+    seat: &TeamSession<'_>,
+    start: &RepairInput,
+    reach: &Neighborhood,
+    lines: &mut K,
+) -> Result<(), RepairFault>
+    ensures run { (l : Legalizer) → IfOk result (λ _. IsWrittenRun l seat.now.team.now floor.old (K.contents lines.old) (K.contents lines.new) floor.new) }
+    ensures err { (l : Legalizer) → OnErr result (IsRunWithCutLine l seat.now.team.now floor.old (K.contents lines.old) (K.contents lines.new) floor.new) }
+    ensures only { ChangesOnly seat.now.team.now floor.old floor.new }
+    ensures committed { KeepsCommittedPlaces seat.now.team.now floor.old floor.new }
+{
+    let aim = match plan_local_pass(alloc, floor.placement(), seat.number, start, reach) {
+        Ok(Some(aim)) => aim,
+        Ok(None) => return Ok(()),
+        Err(_) => return Err(RepairFault::OutOfMemory),
+    };
+    let mut texts = Buffers::new(alloc);
+    match run_pass(alloc, floor, seat, &aim.go, &mut texts, lines) {
+        Ok(()) => {}
+        Err(fault) => return Err(fault),
+    }
+    let Ok(back) = undo_edits(alloc, floor.placement(), seat.number, start, &aim) else {
+        return Err(RepairFault::OutOfMemory);
+    };
+    run_edits(
+        floor,
+        seat,
+        aim.go.marks.as_slice(),
+        back.as_slice(),
+        &mut texts,
+        lines,
+    )
+}
+
+/// Whether legal cells may move where that is needed.
+fn is_as_needed(how: MovePolicy) -> bool
+    ensures { how ≡ Keep → result ≡ false }
+{
+    match how {
+        MovePolicy::AsNeeded => true,
+        _ => false,
+    }
+}
+
+/// The further goes, where legal cells may move as needed; else nothing is asked.
+fn run_local_passes<S: Seeker + Drop, K: Sink>(
+    alloc: Global,
+    floor: &mut Floor<S>,
+    seat: &TeamSession<'_>,
+    start: &RepairInput,
+    lines: &mut K,
+) -> Result<(), RepairFault>
+    ensures run { (l : Legalizer) → IfOk result (λ _. IsWrittenRun l seat.now.team.now floor.old (K.contents lines.old) (K.contents lines.new) floor.new) }
+    ensures err { (l : Legalizer) → OnErr result (IsRunWithCutLine l seat.now.team.now floor.old (K.contents lines.old) (K.contents lines.new) floor.new) }
+    ensures only { ChangesOnly seat.now.team.now floor.old floor.new }
+    ensures kept { start.now.how ≡ Keep → floor.new ≡ floor.old }
+    ensures committed { KeepsCommittedPlaces seat.now.team.now floor.old floor.new }
+{
+    if !is_as_needed(start.how) {
+        return Ok(());
+    }
+    for reach in &REACHES {
+        match run_local_pass(alloc, floor, seat, start, reach, lines) {
+            Ok(()) => {}
+            Err(fault) => return Err(fault),
+        }
+    }
+    Ok(())
+}
+
+/// Opens a session, makes all goes, and finishes.
+fn repair_in_session<S: Seeker + Drop, K: Sink>(
+    alloc: Global,
+    floor: &mut Floor<S>,
+    team: &[u8],
+    number: usize,
+    start: &RepairInput,
+    lines: &mut K,
+) -> Result<RepairOutcome, RepairFault>
+    requires { team_number floor.old.frame team.now ≡ Some number }
+    ensures run { (l : Legalizer) → IfOk result (λ _. IsWrittenRun l team.now floor.old (K.contents lines.old) (K.contents lines.new) floor.new) }
+    ensures err { (l : Legalizer) → OnErr result (IsRunWithCutLine l team.now floor.old (K.contents lines.old) (K.contents lines.new) floor.new) }
+    ensures only { ChangesOnly team.now floor.old floor.new }
+    ensures marked { start.now.how ≡ Keep → KeepsLockedPlaces team.now start.now.go.marks.items floor.old floor.new }
+    ensures changed { IfOk result (λ found. TeamIsAtTargetsExcept team.now start.now.go.homes.items floor.new found.changed.items) }
+    ensures moved { IfOk result (λ found. TeamHasLeftTargets team.now start.now.go.homes.items floor.new found.changed.items) }
+    ensures named { IfOk result (λ found. AreLegalExcept team.now floor.new found.left.items) }
+    ensures illegal { IfOk result (λ found. All (λ own. IsIllegalIn floor.new team.now own) found.left.items) }
+    ensures committed { (l : Legalizer) → IfOk result (λ found. found.left.items ≡ [] → AllCommittedIn l floor.new team.now) }
+    ensures uncommitted { IfOk result (λ found. found.left.items ≢ [] → KeepsCommittedPlaces team.now floor.old floor.new) }
+{
+    let mut texts = Buffers::new(alloc);
+    let session = match open(floor, team, &mut texts, lines) {
+        Ok(session) => session,
+        Err(fault) => return Err(fault),
+    };
+    let seat = TeamSession {
+        team,
+        number,
+        session,
+    };
+    match run_pass(alloc, floor, &seat, &start.go, &mut texts, lines) {
+        Ok(()) => {}
+        Err(fault) => return Err(fault),
+    }
+    match run_local_passes(alloc, floor, &seat, start, lines) {
+        Ok(()) => {}
+        Err(fault) => return Err(fault),
+    }
+    finish(
+        alloc,
+        floor,
+        &seat,
+        start.go.homes.as_slice(),
+        &mut texts,
+        lines,
+    )
+}
+
+/// Repairs a team: its cells that break a rule or have no place go to legal places; with `All` other cells may be moved too, and with
+/// `AsNeeded` where one of these would be left without a place or go far.
+///
+/// Each command is asked of the floor, and its line is written exactly if the floor accepts it; where a line can name the team, each
+/// line reads as its command. With `Keep` cells that stand legally stay, whatever comes of the repair; those that stand otherwise at
+/// its end are named in any case. The team is then committed if and only if no cell is left; else its cells stand where the repair
+/// left them, those that are left without a place or illegal, and the committed places are as before. No other team changes, and a
+/// committed design that was fully legal stays so. The numbers that are told are exact.
+///
+/// `Err` tells why a repair broke off: the floor is then where the commands so far have led it, and their lines are written, of the
+/// last one perhaps a front alone.
+pub fn repair_team<S: Seeker + Drop, K: Sink>(
+    alloc: Global,
+    floor: &mut Floor<S>,
+    team: &[u8],
+    how: MovePolicy,
+    lines: &mut K,
+) -> Result<RepairStats, RepairFault>
+    ensures run { (l : Legalizer) → IfOk result (λ _. IsWrittenRun l team.now floor.old (K.contents lines.old) (K.contents lines.new) floor.new) }
+    ensures err { (l : Legalizer) → OnErr result (IsRunWithCutLine l team.now floor.old (K.contents lines.old) (K.contents lines.new) floor.new) }
+    ensures only { ChangesOnly team.now floor.old floor.new }
+    ensures unknown { team_number floor.old.frame team.now ≡ None → result ≡ Err Fault.NoTeam }
+    ensures kept { how ≡ Keep → KeepsLegalPlaces team.now floor.old floor.new }
+    ensures changed { IfOk result (λ repaired. OnlyListedMove team.now floor.old floor.new repaired.changed.items) }
+    ensures moved { IfOk result (λ repaired. AllListedMove team.now floor.old floor.new repaired.changed.items) }
+    ensures named { IfOk result (λ repaired. AreLegalExcept team.now floor.new repaired.left.items) }
+    ensures illegal { IfOk result (λ repaired. All (λ own. IsIllegalIn floor.new team.now own) repaired.left.items) }
+    ensures committed { (l : Legalizer) → IfOk result (λ repaired. repaired.left.items ≡ [] ↔ AllCommittedIn l floor.new team.now) }
+    ensures uncommitted { IfOk result (λ repaired. repaired.left.items ≢ [] → committed_in floor.new team.now ≡ committed_in floor.old team.now) }
+    ensures told { IfOk result (λ repaired. AreTeamStats team.now floor.old floor.new repaired) }
+{
+    let Some(number) = floor.team_number(team) else {
+        return Err(RepairFault::NoTeam);
+    };
+    let Ok(start) = repair_input(alloc, floor, number, how) else {
+        return Err(RepairFault::OutOfMemory);
+    };
+    match repair_in_session(alloc, floor, team, number, &start, lines) {
+        Ok(found) => Ok(stats_of(floor, number, &start, found)),
+        Err(fault) => Err(fault),
+    }
+}

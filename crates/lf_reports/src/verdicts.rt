@@ -1,0 +1,452 @@
+//! Reports: how many cells there are, how many of them are unplaced, and which break a rule where they stand.
+
+ghost use Rattle.std.specs.Prelude.{◌≡◌, ◌↔◌, ◌<◌, ◌≤◌, ◌++◌, [], All, IfOk, OnOk, None, Some, ℕ, List, IsPermutation, is_none};
+ghost use Rattle.std.specs.Prelude.{slice_get, count_by, length, map, option_and_then};
+ghost use Rattle.std.specs.List.{cons_option};
+ghost use Rattle.lf_floorplan.specs.Boxes.{IsSized, macro_of};
+ghost use Rattle.lf_rules.specs.Legality.{candidate_of};
+ghost use Rattle.lf_rules.specs.Legalizer.{IsVerdict, Legalizer};
+ghost use Rattle.lf_rules.specs.FullyLegal.{IsFullyLegal, design_cells_at};
+ghost use Rattle.lf_rules.specs.Reports.{IsClean, HasPrintableNames};
+ghost use Rattle.lf_reports.specs.Reports.{IsFaultless, IsListed, broken_among, listed_at, member_of, name_among, named};
+ghost use Rattle.lf_reports.specs.Reports.{report_of, candidate_among, AreSomeVerdicts, HaveVerdicts, IsVerdictSet, AreVerdicts};
+ghost use Rattle.lf_reports.specs.Reports.{SetsVerdict, verdict_at, violation_at, violation_of, violations_in};
+ghost use Rattle.lf_rules.specs.Team.{Member, boxes_beside, boxes_from, with_box};
+
+use lf_floorplan::{Frame, FrameQuery, Loaded, LoadedCells, Macro, Place, cell_is_sized};
+use lf_rtree::{Placed, RTree};
+use lf_rules::{
+    Broken, Listed, Padding, Report, Violation, box_of, broken_frame_rule, legalizer_exists,
+    overlap_of, padded_box, verdict_is_unique,
+};
+use lf_segments::{FrameIndex, IndexedFrame};
+use lf_units::{Name, Sequence};
+use std::alloc::{AllocError, Global};
+
+/// The macro of a cell.
+fn macro_in<'a>(frame: &'a Frame, cell: &Listed<&[u8]>) -> &'a Macro
+    requires { IsListed frame.now (named cell.now) }
+    ensures mac { result.now ≡ macro_of frame.now cell.now.mac }
+    ensures sized { IsSized frame.now result.now }
+{
+    &frame.macros.as_slice()[cell.mac]
+}
+
+/// Appends the box of the cell, if it is placed; `own` is the cell's number.
+fn push_box(
+    others: &mut Vec<Placed>,
+    frame: &Frame,
+    cell: &Listed<&[u8]>,
+    own: u32,
+) -> Result<(), AllocError>
+    requires { IsListed frame.now (named cell.now) }
+    ensures { OnOk result (others.new.items ≡ others.old.items ++ with_box frame.now own cell.now.mac (member_of (named cell.now)).place []) }
+{
+    if let Some(place) = cell.place {
+        others.push(Placed {
+            own,
+            rect: box_of(frame, macro_in(frame, cell), &place),
+        })?;
+    }
+    Ok(())
+}
+
+/// The first rule that the cell of that number breaks at the place, beside the boxes of other numbers than its own.
+fn broken_at(
+    plan: &IndexedFrame<'_>,
+    boxes: &RTree,
+    own: u32,
+    cell: &Listed<&[u8]>,
+    place: &Place,
+    padding: Padding,
+) -> Option<Broken>
+    requires { IsListed plan.now (named cell.now) }
+    ensures { (cells : List Member) → IsPermutation (boxes_from plan.now 0 cells) boxes.now →
+        IsVerdict (candidate_of plan.now cell.now.team padding.sites (macro_of plan.now cell.now.mac) place.now (boxes_beside plan.now cells own)) result }
+{
+    let frame = plan.frame();
+    let mac = macro_in(frame, cell);
+    if let Some(rule) = broken_frame_rule(plan, cell.team, mac, place) {
+        return Some(Broken { rule, other: None });
+    }
+    overlap_of(boxes.least_overlapping(&padded_box(frame, mac, place, padding), own))
+}
+
+/// The first rule that the cell of that number breaks where it stands, beside the other placed cells.
+fn broken_in(
+    plan: &IndexedFrame<'_>,
+    boxes: &RTree,
+    cells: &[Listed<&[u8]>],
+    own: usize,
+    cell: &Listed<&[u8]>,
+    padding: Padding,
+) -> Option<Broken>
+    requires few { length cells.now ≤ 4000000 }
+    requires this { IsListed plan.now (named cell.now) }
+    requires within { own < length cells.now }
+    requires tree { IsPermutation (boxes_from plan.now 0 (map member_of (map named cells.now))) boxes.now }
+    ensures { (l : Legalizer) → result ≡ broken_among l plan.now padding.sites (map named cells.now) own (named cell.now) }
+{
+    verdict_is_unique();
+    let place = cell.place?;
+    broken_at(plan, boxes, own as u32, cell, &place, padding)
+}
+
+/// A copy of the name of the cell of that number.
+fn name_in(alloc: Global, cells: &[Listed<&[u8]>], own: u32) -> Result<Option<Name>, AllocError>
+    ensures { IfOk result (λ name. name ≡ name_among (map named cells.now) own) }
+{
+    match cells.get(own as usize) {
+        Some(cell) => Ok(Some(Name::from_slice(alloc, cell.name)?)),
+        None => Ok(None),
+    }
+}
+
+/// A copy of the name of the other cell, if there is another.
+fn other_name(
+    alloc: Global,
+    cells: &[Listed<&[u8]>],
+    other: Option<u32>,
+) -> Result<Option<Name>, AllocError>
+    ensures { IfOk result (λ name. name ≡ option_and_then (name_among (map named cells.now)) other) }
+{
+    match other {
+        Some(own) => name_in(alloc, cells, own),
+        None => Ok(None),
+    }
+}
+
+/// The violation of a cell that breaks this rule first.
+fn violation_of(
+    alloc: Global,
+    cells: &[Listed<&[u8]>],
+    cell: &Listed<&[u8]>,
+    broken: Broken,
+) -> Result<Violation, AllocError>
+    ensures { IfOk result (λ violation. violation ≡ violation_of (map named cells.now) (named cell.now) broken) }
+{
+    let other = other_name(alloc, cells, broken.other)?;
+    Ok(Violation {
+        cell: Name::from_slice(alloc, cell.name)?,
+        rule: broken.rule,
+        other,
+    })
+}
+
+/// No verdict yet for each of this many cells.
+fn no_verdicts(alloc: Global, count: usize) -> Result<Vec<Option<Broken>>, AllocError>
+    ensures count { IfOk result (λ verdicts. length verdicts.items ≡ count) }
+    ensures none { IfOk result (λ verdicts. (own : ℕ) → verdict_at verdicts.items own ≡ None) }
+{
+    let mut verdicts = Vec::with_capacity(alloc, count)?;
+    for _ in 0..count {
+        verdicts.push(None)?;
+    }
+    Ok(verdicts)
+}
+
+/// Sets the verdict of that number, if it says that a rule is broken.
+fn put(verdicts: &mut Vec<Option<Broken>>, own: usize, verdict: Option<Broken>)
+    requires { own < length verdicts.old.items }
+    ensures { IsVerdictSet own verdict verdicts.old.items verdicts.new.items }
+{
+    match verdict {
+        Some(_) => verdicts[own] = verdict,
+        None => {}
+    }
+}
+
+/// Sets the verdict of the cell of that number.
+fn put_verdict(
+    plan: &IndexedFrame<'_>,
+    boxes: &RTree,
+    cells: &[Listed<&[u8]>],
+    own: usize,
+    cell: &Listed<&[u8]>,
+    padding: Padding,
+    verdicts: &mut Vec<Option<Broken>>,
+)
+    requires few { length cells.now ≤ 4000000 }
+    requires this { IsListed plan.now (named cell.now) }
+    requires there { slice_get (map named cells.now) own ≡ Some (named cell.now) }
+    requires within { own < length cells.now }
+    requires tree { IsPermutation (boxes_from plan.now 0 (map member_of (map named cells.now))) boxes.now }
+    requires count { length verdicts.old.items ≡ length cells.now }
+    ensures count { length verdicts.new.items ≡ length cells.now }
+    ensures put { (l : Legalizer) → AreSomeVerdicts l plan.now padding.sites (map named cells.now) verdicts.old.items
+        → SetsVerdict l plan.now padding.sites (map named cells.now) own verdicts.old.items verdicts.new.items }
+{
+    let verdict = broken_in(plan, boxes, cells, own, cell, padding);
+    put(verdicts, own, verdict);
+}
+
+/// The cells of these boxes, in the boxes' order. They are fetched in a pass of their own, so that the waits for
+/// memory overlap.
+fn fetch<'a>(
+    alloc: Global,
+    cells: &[Listed<&'a [u8]>],
+    boxes: &[Placed],
+) -> Result<Vec<Listed<&'a [u8]>>, AllocError>
+    requires { All (λ p. p.own < length cells.now) boxes.now }
+    ensures { IfOk result (λ fetched. map Some (map named fetched.items) ≡ map (λ p. slice_get (map named cells.now) p.own) boxes.now) }
+{
+    let mut fetched = Vec::with_capacity(alloc, boxes.len())?;
+    for placed in boxes {
+        fetched.push(cells[placed.own as usize])?;
+    }
+    Ok(fetched)
+}
+
+/// Sets the verdicts of the cells of these boxes.
+fn put_verdicts(
+    alloc: Global,
+    plan: &IndexedFrame<'_>,
+    tree: &RTree,
+    cells: &[Listed<&[u8]>],
+    boxes: &[Placed],
+    padding: Padding,
+    verdicts: &mut Vec<Option<Broken>>,
+) -> Result<(), AllocError>
+    requires listed { All (λ c. IsListed plan.now (named c)) cells.now }
+    requires few { length cells.now ≤ 4000000 }
+    requires tree { IsPermutation (boxes_from plan.now 0 (map member_of (map named cells.now))) tree.now }
+    requires known { All (λ p. p.own < length cells.now) boxes.now }
+    requires count { length verdicts.old.items ≡ length cells.now }
+    ensures count { length verdicts.new.items ≡ length cells.now }
+    ensures put { (l : Legalizer) (done : List Placed) → HaveVerdicts l plan.now padding.sites (map named cells.now) done verdicts.old.items →
+        OnOk result (HaveVerdicts l plan.now padding.sites (map named cells.now) (done ++ boxes.now) verdicts.new.items) }
+{
+    let fetched = fetch(alloc, cells, boxes)?;
+    for (number, placed) in boxes.iter().enumerate() {
+        let own = placed.own as usize;
+        let cell = &fetched[number];
+        put_verdict(plan, tree, cells, own, cell, padding, verdicts);
+    }
+    Ok(())
+}
+
+/// How many cells are fetched at a time.
+const FETCHED: usize = 4096;
+
+/// The verdict of each cell, found in the order of the tree's boxes, those of the placed cells: cells that lie side
+/// by side are looked at one after another.
+fn verdicts_in(
+    alloc: Global,
+    plan: &IndexedFrame<'_>,
+    tree: &RTree,
+    cells: &[Listed<&[u8]>],
+    padding: Padding,
+) -> Result<Vec<Option<Broken>>, AllocError>
+    requires listed { All (λ c. IsListed plan.now (named c)) cells.now }
+    requires few { length cells.now ≤ 4000000 }
+    requires tree { IsPermutation (boxes_from plan.now 0 (map member_of (map named cells.now))) tree.now }
+    ensures count { IfOk result (λ verdicts. length verdicts.items ≡ length cells.now) }
+    ensures each { (l : Legalizer) → IfOk result (λ verdicts. AreVerdicts l plan.now padding.sites (map named cells.now) verdicts.items) }
+{
+    let mut verdicts = no_verdicts(alloc, cells.len())?;
+    let mut rest = tree.boxes();
+    while !rest.is_empty() {
+        let (boxes, behind) = rest.split_at(rest.len().min(FETCHED));
+        put_verdicts(alloc, plan, tree, cells, boxes, padding, &mut verdicts)?;
+        rest = behind;
+    }
+    Ok(verdicts)
+}
+
+/// Appends the violation of the cell of that number, if it breaks a rule.
+fn push_violation(
+    alloc: Global,
+    cells: &[Listed<&[u8]>],
+    verdicts: &[Option<Broken>],
+    own: usize,
+    violations: &mut Vec<Violation>,
+) -> Result<(), AllocError>
+    requires within { own < length cells.now }
+    requires count { length verdicts.now ≡ length cells.now }
+    ensures { (l : Legalizer) (f : Frame) (padding : ℕ) → AreVerdicts l f padding (map named cells.now) verdicts.now
+        → OnOk result (violations.new.items ≡ violations.old.items ++ cons_option
+        (violation_at l f padding (map named cells.now) own) []) }
+{
+    let cell = &cells[own];
+    match verdicts[own] {
+        Some(broken) => {
+            violations.push(violation_of(alloc, cells, cell, broken)?)?;
+            Ok(())
+        }
+        None => Ok(()),
+    }
+}
+
+/// The violations of the listed cells, in their order.
+fn violations_in(
+    alloc: Global,
+    cells: &[Listed<&[u8]>],
+    verdicts: &[Option<Broken>],
+) -> Result<Vec<Violation>, AllocError>
+    requires { length verdicts.now ≡ length cells.now }
+    ensures { (l : Legalizer) (f : Frame) (padding : ℕ) → AreVerdicts l f padding (map named cells.now) verdicts.now
+        → IfOk result (λ violations. violations.items ≡ violations_in l f padding (map named cells.now)) }
+{
+    let mut violations = Vec::new(alloc);
+    for own in 0..cells.len() {
+        push_violation(alloc, cells, verdicts, own, &mut violations)?;
+    }
+    Ok(violations)
+}
+
+/// How many of the cells are unplaced.
+fn unplaced_in(cells: &[Listed<&[u8]>]) -> usize
+    ensures { result ≡ count_by (λ c. is_none c.place) (map named cells.now) }
+{
+    cells.iter().filter(|cell| cell.place.is_none()).count()
+}
+
+/// The report of a list of cells, if these are their verdicts: for each cell the first rule that it breaks where it stands, or
+/// none. There are as many verdicts as cells. If the macros of the cells are a frame's, of whole size, and their names are names
+/// of a text, so are the names in the report.
+///
+/// `Err` if an allocation fails.
+pub fn report_from_verdicts(
+    alloc: Global,
+    cells: &[Listed<&[u8]>],
+    verdicts: &[Option<Broken>],
+) -> Result<Report, AllocError>
+    requires { length verdicts.now ≡ length cells.now }
+    ensures report { (l : Legalizer) (f : Frame) (padding : ℕ) → AreVerdicts l f padding (map named cells.now) verdicts.now
+        → IfOk result (λ report. report ≡ report_of l f padding (map named cells.now)) }
+    ensures told { (l : Legalizer) (f : Frame) (padding : ℕ) → AreVerdicts l f padding (map named cells.now) verdicts.now
+        → All (λ c. IsListed f (named c)) cells.now →
+        IfOk result (λ report. All HasPrintableNames report.violations) }
+{
+    let violations = violations_in(alloc, cells, verdicts)?;
+    Ok(Report {
+        cells: cells.len(),
+        unplaced: unplaced_in(cells),
+        violations: Sequence::from_vec(violations),
+    })
+}
+
+/// The boxes of the placed cells, by the cells' numbers.
+fn boxes_in(
+    alloc: Global,
+    frame: &Frame,
+    cells: &[Listed<&[u8]>],
+) -> Result<Vec<Placed>, AllocError>
+    requires listed { All (λ c. IsListed frame.now (named c)) cells.now }
+    requires few { length cells.now ≤ 4000000 }
+    ensures { IfOk result (λ boxes. boxes.items ≡ boxes_from frame.now 0 (map member_of (map named cells.now))) }
+{
+    let mut boxes = Vec::with_capacity(alloc, cells.len())?;
+    for (number, cell) in cells.iter().enumerate() {
+        push_box(&mut boxes, frame, cell, number as u32)?;
+    }
+    Ok(boxes)
+}
+
+/// For each of these cells the first rule that it breaks where it stands, and for Overlap the first other cell that it
+/// meets; none if it breaks no rule, or is unplaced.
+///
+/// Overlap is between any two cells of the list: those of a team with its padding, or of a whole design with none. The macros of
+/// the cells are the frame's, of whole size, their names are names of a text, and there are at most 4,000,000 cells. A cell is
+/// only compared with what lies near it. `Err` if an allocation fails.
+pub fn verdicts_with_plan(
+    alloc: Global,
+    plan: &IndexedFrame<'_>,
+    cells: &[Listed<&[u8]>],
+    padding: Padding,
+) -> Result<Vec<Option<Broken>>, AllocError>
+    requires listed { All (λ c. IsListed plan.now (named c)) cells.now }
+    requires few { length cells.now ≤ 4000000 }
+    ensures count { IfOk result (λ verdicts. length verdicts.items ≡ length cells.now) }
+    ensures each { (l : Legalizer) → IfOk result (λ verdicts. AreVerdicts l plan.now padding.sites (map named cells.now) verdicts.items) }
+{
+    let boxes = boxes_in(alloc, plan.frame(), cells)?;
+    let tree = RTree::build(alloc, boxes)?;
+    verdicts_in(alloc, plan, &tree, cells, padding)
+}
+
+/// For each of these cells, with no padding, the first rule that it breaks where it stands, or none.
+fn verdicts_over(
+    alloc: Global,
+    frame: &Frame,
+    cells: &[Listed<&[u8]>],
+) -> Result<Vec<Option<Broken>>, AllocError>
+    requires listed { All (λ c. IsListed frame.now (named c)) cells.now }
+    requires few { length cells.now ≤ 4000000 }
+    ensures count { IfOk result (λ verdicts. length verdicts.items ≡ length cells.now) }
+    ensures each { (l : Legalizer) → IfOk result (λ verdicts. AreVerdicts l frame.now 0 (map named cells.now) verdicts.items) }
+{
+    let ground = FrameIndex::build(alloc, frame)?;
+    verdicts_with_plan(
+        alloc,
+        &IndexedFrame::new(frame, &ground),
+        cells,
+        Padding::none(),
+    )
+}
+
+/// The cells of a design at these places.
+fn listed_cells<'a>(
+    alloc: Global,
+    cells: &'a LoadedCells,
+    places: &[Option<Place>],
+) -> Result<Vec<Listed<&'a [u8]>>, AllocError>
+    requires { length places.now ≡ length cells.now }
+    ensures { IfOk result (λ listed. map named listed.items ≡ listed_at cells.now places.now) }
+{
+    let mut listed = Vec::with_capacity(alloc, cells.len())?;
+    for own in 0..cells.len() {
+        let cell = cells.get(own).unwrap();
+        listed.push(Listed {
+            name: cell.name,
+            team: cell.team,
+            mac: cell.mac,
+            place: places[own],
+        })?;
+    }
+    Ok(listed)
+}
+
+/// The verdicts of a design whose movable cells stand at these places, one for each cell in loading order: the first rule
+/// that the cell breaks there, and for Overlap the first other cell that it meets; none if it breaks no rule, or is unplaced.
+/// Overlap is between cells of any teams, and paddings play no part. The design at these places is fully legal iff no place is
+/// none and no verdict is that a rule is broken.
+///
+/// A cell is only compared with what lies near it. `Err` if an allocation fails.
+pub fn verdicts_of_all(
+    alloc: Global,
+    loaded: &Loaded,
+    places: &[Option<Place>],
+) -> Result<Vec<Option<Broken>>, AllocError>
+    requires { length places.now ≡ length loaded.now.cells }
+    ensures count { IfOk result (λ verdicts. length verdicts.items ≡ length loaded.now.cells) }
+    ensures each { (l : Legalizer) → IfOk result (λ verdicts. AreVerdicts l loaded.now.frame 0 (listed_at loaded.now.cells places.now) verdicts.items) }
+    ensures legal { IfOk result (λ verdicts. IsFaultless places.now verdicts.items ↔ IsFullyLegal loaded.now.frame (design_cells_at loaded.now.cells places.now)) }
+{
+    cell_is_sized();
+    legalizer_exists();
+    let cells = listed_cells(alloc, &loaded.cells, places)?;
+    verdicts_over(alloc, &loaded.frame, &cells)
+}
+
+/// The report of a design whose movable cells stand at these places, one for each cell in loading order; overlap
+/// is between cells of any teams, and paddings play no part. It is clean iff the design at these places is fully legal, and the
+/// names in it are names of a text.
+///
+/// A cell is only compared with what lies near it. `Err` if an allocation fails.
+pub fn check_all(
+    alloc: Global,
+    loaded: &Loaded,
+    places: &[Option<Place>],
+) -> Result<Report, AllocError>
+    requires { length places.now ≡ length loaded.now.cells }
+    ensures report { (l : Legalizer) → IfOk result (λ report. report ≡ report_of l loaded.now.frame 0 (listed_at loaded.now.cells places.now)) }
+    ensures legal { IfOk result (λ report. IsClean report ↔ IsFullyLegal loaded.now.frame (design_cells_at loaded.now.cells places.now)) }
+    ensures told { IfOk result (λ report. All HasPrintableNames report.violations) }
+{
+    cell_is_sized();
+    legalizer_exists();
+    let verdicts = verdicts_of_all(alloc, loaded, places)?;
+    let cells = listed_cells(alloc, &loaded.cells, places)?;
+    report_from_verdicts(alloc, &cells, &verdicts)
+}

@@ -1,6 +1,0 @@
-use Rattle.lf_reread.proofs.LoadedTeams.{loaded_read_back}
-use Rattle.lf_reread.proofs.OwnCells.{own_are_team_cells}
-use Rattle.lf_reread.proofs.laws.loaded_teams_read_back.Goals as goal
-
-pub returns : goal.returns
-returns c = record { texts = loaded_read_back; cells = own_are_team_cells }

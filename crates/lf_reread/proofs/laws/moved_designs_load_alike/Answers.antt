@@ -1,5 +1,0 @@
-use Rattle.lf_reread.proofs.Elsewhere.{positions_not_settled, accepted_elsewhere, frame_stays, loaded_elsewhere}
-use Rattle.lf_reread.proofs.laws.moved_designs_load_alike.Goals as goal
-
-pub returns : goal.returns
-returns c = record { positions = positions_not_settled; accepted = accepted_elsewhere; frame = frame_stays; loaded = loaded_elsewhere }

@@ -1,5 +1,0 @@
-use Rattle.lf_reread.proofs.ReadNames.{read_is_spelled}
-use Rattle.lf_reread.proofs.laws.read_documents_are_spelled.Goals as goal
-
-pub returns : goal.returns
-returns c = read_is_spelled

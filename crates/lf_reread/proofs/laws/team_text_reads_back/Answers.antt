@@ -1,5 +1,0 @@
-use Rattle.lf_reread.proofs.TeamParts.{team_reads_back}
-use Rattle.lf_reread.proofs.laws.team_text_reads_back.Goals as goal
-
-pub returns : goal.returns
-returns c = team_reads_back

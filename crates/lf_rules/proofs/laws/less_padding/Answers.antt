@@ -1,5 +1,0 @@
-use Rattle.lf_rules.proofs.LegalParts.{legal_with_less}
-use Rattle.lf_rules.proofs.laws.less_padding.Goals as goal
-
-pub returns : goal.returns
-returns c t less upto legal = legal_with_less t less upto legal

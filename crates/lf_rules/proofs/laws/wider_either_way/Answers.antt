@@ -1,5 +1,0 @@
-use Rattle.lf_rules.proofs.WiderLemmas.{either_way}
-use Rattle.lf_rules.proofs.laws.wider_either_way.Goals as goal
-
-pub returns : goal.returns
-returns c by a b least wide_a wide_b m = either_way by a b least wide_a wide_b m

@@ -1,7 +1,0 @@
-use Rattle.lf_segments.proofs.row.push_land.Goals as goal
-
-pub push_row-requires : goal.push_row-requires
-push_row-requires c = (
-  c.requires.heeded,
-  (c.without_obstacles-fences.ensures.boxes c.args.row.now c.requires.boxes, c.without_obstacles-fences.ensures.sorted),
-)

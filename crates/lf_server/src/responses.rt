@@ -1,0 +1,159 @@
+//! Replies that are sent.
+
+ghost use Rattle.std.specs.Prelude.{◌≡◌, ◌≤◌, ◌+◌, ◌++◌, ◌∷◌, [], ℕ, OnErr, OnOk, codes, decimal, false, length, take, true, vec_capacity, vec_len};
+ghost use Rattle.std.specs.Io.KnownBytes.{Appends};
+ghost use Rattle.lf_proto.specs.ReplyText.{line_text};
+ghost use Rattle.lf_floor.specs.Responses.{def_text, reply_in};
+ghost use Rattle.lf_floor.specs.declared.response.Response.TheVariants.{Def as Apart};
+ghost use Rattle.lf_server.specs.Exchanges.{text_of};
+ghost use Rattle.lf_server.specs.Pieces.{IsUnderWay, has_failed_since};
+
+use crate::answer::write_short_reply;
+use crate::buffered_output::BufferedOutput;
+use itoa::Buffer;
+use lf_floor::{Floor, Response};
+use lf_io::{DeviceFault, Sink, send};
+use lf_legalize::Seeker;
+use lf_proto::Reply;
+
+/// Appends bytes for which there is room.
+pub(crate) fn put(out: &mut Vec<u8>, bytes: &[u8])
+    requires room { vec_len out.old + length bytes.now ≤ vec_capacity out.old }
+    ensures items { out.new.items ≡ out.old.items ++ bytes.now }
+    ensures len { vec_len out.new ≡ vec_len out.old + length bytes.now }
+    ensures capacity { vec_capacity out.old ≤ vec_capacity out.new }
+{
+    if out.extend_from_slice(bytes).is_err() {
+        unreachable!();
+    }
+}
+
+/// Replaces what is in the buffer by the line before a DEF text of this many bytes.
+fn put_def_line(text: &mut Vec<u8>, count: usize)
+    requires room { 4096 ≤ vec_capacity text.old }
+    ensures line { text.new.items ≡ line_text (codes "ok" ∷ decimal count ∷ []) }
+    ensures room { 4096 ≤ vec_capacity text.new }
+{
+    let mut number = Buffer::new();
+    text.clear();
+    put(text, b"ok ");
+    put(text, number.format(count).as_bytes());
+    put(text, b"\n");
+}
+
+/// Sends the first bytes and then the second, as `send` does.
+pub(crate) fn send_both<W: Sink>(
+    sink: &mut W,
+    first: &[u8],
+    second: &[u8],
+) -> Result<(), DeviceFault>
+    ensures ok { OnOk result (Appends (W.contents sink.old) (W.contents sink.new) (first.now ++ second.now)) }
+    ensures flushed { OnOk result (W.is_flushed sink.new ≡ true) }
+    ensures healthy { OnOk result (W.has_failed sink.new ≡ W.has_failed sink.old) }
+    ensures front { OnErr result ((n : ℕ) × Appends (W.contents sink.old) (W.contents sink.new) (take n (first.now ++ second.now))) }
+    ensures failed { OnErr result (W.has_failed sink.new ≡ true) }
+    ensures held { W.holds sink.new ≡ W.holds sink.old }
+{
+    send(sink, first)?;
+    send(sink, second)
+}
+
+/// Sends the text of a reply to a command of the team, as `send` does. A report or a DEF text is sent as it lies in the reply; the
+/// line before a DEF text, and any other reply, goes through the buffer.
+fn send_reply<K: Seeker + Drop, W: Sink>(
+    sink: &mut W,
+    text: &mut Vec<u8>,
+    floor: &Floor<K>,
+    team: &[u8],
+    reply: &Reply,
+) -> Result<(), DeviceFault>
+    requires room { 4096 ≤ vec_capacity text.old }
+    ensures ok { OnOk result (Appends (W.contents sink.old) (W.contents sink.new) (text_of floor.now team.now reply.now)) }
+    ensures flushed { OnOk result (W.is_flushed sink.new ≡ true) }
+    ensures healthy { OnOk result (W.has_failed sink.new ≡ W.has_failed sink.old) }
+    ensures front { OnErr result ((n : ℕ) × Appends (W.contents sink.old) (W.contents sink.new) (take n (text_of floor.now team.now reply.now))) }
+    ensures failed { OnErr result (W.has_failed sink.new ≡ true) }
+    ensures held { W.holds sink.new ≡ W.holds sink.old }
+    ensures room { 4096 ≤ vec_capacity text.new }
+{
+    match reply {
+        Reply::Report(report) => {
+            send_both(sink, b"ok ", report.as_bytes())?;
+            send(sink, b"\n")
+        }
+        Reply::Def(def) => {
+            put_def_line(text, def.as_bytes().len());
+            send_both(sink, text.as_slice(), def.as_bytes())
+        }
+        _ => {
+            write_short_reply(text, floor, team, reply);
+            send(sink, text.as_slice())
+        }
+    }
+}
+
+/// Puts the DEF text of the team to the sink, of which no call has failed.
+fn put_pieces<K: Seeker + Drop, W: Sink>(
+    pieces: &mut BufferedOutput<'_, W>,
+    floor: &Floor<K>,
+    team: &[u8],
+)
+    requires { pieces.old.failed ≡ false }
+    ensures under_way { IsUnderWay pieces.new.failed (W.contents pieces.old.sink.now) (W.contents pieces.new.sink.now) (pieces.old.waiting.now.items ++ def_text floor.now team.now) pieces.new.waiting.now.items }
+    ensures failed { W.has_failed pieces.new.sink.now ≡ has_failed_since pieces.new.failed (W.has_failed pieces.old.sink.now) }
+    ensures held { W.holds pieces.new.sink.now ≡ W.holds pieces.old.sink.now }
+    ensures room { vec_capacity pieces.old.waiting.now ≤ vec_capacity pieces.new.waiting.now }
+    ensures same_sink { pieces.new.sink.ghost_name ≡ pieces.old.sink.ghost_name }
+    ensures same_buffer { pieces.new.waiting.ghost_name ≡ pieces.old.waiting.ghost_name }
+{
+    floor.write_def(team, pieces);
+}
+
+/// Sends what the buffer holds and the DEF text of the team behind it, as `send` does, in pieces that fit the buffer.
+fn send_def<K: Seeker + Drop, W: Sink>(
+    sink: &mut W,
+    text: &mut Vec<u8>,
+    floor: &Floor<K>,
+    team: &[u8],
+) -> Result<(), DeviceFault>
+    ensures ok { OnOk result (Appends (W.contents sink.old) (W.contents sink.new) (text.old.items ++ def_text floor.now team.now)) }
+    ensures flushed { OnOk result (W.is_flushed sink.new ≡ true) }
+    ensures healthy { OnOk result (W.has_failed sink.new ≡ W.has_failed sink.old) }
+    ensures front { OnErr result ((n : ℕ) × Appends (W.contents sink.old) (W.contents sink.new) (take n (text.old.items ++ def_text floor.now team.now))) }
+    ensures failed { OnErr result (W.has_failed sink.new ≡ true) }
+    ensures held { W.holds sink.new ≡ W.holds sink.old }
+    ensures room { vec_capacity text.old ≤ vec_capacity text.new }
+{
+    let mut pieces = BufferedOutput::new(sink, text);
+    put_pieces(&mut pieces, floor, team);
+    pieces.finish()
+}
+
+/// Sends the text of the response to a command of the team, as `send` does: a DEF text in pieces, behind its line.
+pub(crate) fn send_response<K: Seeker + Drop, W: Sink>(
+    sink: &mut W,
+    text: &mut Vec<u8>,
+    floor: &Floor<K>,
+    team: &[u8],
+    response: &Response,
+) -> Result<(), DeviceFault>
+    requires room { 4096 ≤ vec_capacity text.old }
+    requires length { (count : ℕ) → response.now ≡ Apart count → count ≡ length (def_text floor.now team.now) }
+    ensures ok { OnOk result (Appends (W.contents sink.old) (W.contents sink.new) (text_of floor.now team.now (reply_in floor.now team.now response.now))) }
+    ensures flushed { OnOk result (W.is_flushed sink.new ≡ true) }
+    ensures healthy { OnOk result (W.has_failed sink.new ≡ W.has_failed sink.old) }
+    ensures front { OnErr result ((n : ℕ)
+        × Appends (W.contents sink.old) (W.contents sink.new)
+        (take n (text_of floor.now team.now (reply_in floor.now team.now response.now)))) }
+    ensures failed { OnErr result (W.has_failed sink.new ≡ true) }
+    ensures held { W.holds sink.new ≡ W.holds sink.old }
+    ensures room { 4096 ≤ vec_capacity text.new }
+{
+    match response {
+        Response::Whole(reply) => send_reply(sink, text, floor, team, reply),
+        Response::Def(count) => {
+            put_def_line(text, *count);
+            send_def(sink, text, floor, team)
+        }
+    }
+}

@@ -1,6 +1,0 @@
-use Rattle.lf_slices.proofs.Runs.{ruled_alike}
-use Rattle.lf_slices.proofs.laws.outcomes_are_alike.Goals as goal
-
-pub returns : goal.returns
-returns c = λ l m f g number order s t frames teams.
-    ruled_alike c.verdict_is_one.ensures c.choice_is_one.ensures l m f g number order s t frames teams

@@ -1,0 +1,124 @@
+-- What was saved of a floor restores it.
+use Rattle.std.proofs.Common.{◌≡◌, ℕ, List, [], ◌∷◌, map, Option, Ok, refl, ap, sym, subst, ◌∙◌}
+use Rattle.std.specs.Prelude.{drop, slice_index_or}
+use Rattle.lf_floorplan.specs.declared.frame.Frame.{Frame}
+use Rattle.lf_cells.specs.declared.cell.Cell.{Cell}
+use Rattle.lf_undo.specs.Entries.{Places, entries_of}
+use Rattle.lf_floor_model.specs.States.{FloorState, TeamState}
+use Rattle.lf_floor_model.specs.Teams.{team_names}
+use Rattle.lf_floor_model.specs.Journals.{IsBackup, lasting, lasting_replies}
+use Rattle.lf_floor_model.specs.Outcomes.{places_of}
+use Rattle.lf_floor_model.proofs.Journals.{backs_up}
+use Rattle.lf_state_text.specs.declared.saved_rows.SavedCell.{SavedCell}
+use Rattle.lf_state_text.specs.Designs.{NamedDesign, NamedTeam}
+use Rattle.lf_state_text.specs.Saved.{Both, SavedTeam, state_text}
+use Rattle.lf_state_text.specs.Reading.{state_of}
+use Rattle.lf_state_text.proofs.Again.{state-again}
+use Rattle.lf_state_restore.specs.Saved.{ShareDesign, SavedRestores, StateAndTail, IsSavedTeam, fixed_cells, fixed_of, map_two, named, named_team, restored_cell, restored_team, saved_cell}
+
+-- ---- equal lists
+
+same_head : {X : Type 0} {x y : X} {xs ys : List X} → ◌≡◌ {A = List X} (x ∷ xs) (y ∷ ys) → x ≡ y
+same_head {X} {x} is = ap (λ (l : List X). slice_index_or l 0 x) is
+
+same_tail : {X : Type 0} {x y : X} {xs ys : List X} → ◌≡◌ {A = List X} (x ∷ xs) (y ∷ ys) → xs ≡ ys
+same_tail {X} is = ap (λ (l : List X). drop 1 l) is
+
+-- ---- names
+
+same_names : (cells others : List Cell) → map fixed_of cells ≡ map fixed_of others → map (λ c. c.name) cells ≡ map (λ c. c.name) others
+same_names [] [] is = refl
+same_names [] (d ∷ ds) is = absurd cc
+same_names (c ∷ cs) [] is = absurd cc
+same_names (c ∷ cs) (d ∷ ds) is =
+    let first : c.name ≡ d.name = ap (λ (f : List ℕ × ℕ). f.0) (same_head is) in
+    ap (λ (n : List ℕ). n ∷ map (λ x. x.name) cs) first ∙ ap (λ (ns : List (List ℕ)). d.name ∷ ns) (same_names cs ds (same_tail is))
+
+same_named : (names : List (List ℕ)) (teams others : List TeamState) → map fixed_cells teams ≡ map fixed_cells others
+    → map_two named_team names teams ≡ map_two named_team names others
+same_named [] teams others is = refl
+same_named (n ∷ ns) [] [] is = refl
+same_named (n ∷ ns) [] (s ∷ ss) is = absurd cc
+same_named (n ∷ ns) (t ∷ ts) [] is = absurd cc
+same_named (n ∷ ns) (t ∷ ts) (s ∷ ss) is =
+    let cells : map (λ c. c.name) t.cells ≡ map (λ c. c.name) s.cells = same_names t.cells s.cells (same_head is) in
+    ap (λ (names : List (List ℕ)). record { name = n; cells = names } ∷ map_two named_team ns ts) cells
+    ∙ ap (λ (ms : List NamedTeam). named_team n s ∷ ms) (same_named ns ts ss (same_tail is))
+
+-- floors of one design have the same names
+same_design : (a b : FloorState) → ShareDesign a b → named b ≡ named a
+same_design a b one =
+    ap (λ (f : Frame). record { teams = map_two named_team (team_names f) b.teams; limits = f.limits }) one.frame
+    ∙ ap (λ (ts : List NamedTeam). record { teams = ts; limits = a.frame.limits }) (same_named (team_names a.frame) b.teams a.teams one.cells)
+
+-- ---- places
+
+pub saved_places : (cells : List Cell) → map (λ c. c.working) (map saved_cell cells) ≡ places_of cells
+saved_places [] = refl
+saved_places (c ∷ cs) = ap (λ (ps : Places). c.working ∷ ps) (saved_places cs)
+
+one_cell : (c d : Cell) → fixed_of d ≡ fixed_of c → restored_cell c (saved_cell d) ≡ d
+one_cell c d is = ap (λ (f : List ℕ × ℕ). record { name = f.0; mac = f.1; working = d.working; committed = d.committed }) (sym is)
+
+pub cells_back : (cells others : List Cell) → map fixed_of others ≡ map fixed_of cells → map_two restored_cell cells (map saved_cell others) ≡ others
+cells_back [] [] is = refl
+cells_back [] (d ∷ ds) is = absurd cc
+cells_back (c ∷ cs) [] is = absurd cc
+cells_back (c ∷ cs) (d ∷ ds) is =
+    ap (λ (x : Cell). x ∷ map_two restored_cell cs (map saved_cell ds)) (one_cell c d (same_head is))
+    ∙ ap (λ (xs : List Cell). d ∷ xs) (cells_back cs ds (same_tail is))
+
+-- ---- teams
+
+team_is : (s : TeamState) (cells : List Cell) (revision : ℕ) (entries : List Places) (slots : List (Option ℕ)) (padding : ℕ)
+    → cells ≡ s.cells → revision ≡ s.revision → entries ≡ s.entries → slots ≡ s.slots → padding ≡ s.padding
+    → ◌≡◌ {A = TeamState} (record { cells = cells; revision = revision; entries = entries; slots = slots; padding = padding }) s
+team_is s cells revision entries slots padding cells_are revision_is entries_are slots_are padding_is = rw (cells_are, revision_is, entries_are, slots_are, padding_is) refl
+
+team_back : (begin s : TeamState) (t : SavedTeam) → fixed_cells s ≡ fixed_cells begin → IsSavedTeam s t → restored_team begin t ≡ s
+team_back begin s t fixed tells =
+    let working = ap (λ (cs : List SavedCell). map (λ c. c.working) cs) tells.cells ∙ saved_places s.cells in
+    team_is s (map_two restored_cell begin.cells t.cells) t.revision (entries_of (map (λ c. c.working) t.cells) t.entries) t.slots t.padding
+    (ap (map_two restored_cell begin.cells) tells.cells ∙ cells_back begin.cells s.cells fixed)
+    tells.revision
+    (ap (λ (ps : Places). entries_of ps t.entries) working ∙ tells.entries)
+    tells.slots
+    tells.padding
+
+teams_back : (begins teams : List TeamState) (saved : List SavedTeam) → map fixed_cells teams ≡ map fixed_cells begins → Both IsSavedTeam teams saved
+    → map_two restored_team begins saved ≡ teams
+teams_back [] [] saved fixed tells = refl
+teams_back [] (s ∷ ss) saved fixed tells = absurd cc
+teams_back (b ∷ bs) [] saved fixed tells = absurd cc
+teams_back (b ∷ bs) (s ∷ ss) [] fixed tells = absurd tells
+teams_back (b ∷ bs) (s ∷ ss) (t ∷ ts) fixed tells =
+    ap (λ (x : TeamState). x ∷ map_two restored_team bs ts) (team_back b s t (same_head fixed) tells.0)
+    ∙ ap (λ (xs : List TeamState). s ∷ xs) (teams_back bs ss ts (same_tail fixed) tells.1)
+
+floor_is : (floor : FloorState) (frame : Frame) (teams : List TeamState) (components : List (List ℕ)) → frame ≡ floor.frame → teams ≡ floor.teams
+    → components ≡ floor.components → ◌≡◌ {A = FloorState} (record { frame = frame; teams = teams; components = components }) floor
+floor_is floor frame teams components frame_is teams_are components_are =
+    ap (λ (f : Frame). record { frame = f; teams = teams; components = components }) frame_is
+    ∙ ap (λ (ts : List TeamState). record { frame = floor.frame; teams = ts; components = components }) teams_are
+    ∙ ap (λ (cs : List (List ℕ)). record { frame = floor.frame; teams = floor.teams; components = cs }) components_are
+
+pub saved_back : SavedRestores
+saved_back begin floor text one (saved, tells, is) =
+    let read : state_of (named begin) text ≡ Ok saved =
+    ap (state_of (named begin)) is
+    ∙ ap (λ (d : NamedDesign). state_of d (state_text (named floor) saved)) (sym (same_design begin floor one))
+    ∙ state-again (named floor) saved tells.words in (
+      saved,
+      read,
+      floor_is floor begin.frame (map_two restored_team begin.teams saved) begin.components (sym one.frame)
+          (teams_back begin.teams floor.teams saved one.cells tells.teams) (sym one.components),
+    )
+
+pub tail_back : StateAndTail
+tail_back l begin old new text commands replies one says run =
+    let back = saved_back begin old text one says in (
+      back.0,
+      back.1,
+      subst (λ (floor : FloorState). IsBackup l floor (lasting commands replies) (lasting_replies commands replies) new) (sym back.2)
+          (backs_up l commands replies old new run),
+    )

@@ -1,0 +1,134 @@
+-- What is saved of a floor, and the floor that a saved one restores.
+use Rattle.std.specs.Prelude.{◌≡◌, ◌↔◌, ℕ, List, [], ◌∷◌, map, Ok, option_map}
+use Rattle.lf_floorplan.specs.declared.limits.Limits.{Limits}
+use Rattle.lf_floorplan.specs.declared.place.Place.{Place}
+use Rattle.lf_rules.specs.Choice.{spot_of}
+use Rattle.lf_rules.specs.FullyLegal.{IsFullyLegal, DesignCell, design_cells_from}
+use Rattle.lf_rules.specs.Legalizer.{Legalizer}
+use Rattle.lf_rules.specs.Team.{Member}
+use Rattle.lf_proto.specs.declared.request.Command.{Command}
+use Rattle.lf_proto.specs.declared.reply.Reply.{Reply}
+use Rattle.lf_cells.specs.declared.cell.Cell.{Cell}
+use Rattle.lf_undo.specs.Entries.{entries_of}
+use Rattle.lf_floor_model.specs.Committed.{IsCommittedLegal}
+use Rattle.lf_floor_model.specs.States.{FloorState, TeamState}
+use Rattle.lf_floor_model.specs.Teams.{team_names}
+use Rattle.lf_floor_model.specs.Outcomes.{places_of}
+use Rattle.lf_floor_model.specs.Runs.{Run}
+use Rattle.lf_floor_model.specs.Journals.{IsBackup, lasting, lasting_replies}
+use Rattle.lf_state_text.specs.declared.saved_rows.SavedCell.{SavedCell}
+use Rattle.lf_state_text.specs.Designs.{NamedDesign, NamedTeam}
+use Rattle.lf_state_text.specs.Saved.{AreSaved, Both, IsTeamOf, SavedTeam, state_text}
+use Rattle.lf_state_text.specs.Reading.{state_of}
+
+-- entry by entry of two lists, as far as both go
+abbrev pub map_two : {A B C : Type 0} → (A → B → C) → List A → List B → List C
+map_two f [] others = []
+map_two f (a ∷ firsts) [] = []
+map_two f (a ∷ firsts) (b ∷ others) = f a b ∷ map_two f firsts others
+
+-- ---- what is saved of a floor
+
+-- a team by its name, and its cells by theirs
+abbrev pub named_team : List ℕ → TeamState → NamedTeam
+named_team name s = record { name = name; cells = map (λ c. c.name) s.cells }
+
+-- the design of a floor, by its names
+abbrev pub named : FloorState → NamedDesign
+named floor = record { teams = map_two named_team (team_names floor.frame) floor.teams; limits = floor.frame.limits }
+
+-- where a cell stands
+abbrev pub saved_cell : Cell → SavedCell
+saved_cell c = record { working = c.working; committed = c.committed }
+
+-- a saved team is what is saved of this one: its undo entries are said as moves, of which no state speaks
+pub record IsSavedTeam (s : TeamState) (t : SavedTeam) : Type 0 where
+  pub revision : t.revision ≡ s.revision
+  pub padding : t.padding ≡ s.padding
+  pub slots : t.slots ≡ s.slots
+  pub cells : t.cells ≡ map saved_cell s.cells
+  pub entries : entries_of (places_of s.cells) t.entries ≡ s.entries
+
+-- the saved teams are what is saved of the floor, and have a text
+pub record AreSavedTeams (floor : FloorState) (saved : List SavedTeam) : Type 0 where
+  pub teams : Both IsSavedTeam floor.teams saved
+  pub words : AreSaved (named floor) saved
+
+-- a text of the floor's state
+abbrev pub IsStateText : FloorState → List ℕ → Type 0
+IsStateText floor text = (saved : List SavedTeam) × AreSavedTeams floor saved × (text ≡ state_text (named floor) saved)
+
+-- ---- floors of one design
+
+-- what no command changes of a cell
+abbrev pub fixed_of : Cell → List ℕ × ℕ
+fixed_of c = (c.name, c.mac)
+
+abbrev pub fixed_cells : TeamState → List (List ℕ × ℕ)
+fixed_cells s = map fixed_of s.cells
+
+-- the floors have one frame and the same cells, wherever these stand
+pub record ShareDesign (a b : FloorState) : Type 0 where
+  pub frame : b.frame ≡ a.frame
+  pub components : b.components ≡ a.components
+  pub cells : map fixed_cells b.teams ≡ map fixed_cells a.teams
+
+-- ---- what a saved floor restores
+
+abbrev pub restored_cell : Cell → SavedCell → Cell
+restored_cell c saved = record c { working = saved.working; committed = saved.committed }
+
+abbrev pub restored_team : TeamState → SavedTeam → TeamState
+restored_team s t = record {
+  cells = map_two restored_cell s.cells t.cells;
+  revision = t.revision;
+  entries = entries_of (map (λ c. c.working) t.cells) t.entries;
+  slots = t.slots;
+  padding = t.padding;
+}
+
+-- each saved team is one of the team of the same position, whatever its name is
+abbrev pub MatchDesign : Limits → List TeamState → List SavedTeam → Type 0
+MatchDesign limits teams saved = Both (λ s t. IsTeamOf limits (named_team [] s) t) teams saved
+
+-- the floor of a design in the state that the saved teams tell
+abbrev pub restored : FloorState → List SavedTeam → FloorState
+restored begin saved = record begin { teams = map_two restored_team begin.teams saved }
+
+-- the macro of a cell, and the committed place that a text tells of it
+abbrev pub saved_member : Cell → SavedCell → Member
+saved_member c saved = record { mac = c.mac; place = option_map spot_of saved.committed }
+
+-- all teams' cells at the committed places that the saved teams tell, team after team
+abbrev pub saved_design : FloorState → List SavedTeam → List DesignCell
+saved_design begin saved = design_cells_from 0 (map_two (λ s t. map_two saved_member s.cells t.cells) begin.teams saved)
+
+-- the floor is in the state that the text tells of the design of the one with which it began
+abbrev pub IsRestoredFrom : FloorState → List ℕ → FloorState → Type 0
+IsRestoredFrom begin text floor = (saved : List SavedTeam) × (state_of (named begin) text ≡ Ok saved) × (floor ≡ restored begin saved)
+
+-- ---- laws
+
+-- what was saved of a floor of the design is read from its text, and restored it is that floor
+abbrev pub SavedRestores : Type 0
+SavedRestores =
+    (begin floor : FloorState) (text : List ℕ) → ShareDesign begin floor → IsStateText floor text
+    → (saved : List SavedTeam) × (state_of (named begin) text ≡ Ok saved) × (restored begin saved ≡ floor)
+
+-- the committed design of what is restored is fully legal if and only if the design that the saved teams tell is
+abbrev pub RestoredIsCommitted : Type 0
+RestoredIsCommitted = (begin : FloorState) (saved : List SavedTeam) → IsCommittedLegal (restored begin saved) ↔ IsFullyLegal begin.frame (saved_design begin saved)
+
+-- a state text and the journal behind it are a backup: what the text restores is where the journal begins
+abbrev pub StateAndTail : Type 0
+StateAndTail =
+    (l : Legalizer) (begin old new : FloorState) (text : List ℕ) (commands : List (Command (List ℕ) Place)) (replies : List Reply)
+    → ShareDesign begin old → IsStateText old text → Run l old commands replies new
+    → (saved : List SavedTeam) × (state_of (named begin) text ≡ Ok saved)
+    × IsBackup l (restored begin saved) (lasting commands replies) (lasting_replies commands replies) new
+
+-- a run stays with its design
+abbrev pub RunKeepsDesign : Type 0
+RunKeepsDesign =
+    (l : Legalizer) (begin old new : FloorState) (commands : List (Command (List ℕ) Place)) (replies : List Reply)
+    → ShareDesign begin old → Run l old commands replies new → ShareDesign begin new

@@ -1,0 +1,132 @@
+//! The cells of all teams at their saved places.
+
+ghost use Rattle.std.specs.Prelude.{◌≡◌, ◌≤◌, ℕ, IfOk, length, map};
+ghost use Rattle.lf_cells.specs.Cells.{as_committed, cells_of, moved};
+ghost use Rattle.lf_placement.specs.Placings.{OtherCellsStay, SameButPlaces, committed_of, places_of};
+ghost use Rattle.lf_state_text.specs.Saved.{team_view, team_views};
+ghost use Rattle.lf_state_restore.specs.Saved.{map_two, restored_cell};
+ghost use Rattle.lf_state_restore.specs.Stands.{AreAsMany, ArePlaced, without_cells};
+
+use lf_cells::{CellId, CellTable};
+use lf_floorplan::{Place, same_place};
+use lf_placement::Placement;
+use lf_state_text::{SavedCell, TeamRow};
+use std::alloc::{AllocError, Global};
+use std::mem;
+
+/// Changes the working place of the team's cell of that position, and nothing else.
+fn put_at(cells: &mut CellTable, team: u32, own: usize, place: Option<Place>)
+    requires { own ≤ 4000000 }
+    ensures own { cells_of cells.new team ≡ moved (cells_of cells.old team) own place }
+    ensures others { OtherCellsStay team cells.old cells.new }
+{
+    let id = CellId {
+        team,
+        own: own as u32,
+    };
+    cells.set_working(id, place);
+}
+
+/// Changes the working places of the team's cells to the saved committed ones, of which there is one for each.
+fn stand_committed(cells: &mut CellTable, team: u32, saved: &[SavedCell])
+    requires many { length saved.now ≡ length (cells_of cells.old team) }
+    requires few { length saved.now ≤ 4000000 }
+    ensures places { places_of (cells_of cells.new team) ≡ map (λ c. c.committed) saved.now }
+    ensures same { SameButPlaces (cells_of cells.old team) (cells_of cells.new team) }
+    ensures others { OtherCellsStay team cells.old cells.new }
+{
+    for own in 0..saved.len() {
+        put_at(cells, team, own, saved[own].committed.place());
+    }
+}
+
+/// Changes the working places of the team's cells, which stand at the saved committed ones, to the saved working ones: the cells of
+/// which both are one place stand there already.
+fn stand_working(cells: &mut CellTable, team: u32, saved: &[SavedCell])
+    requires stand { places_of (cells_of cells.old team) ≡ map (λ c. c.committed) saved.now }
+    requires few { length saved.now ≤ 4000000 }
+    ensures places { places_of (cells_of cells.new team) ≡ map (λ c. c.working) saved.now }
+    ensures same { SameButPlaces (cells_of cells.old team) (cells_of cells.new team) }
+    ensures others { OtherCellsStay team cells.old cells.new }
+{
+    for own in 0..saved.len() {
+        let place = saved[own].working.place();
+        if !same_place(place, saved[own].committed.place()) {
+            put_at(cells, team, own, place);
+        }
+    }
+}
+
+/// Commits the team's cells where they stand.
+fn commit(cells: &mut CellTable, team: u32)
+    ensures own { cells_of cells.new team ≡ map as_committed (cells_of cells.old team) }
+    ensures others { OtherCellsStay team cells.old cells.new }
+{
+    cells.commit_team(team as usize);
+}
+
+/// Gives the team's cells, of which there is one for each, their saved places.
+fn place_team(cells: &mut CellTable, team: u32, saved: &[SavedCell])
+    requires many { length saved.now ≡ length (cells_of cells.old team) }
+    requires few { length saved.now ≤ 4000000 }
+    ensures own { cells_of cells.new team ≡ map_two restored_cell (cells_of cells.old team) saved.now }
+    ensures others { OtherCellsStay team cells.old cells.new }
+{
+    stand_committed(cells, team, saved);
+    commit(cells, team);
+    stand_working(cells, team, saved);
+}
+
+/// The same of the team of that number, if it has a cell.
+fn place_numbered(cells: &mut CellTable, team: usize, saved: &[SavedCell])
+    requires many { length saved.now ≡ length (cells_of cells.old team) }
+    requires few { length saved.now ≤ 4000000 }
+    ensures own { cells_of cells.new team ≡ map_two restored_cell (cells_of cells.old team) saved.now }
+    ensures others { OtherCellsStay team cells.old cells.new }
+{
+    match cells.cell_of(team, 0) {
+        Some(first) => place_team(cells, first.team, saved),
+        None => {}
+    }
+}
+
+/// The saved cells of the row, which are then no longer in it.
+fn take_cells(alloc: Global, row: &mut TeamRow) -> Vec<SavedCell>
+    ensures cells { result.items ≡ row.old.cells.items }
+    ensures row { team_view row.new ≡ without_cells (team_view row.old) }
+{
+    mem::replace(&mut row.cells, Vec::new(alloc))
+}
+
+/// Gives each team's cells, of which there is one for each, the places that its row tells, and takes these out of the row.
+fn place_in_table(alloc: Global, cells: &mut CellTable, rows: &mut [TeamRow])
+    requires many { AreAsMany (team_views rows.old) cells.old }
+    requires few { (team : ℕ) → length (cells_of cells.old team) ≤ 4000000 }
+    ensures placed { ArePlaced (team_views rows.old) cells.old cells.new }
+    ensures rows { team_views rows.new ≡ map without_cells (team_views rows.old) }
+{
+    for team in 0..rows.len() {
+        let saved = take_cells(alloc, &mut rows[team]);
+        place_numbered(cells, team, &saved);
+    }
+}
+
+/// The placement with each team's cells at the places that its row tells, working and committed. These are taken out of the rows and
+/// let go, and then the strips are built anew.
+///
+/// `Err` if an allocation fails; the placement is then gone.
+pub fn place_teams(
+    alloc: Global,
+    placement: Placement,
+    rows: &mut [TeamRow],
+) -> Result<Placement, AllocError>
+    requires { AreAsMany (team_views rows.old) placement.cells }
+    ensures frame { IfOk result (λ placed. placed.frame ≡ placement.frame) }
+    ensures cells { IfOk result (λ placed. ArePlaced (team_views rows.old) placement.cells placed.cells) }
+    ensures rows { team_views rows.new ≡ map without_cells (team_views rows.old) }
+{
+    let (frame, cells) = placement.into_parts();
+    let mut placed = cells;
+    place_in_table(alloc, &mut placed, rows);
+    Placement::of(alloc, frame, placed)
+}

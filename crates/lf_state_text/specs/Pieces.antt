@@ -1,0 +1,32 @@
+-- What is left of a text in pieces, and what was let go of it.
+use Rattle.std.specs.Prelude.{◌≡◌, ◌⊎◌, ℕ, List, [], ◌∷◌, ◌++◌, drop, Vec}
+use Rattle.std.specs.List.{flat_map}
+use Rattle.lf_lex.specs.Tokens.{line_feeds}
+use Rattle.lf_state_text.specs.declared.cursor.Cursor.{Cursor}
+
+-- the text that the pieces make together
+abbrev pub joined : {A : Type 0} → List (Vec ℕ A) → List ℕ
+joined pieces = flat_map (λ piece. piece.items) pieces
+
+-- what is held of the text
+abbrev pub held_bytes : Cursor → List ℕ
+held_bytes c = c.piece.items ++ joined c.later.items
+
+-- what is left of the piece
+abbrev pub front : Cursor → List ℕ
+front c = drop c.at c.piece.items
+
+-- what is left of the text
+abbrev pub rest : Cursor → List ℕ
+rest c = front c ++ joined c.later.items
+
+-- whole lines, or nothing
+abbrev pub AreLines : List ℕ → Type 0
+AreLines text = (text ≡ []) ⊎ ((before : List ℕ) × (text ≡ before ++ 10 ∷ []))
+
+-- what is held is the end of the text, behind whole lines, whose feeds are counted
+pub record IsEnd (text : List ℕ) (c : Cursor) : Type 0 where
+  pub gone : List ℕ
+  pub whole : AreLines gone
+  pub is : text ≡ gone ++ held_bytes c
+  pub lines : line_feeds gone ≡ c.lines

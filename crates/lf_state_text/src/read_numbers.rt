@@ -1,0 +1,122 @@
+//! The numbers of a state text.
+
+ghost use Rattle.std.specs.Prelude.{◌≡◌, ◌<◌, ◌≤◌, ◌^◌, ◌++◌, ◌<ℤ◌, IfSome, List, Ok, ℕ, drop, length, negsuc, pos, take, true};
+ghost use Rattle.std.specs.Char.{is_ascii_digit};
+ghost use Rattle.std.specs.List.{list_all};
+ghost use Rattle.std.specs.Str.Parse.{digits_value};
+ghost use Rattle.lf_proto.specs.Numbers.{coordinate, digits};
+ghost use Rattle.lf_state_text.specs.Reading.{number_at};
+ghost use Rattle.lf_state_text.specs.Words.{Begins, number};
+
+/// Whether each byte is a digit.
+fn are_digits(word: &[u8]) -> bool
+    ensures { result ≡ list_all is_ascii_digit word.now }
+{
+    word.iter().all(|byte| byte.is_ascii_digit())
+}
+
+/// The number that at most ten digits write.
+fn value_of(digits: &[u8]) -> u64
+    requires digits { list_all is_ascii_digit digits.now ≡ true }
+    requires short { length digits.now ≤ 10 }
+    ensures { result ≡ digits_value 10 digits.now }
+{
+    let mut value = 0u64;
+    for digit in digits {
+        value = value * 10 + u64::from(*digit - b'0');
+    }
+    value
+}
+
+/// The number that one to ten digits write.
+fn digits_of(word: &[u8]) -> Option<u64>
+    ensures { result ≡ digits word.now }
+{
+    if word.is_empty() || word.len() > 10 || !are_digits(word) {
+        return None;
+    }
+    Some(value_of(word))
+}
+
+/// The number below 2^32 that the word writes, if it writes one.
+pub(crate) fn number_of(word: &[u8]) -> Option<u32>
+    ensures { result ≡ number word.now }
+{
+    u32::try_from(digits_of(word)?).ok()
+}
+
+/// The coordinate in database units that the word writes, if it writes one.
+pub(crate) fn coordinate_of(word: &[u8]) -> Option<i32>
+    ensures value { result ≡ coordinate word.now }
+    ensures in_def { IfSome result (λ z. negsuc 2147483647 <ℤ z) }
+{
+    match word.split_first() {
+        Some((b'-', rest)) => Some(-i32::try_from(digits_of(rest)?).ok()?),
+        _ => i32::try_from(digits_of(word)?).ok(),
+    }
+}
+
+/// The number that the digits in front write, ten of them at most, and how many they are.
+fn front_digits(bytes: &[u8]) -> (u64, usize)
+    ensures within { result.1 ≤ length bytes.now }
+    ensures short { result.1 ≤ 10 }
+    ensures digits { list_all is_ascii_digit (take result.1 bytes.now) ≡ true }
+    ensures value { result.0 ≡ digits_value 10 (take result.1 bytes.now) }
+{
+    let most = bytes.len().min(10);
+    let mut value = 0u64;
+    for len in 0..most {
+        let byte = bytes[len];
+        if !byte.is_ascii_digit() {
+            return (value, len);
+        }
+        value = value * 10 + u64::from(byte - b'0');
+    }
+    (value, most)
+}
+
+/// The number in front whose digits such a byte ends, and what stands behind the byte.
+fn front_number(byte: u8, bytes: &[u8]) -> Option<(u64, &[u8])>
+    ensures { IfSome result (λ x. Begins digits byte bytes.now x.0 x.1.now) }
+{
+    let (value, len) = front_digits(bytes);
+    if 0 < len && len < bytes.len() && bytes[len] == byte {
+        return Some((value, &bytes[len + 1..]));
+    }
+    None
+}
+
+/// The number below 2^32 in front whose digits such a byte ends, and how many bytes both are.
+pub(crate) fn front_u32(byte: u8, bytes: &[u8]) -> Option<(u32, usize)>
+    requires { byte < 48 }
+    ensures within { IfSome result (λ x. x.1 ≤ length bytes.now) }
+    ensures read { IfSome result (λ x. (later : List ℕ) → number_at byte (bytes.now ++ later) ≡ Ok (x.0, drop x.1 bytes.now ++ later)) }
+{
+    let (value, rest) = front_number(byte, bytes)?;
+    let number = u32::try_from(value).ok()?;
+    Some((number, bytes.len() - rest.len()))
+}
+
+/// The size of a coordinate that the number is, if it is below 2^31.
+fn size_of(value: u64) -> Option<i32>
+    ensures { IfSome result (λ size. (size ≡ pos value) × (value < 2 ^ 31)) }
+{
+    i32::try_from(value).ok()
+}
+
+/// The coordinate in front whose digits a comma ends, and what stands behind the comma.
+pub(crate) fn front_coordinate(bytes: &[u8]) -> Option<(i32, &[u8])>
+    ensures value { IfSome result (λ x. Begins coordinate 44 bytes.now x.0 x.1.now) }
+    ensures in_def { IfSome result (λ x. negsuc 2147483647 <ℤ x.0) }
+{
+    match bytes.split_first() {
+        Some((b'-', digits)) => {
+            let (size, rest) = front_number(b',', digits)?;
+            Some((-size_of(size)?, rest))
+        }
+        _ => {
+            let (size, rest) = front_number(b',', bytes)?;
+            Some((size_of(size)?, rest))
+        }
+    }
+}

@@ -1,0 +1,111 @@
+//! Places as words.
+
+ghost use Rattle.std.specs.Prelude.{◌≡◌, ◌<◌, ◌≤◌, ◌==◌, ◌++◌, IfSome, List, Ok, Some, ℕ, drop, length, option_map, position, slice_index};
+ghost use Rattle.lf_proto.specs.Requests.{orient_named, place_written};
+ghost use Rattle.lf_state_text.specs.Reading.{spot_at};
+ghost use Rattle.lf_state_text.specs.Words.{Begins, cut, place_in, place_on};
+
+use crate::read_numbers::{coordinate_of, front_coordinate};
+use lf_floorplan::{PackedPlace, Place};
+use lf_orient::Orient;
+
+/// What stands before and behind the first such byte.
+#[tactic(auto, unfolding(crate::specs::Words::cut))]
+fn cut(byte: u8, bytes: &[u8]) -> Option<(&[u8], &[u8])>
+    ensures { option_map (λ x. (x.0.now, x.1.now)) result ≡ cut byte bytes.now }
+{
+    let at = position_of(byte, bytes)?;
+    Some((&bytes[..at], &bytes[at + 1..]))
+}
+
+/// Where the first such byte stands.
+pub(crate) fn position_of(byte: u8, bytes: &[u8]) -> Option<usize>
+    ensures found { result ≡ position (λ b. b == byte) bytes.now }
+    ensures within { IfSome result (λ at. at < length bytes.now) }
+{
+    bytes.iter().position(|b| *b == byte)
+}
+
+/// The orientation of that name.
+fn orient_of(word: &[u8]) -> Option<Orient>
+    ensures { result ≡ orient_named word.now }
+{
+    match word {
+        b"N" => Some(Orient::N),
+        b"W" => Some(Orient::W),
+        b"S" => Some(Orient::S),
+        b"E" => Some(Orient::E),
+        b"FN" => Some(Orient::FN),
+        b"FW" => Some(Orient::FW),
+        b"FS" => Some(Orient::FS),
+        b"FE" => Some(Orient::FE),
+        _ => None,
+    }
+}
+
+/// The place that three words write.
+fn read_place(x: &[u8], y: &[u8], orient: &[u8]) -> Option<Place>
+    ensures { result ≡ place_written x.now y.now orient.now }
+{
+    let x = coordinate_of(x)?;
+    let y = coordinate_of(y)?;
+    let orient = orient_of(orient)?;
+    Some(Place::new(x, y, orient))
+}
+
+/// The place that a word writes with commas between its parts.
+#[tactic(auto, unfolding(crate::specs::Words::place_in))]
+fn place_in(word: &[u8]) -> Option<Place>
+    ensures { result ≡ place_in word.now }
+{
+    let (x, rest) = cut(b',', word)?;
+    let (y, orient) = cut(b',', rest)?;
+    read_place(x, y, orient)
+}
+
+/// The place that a word writes, or none for a minus alone.
+#[tactic(auto, unfolding(crate::specs::Words::place_on))]
+pub(crate) fn place_on(word: &[u8]) -> Option<PackedPlace>
+    ensures { result ≡ place_on word.now }
+{
+    if word == b"-".as_slice() {
+        return Some(PackedPlace::of(None));
+    }
+    let place = place_in(word)?;
+    Some(PackedPlace::of(Some(place)))
+}
+
+/// How many bytes stand before such a byte, if they are one or two.
+fn short_len(byte: u8, bytes: &[u8]) -> Option<usize>
+    ensures within { IfSome result (λ len. len < length bytes.now) }
+    ensures found { IfSome result (λ len. slice_index bytes.now len ≡ byte) }
+{
+    if 1 < bytes.len() && bytes[1] == byte {
+        return Some(1);
+    }
+    if 2 < bytes.len() && bytes[2] == byte {
+        return Some(2);
+    }
+    None
+}
+
+/// The orientation in front whose name such a byte ends, and what stands behind the byte.
+fn front_orient(byte: u8, bytes: &[u8]) -> Option<(Orient, &[u8])>
+    ensures { IfSome result (λ x. Begins orient_named byte bytes.now x.0 x.1.now) }
+{
+    let len = short_len(byte, bytes)?;
+    let orient = orient_of(&bytes[..len])?;
+    Some((orient, &bytes[len + 1..]))
+}
+
+/// The place in front whose word such a byte ends, and how many bytes both are, if all of them are here.
+pub(crate) fn front_place(byte: u8, bytes: &[u8]) -> Option<(Place, usize)>
+    requires { byte ≤ 32 }
+    ensures within { IfSome result (λ x. x.1 ≤ length bytes.now) }
+    ensures read { IfSome result (λ x. (later : List ℕ) → spot_at byte (bytes.now ++ later) ≡ Ok (Some x.0, drop x.1 bytes.now ++ later)) }
+{
+    let (x, rest) = front_coordinate(bytes)?;
+    let (y, rest) = front_coordinate(rest)?;
+    let (orient, rest) = front_orient(byte, rest)?;
+    Some((Place::new(x, y, orient), bytes.len() - rest.len()))
+}

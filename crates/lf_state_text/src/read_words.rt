@@ -1,0 +1,177 @@
+//! The words of a text, one after the other.
+
+ghost use Rattle.std.specs.Prelude.{◌≡◌, ◌+◌, ◌<◌, ◌≤◌, List, ℕ, IfOk, drop, length, take};
+ghost use Rattle.lf_state_text.specs.Words.{slot_on};
+ghost use Rattle.lf_state_text.specs.Pieces.{IsEnd, front, rest};
+ghost use Rattle.lf_state_text.specs.Reading.{Reads, below_at, count_at, due_at, is_seen_by, number_at, slot_at, spot_at, mismatch, word_at};
+
+use crate::cursor::Cursor;
+use crate::cursor_steps::{begins, find, front, skip, word};
+use crate::fault::{FaultNumber, ReadError};
+use crate::read_numbers::{front_u32, number_of};
+use crate::read_places::{front_place, place_on};
+use lf_floorplan::PackedPlace;
+use std::alloc::AllocError;
+
+/// What is wrong with a line that goes on otherwise: that, or the text ends within the line.
+#[tactic(auto, unfolding(crate::specs::Words::cut))]
+fn mismatch(number: FaultNumber, cursor: &mut Cursor) -> Result<FaultNumber, AllocError>
+    ensures unmet { IfOk result (λ met. met ≡ mismatch number (rest cursor.old)) }
+    ensures rest { rest cursor.new ≡ rest cursor.old }
+    ensures ends { (text : List ℕ) → IsEnd text cursor.old → IsEnd text cursor.new }
+{
+    match find(b'\n', cursor)? {
+        Some(_) => Ok(number),
+        None => Ok(FaultNumber::UnexpectedEnd),
+    }
+}
+
+/// Takes the bytes that are due.
+#[tactic(auto, unfolding(crate::specs::Reading::due_at, crate::specs::Words::behind))]
+pub(crate) fn expect_bytes(
+    number: FaultNumber,
+    due: &[u8],
+    cursor: &mut Cursor,
+) -> Result<(), ReadError>
+    ensures read { Reads (λ _ left. left) result (due_at number due.now (rest cursor.old)) (rest cursor.new) }
+    ensures ends { (text : List ℕ) → IsEnd text cursor.old → IsEnd text cursor.new }
+{
+    if begins(due, cursor)? {
+        skip(due.len(), cursor);
+        return Ok(());
+    }
+    let met = mismatch(number, cursor)?;
+    Err(ReadError::Fault(met))
+}
+
+/// How long the word up to the next such byte is: the piece then has it and the byte.
+#[tactic(auto, unfolding(crate::specs::Reading::word_at, crate::specs::Words::cut))]
+fn word_len(byte: u8, cursor: &mut Cursor) -> Result<usize, ReadError>
+    ensures read { Reads (λ len left. (take len left, drop (len + 1) left)) result (word_at byte (rest cursor.old)) (rest cursor.new) }
+    ensures within { IfOk result (λ len. len < length (front cursor.new)) }
+    ensures rest { rest cursor.new ≡ rest cursor.old }
+    ensures ends { (text : List ℕ) → IsEnd text cursor.old → IsEnd text cursor.new }
+{
+    match find(byte, cursor)? {
+        Some(len) => Ok(len),
+        None => Err(ReadError::Fault(FaultNumber::UnexpectedEnd)),
+    }
+}
+
+/// The number below 2^32 that comes next, and how many bytes it and the one that ends it are, which are not taken.
+#[tactic(auto, unfolding(crate::specs::Reading::number_at))]
+fn next_number(byte: u8, cursor: &mut Cursor) -> Result<(u32, usize), ReadError>
+    requires { byte < 48 }
+    ensures read { Reads (λ x left. (x.0, drop x.1 left)) result (number_at byte (rest cursor.old)) (rest cursor.new) }
+    ensures within { IfOk result (λ x. x.1 ≤ length (front cursor.new)) }
+    ensures rest { rest cursor.new ≡ rest cursor.old }
+    ensures ends { (text : List ℕ) → IsEnd text cursor.old → IsEnd text cursor.new }
+{
+    if let Some(next) = front_u32(byte, front(cursor)) {
+        return Ok(next);
+    }
+    let len = word_len(byte, cursor)?;
+    let Some(number) = number_of(word(len, cursor)) else {
+        return Err(ReadError::Fault(FaultNumber::BadNumber));
+    };
+    Ok((number, len + 1))
+}
+
+/// A number below 2^32.
+pub(crate) fn number_at(byte: u8, cursor: &mut Cursor) -> Result<u32, ReadError>
+    requires { byte < 48 }
+    ensures read { Reads (λ n left. (n, left)) result (number_at byte (rest cursor.old)) (rest cursor.new) }
+    ensures ends { (text : List ℕ) → IsEnd text cursor.old → IsEnd text cursor.new }
+{
+    let (number, len) = next_number(byte, cursor)?;
+    skip(len, cursor);
+    Ok(number)
+}
+
+/// A number below a limit.
+#[tactic(auto, unfolding(crate::specs::Reading::below_at))]
+pub(crate) fn below_at(limit: usize, byte: u8, cursor: &mut Cursor) -> Result<u32, ReadError>
+    requires { byte < 48 }
+    ensures read { Reads (λ n left. (n, left)) result (below_at limit byte (rest cursor.old)) (rest cursor.new) }
+    ensures ends { (text : List ℕ) → IsEnd text cursor.old → IsEnd text cursor.new }
+{
+    let (number, len) = next_number(byte, cursor)?;
+    if (number as usize) < limit {
+        skip(len, cursor);
+        return Ok(number);
+    }
+    Err(ReadError::Fault(FaultNumber::OutOfRange))
+}
+
+/// Takes the number that is due.
+#[tactic(auto, unfolding(crate::specs::Reading::count_at))]
+pub(crate) fn count_at(count: usize, byte: u8, cursor: &mut Cursor) -> Result<(), ReadError>
+    requires { byte < 48 }
+    ensures read { Reads (λ _ left. left) result (count_at count byte (rest cursor.old)) (rest cursor.new) }
+    ensures ends { (text : List ℕ) → IsEnd text cursor.old → IsEnd text cursor.new }
+{
+    let (number, len) = next_number(byte, cursor)?;
+    if number as usize == count {
+        skip(len, cursor);
+        return Ok(());
+    }
+    Err(ReadError::Fault(FaultNumber::OtherDesign))
+}
+
+/// A place or none.
+#[tactic(auto, unfolding(crate::specs::Reading::spot_at))]
+pub(crate) fn read_place_or_none(byte: u8, cursor: &mut Cursor) -> Result<PackedPlace, ReadError>
+    requires { byte ≤ 32 }
+    ensures read { Reads (λ place left. (place, left)) result (spot_at byte (rest cursor.old)) (rest cursor.new) }
+    ensures ends { (text : List ℕ) → IsEnd text cursor.old → IsEnd text cursor.new }
+{
+    if let Some((place, len)) = front_place(byte, front(cursor)) {
+        skip(len, cursor);
+        return Ok(PackedPlace::of(Some(place)));
+    }
+    let len = word_len(byte, cursor)?;
+    let Some(place) = place_on(word(len, cursor)) else {
+        return Err(ReadError::Fault(FaultNumber::BadNumber));
+    };
+    skip(len + 1, cursor);
+    Ok(place)
+}
+
+/// What the word of a session slot writes.
+#[tactic(auto, unfolding(crate::specs::Words::slot_on))]
+fn slot_on(word: &[u8]) -> Option<Option<u32>>
+    ensures { result ≡ slot_on word.now }
+{
+    if word == b"-".as_slice() {
+        return Some(None);
+    }
+    let number = number_of(word)?;
+    Some(Some(number))
+}
+
+/// Whether the session of a slot, if there is one, has seen a revision up to the team's.
+fn is_seen_by(revision: u32, slot: Option<u32>) -> bool
+    ensures { result ≡ is_seen_by revision slot }
+{
+    match slot {
+        None => true,
+        Some(seen) => seen <= revision,
+    }
+}
+
+/// The line of a session slot of a team that has this revision.
+#[tactic(auto, unfolding(crate::specs::Reading::slot_at))]
+pub(crate) fn slot_at(revision: u32, cursor: &mut Cursor) -> Result<Option<u32>, ReadError>
+    ensures read { Reads (λ slot left. (slot, left)) result (slot_at revision (rest cursor.old)) (rest cursor.new) }
+    ensures ends { (text : List ℕ) → IsEnd text cursor.old → IsEnd text cursor.new }
+{
+    let len = word_len(b'\n', cursor)?;
+    let Some(slot) = slot_on(word(len, cursor)) else {
+        return Err(ReadError::Fault(FaultNumber::BadNumber));
+    };
+    if is_seen_by(revision, slot) {
+        skip(len + 1, cursor);
+        return Ok(slot);
+    }
+    Err(ReadError::Fault(FaultNumber::OutOfRange))
+}

@@ -1,0 +1,290 @@
+//! A state text as it is written.
+
+ghost use Rattle.std.specs.Prelude.{◌≡◌, ◌∷◌, ◌<◌, ◌≤◌, All, IfSome, Some, count_by, length, map, nat_lt, slice_get};
+ghost use Rattle.std.specs.List.{flat_map};
+ghost use Rattle.lf_lex.specs.Splices.{spaced};
+ghost use Rattle.lf_team_def.specs.Output.{PutsText};
+ghost use Rattle.lf_team_def.specs.TeamText.{line_of};
+ghost use Rattle.lf_state_text.specs.Designs.{team_of};
+ghost use Rattle.lf_state_text.specs.Saved.{IsInRange, IsSpottedCell, IsSpottedEntry};
+ghost use Rattle.lf_state_text.specs.Saved.{cell_line, entry_lines, head_line, lines_of, move_line, moves_within, opening_lines};
+ghost use Rattle.lf_state_text.specs.Saved.{slot_line, state_text, saved_at, team_lines};
+ghost use Rattle.lf_state_text.specs.Writing.{entry_if, line_at, move_within, word_text};
+ghost use Rattle.lf_state_text.specs.Words.{place_text};
+
+use crate::known_ranges::{cell_known, moves_known};
+use crate::saved_rows::SavedCell;
+use crate::schema::{DesignSchema, name_of_team};
+use crate::team_views::TeamViews;
+use itoa::Buffer;
+use lf_floorplan::{PackedPlace, Place};
+use lf_orient::orient_word;
+use lf_rules::Padding;
+use lf_team_def::Output;
+use lf_undo::{Move, Moves};
+
+/// A word of a line.
+#[derive(Clone, Copy)]
+enum Word<'a> {
+    Text(&'a [u8]),
+    Count(usize),
+    Spot(PackedPlace),
+    Slot(Option<u32>),
+}
+
+/// Puts a place: X,Y,O.
+fn put_place<O: Output>(out: &mut O, place: &Place)
+    ensures { PutsText O.took out.old out.new (place_text (Some place.now)) }
+{
+    out.put(Buffer::new().format(place.x).as_bytes());
+    out.put(b",");
+    out.put(Buffer::new().format(place.y).as_bytes());
+    out.put(b",");
+    out.put(orient_word(place.orient));
+}
+
+/// Puts the word.
+fn put_word<O: Output>(out: &mut O, word: &Word<'_>)
+    ensures { PutsText O.took out.old out.new (word_text word.now) }
+{
+    match word {
+        Word::Text(text) => out.put(text),
+        Word::Count(number) => out.put(Buffer::new().format(*number).as_bytes()),
+        Word::Spot(spot) => match spot.place() {
+            None => out.put(b"-"),
+            Some(place) => put_place(out, &place),
+        },
+        Word::Slot(None) => out.put(b"-"),
+        Word::Slot(Some(seen)) => out.put(Buffer::new().format(*seen).as_bytes()),
+    }
+}
+
+/// Puts the words, a space before each.
+fn put_spaced<O: Output>(out: &mut O, words: &[Word<'_>])
+    ensures { PutsText O.took out.old out.new (spaced (map word_text words.now)) }
+{
+    for word in words {
+        out.put(b" ");
+        put_word(out, word);
+    }
+}
+
+/// Puts a line of words, the first of them given apart.
+fn put_line<O: Output>(out: &mut O, first: &Word<'_>, words: &[Word<'_>])
+    ensures { PutsText O.took out.old out.new (line_of (word_text first.now ∷ map word_text words.now)) }
+{
+    put_word(out, first);
+    put_spaced(out, words);
+    out.put(b"\n");
+}
+
+/// Puts the lines of the slots.
+fn put_slots<O: Output>(out: &mut O, slots: &[Option<u32>])
+    ensures { PutsText O.took out.old out.new (flat_map slot_line slots.now) }
+{
+    for slot in slots {
+        put_line(out, &Word::Slot(*slot), &[]);
+    }
+}
+
+/// Puts the line of the cell of that name.
+fn put_cell<O: Output>(out: &mut O, name: &[u8], cell: &SavedCell)
+    ensures { PutsText O.took out.old out.new (cell_line name.now cell.now) }
+{
+    put_line(
+        out,
+        &Word::Text(name),
+        &[Word::Spot(cell.working), Word::Spot(cell.committed)],
+    );
+}
+
+/// Puts the line of the team's cell of that position, where the design and the teams have one.
+fn put_cell_at<O: Output, D: DesignSchema, T: TeamViews>(
+    out: &mut O,
+    design: &D,
+    teams: &T,
+    team: usize,
+    own: usize,
+)
+    requires { team < length (T.saved teams.now) }
+    ensures text { PutsText O.took out.old out.new
+        (line_at cell_line (team_of (D.named design.now) team).cells (saved_at (T.saved teams.now) team).cells own) }
+    ensures spotted { IfSome (slice_get (saved_at (T.saved teams.now) team).cells own) IsSpottedCell }
+{
+    if let Some(cell) = teams.cell(team, own) {
+        cell_known(&cell);
+        if let Some(name) = design.cell_name(team, own) {
+            put_cell(out, name, &cell);
+        }
+    }
+}
+
+/// Puts the lines of the team's cells.
+fn put_cells<O: Output, D: DesignSchema, T: TeamViews>(
+    out: &mut O,
+    design: &D,
+    teams: &T,
+    team: usize,
+)
+    requires { team < length (T.saved teams.now) }
+    ensures text { PutsText O.took out.old out.new
+        (lines_of cell_line (team_of (D.named design.now) team).cells (saved_at (T.saved teams.now) team).cells) }
+    ensures spotted { All IsSpottedCell (saved_at (T.saved teams.now) team).cells }
+{
+    for own in 0..teams.cell_count(team) {
+        put_cell_at(out, design, teams, team, own);
+    }
+}
+
+/// Puts the line of a move.
+fn put_move<O: Output>(out: &mut O, made: &Move)
+    ensures { PutsText O.took out.old out.new (move_line made.now) }
+{
+    put_line(
+        out,
+        &Word::Count(made.own as usize),
+        &[Word::Spot(made.old)],
+    );
+}
+
+/// Puts the line of a move, where it is one of so many cells.
+fn put_move_within<O: Output>(out: &mut O, cells: usize, made: &Move)
+    ensures { PutsText O.took out.old out.new (move_within cells made.now) }
+{
+    if (made.own as usize) < cells {
+        put_move(out, made);
+    }
+}
+
+/// Puts the lines of moves of so many cells.
+fn put_moves<O: Output>(out: &mut O, cells: usize, moves: &[Move])
+    ensures { PutsText O.took out.old out.new (flat_map (move_within cells) moves.now) }
+{
+    for made in moves {
+        put_move_within(out, cells, made);
+    }
+}
+
+/// How many moves are of so many cells.
+fn count_within(cells: usize, moves: &[Move]) -> usize
+    ensures { result ≡ count_by (λ m. nat_lt m.own cells) moves.now }
+{
+    moves
+        .iter()
+        .filter(|made| (made.own as usize) < cells)
+        .count()
+}
+
+/// Puts the lines of an undo entry of a team of so many cells.
+fn put_entry<O: Output>(out: &mut O, cells: usize, entry: &Moves)
+    ensures text { PutsText O.took out.old out.new (entry_lines (moves_within cells entry.now)) }
+    ensures spotted { IsSpottedEntry (moves_within cells entry.now) }
+{
+    entry.are_few();
+    moves_known(entry);
+    let moves = entry.as_slice();
+    let count = count_within(cells, moves);
+    put_line(out, &Word::Text(b"undo"), &[Word::Count(count)]);
+    put_moves(out, cells, moves);
+}
+
+/// Puts the lines of the team's undo entry of that position, where it has one.
+fn put_entry_at<O: Output, T: TeamViews>(out: &mut O, teams: &T, team: usize, newer: usize)
+    requires { team < length (T.saved teams.now) }
+    ensures text { PutsText O.took out.old out.new (entry_if (slice_get (saved_at (T.saved teams.now) team).entries newer)) }
+    ensures spotted { IfSome (slice_get (saved_at (T.saved teams.now) team).entries newer) IsSpottedEntry }
+{
+    let cells = teams.cell_count(team);
+    match teams.entry(team, newer) {
+        None => {}
+        Some(entry) => put_entry(out, cells, entry),
+    }
+}
+
+/// Puts the lines of the team's undo entries.
+fn put_entries<O: Output, T: TeamViews>(out: &mut O, teams: &T, team: usize)
+    requires { team < length (T.saved teams.now) }
+    ensures text { PutsText O.took out.old out.new (flat_map entry_lines (saved_at (T.saved teams.now) team).entries) }
+    ensures spotted { All IsSpottedEntry (saved_at (T.saved teams.now) team).entries }
+{
+    for newer in 0..teams.entry_count(team) {
+        put_entry_at(out, teams, team, newer);
+    }
+}
+
+/// The core sites of a padding, which has at most 16.
+fn sites_of(padding: Padding) -> usize
+    ensures is { result ≡ padding.sites }
+    ensures most { padding.sites ≤ 16 }
+{
+    padding.sites as usize
+}
+
+/// Puts the first line of the team of that name.
+fn put_head<O: Output, T: TeamViews>(out: &mut O, name: &[u8], teams: &T, team: usize)
+    requires { team < length (T.saved teams.now) }
+    ensures text { PutsText O.took out.old out.new (head_line name.now (saved_at (T.saved teams.now) team)) }
+    ensures padding { (saved_at (T.saved teams.now) team).padding ≤ 16 }
+{
+    let sites = sites_of(teams.padding(team));
+    put_line(
+        out,
+        &Word::Text(b"team"),
+        &[
+            Word::Text(name),
+            Word::Count(teams.revision(team) as usize),
+            Word::Count(sites),
+            Word::Count(teams.slots(team).len()),
+            Word::Count(teams.cell_count(team)),
+            Word::Count(teams.entry_count(team)),
+        ],
+    );
+}
+
+/// Puts the lines of the team of that number.
+fn put_team<O: Output, D: DesignSchema, T: TeamViews>(
+    out: &mut O,
+    design: &D,
+    teams: &T,
+    team: usize,
+)
+    requires named { team < length (D.named design.now).teams }
+    requires told { team < length (T.saved teams.now) }
+    ensures text { PutsText O.took out.old out.new (team_lines (team_of (D.named design.now) team) (saved_at (T.saved teams.now) team)) }
+    ensures in_range { IsInRange (saved_at (T.saved teams.now) team) }
+{
+    put_head(out, name_of_team(design, team), teams, team);
+    put_slots(out, teams.slots(team));
+    put_cells(out, design, teams, team);
+    put_entries(out, teams, team);
+}
+
+/// Puts the lines of the teams.
+fn put_teams<O: Output, D: DesignSchema, T: TeamViews>(out: &mut O, design: &D, teams: &T)
+    requires { length (T.saved teams.now) ≡ length (D.named design.now).teams }
+    ensures text { PutsText O.took out.old out.new (lines_of team_lines (D.named design.now).teams (T.saved teams.now)) }
+    ensures in_range { All IsInRange (T.saved teams.now) }
+{
+    for team in 0..design.team_count() {
+        put_team(out, design, teams, team);
+    }
+}
+
+/// Puts the title, and how many teams there are.
+fn put_opening<O: Output>(out: &mut O, count: usize)
+    ensures { PutsText O.took out.old out.new (opening_lines count) }
+{
+    put_line(out, &Word::Text(b"lefence-state"), &[Word::Text(b"1")]);
+    put_line(out, &Word::Text(b"teams"), &[Word::Count(count)]);
+}
+
+/// Puts the state text of the design's teams, of each of which the other tells, and takes no memory.
+pub fn write_state<O: Output, D: DesignSchema, T: TeamViews>(out: &mut O, design: &D, teams: &T)
+    requires { length (T.saved teams.now) ≡ length (D.named design.now).teams }
+    ensures text { PutsText O.took out.old out.new (state_text (D.named design.now) (T.saved teams.now)) }
+    // Each place that is told has a text, and each number can be read.
+    ensures in_range { All IsInRange (T.saved teams.now) }
+{
+    put_opening(out, design.team_count());
+    put_teams(out, design, teams);
+}

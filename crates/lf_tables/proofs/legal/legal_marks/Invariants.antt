@@ -1,8 +1,0 @@
-use Rattle.lf_tables.specs.Tables.{cells_in, frame_of}
-use Rattle.lf_tables.specs.Marking.{AreMarked}
-use Rattle.lf_tables.proofs.legal.legal_marks.Given as goal
-
--- each mark so far is right
-abbrev pub invariant-loop-batch : goal.invariant-loop-batch
-invariant-loop-batch g l =
-    AreMarked (frame_of l.tables) l.around.number l.around.padding.sites (cells_in l.around.number l.tables) l.marks.items

@@ -1,0 +1,13 @@
+use Rattle.std.proofs.Common.{◌≡◌, length}
+use Rattle.lf_lex.specs.Tokens.{tokens_of}
+use Rattle.lf_task_designs.specs.Hints.{nth_line}
+use Rattle.lf_task_designs.proofs.hints.nth_line.Given as goal
+
+-- the word is still looked for among the tokens that are left
+abbrev pub invariant-loop-token : goal.invariant-loop-token
+invariant-loop-token l = record {
+  looked_for : nth_line l.word l.left l.lexer.tokens ≡ nth_line l.word l.passed (tokens_of l.text).tokens;
+}
+
+abbrev pub decreases-loop-token : goal.decreases-loop-token
+decreases-loop-token l = length l.lexer.tokens

@@ -1,0 +1,380 @@
+-- The message and the exit status of a task that was not done.
+use Rattle.std.specs.Prelude.{◌≡◌, ◌⊎◌, ◌&&◌, ◌/◌, ◌%◌, ℕ, Bool, true, false, List, [], ◌∷◌, ◌++◌, Option, Some, None, flat_map, option_map}
+use Rattle.std.specs.Prelude.{IsTrue, codes, decimal, if◌then◌else◌, nat_le}
+use Rattle.std.specs.Char.{digit_char}
+use Rattle.std.specs.Io.KnownBytes.{Appends}
+use Rattle.lf_lex.specs.declared.fault.FaultNumber.{FaultNumber}
+use Rattle.lf_lex.specs.declared.fault.FaultNumber.TheVariants as number
+use Rattle.lf_state_text.specs.declared.fault.FaultNumber.{FaultNumber as StateNumber}
+use Rattle.lf_state_text.specs.declared.fault.FaultNumber.TheVariants as state
+use Rattle.lf_task_designs.specs.declared.faults.TaskExit.{TaskExit}
+use Rattle.lf_task_designs.specs.declared.faults.Fault.{Fault}
+use Rattle.lf_task_designs.specs.declared.faults.Fault.TheVariants.{Refused, File, NoState, NoTeam, ReadFault, WriteFault, TooManyLines, OutOfMemory}
+use Rattle.lf_task_designs.specs.declared.faults.Fault.TheVariants.{Output, Bind, Accept, Unwritten, Unsaved, Unlisted, NoMemory, NoRoom}
+use Rattle.lf_task_designs.specs.declared.faults.TextFile.{TextFile}
+use Rattle.lf_task_designs.specs.declared.faults.TextKind.{TextKind}
+use Rattle.lf_task_designs.specs.declared.faults.TextKind.TheVariants.{Lef, Def, State}
+use Rattle.lf_task_designs.specs.declared.faults.BindFailure.{BindFailure}
+use Rattle.lf_task_designs.specs.declared.faults.BindFailure.TheVariants as unbound
+use Rattle.lf_task_designs.specs.declared.hints.Hint.{Hint}
+use Rattle.lf_task_designs.specs.declared.hints.Hint.TheVariants.{Compressed, OtherKind}
+use Rattle.lf_task_designs.specs.declared.text_refusal.FenceLine.{FenceLine}
+use Rattle.lf_task_designs.specs.declared.text_refusal.TextRefusal.{TextRefusal}
+use Rattle.lf_task_designs.specs.declared.text_refusal.StateRefusal.{StateRefusal}
+use Rattle.lf_task_designs.specs.declared.input_files.ReadFailureKind.{ReadFailureKind}
+use Rattle.lf_task_designs.specs.declared.input_files.ReadFailureKind.TheVariants as unreadable
+use Rattle.lf_io_files.specs.declared.output_files.WriteFailureKind.{WriteFailureKind}
+use Rattle.lf_io_files.specs.declared.output_files.WriteFailureKind.TheVariants as unwritable
+use Rattle.lf_task_designs.specs.declared.input_files.ReadFailure.{ReadFailure}
+use Rattle.lf_task_designs.specs.declared.input_files.ReadFailure.TheVariants as unread
+
+-- the number and the name of a refusal of reading or loading
+abbrev pub numbered : FaultNumber → List ℕ
+numbered number.BadToken = codes "1 BadToken"
+numbered number.UnexpectedEnd = codes "2 UnexpectedEnd"
+numbered number.Unexpected = codes "3 Unexpected"
+numbered number.BadNumber = codes "4 BadNumber"
+numbered number.WrongEnd = codes "5 WrongEnd"
+numbered number.UnknownStatement = codes "6 UnknownStatement"
+numbered number.NoUnits = codes "7 NoUnits"
+numbered number.NoSite = codes "8 NoSite"
+numbered number.NoRows = codes "9 NoRows"
+numbered number.VerticalRow = codes "10 VerticalRow"
+numbered number.BadStep = codes "11 BadStep"
+numbered number.RowOrient = codes "12 RowOrient"
+numbered number.RowsOverlap = codes "13 RowsOverlap"
+numbered number.NoMacro = codes "14 NoMacro"
+numbered number.NoSize = codes "15 NoSize"
+numbered number.NotWhole = codes "16 NotWhole"
+numbered number.SecondName = codes "17 SecondName"
+numbered number.SecondRegion = codes "18 SecondRegion"
+numbered number.NoRegion = codes "19 NoRegion"
+numbered number.TeamName = codes "20 TeamName"
+numbered number.FencesOverlap = codes "21 FencesOverlap"
+numbered number.TwoFences = codes "22 TwoFences"
+numbered number.TooMany = codes "23 TooMany"
+numbered number.OutOfMemory = codes "24 OutOfMemory"
+
+-- the number and the name of a refusal of a state text
+abbrev pub state_numbered : StateNumber → List ℕ
+state_numbered state.UnexpectedEnd = codes "2 UnexpectedEnd"
+state_numbered state.Unexpected = codes "3 Unexpected"
+state_numbered state.BadNumber = codes "4 BadNumber"
+state_numbered state.OtherVersion = codes "25 OtherVersion"
+state_numbered state.OtherDesign = codes "26 OtherDesign"
+state_numbered state.OutOfRange = codes "27 OutOfRange"
+
+-- the line that a refusal is about
+abbrev pub line_words : Option ℕ → List ℕ
+line_words None = []
+line_words (Some line) = codes " line " ++ decimal line
+
+-- the name that a refusal is about
+abbrev pub name_words : Option (List ℕ) → List ℕ
+name_words None = []
+name_words (Some name) = codes " " ++ name
+
+-- the text of a refusal: its number, its name, and what it is about
+abbrev pub refusal_text : TextRefusal → List ℕ
+refusal_text refusal = numbered refusal.number ++ line_words refusal.line ++ name_words (option_map (λ name. name.items) refusal.name)
+
+-- the text of a refusal of a state text: its number, its name and its line
+abbrev pub state_refusal_text : StateRefusal → List ℕ
+state_refusal_text refusal = state_numbered refusal.number ++ line_words (Some refusal.line)
+
+-- the text of a fault: a refusal's own, or one word
+abbrev pub fault_text : Fault → List ℕ
+fault_text (Refused file refusal) = refusal_text refusal
+fault_text (File file why) = codes "File"
+fault_text (NoState path refusal) = state_refusal_text refusal
+fault_text (NoTeam name) = codes "NoTeam"
+fault_text ReadFault = codes "ReadFault"
+fault_text WriteFault = codes "WriteFault"
+fault_text TooManyLines = codes "TooManyLines"
+fault_text OutOfMemory = codes "OutOfMemory"
+fault_text Output = codes "Output"
+fault_text (Bind port why) = codes "Bind"
+fault_text Accept = codes "Accept"
+fault_text (Unwritten path why) = codes "File"
+fault_text (Unsaved path why) = codes "File"
+fault_text (Unlisted path why) = codes "File"
+fault_text NoMemory = codes "24 OutOfMemory"
+fault_text NoRoom = codes "24 OutOfMemory"
+
+-- the line of a fault on standard error
+abbrev pub fault_line : Fault → List ℕ
+fault_line fault = codes "lefence: " ++ fault_text fault ++ 10 ∷ []
+
+-- ---- where the fault lies: the second line
+
+-- a byte as it is shown: as it is if it is printable, else as '\x' and its two hex digits
+abbrev pub shown_byte : ℕ → List ℕ
+shown_byte byte =
+    if nat_le 32 byte && nat_le byte 126 then byte ∷ [] else 92 ∷ 120 ∷ digit_char (byte / 16) ∷ digit_char (byte % 16) ∷ []
+
+abbrev pub shown : List ℕ → List ℕ
+shown bytes = flat_map shown_byte bytes
+
+abbrev pub kind_words : TextKind → List ℕ
+kind_words Lef = codes "LEF file "
+kind_words Def = codes "DEF file "
+kind_words State = codes "state file "
+
+-- what a file is read as, and its path
+abbrev pub file_words : TextFile → List ℕ
+file_words file = kind_words file.kind ++ shown file.path.now
+
+-- the line of an earlier entry of the same name
+abbrev pub first_words : ℕ → List ℕ
+first_words number = codes " (the first is in line " ++ decimal number ++ codes ")"
+
+abbrev pub earlier_words : Option ℕ → List ℕ
+earlier_words None = []
+earlier_words (Some number) = first_words number
+
+-- the line in which a fence stands
+abbrev pub fence_line_words : Option ℕ → List ℕ
+fence_line_words None = []
+fence_line_words (Some number) = codes " of line " ++ decimal number
+
+-- a fence and its line
+abbrev pub fence_words : FenceLine → List ℕ
+fence_words fence = codes "fence " ++ shown fence.name.items ++ fence_line_words fence.line
+
+-- the one fence that is met
+abbrev pub overlapped_fence_words : FenceLine → List ℕ
+overlapped_fence_words fence = codes " (meets " ++ fence_words fence ++ codes ")"
+
+-- the two fences that claim a component
+abbrev pub claiming_fences_words : FenceLine → FenceLine → List ℕ
+claiming_fences_words first second = codes " (claimed by " ++ fence_words first ++ codes " and " ++ fence_words second ++ codes ")"
+
+abbrev pub conflict_words : Option FenceLine → Option FenceLine → List ℕ
+conflict_words None second = []
+conflict_words (Some first) None = overlapped_fence_words first
+conflict_words (Some first) (Some second) = claiming_fences_words first second
+
+-- the number of a line
+abbrev pub number_words : ℕ → List ℕ
+number_words number = codes ", line " ++ decimal number
+
+-- the bytes of a line, behind its number
+abbrev pub bytes_words : List ℕ → List ℕ
+bytes_words bytes = codes ": " ++ shown bytes
+
+-- the number of the line that a text is refused for, what is said of it, and its first bytes
+abbrev pub line_shown : Option ℕ → List ℕ → List ℕ → List ℕ
+line_shown None beside bytes = []
+line_shown (Some number) beside bytes = number_words number ++ beside ++ bytes_words bytes
+
+-- what is said of that line: that of an earlier entry, and the fences that are met
+abbrev pub beside_words : TextRefusal → List ℕ
+beside_words refusal = earlier_words refusal.earlier ++ conflict_words refusal.first_met refusal.second_met
+
+abbrev pub shown_line : TextRefusal → List ℕ
+shown_line refusal = line_shown refusal.at (beside_words refusal) refusal.shown.items
+
+-- the path of the exported text
+abbrev pub export_words : List ℕ → List ℕ
+export_words path = codes "export file " ++ shown path
+
+-- the path of a saved state
+abbrev pub state_words : List ℕ → List ℕ
+state_words path = codes "state file " ++ shown path
+
+-- the path of the lines of a repair
+abbrev pub lines_words : List ℕ → List ℕ
+lines_words path = codes "lines file " ++ shown path
+
+-- the name of a team
+abbrev pub team_words : List ℕ → List ℕ
+team_words name = codes "team " ++ shown name
+
+-- where a state text is refused
+abbrev pub state_line : List ℕ → StateRefusal → List ℕ
+state_line path refusal = codes "lefence: " ++ state_words path ++ number_words refusal.line ++ bytes_words refusal.shown.items ++ 10 ∷ []
+
+-- a port of this machine
+abbrev pub port_words : ℕ → List ℕ
+port_words port = codes "port " ++ decimal port ++ codes " of 127.0.0.1"
+
+-- the refusal is a failed allocation
+abbrev pub is_memory : FaultNumber → Bool
+is_memory number.OutOfMemory = true
+is_memory _ = false
+
+-- what a refused text that was read as this rather seems to be
+abbrev pub hint_words : TextKind → Option Hint → List ℕ
+hint_words kind None = []
+hint_words kind (Some Compressed) = codes " (it looks compressed)"
+hint_words Lef (Some OtherKind) = codes " (read as LEF: is the DEF text first?)"
+hint_words Def (Some OtherKind) = codes " (read as DEF: is the DEF text first?)"
+hint_words State (Some OtherKind) = []
+
+-- where a text is refused: nowhere if only memory ran out
+abbrev pub refusal_words : TextFile → TextRefusal → List ℕ
+refusal_words file refusal =
+    if is_memory refusal.number then [] else codes "lefence: " ++ file_words file ++ hint_words file.kind refusal.hint ++ shown_line refusal ++ 10 ∷ []
+
+-- the file, the path, the port or the team that is at fault
+abbrev pub subject_words : Fault → List ℕ
+subject_words (File file why) = file_words file
+subject_words (Unwritten path why) = export_words path.now
+subject_words (Unsaved path why) = state_words path.now
+subject_words (Unlisted path why) = lines_words path.now
+subject_words (NoTeam name) = team_words name.now
+subject_words (Bind port why) = port_words port
+subject_words _ = []
+
+-- what is wrong with it
+abbrev pub complaint_words : Fault → List ℕ
+complaint_words (File file why) = codes " cannot be read"
+complaint_words (Unwritten path why) = codes " cannot be written"
+complaint_words (Unsaved path why) = codes " cannot be written"
+complaint_words (Unlisted path why) = codes " cannot be written"
+complaint_words (NoTeam name) = codes " is not in the design"
+complaint_words (Bind port why) = codes " cannot be listened on"
+complaint_words _ = []
+
+-- why a file cannot be read
+abbrev pub unreadable_words : ReadFailureKind → List ℕ
+unreadable_words unreadable.Missing = codes ": there is no such file"
+unreadable_words unreadable.Folder = codes ": it is a folder"
+unreadable_words unreadable.Denied = codes ": permission denied"
+unreadable_words unreadable.Other = []
+
+-- why a port cannot be listened on
+abbrev pub unbound_words : BindFailure → List ℕ
+unbound_words unbound.InUse = codes ": it is in use"
+unbound_words unbound.Denied = codes ": permission denied"
+unbound_words unbound.Other = []
+
+-- why a file cannot be written
+abbrev pub unwritable_words : WriteFailureKind → List ℕ
+unwritable_words unwritable.NoFolder = codes ": there is no such folder"
+unwritable_words unwritable.Folder = codes ": it is a folder"
+unwritable_words unwritable.Denied = codes ": permission denied"
+unwritable_words unwritable.ReadOnly = codes ": its file system is read-only"
+unwritable_words unwritable.Full = codes ": there is no room left"
+unwritable_words unwritable.Other = []
+
+-- why that is so, where the system says it
+abbrev pub reason_words : Fault → List ℕ
+reason_words (File file why) = unreadable_words why
+reason_words (Unwritten path why) = unwritable_words why
+reason_words (Unsaved path why) = unwritable_words why
+reason_words (Unlisted path why) = unwritable_words why
+reason_words (Bind port why) = unbound_words why
+reason_words _ = []
+
+-- the line that says so
+abbrev pub complaint_line : Fault → List ℕ
+complaint_line fault = codes "lefence: " ++ subject_words fault ++ complaint_words fault ++ reason_words fault ++ 10 ∷ []
+
+-- the second line on standard error: the line of a text, or the file, the path, the port or the team that is at fault; none for other faults
+abbrev pub second_line : Fault → List ℕ
+second_line (Refused file refusal) = refusal_words file refusal
+second_line (File file why) = complaint_line (File file why)
+second_line (NoState path refusal) = state_line path.now refusal
+second_line (Unwritten path why) = complaint_line (Unwritten path why)
+second_line (Unsaved path why) = complaint_line (Unsaved path why)
+second_line (Unlisted path why) = complaint_line (Unlisted path why)
+second_line (NoTeam name) = complaint_line (NoTeam name)
+second_line (Bind port why) = complaint_line (Bind port why)
+second_line _ = []
+
+-- all that is told of a fault
+abbrev pub fault_lines_text : Fault → List ℕ
+fault_lines_text fault = fault_line fault ++ second_line fault
+
+-- ---- the exit status
+
+-- the exit status of a fault
+abbrev pub status_of : Fault → ℕ
+status_of (Refused file refusal) = 1
+status_of (NoState path refusal) = 1
+status_of (NoTeam name) = 1
+status_of NoMemory = 1
+status_of NoRoom = 1
+status_of _ = 3
+
+-- ---- how a task ends
+
+-- a task ends with the fault: with its status, and what is told of it is appended to the faults, unless these have failed
+pub record EndsWith (fault : Fault) (old new : Option (List ℕ)) (failed : Bool) (exit : TaskExit) : Type 0 where
+  pub status : exit.status ≡ status_of fault
+  pub told : IsTrue exit.is_told → Appends old new (fault_lines_text fault)
+  pub untold : exit.is_told ≡ false → failed ≡ true
+
+-- ---- kinds of faults
+
+-- the fault of a file whose text was not read
+abbrev pub unread_fault : TextFile → ReadFailure → Fault
+unread_fault file (unread.File why) = File file why
+unread_fault file unread.OutOfMemory = NoMemory
+
+-- the file is read as this, and has this path
+pub record IsFile (kind : TextKind) (path : List ℕ) (file : TextFile) : Type 0 where
+  pub kind_is : file.kind ≡ kind
+  pub path_is : file.path.now ≡ path
+
+-- a report was not written: an allocation for its text failed, or the writer did
+abbrev pub IsReportFault : Fault → Type 0
+IsReportFault fault = (fault ≡ NoMemory) ⊎ (fault ≡ Output)
+
+-- ---- who is to blame
+
+-- the faults before anything is written
+abbrev pub IsEarly : Fault → Type 0
+IsEarly (Refused file refusal) = Unit {0}
+IsEarly (File file why) = Unit {0}
+IsEarly (NoState path refusal) = Unit {0}
+IsEarly (NoTeam name) = Unit {0}
+IsEarly NoMemory = Unit {0}
+IsEarly _ = ⊥
+
+-- the faults of what is written to
+abbrev pub IsOfWriter : Fault → Type 0
+IsOfWriter WriteFault = Unit {0}
+IsOfWriter Output = Unit {0}
+IsOfWriter _ = ⊥
+
+-- the faults of the file of the exported text, of that of the state and of that of the lines of a repair
+abbrev pub IsOfExport : Fault → Type 0
+IsOfExport (Unwritten path why) = Unit {0}
+IsOfExport (Unsaved path why) = Unit {0}
+IsOfExport (Unlisted path why) = Unit {0}
+IsOfExport _ = ⊥
+
+-- the faults of a service
+abbrev pub IsOfService : Fault → Type 0
+IsOfService (Bind port why) = Unit {0}
+IsOfService Accept = Unit {0}
+IsOfService _ = ⊥
+
+-- the faults of nothing that a task works on: of a text, of a team's name, of memory, or of too many lines
+abbrev pub IsOfNone : Fault → Type 0
+IsOfNone (Refused file refusal) = Unit {0}
+IsOfNone (File file why) = Unit {0}
+IsOfNone (NoState path refusal) = Unit {0}
+IsOfNone (NoTeam name) = Unit {0}
+IsOfNone TooManyLines = Unit {0}
+IsOfNone OutOfMemory = Unit {0}
+IsOfNone NoMemory = Unit {0}
+IsOfNone NoRoom = Unit {0}
+IsOfNone _ = ⊥
+
+-- what a fault says of what a task works on: the writer is kept if it is early, and has failed if it is the writer's own; the reader
+-- has failed, or was read as often as is allowed, if it is the reader's; the file of the exported text, of the state or of the lines, or the service, has failed
+-- if it is that one's; and if it is the fault of none of them, nothing has failed
+pub record BlamesDevices (fault : Fault) (kept reader writer export service sound : Type 0) : Type 0 where
+  pub early : IsEarly fault → kept
+  pub reading : fault ≡ ReadFault → reader
+  pub writing : IsOfWriter fault → writer
+  pub exporting : IsOfExport fault → export
+  pub serving : IsOfService fault → service
+  pub sparing : IsOfNone fault → sound
+
+-- the same where only a writer is worked on, which had failed before or not, and has now or not
+abbrev pub BlamesWriter : Fault → Type 0 → Bool → Bool → Type 0
+BlamesWriter fault kept before now = BlamesDevices fault kept ⊥ (now ≡ true) ⊥ ⊥ (now ≡ before)

@@ -1,0 +1,82 @@
+-- What is told of a refused text.
+use Rattle.std.specs.Prelude.{◌≡◌, ◌⊎◌, ◌+◌, ◌-◌, ℕ, zero, suc, List, [], drop, position, take, Option, Some, None, option_map}
+use Rattle.lf_lex.specs.declared.fault.LoadFault.{LoadFault}
+use Rattle.lf_lex.specs.declared.fault.ReadError.TheVariants.{Memory}
+use Rattle.lf_lex.specs.Faults.{load_fault_of}
+use Rattle.lf_lex.specs.Tokens.{is_line_feed, tokens_of}
+use Rattle.lf_frame_checks.specs.Meetings.{Conflict, no_fence}
+use Rattle.lf_state_text.specs.declared.fault.StateFault.{StateFault}
+use Rattle.lf_task_designs.specs.declared.faults.TextKind.{TextKind}
+use Rattle.lf_task_designs.specs.declared.text_refusal.FenceLine.{FenceLine}
+use Rattle.lf_task_designs.specs.declared.text_refusal.TextRefusal.{TextRefusal}
+use Rattle.lf_task_designs.specs.declared.text_refusal.StateRefusal.{StateRefusal}
+use Rattle.lf_task_designs.specs.Hints.{earlier_line, hint_of, fault_line_number, nth_line}
+
+-- what follows a line feed there; no byte if there is none
+abbrev pub behind_feed : List ℕ → Option ℕ → List ℕ
+behind_feed bytes None = []
+behind_feed bytes (Some at) = drop (at + 1) bytes
+
+-- what follows the first line
+abbrev pub behind_line : List ℕ → List ℕ
+behind_line bytes = behind_feed bytes (position is_line_feed bytes)
+
+-- what follows that many lines
+abbrev pub behind_lines : ℕ → List ℕ → List ℕ
+behind_lines zero bytes = bytes
+behind_lines (suc lines) bytes = behind_lines lines (behind_line bytes)
+
+-- what comes before a line feed there
+abbrev pub before_feed : List ℕ → Option ℕ → List ℕ
+before_feed bytes None = bytes
+before_feed bytes (Some at) = take at bytes
+
+-- the first line, without its line feed
+abbrev pub first_line : List ℕ → List ℕ
+first_line bytes = before_feed bytes (position is_line_feed bytes)
+
+-- the line of that number of a text, the first of which is 1; no byte if there is no such line
+abbrev pub line_at : List ℕ → ℕ → List ℕ
+line_at text number = first_line (behind_lines (number - 1) text)
+
+-- the first 80 bytes of the line of that number; no byte without a number
+abbrev pub line_front : List ℕ → Option ℕ → List ℕ
+line_front text None = []
+line_front text (Some number) = take 80 (line_at text number)
+
+-- a fence: its name, and the line in which that stands first
+pub record FenceLineFact : Type 0 where
+  pub name : List ℕ
+  pub line : Option ℕ
+
+-- the fence of that name in the text
+abbrev pub fence_line_in : List ℕ → List ℕ → FenceLineFact
+fence_line_in text name = record { name = name; line = nth_line name 0 (tokens_of text).tokens }
+
+-- the fence that is told
+abbrev pub fence_line_of : FenceLine → FenceLineFact
+fence_line_of fence = record { name = fence.name.items; line = fence.line }
+
+-- this fault is told with these fences for the one that was found with those: the same, or that memory ran out, with none
+abbrev pub IsReportedConflict : LoadFault → Conflict → LoadFault → Conflict → Type 0
+IsReportedConflict found met told fences = ((told ≡ found) × (fences ≡ met)) ⊎ ((told ≡ load_fault_of Memory) × (fences ≡ no_fence))
+
+-- this is told of the fault of the text that was read as this, which meets these fences: its number, line and name; the line that it
+-- is about, with its first bytes; that of an earlier entry of its name; the fences with their lines; and what the text rather seems
+-- to be
+pub record ReportsFault (kind : TextKind) (text : List ℕ) (fault : LoadFault) (met : Conflict) (refusal : TextRefusal) : Type 0 where
+  pub number : refusal.number ≡ fault.number
+  pub line : refusal.line ≡ fault.line
+  pub name : option_map (λ name. name.items) refusal.name ≡ option_map (λ name. name.now) fault.name
+  pub at : refusal.at ≡ fault_line_number text fault
+  pub shown : refusal.shown.items ≡ line_front text (fault_line_number text fault)
+  pub earlier : refusal.earlier ≡ earlier_line text fault
+  pub first_met : option_map fence_line_of refusal.first_met ≡ option_map (fence_line_in text) met.first
+  pub second_met : option_map fence_line_of refusal.second_met ≡ option_map (fence_line_in text) met.second
+  pub hint : refusal.hint ≡ hint_of kind text
+
+-- this is told of the fault of a state text: its number and its line, with the first bytes of that
+pub record ReportsStateFault (text : List ℕ) (fault : StateFault) (refusal : StateRefusal) : Type 0 where
+  pub number : refusal.number ≡ fault.number
+  pub line : refusal.line ≡ fault.line
+  pub shown : refusal.shown.items ≡ line_front text (Some fault.line)

@@ -1,0 +1,291 @@
+//! The message and the exit status of a task that was not done.
+
+ghost use Rattle.std.specs.Prelude.{◌≡◌, true, IsTrue, OnErr, OnOk, option_map};
+ghost use Rattle.std.specs.Io.KnownBytes.{Appends};
+ghost use Rattle.lf_task_designs.specs.Faults.{EndsWith, fault_line, fault_text, line_words, name_words, numbered, refusal_text, state_numbered};
+ghost use Rattle.lf_task_designs.specs.Faults.{state_refusal_text, status_of, fault_lines_text, unread_fault};
+ghost use Rattle.lf_task_designs.specs.declared.faults.Fault.TheVariants.{NoMemory};
+
+use crate::fault_detail::write_detail_line;
+use crate::input_files::{ReadFailure, ReadFailureKind};
+use crate::text_refusal::{StateRefusal, TextRefusal};
+use itoa::Buffer;
+use lf_io::{DeviceFault, Sink, send};
+use lf_io_files::WriteFailureKind;
+use lf_lex::FaultNumber;
+use lf_state_text::FaultNumber as StateNumber;
+use std::alloc::AllocError;
+
+/// What a file is read as.
+#[derive(Clone, Copy, Debug, PartialEq, Eq)]
+pub enum TextKind {
+    /// A LEF text.
+    Lef,
+    /// The DEF text.
+    Def,
+    /// The text of a saved state.
+    State,
+}
+
+/// A file of the command line whose text is read.
+#[derive(Clone, Copy, Debug, PartialEq, Eq)]
+pub struct TextFile<'a> {
+    pub kind: TextKind,
+    /// The path, as it was given.
+    pub path: &'a str,
+}
+
+/// Why a port cannot be listened on, where the system says it.
+#[derive(Clone, Copy, Debug, PartialEq, Eq)]
+pub enum BindFailure {
+    /// Another program listens on it.
+    InUse,
+    /// This user may not listen on it.
+    Denied,
+    /// Another reason.
+    Other,
+}
+
+/// Why a task was not done, with all that is printed of it.
+#[derive(Drop)]
+pub enum Fault<'a> {
+    /// The text of this file, or the design that it makes with the LEF texts, was refused, or an allocation for it failed.
+    Refused {
+        file: TextFile<'a>,
+        refusal: TextRefusal,
+    },
+    /// A file could not be read.
+    File(TextFile<'a>, ReadFailureKind),
+    /// The text of the file of that path was refused: it tells no state of the design.
+    NoState(&'a str, StateRefusal),
+    /// No team of the design has this name.
+    NoTeam(&'a str),
+    /// The reader of lines could not be read, or was read as often as it may be.
+    ReadFault,
+    /// A reply could not be written.
+    WriteFault,
+    /// A line followed the last one that is answered.
+    TooManyLines,
+    /// An allocation for the lines failed.
+    OutOfMemory,
+    /// A report, a description, or the line that the port is listened on, could not be written.
+    Output,
+    /// This port could not be listened on.
+    Bind(u16, BindFailure),
+    /// A connection could not be accepted.
+    Accept,
+    /// The file of that path could not be written; it was to get the exported text.
+    Unwritten(&'a str, WriteFailureKind),
+    /// The file of that path could not be written; it was to get the state.
+    Unsaved(&'a str, WriteFailureKind),
+    /// The file of that path could not be written; it was to get the lines of a repair.
+    Unlisted(&'a str, WriteFailureKind),
+    /// An allocation failed before the first line, for a report, or for a repair.
+    NoMemory,
+    /// An allocation for the exported text, for the state, for a line of a description, or for the lines of a repair, failed.
+    NoRoom,
+}
+
+impl<'a> From<AllocError> for Fault<'a> {
+    ghost from_gives = { λ _ fault. fault ≡ NoMemory };
+
+    fn from(_error: AllocError) -> Fault<'a> {
+        Fault::NoMemory
+    }
+}
+
+/// How a task ended.
+#[derive(Clone, Copy, Debug, PartialEq, Eq)]
+pub struct TaskExit {
+    /// The exit status.
+    pub status: u8,
+    /// Whether all that is to be printed of the fault was written; true if there was no fault.
+    pub is_told: bool,
+}
+
+/// The number and the name of a refusal of reading or loading.
+fn numbered(number: FaultNumber) -> &'static [u8]
+    ensures { result.now ≡ numbered number }
+{
+    match number {
+        FaultNumber::BadToken => b"1 BadToken",
+        FaultNumber::UnexpectedEnd => b"2 UnexpectedEnd",
+        FaultNumber::Unexpected => b"3 Unexpected",
+        FaultNumber::BadNumber => b"4 BadNumber",
+        FaultNumber::WrongEnd => b"5 WrongEnd",
+        FaultNumber::UnknownStatement => b"6 UnknownStatement",
+        FaultNumber::NoUnits => b"7 NoUnits",
+        FaultNumber::NoSite => b"8 NoSite",
+        FaultNumber::NoRows => b"9 NoRows",
+        FaultNumber::VerticalRow => b"10 VerticalRow",
+        FaultNumber::BadStep => b"11 BadStep",
+        FaultNumber::RowOrient => b"12 RowOrient",
+        FaultNumber::RowsOverlap => b"13 RowsOverlap",
+        FaultNumber::NoMacro => b"14 NoMacro",
+        FaultNumber::NoSize => b"15 NoSize",
+        FaultNumber::NotWhole => b"16 NotWhole",
+        FaultNumber::SecondName => b"17 SecondName",
+        FaultNumber::SecondRegion => b"18 SecondRegion",
+        FaultNumber::NoRegion => b"19 NoRegion",
+        FaultNumber::TeamName => b"20 TeamName",
+        FaultNumber::FencesOverlap => b"21 FencesOverlap",
+        FaultNumber::TwoFences => b"22 TwoFences",
+        FaultNumber::TooMany => b"23 TooMany",
+        FaultNumber::OutOfMemory => b"24 OutOfMemory",
+    }
+}
+
+/// The number and the name of a refusal of a state text.
+fn state_numbered(number: StateNumber) -> &'static [u8]
+    ensures { result.now ≡ state_numbered number }
+{
+    match number {
+        StateNumber::UnexpectedEnd => b"2 UnexpectedEnd",
+        StateNumber::Unexpected => b"3 Unexpected",
+        StateNumber::BadNumber => b"4 BadNumber",
+        StateNumber::OtherVersion => b"25 OtherVersion",
+        StateNumber::OtherDesign => b"26 OtherDesign",
+        StateNumber::OutOfRange => b"27 OutOfRange",
+    }
+}
+
+/// Writes the number of the line that a refusal is about.
+fn put_line<W: Sink>(sink: &mut W, line: Option<usize>) -> Result<(), DeviceFault>
+    ensures ok { OnOk result (Appends (W.contents sink.old) (W.contents sink.new) (line_words line)) }
+    ensures failed { OnErr result (W.has_failed sink.new ≡ true) }
+    ensures held { W.holds sink.new ≡ W.holds sink.old }
+{
+    let Some(line) = line else {
+        return Ok(());
+    };
+    send(sink, b" line ")?;
+    send(sink, Buffer::new().format(line).as_bytes())
+}
+
+/// Writes the name that a refusal is about.
+fn put_name<W: Sink>(sink: &mut W, name: &Option<Vec<u8>>) -> Result<(), DeviceFault>
+    ensures ok { OnOk result (Appends (W.contents sink.old) (W.contents sink.new) (name_words (option_map (λ bytes. bytes.items) name.now))) }
+    ensures failed { OnErr result (W.has_failed sink.new ≡ true) }
+    ensures held { W.holds sink.new ≡ W.holds sink.old }
+{
+    let Some(name) = name else {
+        return Ok(());
+    };
+    send(sink, b" ")?;
+    send(sink, name)
+}
+
+/// Writes the text of a refusal.
+fn put_refusal<W: Sink>(sink: &mut W, refusal: &TextRefusal) -> Result<(), DeviceFault>
+    ensures ok { OnOk result (Appends (W.contents sink.old) (W.contents sink.new) (refusal_text refusal.now)) }
+    ensures failed { OnErr result (W.has_failed sink.new ≡ true) }
+    ensures held { W.holds sink.new ≡ W.holds sink.old }
+{
+    send(sink, numbered(refusal.number))?;
+    put_line(sink, refusal.line)?;
+    put_name(sink, &refusal.name)
+}
+
+/// Writes the text of a refusal of a state text.
+fn put_state_refusal<W: Sink>(sink: &mut W, refusal: &StateRefusal) -> Result<(), DeviceFault>
+    ensures ok { OnOk result (Appends (W.contents sink.old) (W.contents sink.new) (state_refusal_text refusal.now)) }
+    ensures failed { OnErr result (W.has_failed sink.new ≡ true) }
+    ensures held { W.holds sink.new ≡ W.holds sink.old }
+{
+    send(sink, state_numbered(refusal.number))?;
+    put_line(sink, Some(refusal.line))
+}
+
+/// Writes the text of a fault.
+fn put_fault<W: Sink>(sink: &mut W, fault: &Fault<'_>) -> Result<(), DeviceFault>
+    ensures ok { OnOk result (Appends (W.contents sink.old) (W.contents sink.new) (fault_text fault.now)) }
+    ensures failed { OnErr result (W.has_failed sink.new ≡ true) }
+    ensures held { W.holds sink.new ≡ W.holds sink.old }
+{
+    match fault {
+        Fault::Refused { refusal, .. } => put_refusal(sink, refusal),
+        Fault::File(_, _) => send(sink, b"File"),
+        Fault::NoState(_, refusal) => put_state_refusal(sink, refusal),
+        Fault::NoTeam(_) => send(sink, b"NoTeam"),
+        Fault::ReadFault => send(sink, b"ReadFault"),
+        Fault::WriteFault => send(sink, b"WriteFault"),
+        Fault::TooManyLines => send(sink, b"TooManyLines"),
+        Fault::OutOfMemory => send(sink, b"OutOfMemory"),
+        Fault::Output => send(sink, b"Output"),
+        Fault::Bind(_, _) => send(sink, b"Bind"),
+        Fault::Accept => send(sink, b"Accept"),
+        Fault::Unwritten(_, _) => send(sink, b"File"),
+        Fault::Unsaved(_, _) => send(sink, b"File"),
+        Fault::Unlisted(_, _) => send(sink, b"File"),
+        Fault::NoMemory => send(sink, b"24 OutOfMemory"),
+        Fault::NoRoom => send(sink, b"24 OutOfMemory"),
+    }
+}
+
+/// Writes the line of a fault, without allocating.
+pub fn write_fault<W: Sink>(sink: &mut W, fault: &Fault<'_>) -> Result<(), DeviceFault>
+    ensures ok { OnOk result (Appends (W.contents sink.old) (W.contents sink.new) (fault_line fault.now)) }
+    ensures failed { OnErr result (W.has_failed sink.new ≡ true) }
+    ensures held { W.holds sink.new ≡ W.holds sink.old }
+{
+    send(sink, b"lefence: ")?;
+    put_fault(sink, fault)?;
+    send(sink, b"\n")
+}
+
+/// The exit status of a fault: 1 for `Refused`, `NoState`, `NoTeam`, `NoMemory` and `NoRoom`, else 3.
+pub fn status_of(fault: &Fault<'_>) -> u8
+    ensures { result ≡ status_of fault.now }
+{
+    match fault {
+        Fault::Refused { .. } => 1,
+        Fault::NoState(_, _) => 1,
+        Fault::NoTeam(_) => 1,
+        Fault::NoMemory => 1,
+        Fault::NoRoom => 1,
+        _ => 3,
+    }
+}
+
+/// The end of a task that is done, with this status.
+pub fn exit_with(status: u8) -> TaskExit
+    ensures status { result.status ≡ status }
+    ensures told { IsTrue result.is_told }
+{
+    TaskExit {
+        status,
+        is_told: true,
+    }
+}
+
+/// Writes all that is printed of a fault: its line, and a second one where a file, a line of it, a port or a team is at fault.
+fn write_fault_lines<W: Sink>(sink: &mut W, fault: &Fault<'_>) -> Result<(), DeviceFault>
+    ensures ok { OnOk result (Appends (W.contents sink.old) (W.contents sink.new) (fault_lines_text fault.now)) }
+    ensures failed { OnErr result (W.has_failed sink.new ≡ true) }
+    ensures held { W.holds sink.new ≡ W.holds sink.old }
+{
+    write_fault(sink, fault)?;
+    write_detail_line(sink, fault)
+}
+
+/// Tells a fault, and returns how the task ends; a failure to tell it is no further fault.
+pub fn report_fault<F: Sink>(faults: &mut F, fault: &Fault<'_>) -> TaskExit
+    ensures ends { EndsWith fault.now (F.contents faults.old) (F.contents faults.new) (F.has_failed faults.new) result }
+    ensures faults_held { F.holds faults.new ≡ F.holds faults.old }
+{
+    let told = write_fault_lines(faults, fault);
+    TaskExit {
+        status: status_of(fault),
+        is_told: told.is_ok(),
+    }
+}
+
+/// The fault of a file whose text was not read.
+pub(crate) fn unread_fault<'a>(file: TextFile<'a>, unread: ReadFailure) -> Fault<'a>
+    ensures { result ≡ unread_fault file.entry unread }
+{
+    match unread {
+        ReadFailure::File(why) => Fault::File(file, why),
+        ReadFailure::OutOfMemory => Fault::NoMemory,
+    }
+}

@@ -1,0 +1,143 @@
+//! Where the texts of a design are read from.
+
+ghost use Rattle.std.specs.Prelude.{◌≡◌, ℕ, List, Option, Some, None, ⊤, IfOk, IfErr};
+ghost use Rattle.std.specs.IoError.{error_kind};
+ghost use Rattle.lf_state_text.specs.Pieces.{joined};
+ghost use Rattle.lf_task_designs.specs.Texts.{unread_of};
+
+use std::alloc::Global;
+use std::collections::VecDeque;
+use std::fs::{File, OpenFile};
+use std::io;
+use std::io::Read;
+use std::rt::Files;
+
+/// How many bytes a piece of a file has, but for the last.
+const PIECE: usize = 1_048_576;
+
+/// Why a file cannot be read, where the system says it.
+#[derive(Clone, Copy, Debug, PartialEq, Eq)]
+pub enum ReadFailureKind {
+    /// No file has that path.
+    Missing,
+    /// A folder has it.
+    Folder,
+    /// This user may not read the file.
+    Denied,
+    /// Another reason.
+    Other,
+}
+
+/// Why the text of a file was not read.
+#[derive(Clone, Copy, Debug, PartialEq, Eq)]
+pub enum ReadFailure {
+    /// The file cannot be read.
+    File(ReadFailureKind),
+    /// An allocation failed.
+    OutOfMemory,
+}
+
+/// Where texts are read from, by the paths of their files.
+pub trait InputFiles {
+    ghost use Rattle.lf_state_text.specs.Pieces.{joined};
+    ghost use Rattle.lf_task_designs.specs.Texts.{IsOfFile};
+
+    // What reading the file of a path may return: its text, or None if it cannot be read.
+    ghost gives: { Self → List ℕ → Option (List ℕ) → Type 0 } = { λ _ _ _. ⊤ };
+
+    /// The whole text of the file of that path.
+    fn text(&self, path: &str) -> Result<Vec<u8>, ReadFailure>
+        ensures ok { IfOk result (λ text. gives self.now path.now (Some text.items)) }
+        ensures err { IfErr result (λ unread. IsOfFile unread → gives self.now path.now None) };
+
+    /// The same in pieces, of which each can be let go by itself.
+    fn pieces(&self, alloc: Global, path: &str) -> Result<VecDeque<Vec<u8>>, ReadFailure>
+        ensures ok { IfOk result (λ pieces. gives self.now path.now (Some (joined pieces.items))) }
+        ensures err { IfErr result (λ unread. IsOfFile unread → gives self.now path.now None) };
+}
+
+/// The text as one piece, for texts that are in memory.
+pub fn single_chunk(alloc: Global, text: Vec<u8>) -> Result<VecDeque<Vec<u8>>, ReadFailure>
+    ensures { IfOk result (λ pieces. joined pieces.items ≡ text.items) }
+{
+    let mut pieces = VecDeque::new(alloc);
+    match pieces.push_back(text) {
+        Ok(()) => Ok(pieces),
+        Err(_) => Err(ReadFailure::OutOfMemory),
+    }
+}
+
+/// The files of a runtime. Contracts know nothing of what they hold.
+#[derive(Clone, Copy)]
+pub struct FsInputFiles<'a, T> {
+    files: &'a T,
+}
+
+impl<'a, T> FsInputFiles<'a, T> {
+    /// The texts of these files.
+    pub fn new(files: &'a T) -> Self {
+        FsInputFiles { files }
+    }
+}
+
+/// Why a file was not read, by what the system says.
+fn unread_of(error: &io::Error) -> ReadFailure
+    ensures { result ≡ unread_of (error_kind error.now) }
+{
+    match error.kind() {
+        io::ErrorKind::OutOfMemory => ReadFailure::OutOfMemory,
+        io::ErrorKind::NotFound => ReadFailure::File(ReadFailureKind::Missing),
+        io::ErrorKind::IsADirectory => ReadFailure::File(ReadFailureKind::Folder),
+        io::ErrorKind::PermissionDenied => ReadFailure::File(ReadFailureKind::Denied),
+        _ => ReadFailure::File(ReadFailureKind::Other),
+    }
+}
+
+/// The whole text of the file, in a list that has room for no more, where the system tells its length.
+fn whole_text<T: Files>(files: &T, alloc: Global, path: &str) -> io::Result<Vec<u8>> {
+    let mut file = File::open(files, path)?;
+    let length = match file.metadata() {
+        Ok(told) => told.len() as usize,
+        Err(_) => 0,
+    };
+    let mut text = Vec::with_capacity(alloc, length)?;
+    io::copy(&mut file, &mut text)?;
+    Ok(text)
+}
+
+/// The next piece; no byte at the end.
+fn next_piece<R: Read>(alloc: Global, file: &mut R) -> io::Result<Vec<u8>> {
+    let mut piece = Vec::with_capacity(alloc, PIECE)?;
+    io::copy(&mut file.by_ref().take(PIECE as u64), &mut piece)?;
+    Ok(piece)
+}
+
+/// All pieces of the file.
+fn all_pieces<T: Files>(files: &T, alloc: Global, path: &str) -> io::Result<VecDeque<Vec<u8>>> {
+    let mut file = File::open(files, path)?;
+    let mut pieces = VecDeque::new(alloc);
+    for _ in 0..u64::MAX {
+        let piece = next_piece(alloc, &mut file)?;
+        if piece.is_empty() {
+            break;
+        }
+        pieces.push_back(piece)?;
+    }
+    Ok(pieces)
+}
+
+impl<'a, T: Files + AllocGlobal> InputFiles for FsInputFiles<'a, T> {
+    fn text(&self, path: &str) -> Result<Vec<u8>, ReadFailure> {
+        match whole_text(self.files, self.files.alloc(), path) {
+            Ok(text) => Ok(text),
+            Err(error) => Err(unread_of(&error)),
+        }
+    }
+
+    fn pieces(&self, alloc: Global, path: &str) -> Result<VecDeque<Vec<u8>>, ReadFailure> {
+        match all_pieces(self.files, alloc, path) {
+            Ok(pieces) => Ok(pieces),
+            Err(error) => Err(unread_of(&error)),
+        }
+    }
+}

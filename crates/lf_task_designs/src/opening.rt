@@ -1,0 +1,133 @@
+//! The design of a DEF file that is worked on, with what an exported text is made of.
+//!
+//! No function owns more than one of a library, a text, a document and a design: what it drops at each of its ends is proved end
+//! by end.
+
+ghost use Rattle.std.specs.Prelude.{◌≡◌, Some, map, IfErr, IfOk};
+ghost use Rattle.lf_task_designs.specs.declared.faults.TextKind.TheVariants.{Def};
+ghost use Rattle.lf_def.specs.Contents.{contents};
+ghost use Rattle.lf_def.specs.Document.{Document};
+ghost use Rattle.lf_write.specs.Export.{clause_of};
+ghost use Rattle.lf_task_designs.specs.Designs.{IsDefRefusal, IsDesignFault, IsFileFault, IsKept, IsLoadRefusal, IsLoadedIn, IsOpenedOf, IsRefused};
+
+use crate::faults::Fault;
+use crate::input_files::InputFiles;
+use crate::loading::{def_file, library_of, load_document, read_document, read_text, refused};
+use lf_def::DefDoc;
+use lf_frame::{Limits, Loaded};
+use lf_lef::Library;
+use lf_lex::ReadError;
+use lf_write::{KeptClauses, clauses_of};
+use std::alloc::Global;
+
+/// What is kept of a document: its design, and where the placement clauses of its components are.
+#[derive(Drop)]
+struct LoadedDocument {
+    loaded: Loaded,
+    clauses: KeptClauses,
+}
+
+/// What is kept of a document, that of the text of the path, over the library.
+fn open_document<'a>(
+    alloc: Global,
+    limits: Limits,
+    library: &Library,
+    path: &'a str,
+    text: &[u8],
+    document: &DefDoc,
+) -> Result<LoadedDocument, Fault<'a>>
+    ensures design { IfOk result (λ kept. IsLoadedIn limits library.now (contents document.now) kept.loaded) }
+    ensures clauses { IfOk result (λ kept. kept.clauses ≡ map (clause_of document.now.text.now) document.now.components) }
+    ensures err { IfErr result (IsRefused Def path.now text.now (IsLoadRefusal limits library.now (contents document.now))) }
+{
+    let loaded = load_document(alloc, limits, library, path, text, document)?;
+    match clauses_of(alloc, document) {
+        Ok(clauses) => Ok(LoadedDocument { loaded, clauses }),
+        Err(_) => {
+            let fault = ReadError::Memory.into_load_fault();
+            Err(refused(alloc, def_file(path), text, &fault))
+        }
+    }
+}
+
+/// What is kept of the document of a DEF text, that of the path, over the library.
+fn open_text<'a>(
+    alloc: Global,
+    limits: Limits,
+    library: &Library,
+    path: &'a str,
+    text: &[u8],
+) -> Result<LoadedDocument, Fault<'a>>
+    ensures ok { IfOk result (λ kept. (document : Document) × IsKept limits text.now library.now document kept.clauses kept.loaded) }
+    ensures err { IfErr result (IsRefused Def path.now text.now (IsDefRefusal limits library.now text.now)) }
+{
+    let document = read_document(alloc, path, text)?;
+    open_document(alloc, limits, library, path, text, &document)
+}
+
+/// A DEF text, of which its committed places make an exported text.
+#[derive(Drop)]
+pub struct SourceText {
+    /// All bytes of its file.
+    pub text: Vec<u8>,
+    /// Where the placement clauses of its components are.
+    pub clauses: KeptClauses,
+}
+
+/// The design of a DEF text, and the text.
+#[derive(Drop)]
+pub struct OpenedDesign {
+    /// The design, each cell at its place in the text.
+    pub loaded: Loaded,
+    /// The text, which stands apart, so that a floor may take the design.
+    pub original: SourceText,
+}
+
+/// The text of a DEF file, that of the path, and its design over the library.
+fn open_kept<'a>(
+    alloc: Global,
+    limits: Limits,
+    library: &Library,
+    path: &'a str,
+    text: Vec<u8>,
+) -> Result<OpenedDesign, Fault<'a>>
+    ensures text { IfOk result (λ opened. opened.original.text.items ≡ text.items) }
+    ensures ok { IfOk result (λ opened. (document : Document) × IsKept limits text.items library.now document opened.original.clauses opened.loaded) }
+    ensures err { IfErr result (IsRefused Def path.now text.items (IsDefRefusal limits library.now text.items)) }
+{
+    let LoadedDocument { loaded, clauses } = open_text(alloc, limits, library, path, &text)?;
+    let original = SourceText { text, clauses };
+    Ok(OpenedDesign { loaded, original })
+}
+
+/// The design of a DEF file over the library, and the text of the file.
+fn open_file<'a, T: InputFiles>(
+    alloc: Global,
+    limits: Limits,
+    texts: &T,
+    library: &Library,
+    path: &'a str,
+) -> Result<OpenedDesign, Fault<'a>>
+    ensures given { IfOk result (λ opened. T.gives texts.now path.now (Some opened.original.text.items)) }
+    ensures ok { IfOk result (λ opened. (document : Document)
+        × IsKept limits opened.original.text.items library.now document opened.original.clauses opened.loaded) }
+    ensures err { IfErr result (IsFileFault (T.gives texts.now) Def path.now (IsDefRefusal limits library.now)) }
+{
+    let text = read_text(texts, def_file(path))?;
+    open_kept(alloc, limits, library, path, text)
+}
+
+/// The design of a DEF file over LEF files, given by their paths, and the text of the DEF file, which is opened behind all others.
+pub fn open_design<'a, T: InputFiles>(
+    alloc: Global,
+    limits: Limits,
+    texts: &T,
+    def: &'a str,
+    lefs: &[&'a str],
+) -> Result<OpenedDesign, Fault<'a>>
+    ensures ok { IfOk result (IsOpenedOf limits (T.gives texts.now) def.now (map (λ lef. lef.now) lefs.now)) }
+    ensures err { IfErr result (IsDesignFault limits (T.gives texts.now) def.now (map (λ lef. lef.now) lefs.now)) }
+{
+    let library = library_of(alloc, texts, lefs)?;
+    open_file(alloc, limits, texts, &library, def)
+}

@@ -1,0 +1,16 @@
+-- Copies of designs: cells where a table has them.
+use Rattle.std.proofs.Common.{◌≡◌, List, [], ◌∷◌, map, Option, None, Some, refl, ap}
+use Rattle.std.specs.Borrow.{Bor}
+use Rattle.lf_floorplan.specs.declared.loaded.Cell.{Cell}
+use Rattle.lf_cells.specs.Cells.{Cells}
+use Rattle.lf_repair_bounds.proofs.Copying.{AreOneCell}
+use Rattle.lf_task_files.specs.Twins.{placed_by_table}
+
+-- a table moves cells, and no table moves none
+pub moved_one : (table : Option (Bor Cells)) (c : Cell) → AreOneCell c (placed_by_table table c)
+moved_one None c = record { name = refl; team = refl; mac = refl; component = refl }
+moved_one (Some table) c = record { name = refl; team = refl; mac = refl; component = refl }
+
+pub moved_none : (cells : List Cell) → map (placed_by_table None) cells ≡ cells
+moved_none [] = refl
+moved_none (c ∷ cells) = ap (λ (cs : List Cell). c ∷ cs) (moved_none cells)

@@ -1,0 +1,123 @@
+-- A saved state of a copy of a design is one of the design, and the cells of either stand where it tells.
+use Rattle.std.proofs.Common.{◌≡◌, ◌⊎◌, ◌∙◌, inl, inr, ℕ, zero, suc, ◌+◌, ◌<◌, List, [], ◌∷◌, ◌++◌, length, map, Option, None, Some, refl, ap, ap₂, sym, arith}
+use Rattle.std.specs.Prelude.{All, replicate, slice_get}
+use Rattle.std.specs.Option.{option_and_then}
+use Rattle.std.specs.Borrow.{Bor}
+use Rattle.std.proofs.lemmas.List.{length-map}
+use Rattle.std.proofs.lemmas.List.Elements.{All-head, All-tail}
+use Rattle.lf_floorplan.specs.declared.frame.Frame.{Frame}
+use Rattle.lf_floorplan.specs.declared.limits.Limits.{Limits}
+use Rattle.lf_floorplan.specs.declared.loaded.Cell.{Cell as LoadedCell}
+use Rattle.lf_floorplan.specs.declared.loaded.Loaded.{Loaded}
+use Rattle.lf_floorplan.specs.declared.parts.Team.{Team}
+use Rattle.lf_floorplan.specs.declared.place.Place.{Place}
+use Rattle.lf_floorplan.specs.Design.{IsCell, MakeDesign}
+use Rattle.lf_floorplan.specs.Fences.{ground_name}
+use Rattle.lf_cells.specs.declared.cell.Cell.{Cell}
+use Rattle.lf_cells.specs.Cells.{Cells, cells_of}
+use Rattle.lf_cells.specs.Openings.{own_cells}
+use Rattle.lf_state_text.specs.Designs.{NamedDesign}
+use Rattle.lf_state_text.specs.Reading.{state_of}
+use Rattle.lf_floor_model.specs.Designs.{initial_floor, initial_teams}
+use Rattle.lf_floor_model.specs.States.{FloorState, TeamState}
+use Rattle.lf_floor_model.proofs.Openings.{opening_whole}
+use Rattle.lf_state_restore.specs.Saved.{ShareDesign, fixed_cells, map_two, named, named_team, restored, restored_team}
+use Rattle.lf_task_designs.specs.declared.faults.Fault.{Fault}
+use Rattle.lf_task_designs.specs.declared.faults.Fault.TheVariants.{NoMemory}
+use Rattle.lf_task_designs.specs.Designs.{ReadsFile}
+use Rattle.lf_task_files.specs.Standing.{place_named, place_on, placed_on_floor}
+use Rattle.lf_task_files.specs.States.{IsFileState, IsStateFileFault}
+use Rattle.lf_task_files.specs.Twins.{IsCopyWithCells, placed_by_table}
+use Rattle.lf_repair_bounds.proofs.Copying.{AreOneCell, design_moved}
+
+-- ---- a design and its copy
+
+fresh : Limits → List LoadedCell → ℕ → TeamState
+fresh limits cells number = record { cells = own_cells number cells; revision = 0; entries = []; slots = replicate limits.sessions None; padding = 0 }
+
+opened_alike : (a b : Loaded) → a.frame.limits ≡ b.frame.limits → a.cells ≡ b.cells → (number more : ℕ) → initial_teams a number more ≡ initial_teams b number more
+unfolding fresh
+opened_alike a b limits cells number zero = refl
+opened_alike a b limits cells number (suc more) =
+    ap₂ (λ (s : TeamState) (ss : List TeamState). s ∷ ss) (ap₂ (λ (l : Limits) (cs : List LoadedCell). fresh l cs number) limits cells)
+    (opened_alike a b limits cells (number + 1) more)
+
+-- their floors begin with the same teams
+teams_alike : (design twin : Loaded) → IsCopyWithCells design.frame design.cells twin → (initial_floor twin).teams ≡ (initial_floor design).teams
+teams_alike design twin is =
+    opened_alike twin design is.frame.limits is.cells 0 (length twin.frame.teams + 1)
+    ∙ ap (λ (ts : List Team). initial_teams design 0 (length ts + 1)) is.frame.teams
+
+by_parts : List Team → List TeamState → Limits → NamedDesign
+by_parts fences teams limits = record { teams = map_two named_team (map (λ t. t.name) fences ++ ground_name ∷ []) teams; limits = limits }
+
+named_alike : (design twin : Loaded) → IsCopyWithCells design.frame design.cells twin → named (initial_floor twin) ≡ named (initial_floor design)
+unfolding by_parts
+named_alike design twin is =
+    ap (λ (ts : List Team). by_parts ts (initial_floor twin).teams twin.frame.limits) is.frame.teams
+    ∙ ap₂ (λ (ts : List TeamState) (l : Limits). by_parts design.frame.teams ts l) (teams_alike design twin is) is.frame.limits
+
+-- what a state tells of the copy it tells of the design
+pub state_alike : (gives : ReadsFile) (path : List ℕ) (design twin : Loaded) (floor : FloorState) → IsCopyWithCells design.frame design.cells twin
+    → IsFileState gives path (initial_floor twin) floor
+    → (other : FloorState) × IsFileState gives path (initial_floor design) other × (other.teams ≡ floor.teams)
+state_alike gives path design twin floor is (text, given, (saved, read, same)) = (
+  restored (initial_floor design) saved,
+  (text, given, (saved, ap (λ (n : NamedDesign). state_of n text) (sym (named_alike design twin is)) ∙ read, refl)),
+  ap (λ (ts : List TeamState). map_two restored_team ts saved) (sym (teams_alike design twin is)) ∙ sym (ap (λ (f : FloorState). f.teams) same),
+)
+
+-- and why it tells none of the copy is why it tells none of the design
+fault_alike : (gives : ReadsFile) (path : List ℕ) (design twin : Loaded) (fault : Fault) → IsCopyWithCells design.frame design.cells twin
+    → IsStateFileFault gives path (initial_floor twin) fault → IsStateFileFault gives path (initial_floor design) fault
+fault_alike gives path design twin fault is (inl unread) = inl unread
+fault_alike gives path design twin fault is (inr (text, given, inl memory)) = inr (text, given, inl memory)
+fault_alike gives path design twin fault is (inr (text, given, inr (why, read, refused))) =
+    inr (text, given, inr (why, ap (λ (n : NamedDesign). state_of n text) (sym (named_alike design twin is)) ∙ read, refused))
+
+-- so is why there is no floor of it
+pub floor_fails : (gives : ReadsFile) (path : List ℕ) (design twin : Loaded) (fault : Fault) → IsCopyWithCells design.frame design.cells twin
+    → (fault ≡ NoMemory) ⊎ IsStateFileFault gives path (initial_floor twin) fault → (fault ≡ NoMemory) ⊎ IsStateFileFault gives path (initial_floor design) fault
+floor_fails gives path design twin fault is (inl memory) = inl memory
+floor_fails gives path design twin fault is (inr state) = inr (fault_alike gives path design twin fault is state)
+
+-- a floor of a design has a team for each fence, and one more
+pub teams_many : (design : Loaded) (floor : FloorState) → ShareDesign (initial_floor design) floor → length floor.teams ≡ length design.frame.teams + 1
+teams_many design floor same =
+    sym (length-map floor.teams fixed_cells) ∙ ap (λ (cells : List (List (List ℕ × ℕ))). length cells) same.cells
+    ∙ length-map (initial_floor design).teams fixed_cells ∙ (opening_whole design).0
+
+-- ---- cells where they stand
+
+some_at : {X : Type 0} (xs : List X) (k : ℕ) → k < length xs → (x : X) × (slice_get xs k ≡ Some x)
+some_at [] k within = absurd (omega (arith, within))
+some_at (x ∷ xs) zero within = (x, refl)
+some_at (x ∷ xs) (suc k) within = some_at xs k (omega (arith, within))
+
+-- what the cells of a floor are in a table of them
+abbrev pub AreTabled : Cells → FloorState → Type 0
+AreTabled table floor = (number : ℕ) (s : TeamState) → slice_get floor.teams number ≡ Some s → cells_of table number ≡ s.cells
+
+place_alike : (f : Frame) (table : Cells) (floor other : FloorState) (c : LoadedCell) → AreTabled table floor → length floor.teams ≡ length f.teams + 1
+    → other.teams ≡ floor.teams → IsCell f c → place_named c.name (cells_of table c.team) ≡ place_on other c
+place_alike f table floor other c tabled many same is =
+    let team = some_at floor.teams c.team (omega (arith, many, is.team_known)) in
+    let found = λ (s : TeamState). place_named c.name s.cells in
+    ap (λ (cs : List Cell). place_named c.name cs) (tabled c.team team.0 team.1)
+    ∙ sym (ap (λ (ts : List TeamState). option_and_then found (slice_get ts c.team)) same ∙ ap (λ (o : Option TeamState). option_and_then found o) team.1)
+
+-- cells that a table of the floor moves stand on the floor
+pub places_alike : (f : Frame) (table : Bor Cells) (floor other : FloorState) (cells : List LoadedCell) → AreTabled table.now floor
+    → length floor.teams ≡ length f.teams + 1 → other.teams ≡ floor.teams → All (IsCell f) cells → map (placed_by_table (Some table)) cells ≡ map (placed_on_floor other) cells
+places_alike f table floor other [] tabled many same known = refl
+places_alike f table floor other (c ∷ cells) tabled many same known =
+    ap₂ (λ (p : Option Place) (cs : List LoadedCell). record c { place = p } ∷ cs)
+    (place_alike f table.now floor other c tabled many same (All-head (IsCell f) c cells known))
+    (places_alike f table floor other cells tabled many same (All-tail (IsCell f) c cells known))
+
+stood_one : (floor : FloorState) (c : LoadedCell) → AreOneCell c (placed_on_floor floor c)
+stood_one floor c = record { name = refl; team = refl; mac = refl; component = refl }
+
+-- cells that make a design make one as they stand
+pub design_stood : (f : Frame) (floor : FloorState) (cells : List LoadedCell) → MakeDesign f cells → MakeDesign f (map (placed_on_floor floor) cells)
+design_stood f floor cells is = design_moved f (placed_on_floor floor) (stood_one floor) cells is

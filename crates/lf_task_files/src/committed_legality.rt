@@ -1,0 +1,124 @@
+//! Whether the committed design of a floor is fully legal.
+
+ghost use Rattle.std.specs.Prelude.{◌≡◌, ◌↔◌, ◌+◌, ◌++◌, ◌≤◌, [], ◌∷◌, All, IfOk, IsTrue, OnOk, Some, count_by, is_none, length, map, option_map, slice_get};
+ghost use Rattle.lf_cells.specs.declared.cell.Cell.{Cell};
+ghost use Rattle.lf_cells.specs.Cells.{cell_at, cells_of};
+ghost use Rattle.lf_rules.specs.FullyLegal.{IsFullyLegal};
+ghost use Rattle.lf_reports.specs.Reports.{IsListed, named, design_cell_of};
+ghost use Rattle.lf_floor_model.specs.Committed.{AreCommittedLegal, IsCommittedLegal};
+ghost use Rattle.lf_floor_model.specs.States.{TeamState};
+ghost use Rattle.lf_task_files.specs.Judged.{committed_listed};
+
+use lf_cells::{CellId, CellTable};
+use lf_floor::Floor;
+use lf_legalize::IndexSeeker;
+use lf_reports::{Listed, verdicts_with_plan};
+use lf_rules::{Padding, legalizer_exists};
+use lf_segments::IndexedFrame;
+use lf_task_designs::illegal_in;
+use std::alloc::{AllocError, Global};
+
+/// The cell at its committed place; none if there is no such cell.
+fn listed_cell<'a>(cells: &'a CellTable, id: CellId) -> Option<Listed<&'a [u8]>>
+    ensures { option_map named result ≡ option_map (committed_listed id.team) (cell_at cells.now id) }
+{
+    let facts = cells.cell(id)?;
+    Some(Listed {
+        name: facts.name,
+        team: id.team as usize,
+        mac: facts.mac,
+        place: cells.committed(id),
+    })
+}
+
+/// Appends the cell at its committed place, if there is such a cell.
+fn push_cell<'a>(
+    cells: &'a CellTable,
+    id: CellId,
+    listed: &mut Vec<Listed<&'a [u8]>>,
+) -> Result<(), AllocError>
+    ensures { (c : Cell) → cell_at cells.now id ≡ Some c
+        → OnOk result (map named listed.new.items ≡ map named listed.old.items ++ committed_listed id.team c ∷ []) }
+{
+    if let Some(cell) = listed_cell(cells, id) {
+        listed.push(cell)?;
+    }
+    Ok(())
+}
+
+/// The team's cells at their committed places.
+fn listed_team(
+    alloc: Global,
+    cells: &CellTable,
+    team: usize,
+) -> Result<Vec<Listed<&[u8]>>, AllocError>
+    ensures { IfOk result (λ listed. map named listed.items ≡ map (committed_listed team) (cells_of cells.now team)) }
+{
+    let ids = cells.cells_of(team);
+    let mut listed = Vec::with_capacity(alloc, ids.len())?;
+    for id in ids {
+        push_cell(cells, *id, &mut listed)?;
+    }
+    Ok(listed)
+}
+
+/// How many of the cells are unplaced.
+fn unplaced_in(cells: &[Listed<&[u8]>]) -> usize
+    ensures { result ≡ count_by (λ c. is_none c.place) (map named cells.now) }
+{
+    cells.iter().filter(|cell| cell.place.is_none()).count()
+}
+
+/// Whether both numbers are 0.
+fn are_none(unplaced: usize, illegal: usize) -> bool
+    ensures { IsTrue result ↔ ((unplaced ≡ 0) × (illegal ≡ 0)) }
+{
+    unplaced == 0 && illegal == 0
+}
+
+/// Whether the cells, with no padding, make a fully legal design.
+fn are_legal(
+    alloc: Global,
+    plan: &IndexedFrame<'_>,
+    cells: &[Listed<&[u8]>],
+) -> Result<bool, AllocError>
+    requires listed { All (λ c. IsListed plan.now (named c)) cells.now }
+    requires few { length cells.now ≤ 4000000 }
+    ensures { IfOk result (λ legal. IsTrue legal ↔ IsFullyLegal plan.now (map design_cell_of (map named cells.now))) }
+{
+    legalizer_exists();
+    let verdicts = verdicts_with_plan(alloc, plan, cells, Padding::none())?;
+    Ok(are_none(unplaced_in(cells), illegal_in(&verdicts)))
+}
+
+/// Whether each cell of the team of that number has a committed place that is team-legal.
+fn is_team_legal(
+    alloc: Global,
+    floor: &Floor<IndexSeeker>,
+    number: usize,
+) -> Result<bool, AllocError>
+    requires { (s : TeamState) × (slice_get floor.now.teams number ≡ Some s) }
+    ensures { (s : TeamState) → slice_get floor.now.teams number ≡ Some s
+        → IfOk result (λ legal. IsTrue legal ↔ AreCommittedLegal floor.now.frame number s) }
+{
+    floor.teams_match_frame();
+    let placement = floor.placement();
+    let cells = listed_team(alloc, placement.cells(), number)?;
+    are_legal(alloc, &placement.indexed_frame(), &cells)
+}
+
+/// Whether the committed design is fully legal.
+///
+/// `Err` if an allocation fails.
+pub fn is_committed_legal(alloc: Global, floor: &Floor<IndexSeeker>) -> Result<bool, AllocError>
+    requires { length floor.now.teams ≡ length floor.now.frame.teams + 1 }
+    ensures { IfOk result (λ legal. IsTrue legal ↔ IsCommittedLegal floor.now) }
+{
+    let teams = floor.placement().frame().teams.len() + 1;
+    for number in 0..teams {
+        if !is_team_legal(alloc, floor, number)? {
+            return Ok(false);
+        }
+    }
+    Ok(true)
+}

@@ -1,0 +1,87 @@
+//! Copies of designs and of their cells.
+
+ghost use Rattle.std.specs.Prelude.{◌≡◌, IfOk, length, map, slice_get};
+ghost use Rattle.lf_cells.specs.Cells.{cells_of};
+ghost use Rattle.lf_floorplan.specs.Design.{CellsNamed, MakeDesign};
+ghost use Rattle.lf_floorplan.specs.LoadedCells.{with_name};
+ghost use Rattle.lf_task_files.specs.Standing.{place_named};
+ghost use Rattle.lf_task_files.specs.Twins.{IsCopyWithCells, cells_in, placed_by_table};
+
+use lf_cells::CellTable;
+use lf_floorplan::{CellParts, Frame, Loaded, LoadedCells, PackedPlace, Place, UnnamedCell};
+use lf_repair_bounds::clone_frame;
+use std::alloc::{AllocError, Global};
+
+/// The working place of the team's cell of that name; none if it is unplaced, or there is no such cell.
+fn place_named(table: &CellTable, team: usize, name: &[u8]) -> Option<Place>
+    ensures { result ≡ place_named name.now (cells_of table.now team) }
+{
+    let id = table.find_own(team, name)?;
+    table.working(id)
+}
+
+/// The cell of that name where the table has it, if there is a table.
+fn moved_by(table: Option<&CellTable>, name: &[u8], cell: UnnamedCell) -> UnnamedCell
+    ensures { with_name name.now result ≡ placed_by_table table.entry (with_name name.now cell) }
+{
+    match table {
+        None => cell,
+        Some(table) => UnnamedCell {
+            place: PackedPlace::of(place_named(table, cell.team as usize, name)),
+            ..cell
+        },
+    }
+}
+
+/// The cell of this position without its name; none if there is none.
+fn plain_at(parts: &CellParts, at: usize) -> Option<UnnamedCell>
+    ensures { result ≡ slice_get parts.now.cells.items at }
+{
+    match parts.cells.as_slice().get(at) {
+        Some(cell) => Some(*cell),
+        None => None,
+    }
+}
+
+/// Copies of the cells, each where the table has it, if there is a table.
+pub(crate) fn copy_cells(
+    alloc: Global,
+    parts: &CellParts,
+    table: Option<&CellTable>,
+) -> Result<LoadedCells, AllocError>
+    requires whole { length parts.now.names ≡ length parts.now.cells.items }
+    requires named { CellsNamed (cells_in parts.now) }
+    ensures { IfOk result (λ copies. copies ≡ map (placed_by_table table.entry) (cells_in parts.now)) }
+{
+    let mut copies = LoadedCells::new(alloc);
+    for at in 0..parts.cells.len() {
+        let name = parts.names.name_at(at).unwrap();
+        let cell = plain_at(parts, at).unwrap();
+        copies.push(name, moved_by(table, name, cell))?;
+    }
+    Ok(copies)
+}
+
+/// The design of this frame and these cells.
+pub(crate) fn design_of(frame: Frame, cells: LoadedCells) -> Loaded
+    requires { MakeDesign frame cells }
+    ensures frame { result.frame ≡ frame }
+    ensures cells { result.cells ≡ cells }
+{
+    Loaded { frame, cells }
+}
+
+/// A copy of the design of this frame and these cells.
+pub(crate) fn copy_of_design(
+    alloc: Global,
+    frame: &Frame,
+    parts: &CellParts,
+) -> Result<Loaded, AllocError>
+    requires whole { length parts.now.names ≡ length parts.now.cells.items }
+    requires design { MakeDesign frame.now (cells_in parts.now) }
+    ensures { IfOk result (IsCopyWithCells frame.now (cells_in parts.now)) }
+{
+    let copy = clone_frame(alloc, frame)?;
+    let cells = copy_cells(alloc, parts, None)?;
+    Ok(design_of(copy, cells))
+}

@@ -1,0 +1,140 @@
+//! The text that is exported: that of the design, with the committed places of a floor in it.
+
+ghost use Rattle.std.specs.Prelude.{◌≡◌, ◌||◌, ℕ, Bool, List, None, Option, Some, IfErr, OnErr, OnOk, map, option_map};
+ghost use Rattle.lf_io_files.specs.Shelf.{is_file};
+ghost use Rattle.lf_def.specs.Document.{Document};
+ghost use Rattle.lf_floorplan.specs.declared.place.Place.{Place};
+ghost use Rattle.lf_floor_model.specs.Places.{AreCommittedPlaces};
+ghost use Rattle.lf_write.specs.Export.{CanBeRenewed, clause_of, renewed};
+ghost use Rattle.lf_task_files.specs.Exits.{IsExported};
+ghost use Rattle.lf_task_files.specs.Faults.{ExportFails, IsExportFault, export_fault};
+
+use lf_floor::{CommittedPlaces, Floor};
+use lf_floorplan::Place;
+use lf_io_files::{OutputFiles, TextSource, WriteFailure};
+use lf_legalize::IndexSeeker;
+use lf_task_designs::{Fault, SourceText};
+use lf_write::{KeptClauses, NewPlaces, kept_clauses_suffice, write_export};
+use std::io;
+use std::io::Write;
+use std::marker::Model;
+
+/// The text, which is written from what it was read from; places are looked up one by one.
+///
+/// Contracts see what it was read from, its clauses and the places.
+#[derive(Drop)]
+struct ExportedText<'a> {
+    text: &'a [u8],
+    clauses: &'a KeptClauses,
+    places: CommittedPlaces<'a>,
+}
+
+impl<'a> Model for ExportedText<'a> {
+    ghost use Rattle.std.specs.Prelude.{ℕ, List, Option};
+    ghost use Rattle.lf_floorplan.specs.declared.place.Place.{Place};
+    ghost use Rattle.lf_write.specs.Export.{CanBeRenewed, ClauseFacts};
+
+    ghost Value = { List ℕ × List ClauseFacts × List (ℕ × Option Place) };
+
+    ghost view = { λ e. (e.text.now, e.clauses.now, e.places) };
+
+    ghost invariant = { λ e. CanBeRenewed e.text.now e.clauses.now e.places };
+}
+
+impl<'a> NewPlaces for ExportedText<'a> {
+    ghost places = { λ e. e.2 };
+
+    fn count(&self) -> usize {
+        self.places.len()
+    }
+
+    fn place(&self, at: usize) -> Option<(usize, Option<Place>)> {
+        self.places.at(at)
+    }
+}
+
+impl<'a> TextSource for ExportedText<'a> {
+    ghost text = { λ e. renewed e.0 e.1 e.2 };
+
+    fn write_to<W: Write>(&self, writer: &mut W) -> io::Result<()> {
+        write_export(writer, self.text, self.clauses, self)
+    }
+}
+
+/// The text with these clauses, and the committed places of the floor in it.
+fn exported_text<'a>(
+    floor: &'a Floor<IndexSeeker>,
+    text: &'a [u8],
+    clauses: &'a KeptClauses,
+) -> ExportedText<'a>
+    requires fits { (places : List (ℕ × Option Place)) → AreCommittedPlaces floor.now places → CanBeRenewed text.now clauses.now places }
+    ensures { (places : List (ℕ × Option Place)) × AreCommittedPlaces floor.now places
+        × (result ≡ (text.now, clauses.now, places)) }
+{
+    ExportedText {
+        text,
+        clauses,
+        places: floor.committed(),
+    }
+}
+
+/// The fault of a text that is not put into its file.
+fn export_fault<'f>(path: &'f str, unwritten: WriteFailure) -> Fault<'f>
+    ensures told { result ≡ export_fault path.entry unwritten }
+    ensures fault { IsExportFault (Some path.now) result }
+    ensures fails { (before now : Bool) → now ≡ (is_file unwritten || before) → ExportFails result before now }
+{
+    match unwritten {
+        WriteFailure::File(why) => Fault::Unwritten(path, why),
+        WriteFailure::OutOfMemory => Fault::NoRoom,
+    }
+}
+
+/// Makes sure, as far as that shows beforehand, that a text can be written to the file of that path, if one is given.
+pub fn check_export_path<'a, E: OutputFiles>(
+    path: Option<&'a str>,
+    exports: &mut E,
+) -> Result<(), Fault<'a>>
+    ensures err { IfErr result (IsExportFault (option_map (λ path. path.now) path.entry)) }
+    ensures fails { IfErr result (λ fault. ExportFails fault (E.has_failed exports.old) (E.has_failed exports.new)) }
+    ensures sound { OnOk result (E.has_failed exports.new ≡ E.has_failed exports.old) }
+    ensures unput { E.puts exports.new ≡ E.puts exports.old }
+    ensures unasked { option_map (λ path. path.now) path.entry ≡ None → exports.new ≡ exports.old }
+{
+    match path {
+        None => Ok(()),
+        Some(path) => match exports.try_path(path) {
+            Ok(()) => Ok(()),
+            Err(unwritten) => Err(export_fault(path, unwritten)),
+        },
+    }
+}
+
+/// Writes the exported text to the file of that path, if one is given.
+pub fn save_export<'a, E: OutputFiles>(
+    floor: &Floor<IndexSeeker>,
+    original: &SourceText,
+    path: Option<&'a str>,
+    exports: &mut E,
+) -> Result<(), Fault<'a>>
+    requires fits { (places : List (ℕ × Option Place)) → AreCommittedPlaces floor.now places
+        → CanBeRenewed original.now.text.items original.now.clauses places }
+    ensures ok { (document : Document) → original.now.clauses ≡ map (clause_of original.now.text.items) document.components
+        → OnOk result (IsExported (option_map (λ path. path.now) path.entry) original.now.text.items document floor.now
+        (E.puts exports.old) (E.puts exports.new)) }
+    ensures err { IfErr result (IsExportFault (option_map (λ path. path.now) path.entry)) }
+    ensures fails { IfErr result (λ fault. ExportFails fault (E.has_failed exports.old) (E.has_failed exports.new)) }
+    ensures sound { OnOk result (E.has_failed exports.new ≡ E.has_failed exports.old) }
+    ensures unput { OnErr result (E.puts exports.new ≡ E.puts exports.old) }
+    ensures unasked { option_map (λ path. path.now) path.entry ≡ None → exports.new ≡ exports.old }
+{
+    kept_clauses_suffice();
+    let Some(path) = path else {
+        return Ok(());
+    };
+    let exported = exported_text(floor, &original.text, &original.clauses);
+    match exports.put(path, &exported) {
+        Ok(()) => Ok(()),
+        Err(unwritten) => Err(export_fault(path, unwritten)),
+    }
+}

@@ -1,0 +1,70 @@
+//! The files that work on a design writes once its lines are answered: the exported text, and then the state.
+
+ghost use Rattle.std.specs.Prelude.{◌≡◌, ◌⊎◌, ℕ, List, None, Option, IfErr, OnErr, OnOk, option_copied};
+ghost use Rattle.lf_def.specs.Document.{Document};
+ghost use Rattle.lf_io_files.specs.Shelf.{Put};
+ghost use Rattle.lf_floorplan.specs.declared.place.Place.{Place};
+ghost use Rattle.lf_floor_model.specs.Places.{AreCommittedPlaces};
+ghost use Rattle.lf_task_files.specs.Exits.{AreKept, CanBePut, IsExported};
+ghost use Rattle.lf_task_files.specs.Faults.{ExportFails, IsExportFault, IsSaveFault};
+ghost use Rattle.lf_task_files.specs.States.{IsSaved};
+ghost use Rattle.lf_task_files.specs.Inputs.{path_of};
+
+use crate::export::{check_export_path, save_export};
+use crate::save::{save_to, try_save};
+use lf_floor::Floor;
+use lf_io_files::OutputFiles;
+use lf_legalize::IndexSeeker;
+use lf_task_designs::{Fault, SourceText};
+
+/// The paths of what is written, each if it is asked for.
+#[derive(Clone, Copy)]
+pub struct OutputPaths<'a> {
+    /// That of the exported text.
+    pub export: Option<&'a str>,
+    /// That of the state.
+    pub save: Option<&'a str>,
+}
+
+/// Makes sure, as far as that shows beforehand, that what is asked for can be written.
+pub fn check_outputs<'a, E: OutputFiles>(
+    outputs: OutputPaths<'a>,
+    exports: &mut E,
+) -> Result<(), Fault<'a>>
+    ensures err { IfErr result (λ fault. IsExportFault (path_of outputs.entry.export) fault ⊎ IsSaveFault (path_of outputs.entry.save) fault) }
+    ensures fails { IfErr result (λ fault. ExportFails fault (E.has_failed exports.old) (E.has_failed exports.new)) }
+    ensures sound { OnOk result (E.has_failed exports.new ≡ E.has_failed exports.old) }
+    ensures unput { E.puts exports.new ≡ E.puts exports.old }
+    ensures unasked { path_of outputs.entry.save ≡ None → path_of outputs.entry.export ≡ None → exports.new ≡ exports.old }
+{
+    check_export_path(outputs.export, exports)?;
+    try_save(outputs.save, exports)
+}
+
+/// Writes what is asked for: the exported text and then the state of the floor. The DEF text is kept where it is to be exported.
+pub fn write_outputs<'a, E: OutputFiles>(
+    floor: &Floor<IndexSeeker>,
+    original: Option<&SourceText>,
+    outputs: OutputPaths<'a>,
+    exports: &mut E,
+) -> Result<(), Fault<'a>>
+    requires kept { original ≡ None → path_of outputs.export ≡ None }
+    requires fits { (places : List (ℕ × Option Place)) → AreCommittedPlaces floor.now places → CanBePut (option_copied original) places }
+    ensures ok { (text : List ℕ) (document : Document) → AreKept (option_copied original.entry) text document
+        → OnOk result ((between : Option (List Put))
+        × IsExported (path_of outputs.entry.export) text document floor.now (E.puts exports.old) between
+        × IsSaved (path_of outputs.entry.save) floor.now between (E.puts exports.new)) }
+    ensures err { (text : List ℕ) (document : Document) → AreKept (option_copied original.entry) text document
+        → IfErr result (λ fault. (IsExportFault (path_of outputs.entry.export) fault × (E.puts exports.new ≡ E.puts exports.old))
+        ⊎ (IsSaveFault (path_of outputs.entry.save) fault
+        × IsExported (path_of outputs.entry.export) text document floor.now (E.puts exports.old) (E.puts exports.new))) }
+    ensures fails { IfErr result (λ fault. ExportFails fault (E.has_failed exports.old) (E.has_failed exports.new)) }
+    ensures sound { OnOk result (E.has_failed exports.new ≡ E.has_failed exports.old) }
+    ensures unput { path_of outputs.entry.save ≡ None → OnErr result (E.puts exports.new ≡ E.puts exports.old) }
+    ensures unasked { path_of outputs.entry.save ≡ None → path_of outputs.entry.export ≡ None → exports.new ≡ exports.old }
+{
+    if let Some(original) = original {
+        save_export(floor, original, outputs.export, exports)?;
+    }
+    save_to(floor, outputs.save, exports)
+}

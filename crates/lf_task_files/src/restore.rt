@@ -1,0 +1,116 @@
+//! The state that a floor is brought into before work on it begins: the one that the text of a file tells.
+
+ghost use Rattle.std.specs.Prelude.{◌≡◌, ◌⊎◌, ◌+◌, IfErr, IfOk, List, Ok, ℕ, length};
+ghost use Rattle.lf_state_text.specs.Pieces.{joined};
+ghost use Rattle.lf_state_text.specs.Refused.{HasEnd};
+ghost use Rattle.lf_floor_model.specs.Designs.{initial_floor};
+ghost use Rattle.lf_state_restore.specs.Saved.{MatchDesign, ShareDesign, named};
+ghost use Rattle.lf_state_text.specs.Reading.{state_of};
+ghost use Rattle.lf_state_text.specs.Saved.{team_views};
+ghost use Rattle.lf_task_designs.specs.declared.faults.Fault.TheVariants.{NoMemory};
+ghost use Rattle.lf_task_designs.specs.declared.faults.TextKind.TheVariants.{State};
+ghost use Rattle.lf_task_files.specs.States.{FileHasState, IsFileState, IsStateFileFault, IsStateRefused, IsStateTextFault};
+
+use lf_floor::Floor;
+use lf_floorplan::Loaded;
+use lf_legalize::IndexSeeker;
+use lf_state_text::{ChunkError, StateRefused, TeamRow};
+use lf_task_designs::{Fault, InputFiles, StateRefusal, TextFile, TextKind, read_chunks};
+use std::alloc::{AllocError, Global};
+use std::collections::VecDeque;
+
+/// The file of a saved state.
+fn state_file(path: &str) -> TextFile<'_>
+    ensures kind { result.kind ≡ State }
+    ensures path { result.path.now ≡ path.now }
+{
+    TextFile {
+        kind: TextKind::State,
+        path,
+    }
+}
+
+/// The fault of the text of the file of that path, which is refused so: that an allocation failed, if there is no memory to tell more.
+fn refused_state<'a>(alloc: Global, path: &'a str, refused: &StateRefused) -> Fault<'a>
+    ensures { (text : List ℕ) → HasEnd text refused.now → IsStateRefused path.now text refused.now.fault result }
+{
+    match StateRefusal::new(alloc, refused) {
+        Ok(refusal) => Fault::NoState(path, refusal),
+        Err(_) => Fault::NoMemory,
+    }
+}
+
+/// What the text of the file of that path, of which these are the pieces, tells of the teams of the floor's design.
+fn read_rows<'a>(
+    alloc: Global,
+    floor: &Floor<IndexSeeker>,
+    path: &'a str,
+    pieces: VecDeque<Vec<u8>>,
+) -> Result<Vec<TeamRow>, Fault<'a>>
+    ensures ok { IfOk result (λ rows. state_of (named floor.now) (joined pieces.items) ≡ Ok (team_views rows.items)) }
+    ensures due { IfOk result (λ rows. MatchDesign floor.now.frame.limits floor.now.teams (team_views rows.items)) }
+    ensures err { IfErr result (IsStateTextFault floor.now path.now (joined pieces.items)) }
+{
+    match floor.read_state_chunks(pieces) {
+        Ok(rows) => Ok(rows),
+        Err(ChunkError::Memory) => Err(Fault::NoMemory),
+        Err(ChunkError::Refused(refused)) => Err(refused_state(alloc, path, &refused)),
+    }
+}
+
+/// The same of the file of that path: each piece of its text is let go once it was read.
+fn rows_of_file<'a, T: InputFiles>(
+    alloc: Global,
+    texts: &T,
+    floor: &Floor<IndexSeeker>,
+    path: &'a str,
+) -> Result<Vec<TeamRow>, Fault<'a>>
+    ensures ok { IfOk result (λ rows. FileHasState (T.gives texts.now) path.now floor.now (team_views rows.items)) }
+    ensures due { IfOk result (λ rows. MatchDesign floor.now.frame.limits floor.now.teams (team_views rows.items)) }
+    ensures err { IfErr result (IsStateFileFault (T.gives texts.now) path.now floor.now) }
+{
+    let pieces = read_chunks(alloc, texts, state_file(path))?;
+    read_rows(alloc, floor, path, pieces)
+}
+
+/// The floor in the state that the file of that path tells of its design: the text is let go before anything is built of it.
+fn restore_file<'a, T: InputFiles>(
+    alloc: Global,
+    texts: &T,
+    floor: Floor<IndexSeeker>,
+    path: &'a str,
+) -> Result<Floor<IndexSeeker>, Fault<'a>>
+    ensures ok { IfOk result (IsFileState (T.gives texts.now) path.now floor) }
+    ensures design { IfOk result (ShareDesign floor) }
+    ensures err { IfErr result (IsStateFileFault (T.gives texts.now) path.now floor) }
+{
+    let rows = rows_of_file(alloc, texts, &floor, path)?;
+    match floor.restore_saved(rows) {
+        Ok(restored) => Ok(restored),
+        Err(_) => Err(Fault::NoMemory),
+    }
+}
+
+/// The floor of the design of which no cell is placed yet, with an index of its rows for the search for best places.
+fn start_unplaced(alloc: Global, loaded: Loaded) -> Result<Floor<IndexSeeker>, AllocError>
+    ensures { IfOk result (ShareDesign (initial_floor loaded)) }
+{
+    let seeker = IndexSeeker::build(alloc, &loaded.frame)?;
+    Floor::start_unplaced(alloc, loaded, seeker)
+}
+
+/// The floor of the design in the state that the file of that path tells. It begins with no cell placed: the places of the DEF text
+/// are not those of the state.
+pub(crate) fn floor_in_state<'a, T: InputFiles>(
+    alloc: Global,
+    texts: &T,
+    design: Loaded,
+    path: &'a str,
+) -> Result<Floor<IndexSeeker>, Fault<'a>>
+    ensures ok { IfOk result (IsFileState (T.gives texts.now) path.now (initial_floor design)) }
+    ensures many { IfOk result (λ floor. length floor.teams ≡ length design.frame.teams + 1) }
+    ensures err { IfErr result (λ fault. (fault ≡ NoMemory) ⊎ IsStateFileFault (T.gives texts.now) path.now (initial_floor design) fault) }
+{
+    let floor = start_unplaced(alloc, design)?;
+    restore_file(alloc, texts, floor, path)
+}

@@ -1,0 +1,133 @@
+//! The state that is saved: a text from which a floor is restored as it stands.
+
+ghost use Rattle.std.specs.Prelude.{◌≡◌, ◌||◌, Bool, None, Some, IfErr, OnErr, OnOk};
+ghost use Rattle.std.specs.Io.KnownBytes.{Appends};
+ghost use Rattle.lf_io_files.specs.Shelf.{is_file};
+ghost use Rattle.lf_floor.specs.Saving.{state_text_of};
+ghost use Rattle.lf_task_files.specs.Faults.{ExportFails, IsSaveFault, save_fault};
+ghost use Rattle.lf_task_files.specs.States.{IsSaved};
+ghost use Rattle.lf_task_files.specs.Inputs.{path_of};
+
+use lf_floor::{Floor, StateSnapshot};
+use lf_io_files::{OutputFiles, TextSource, WriteFailure};
+use lf_legalize::IndexSeeker;
+use lf_task_designs::Fault;
+use lf_team_def::Output;
+use std::io;
+use std::io::Write;
+use std::marker::Model;
+
+/// A text on its way to a writer. Once a write has failed, no other is made.
+#[derive(Drop)]
+struct WriterOutput<'a, W> {
+    writer: &'a mut W,
+    /// The first write that failed.
+    fault: Option<io::Error>,
+}
+
+impl<'a, W: Write> Output for WriterOutput<'a, W> {
+    ghost took = { λ start now text. (now.writer.ghost_name ≡ start.writer.ghost_name)
+        × (now.fault ≡ None → Appends (W.contents start.writer.now) (W.contents now.writer.now) text) };
+
+    fn put(&mut self, bytes: &[u8]) {
+        if self.fault.is_some() {
+            return;
+        }
+        self.fault = self.writer.write_all(bytes).err();
+    }
+}
+
+/// Puts the text of the state on its way.
+fn write_snapshot_to<W: Write>(writing: &mut WriterOutput<'_, W>, state: &StateSnapshot<'_>)
+    requires { writing.old.fault ≡ None }
+    ensures same { writing.new.writer.ghost_name ≡ writing.old.writer.ghost_name }
+    ensures text { writing.new.fault ≡ None
+        → Appends (W.contents writing.old.writer.now) (W.contents writing.new.writer.now) (state_text_of state.now) }
+{
+    state.write_text(writing);
+}
+
+/// Writes the text of the state, piece by piece.
+fn write_snapshot<W: Write>(writer: &mut W, state: &StateSnapshot<'_>) -> io::Result<()>
+    ensures { OnOk result (Appends (W.contents writer.old) (W.contents writer.new) (state_text_of state.now)) }
+{
+    let mut writing = WriterOutput {
+        writer,
+        fault: None,
+    };
+    write_snapshot_to(&mut writing, state);
+    match writing.fault {
+        None => Ok(()),
+        Some(error) => Err(error),
+    }
+}
+
+/// The text of a state, which is written from the floor.
+///
+/// Contracts see what the state tells.
+#[derive(Drop)]
+struct StateText<'a> {
+    state: StateSnapshot<'a>,
+}
+
+impl<'a> TextSource for StateText<'a> {
+    ghost text = { λ s. state_text_of s.state };
+
+    fn write_to<W: Write>(&self, writer: &mut W) -> io::Result<()> {
+        write_snapshot(writer, &self.state)
+    }
+}
+
+/// The fault of a state that is not put into its file.
+fn save_fault<'f>(path: &'f str, unwritten: WriteFailure) -> Fault<'f>
+    ensures told { result ≡ save_fault path.entry unwritten }
+    ensures fault { IsSaveFault (Some path.now) result }
+    ensures fails { (before now : Bool) → now ≡ (is_file unwritten || before) → ExportFails result before now }
+{
+    match unwritten {
+        WriteFailure::File(why) => Fault::Unsaved(path, why),
+        WriteFailure::OutOfMemory => Fault::NoRoom,
+    }
+}
+
+/// Makes sure, as far as that shows beforehand, that a state can be written to the file of that path, if one is given.
+pub fn try_save<'a, E: OutputFiles>(path: Option<&'a str>, exports: &mut E) -> Result<(), Fault<'a>>
+    ensures err { IfErr result (IsSaveFault (path_of path.entry)) }
+    ensures fails { IfErr result (λ fault. ExportFails fault (E.has_failed exports.old) (E.has_failed exports.new)) }
+    ensures sound { OnOk result (E.has_failed exports.new ≡ E.has_failed exports.old) }
+    ensures unput { E.puts exports.new ≡ E.puts exports.old }
+    ensures unasked { path_of path.entry ≡ None → exports.new ≡ exports.old }
+{
+    match path {
+        None => Ok(()),
+        Some(path) => match exports.try_path(path) {
+            Ok(()) => Ok(()),
+            Err(unwritten) => Err(save_fault(path, unwritten)),
+        },
+    }
+}
+
+/// Writes the state of the floor to the file of that path, if one is given.
+pub fn save_to<'a, E: OutputFiles>(
+    floor: &Floor<IndexSeeker>,
+    path: Option<&'a str>,
+    exports: &mut E,
+) -> Result<(), Fault<'a>>
+    ensures ok { OnOk result (IsSaved (path_of path.entry) floor.now (E.puts exports.old) (E.puts exports.new)) }
+    ensures err { IfErr result (IsSaveFault (path_of path.entry)) }
+    ensures fails { IfErr result (λ fault. ExportFails fault (E.has_failed exports.old) (E.has_failed exports.new)) }
+    ensures sound { OnOk result (E.has_failed exports.new ≡ E.has_failed exports.old) }
+    ensures unput { OnErr result (E.puts exports.new ≡ E.puts exports.old) }
+    ensures unasked { path_of path.entry ≡ None → exports.new ≡ exports.old }
+{
+    let Some(path) = path else {
+        return Ok(());
+    };
+    let text = StateText {
+        state: floor.snapshot(),
+    };
+    match exports.put(path, &text) {
+        Ok(()) => Ok(()),
+        Err(unwritten) => Err(save_fault(path, unwritten)),
+    }
+}

@@ -1,0 +1,73 @@
+//! The design that is looked at: as it was loaded, or as its cells stand in a saved state.
+//!
+//! A floor keeps the design that it began with, so it begins with a copy of this one; its cells are then looked up by their names.
+
+ghost use Rattle.std.specs.Prelude.{◌≡◌, ◌⊎◌, IfErr, IfOk, length, map};
+ghost use Rattle.lf_floorplan.specs.declared.loaded.Loaded.{Loaded};
+ghost use Rattle.lf_floorplan.specs.Design.{MakeDesign};
+ghost use Rattle.lf_floor_model.specs.Designs.{initial_floor};
+ghost use Rattle.lf_floor_model.specs.States.{FloorState};
+ghost use Rattle.lf_task_designs.specs.declared.faults.Fault.TheVariants.{NoMemory};
+ghost use Rattle.lf_task_files.specs.Standing.{placed_on_floor};
+ghost use Rattle.lf_task_files.specs.States.{IsFileState, IsViewedDesign, IsStateFileFault, IsDesignInState, IsNotOpened};
+ghost use Rattle.lf_task_files.specs.Twins.{cells_in};
+ghost use Rattle.lf_task_files.specs.Inputs.{path_of};
+
+use crate::copies::{copy_cells, copy_of_design, design_of};
+use crate::restore::floor_in_state;
+use lf_floorplan::{CellParts, Frame, Loaded, LoadedCells};
+use lf_task_designs::{Fault, InputFiles};
+use std::alloc::Global;
+
+/// The cells of a design of this frame, each where it stands in the state that the file of that path tells.
+fn cells_in_state<'a, T: InputFiles>(
+    alloc: Global,
+    texts: &T,
+    frame: &Frame,
+    parts: &CellParts,
+    path: &'a str,
+) -> Result<LoadedCells, Fault<'a>>
+    requires whole { length parts.now.names ≡ length parts.now.cells.items }
+    requires design { MakeDesign frame.now (cells_in parts.now) }
+    ensures ok { (design : Loaded) → design.frame ≡ frame.now → design.cells ≡ cells_in parts.now → IfOk result (λ cells. (floor : FloorState)
+        × IsFileState (T.gives texts.now) path.now (initial_floor design) floor × (cells ≡ map (placed_on_floor floor) design.cells)) }
+    ensures err { (design : Loaded) → design.frame ≡ frame.now → design.cells ≡ cells_in parts.now → IfErr result (λ fault. (fault ≡ NoMemory)
+        ⊎ IsStateFileFault (T.gives texts.now) path.now (initial_floor design) fault) }
+{
+    let twin = copy_of_design(alloc, frame, parts)?;
+    let floor = floor_in_state(alloc, texts, twin, path)?;
+    let cells = copy_cells(alloc, parts, Some(floor.placement().cells()))?;
+    Ok(cells)
+}
+
+/// The design as it stands in the state that the file of that path tells.
+fn design_in_state<'a, T: InputFiles>(
+    alloc: Global,
+    texts: &T,
+    design: Loaded,
+    path: &'a str,
+) -> Result<Loaded, Fault<'a>>
+    ensures ok { IfOk result (IsDesignInState (T.gives texts.now) path.now design) }
+    ensures err { IfErr result (λ fault. (fault ≡ NoMemory) ⊎ IsStateFileFault (T.gives texts.now) path.now (initial_floor design) fault) }
+{
+    let Loaded { frame, cells } = design;
+    let parts = cells.into_parts();
+    let stood = cells_in_state(alloc, texts, &frame, &parts, path)?;
+    Ok(design_of(frame, stood))
+}
+
+/// The design as it is looked at: as it was loaded, or in the state that the file of that path tells, if one is given.
+pub(crate) fn viewed_design<'a, T: InputFiles>(
+    alloc: Global,
+    texts: &T,
+    design: Loaded,
+    state: Option<&'a str>,
+) -> Result<Loaded, Fault<'a>>
+    ensures ok { IfOk result (IsViewedDesign (T.gives texts.now) (path_of state.entry) design) }
+    ensures err { IfErr result (IsNotOpened (T.gives texts.now) (path_of state.entry) design) }
+{
+    match state {
+        None => Ok(design),
+        Some(path) => design_in_state(alloc, texts, design, path),
+    }
+}

@@ -1,0 +1,107 @@
+use Rattle.std.proofs.Common.{◌∙◌, ℕ, List, Option, inl, inr, map, refl, subst, sym}
+use Rattle.std.proofs.lemmas.Result.{IfErr-weaker, err_from_is_err_and}
+use Rattle.lf_io_files.specs.Shelf.{Put}
+use Rattle.lf_task_repair.specs.Exits.{IsNotPut, IsPut}
+use Rattle.lf_task_repair.specs.Repairs.{IsStatusOf, kept_text}
+use Rattle.lf_task_repair.specs.Telling.{IsReport}
+use Rattle.lf_task_files.specs.Inputs.{path_of}
+use Rattle.lf_task_repair.proofs.Repairing.{memory_early, ok_and, unknown_early}
+use Rattle.lf_task_files.proofs.WorkSteps.{blames_as, early_blames, export_blames}
+use Rattle.lf_task_repair.proofs.repair_task.repair_on_floor.Goals as goal
+
+pub put_all-requires : goal.put_all-requires
+put_all-requires g c = record { fits = λ places are. c.requires.fits c.repair_selected.new.floor places c.in_ok-done.ensures.only.components are }
+
+pub returns-clause-ok : goal.returns-clause-ok
+returns-clause-ok g c = λ document kept.
+    let floor = c.repair_selected.new.floor in
+    let lines = kept_text c.in_ok-done.done.lines in
+    let report = c.in_ok-done.done.report.text.items in
+    let asked = c.args.asked.now in
+    ok_and c.put_all.result _ _ _ c.put_all.ensures.status (c.put_all.ensures.ok document kept)
+    (λ status is put. record {
+      floor = floor;
+      kept = lines;
+      report = report;
+      repair = record {
+        known = c.in_ok-all_known.ensures.ok;
+        run = λ l. c.in_ok-done.ensures.run l;
+        only = c.in_ok-done.ensures.only;
+        stay = λ to_stay. c.in_ok-done.ensures.kept to_stay;
+        tells = subst (λ (bounds : List ℕ). IsReport (map (λ team. team.now) asked.teams.now) bounds floor report) c.deref.ensures.value c.in_ok-done.ensures.told;
+      };
+      put = subst (λ (puts : Option (List Put)). IsPut (path_of asked.export) (path_of asked.lines) c.args.before.now.original.text.items document floor lines
+          report (g.W.Sink.contents c.args.writer.now) (g.W.Sink.contents c.put_all.new.writer) puts (g.E.OutputFiles.puts c.put_all.new.exports)) c.try_files.ensures.unput put;
+      judged = subst (λ (n : ℕ). IsStatusOf floor n) (sym is) c.in_ok-done.ensures.judged;
+    })
+
+pub returns-clause-err : goal.returns-clause-err
+returns-clause-err g c = λ document kept.
+    let floor = c.repair_selected.new.floor in
+    let lines = kept_text c.in_ok-done.done.lines in
+    let report = c.in_ok-done.done.report.text.items in
+    let asked = c.args.asked.now in
+    IfErr-weaker c.put_all.result _ _
+    (λ fault unput. inr (
+      floor,
+      lines,
+      report,
+      record {
+        known = c.in_ok-all_known.ensures.ok;
+        run = λ l. c.in_ok-done.ensures.run l;
+        only = c.in_ok-done.ensures.only;
+        stay = λ to_stay. c.in_ok-done.ensures.kept to_stay;
+        tells = subst (λ (bounds : List ℕ). IsReport (map (λ team. team.now) asked.teams.now) bounds floor report) c.deref.ensures.value c.in_ok-done.ensures.told;
+      },
+      subst (λ (puts : Option (List Put)). IsNotPut (path_of asked.export) (path_of asked.lines) c.args.before.now.original.text.items document floor
+          report (g.W.Sink.contents c.args.writer.now) (g.W.Sink.contents c.put_all.new.writer) puts (g.E.OutputFiles.puts c.put_all.new.exports) fault)
+          c.try_files.ensures.unput unput,
+    ))
+    (c.put_all.ensures.err document kept)
+
+pub returns-clause-blames : goal.returns-clause-blames
+returns-clause-blames g c =
+    IfErr-weaker c.put_all.result _ _
+    (λ fault blames. blames_as fault _ _ _ _ _ _ _ _ _ _ _ _ blames (λ k. k) (λ r. r) (λ w. w) (λ e. e) (λ s. s)
+    (λ sound. (sound.0, sound.1 ∙ c.in_ok-try_files.ensures.sound)))
+    c.put_all.ensures.blames
+
+pub returns-in_err-all_known-clause-err : goal.returns-in_err-all_known-clause-err
+returns-in_err-all_known-clause-err g c = λ document kept.
+    let p = err_from_is_err_and c.from_residual.result c.from_residual.ensures.1 in
+    rw (p.1, p.2) (inl (inl c.in_err-all_known.ensures.err, refl, refl))
+
+pub returns-in_err-all_known-clause-blames : goal.returns-in_err-all_known-clause-blames
+returns-in_err-all_known-clause-blames g c =
+    let p = err_from_is_err_and c.from_residual.result c.from_residual.ensures.1 in
+    rw (p.1, p.2) (
+    early_blames _ _ _ _ _ _ _ refl (refl, refl)
+    (unknown_early c.args.floor.now.frame (map (λ team. team.now) c.args.asked.now.teams.now) _ c.in_err-all_known.ensures.err)
+    )
+
+pub returns-in_err-try_files-clause-err : goal.returns-in_err-try_files-clause-err
+returns-in_err-try_files-clause-err g c = λ document kept.
+    let p = err_from_is_err_and c.from_residual-in_err-try_files.result c.from_residual-in_err-try_files.ensures.1 in
+    rw (p.1, p.2) (inl (
+      elim c.in_err-try_files.ensures.err [
+        | inl exported ↦ inr (inl exported)
+        | inr listed ↦ inr (inr (inl listed))
+      ],
+      refl,
+      c.try_files.ensures.unput,
+    ))
+
+pub returns-in_err-try_files-clause-blames : goal.returns-in_err-try_files-clause-blames
+returns-in_err-try_files-clause-blames g c =
+    let p = err_from_is_err_and c.from_residual-in_err-try_files.result c.from_residual-in_err-try_files.ensures.1 in
+    rw (p.1, p.2) (export_blames _ _ _ _ _ _ _ _ _ c.in_err-try_files.ensures.fails (λ fails. fails) (λ same. (refl, same)))
+
+pub returns-in_err-done-clause-err : goal.returns-in_err-done-clause-err
+returns-in_err-done-clause-err g c = λ document kept.
+    let p = err_from_is_err_and c.from_residual-in_err-done.result c.from_residual-in_err-done.ensures.1 in
+    rw (p.1, p.2) (inl (inr (inr (inr c.in_err-done.ensures.err)), refl, c.try_files.ensures.unput))
+
+pub returns-in_err-done-clause-blames : goal.returns-in_err-done-clause-blames
+returns-in_err-done-clause-blames g c =
+    let p = err_from_is_err_and c.from_residual-in_err-done.result c.from_residual-in_err-done.ensures.1 in
+    rw (p.1, p.2) (early_blames _ _ _ _ _ _ _ refl (refl, c.in_ok-try_files.ensures.sound) (memory_early _ c.in_err-done.ensures.err))

@@ -1,0 +1,157 @@
+//! The lines of a repair: they are kept where they are asked for, and put into their file at the end.
+
+ghost use Rattle.std.specs.Prelude.{◌≡◌, ◌||◌, Bool, None, Some, IfErr, OnErr, OnOk, option_map};
+ghost use Rattle.std.specs.Io.KnownBytes.{Appends, Keeps};
+ghost use Rattle.lf_io_files.specs.Shelf.{is_file};
+ghost use Rattle.lf_task_files.specs.Faults.{ExportFails};
+ghost use Rattle.lf_task_files.specs.Inputs.{path_of};
+ghost use Rattle.lf_task_repair.specs.Repairs.{IsLinesFileFault, IsListed, initial_lines, kept_bytes, kept_text, lines_fault};
+
+use lf_io::{DeviceFault, Sink};
+use lf_io_files::{OutputFiles, TextSource, WriteFailure};
+use lf_task_designs::Fault;
+use std::alloc::{AllocError, Global};
+use std::io;
+use std::io::Write;
+
+/// Lines that are kept, if they are asked for.
+#[derive(Drop)]
+pub(crate) struct CommandLog {
+    /// Their text so far; none if they are not asked for.
+    kept: Option<Vec<u8>>,
+    flushed: bool,
+    failed: bool,
+}
+
+impl CommandLog {
+    /// No line yet; lines are asked for if there is a path for them.
+    pub(crate) fn new(alloc: Global, path: Option<&str>) -> CommandLog
+        ensures { kept_text result ≡ initial_lines (path_of path.entry) }
+    {
+        let kept = match path {
+            Some(_) => Some(Vec::new(alloc)),
+            None => None,
+        };
+        CommandLog {
+            kept,
+            flushed: true,
+            failed: false,
+        }
+    }
+}
+
+/// Appends the bytes, where they are kept; nothing is changed if an allocation fails.
+fn keep(kept: &mut Option<Vec<u8>>, bytes: &[u8]) -> Result<(), AllocError>
+    ensures ok { OnOk result (Appends (option_map (λ text. text.items) kept.old) (option_map (λ text. text.items) kept.new) bytes.now) }
+    ensures err { OnErr result (Keeps (option_map (λ text. text.items) kept.old) (option_map (λ text. text.items) kept.new)) }
+{
+    match kept {
+        Some(text) => text.extend_from_slice(bytes),
+        None => Ok(()),
+    }
+}
+
+impl Sink for CommandLog {
+    ghost contents = { λ s. option_map (λ text. text.items) s.kept };
+
+    ghost is_flushed = { λ s. s.flushed };
+
+    ghost has_failed = { λ s. s.failed };
+
+    fn write(&mut self, bytes: &[u8]) -> Result<usize, DeviceFault> {
+        self.flushed = false;
+        match keep(&mut self.kept, bytes) {
+            Ok(()) => Ok(bytes.len()),
+            Err(_) => {
+                self.failed = true;
+                Err(DeviceFault)
+            }
+        }
+    }
+
+    fn flush(&mut self) -> Result<(), DeviceFault> {
+        self.flushed = true;
+        Ok(())
+    }
+}
+
+/// The bytes of the lines.
+fn bytes_of(lines: &CommandLog) -> &[u8]
+    ensures { result.now ≡ kept_bytes (kept_text lines.now) }
+{
+    match &lines.kept {
+        Some(text) => text.as_slice(),
+        None => b"",
+    }
+}
+
+/// A text that is in memory as a whole.
+#[derive(Clone, Copy)]
+struct WholeText<'a> {
+    bytes: &'a [u8],
+}
+
+impl<'a> TextSource for WholeText<'a> {
+    ghost text = { λ t. t.bytes.now };
+
+    fn write_to<W: Write>(&self, writer: &mut W) -> io::Result<()> {
+        writer.write_all(self.bytes)
+    }
+}
+
+/// The fault of lines that are not put into their file.
+fn lines_fault<'f>(path: &'f str, unwritten: WriteFailure) -> Fault<'f>
+    ensures told { result ≡ lines_fault path.entry unwritten }
+    ensures fault { IsLinesFileFault (Some path.now) result }
+    ensures fails { (before now : Bool) → now ≡ (is_file unwritten || before) → ExportFails result before now }
+{
+    match unwritten {
+        WriteFailure::File(why) => Fault::Unlisted(path, why),
+        WriteFailure::OutOfMemory => Fault::NoRoom,
+    }
+}
+
+/// Makes sure, as far as that shows beforehand, that lines can be written to the file of that path, if one is given.
+pub(crate) fn check_lines_path<'a, E: OutputFiles>(
+    path: Option<&'a str>,
+    exports: &mut E,
+) -> Result<(), Fault<'a>>
+    ensures err { IfErr result (IsLinesFileFault (path_of path.entry)) }
+    ensures fails { IfErr result (λ fault. ExportFails fault (E.has_failed exports.old) (E.has_failed exports.new)) }
+    ensures sound { OnOk result (E.has_failed exports.new ≡ E.has_failed exports.old) }
+    ensures unput { E.puts exports.new ≡ E.puts exports.old }
+    ensures unasked { path_of path.entry ≡ None → exports.new ≡ exports.old }
+{
+    match path {
+        None => Ok(()),
+        Some(path) => match exports.try_path(path) {
+            Ok(()) => Ok(()),
+            Err(unwritten) => Err(lines_fault(path, unwritten)),
+        },
+    }
+}
+
+/// Writes the lines to the file of that path, if one is given.
+pub(crate) fn save_lines<'a, E: OutputFiles>(
+    lines: &CommandLog,
+    path: Option<&'a str>,
+    exports: &mut E,
+) -> Result<(), Fault<'a>>
+    ensures ok { OnOk result (IsListed (path_of path.entry) (kept_text lines.now) (E.puts exports.old) (E.puts exports.new)) }
+    ensures err { IfErr result (IsLinesFileFault (path_of path.entry)) }
+    ensures fails { IfErr result (λ fault. ExportFails fault (E.has_failed exports.old) (E.has_failed exports.new)) }
+    ensures sound { OnOk result (E.has_failed exports.new ≡ E.has_failed exports.old) }
+    ensures unput { OnErr result (E.puts exports.new ≡ E.puts exports.old) }
+    ensures unasked { path_of path.entry ≡ None → exports.new ≡ exports.old }
+{
+    let Some(path) = path else {
+        return Ok(());
+    };
+    let text = WholeText {
+        bytes: bytes_of(lines),
+    };
+    match exports.put(path, &text) {
+        Ok(()) => Ok(()),
+        Err(unwritten) => Err(lines_fault(path, unwritten)),
+    }
+}

@@ -1,0 +1,458 @@
+//! The repair of the teams of a design: the floor's own commands give their cells legal places.
+
+ghost use Rattle.std.specs.Prelude.{◌≡◌, ◌≢◌, ◌⊎◌, ◌+◌, ℕ, All, List, None, Option, Some, IfErr, IfOk, IsTrue, OnErr, OnOk};
+ghost use Rattle.std.specs.Prelude.{bytes_eq, is_some, length, map, position, take, true};
+ghost use Rattle.std.specs.Io.KnownBytes.{Appends};
+ghost use Rattle.lf_cli.specs.declared.parse.LegalCells.TheVariants.{Stay};
+ghost use Rattle.lf_def.specs.Document.{Document};
+ghost use Rattle.lf_io_files.specs.Shelf.{Put};
+ghost use Rattle.lf_floorplan.specs.declared.limits.Limits.{Limits as TheLimits};
+ghost use Rattle.lf_floorplan.specs.declared.place.Place.{Place};
+ghost use Rattle.lf_lef.specs.Contents.{Contents};
+ghost use Rattle.lf_rules.specs.Legalizer.{Legalizer};
+ghost use Rattle.lf_floor_model.specs.Designs.{initial_floor};
+ghost use Rattle.lf_floor_model.specs.Places.{AreCommittedPlaces};
+ghost use Rattle.lf_floor_model.specs.States.{FloorState};
+ghost use Rattle.lf_floor_model.specs.Teams.{state_of, team_number};
+ghost use Rattle.lf_write.specs.Export.{CanBeRenewed, clause_of};
+ghost use Rattle.lf_repair_strategy.specs.declared.pass.MovePolicy.TheVariants.{Keep};
+ghost use Rattle.lf_repair_team.specs.Mending.{AreLegalExcept, ChangesOnly, IsIllegalIn, KeepsLegalPlaces};
+ghost use Rattle.lf_repair_strategy.specs.declared.stats.RepairStats.{RepairStats};
+ghost use Rattle.lf_repair_report.specs.Told.{IsOneMore};
+ghost use Rattle.lf_task_designs.specs.declared.faults.Fault.TheVariants.{NoMemory, Output};
+ghost use Rattle.lf_task_designs.specs.Designs.{IsKept};
+ghost use Rattle.lf_task_files.specs.Exits.{IsExported};
+ghost use Rattle.lf_task_files.specs.Faults.{ExportFails, IsDone, IsExportFault};
+ghost use Rattle.lf_task_files.specs.Inputs.{path_of};
+ghost use Rattle.lf_task_repair.specs.Exits.{AreNotPut, IsNotPut, IsNotRepaired, IsOpenRepaired, IsPut, IsRepaired, IsUnrepaired};
+ghost use Rattle.lf_task_repair.specs.Repairs.{KeepsAllLegalPlaces, AreKnown, BlamesOutputs, IsStatusOf, IsKeptRun, IsLinesFileFault, IsListed, IsUnknown, OnlySelectedChange};
+ghost use Rattle.lf_task_repair.specs.Repairs.{initial_lines, how_of, is_selected, kept_text};
+ghost use Rattle.lf_task_repair.specs.Telling.{AreBounds, AddsTeamLines, IsReport, AddsTotalLine, selected_at, selected_names};
+
+use crate::command_log::{CommandLog, check_lines_path, save_lines};
+use crate::progress::{Progress, ProgressSink};
+use lf_cli::LegalCells;
+use lf_floor::{Floor, team_name};
+use lf_floor_model::places_follow_design;
+use lf_floorplan::{Frame, Limits};
+use lf_io::{Sink, send};
+use lf_io_files::OutputFiles;
+use lf_laws_roundtrip::loaded_cells_are_exportable;
+use lf_legalize::IndexSeeker;
+use lf_repair_bounds::max_min_displacements;
+use lf_repair_report::RepairReport;
+use lf_repair_team::{MovePolicy, repair_team};
+use lf_rules::legalizer_exists;
+use lf_task_designs::{Fault, InputFiles, OpenedDesign, SourceText, open_design};
+use lf_task_files::{
+    ILLEGAL_STATUS, LEGAL_STATUS, check_export_path, is_committed_legal, save_export, start_floor,
+};
+use lf_write::kept_clauses_suffice;
+use std::alloc::Global;
+
+/// A repair that is asked for: of a design of files, and what is written of it.
+#[derive(Clone, Copy)]
+pub struct RepairJob<'a> {
+    /// The path of the DEF file.
+    pub def: &'a str,
+    /// The paths of the LEF files, in the order in which they are read.
+    pub lefs: &'a [&'a str],
+    /// The names of the teams; all teams are repaired if there is none.
+    pub teams: &'a [&'a str],
+    /// Whether cells that stand legally may be moved.
+    pub legal: LegalCells,
+    /// The path of the exported text, if it is asked for.
+    pub export: Option<&'a str>,
+    /// The path of the lines, if they are asked for.
+    pub lines: Option<&'a str>,
+    pub limits: Limits,
+}
+
+/// Which of a team's cells may be moved.
+fn how_of(legal: LegalCells) -> MovePolicy
+    ensures { result ≡ how_of legal }
+{
+    match legal {
+        LegalCells::Stay => MovePolicy::Keep,
+        LegalCells::MoveAsNeeded => MovePolicy::AsNeeded,
+        LegalCells::Move => MovePolicy::All,
+    }
+}
+
+/// Where the name stands first among these; none if it is none of them.
+fn position_of(teams: &[&str], name: &[u8]) -> Option<usize>
+    ensures { result ≡ position (λ team. bytes_eq team.now name.now) teams.now }
+{
+    teams.iter().position(|team| team.as_bytes() == name)
+}
+
+/// Whether the team of that name is to be repaired: it is one of these, or none is named.
+fn is_selected(teams: &[&str], name: &[u8]) -> bool
+    ensures { result ≡ is_selected (map (λ team. team.now) teams.now) name.now }
+{
+    if teams.len() == 0 {
+        return true;
+    }
+    position_of(teams, name).is_some()
+}
+
+/// Whether the name is that of a team.
+fn is_known(floor: &Floor<IndexSeeker>, name: &[u8]) -> bool
+    ensures { result ≡ is_some (team_number floor.now.frame name.now) }
+{
+    floor.team_number(name).is_some()
+}
+
+/// Makes sure that each of the names is that of a team.
+fn all_known<'a>(floor: &Floor<IndexSeeker>, teams: &'a [&'a str]) -> Result<(), Fault<'a>>
+    ensures ok { OnOk result (AreKnown floor.now.frame (map (λ team. team.now) teams.now)) }
+    ensures err { IfErr result (IsUnknown floor.now.frame (map (λ team. team.now) teams.now)) }
+{
+    for team in teams {
+        if !is_known(floor, team.as_bytes()) {
+            return Err(Fault::NoTeam(team));
+        }
+    }
+    Ok(())
+}
+
+/// Repairs the team of that name, and tells of it.
+fn repair_named<'f, P: Progress>(
+    alloc: Global,
+    floor: &mut Floor<IndexSeeker>,
+    name: &[u8],
+    how: MovePolicy,
+    lines: &mut ProgressSink<'_, P>,
+    report: &mut RepairReport,
+) -> Result<(), Fault<'f>>
+    ensures run { (l : Legalizer) → OnOk result (IsKeptRun l floor.old (kept_text lines.old.lines) (kept_text lines.new.lines) floor.new) }
+    ensures only { ChangesOnly name.now floor.old floor.new }
+    ensures kept { how ≡ Keep → KeepsLegalPlaces name.now floor.old floor.new }
+    ensures told { OnOk result ((repaired : RepairStats) × IsOneMore floor.new name.now repaired report.old report.new
+        × AreLegalExcept name.now floor.new repaired.left.items × All (IsIllegalIn floor.new name.now) repaired.left.items) }
+    ensures err { IfErr result (λ fault. fault ≡ NoMemory) }
+{
+    match repair_team(alloc, floor, name, how, lines) {
+        Ok(repaired) => {
+            report.add(alloc, floor, name, &repaired)?;
+            Ok(())
+        }
+        Err(_) => Err(Fault::NoMemory),
+    }
+}
+
+/// Tells that the repair of the team of that name and number begins.
+fn announce_team<P: Progress>(progress: &mut P, frame: &Frame, name: &[u8], number: usize) {
+    progress.begin(name, number.saturating_add(1), frame.teams.len() + 1);
+}
+
+/// Repairs the team of that number, if it is asked for.
+#[tactic(auto, using(crate::proofs::Repairing::nothing_asked, crate::proofs::Repairing::none_changes))]
+fn repair_numbered<'a, P: Progress>(
+    alloc: Global,
+    floor: &mut Floor<IndexSeeker>,
+    number: usize,
+    asked: &RepairJob<'a>,
+    lines: &mut ProgressSink<'_, P>,
+    report: &mut RepairReport,
+) -> Result<(), Fault<'a>>
+    ensures run { (l : Legalizer) → OnOk result (IsKeptRun l floor.old (kept_text lines.old.lines) (kept_text lines.new.lines) floor.new) }
+    ensures only { OnOk result (OnlySelectedChange (map (λ team. team.now) asked.now.teams.now) floor.old floor.new) }
+    ensures told { OnOk result (AddsTeamLines (selected_at floor.old.frame (map (λ team. team.now) asked.now.teams.now) number) floor.new report.old report.new) }
+    ensures err { IfErr result (λ fault. fault ≡ NoMemory) }
+    ensures kept { asked.now.legal ≡ Stay → (team : List ℕ) → team_number floor.old.frame team ≡ Some number → KeepsLegalPlaces team floor.old floor.new }
+    ensures others { (team : List ℕ) → team_number floor.old.frame team ≢ Some number → state_of floor.new team ≡ state_of floor.old team }
+{
+    let Some(name) = team_name(floor.placement().frame(), number) else {
+        return Ok(());
+    };
+    let copy = Vec::from_slice(alloc, name)?;
+    let name = copy.as_slice();
+    if !is_selected(asked.teams, name) {
+        return Ok(());
+    }
+    announce_team(lines.progress, floor.placement().frame(), name, number);
+    repair_named(alloc, floor, name, how_of(asked.legal), lines, report)
+}
+
+/// Repairs the teams that are asked for, in their order.
+fn repair_teams<'a, P: Progress>(
+    alloc: Global,
+    floor: &mut Floor<IndexSeeker>,
+    asked: &RepairJob<'a>,
+    lines: &mut ProgressSink<'_, P>,
+    report: &mut RepairReport,
+) -> Result<(), Fault<'a>>
+    ensures run { (l : Legalizer) → OnOk result (IsKeptRun l floor.old (kept_text lines.old.lines) (kept_text lines.new.lines) floor.new) }
+    ensures only { OnOk result (OnlySelectedChange (map (λ team. team.now) asked.now.teams.now) floor.old floor.new) }
+    ensures kept { asked.now.legal ≡ Stay → OnOk result (KeepsAllLegalPlaces floor.old floor.new) }
+    ensures told { OnOk result (AddsTeamLines (selected_names floor.old.frame (map (λ team. team.now) asked.now.teams.now)) floor.new report.old report.new) }
+    ensures err { IfErr result (λ fault. fault ≡ NoMemory) }
+{
+    let teams = floor.placement().frame().teams.len() + 1;
+    for number in 0..teams {
+        repair_numbered(alloc, floor, number, asked, lines, report)?;
+    }
+    Ok(())
+}
+
+/// The exit status, by whether the committed design is fully legal.
+fn status_by(legal: bool) -> u8
+    ensures done { IsDone result }
+    ensures legal { result ≡ 0 → IsTrue legal }
+    ensures illegal { result ≡ 4 → ¬ IsTrue legal }
+{
+    if legal { LEGAL_STATUS } else { ILLEGAL_STATUS }
+}
+
+/// Tells of all teams, and returns the exit status.
+fn close_report<'f>(
+    alloc: Global,
+    floor: &Floor<IndexSeeker>,
+    report: &mut RepairReport,
+) -> Result<u8, Fault<'f>>
+    requires { length floor.now.teams ≡ length floor.now.frame.teams + 1 }
+    ensures ok { IfOk result (IsStatusOf floor.now) }
+    ensures told { OnOk result (AddsTotalLine floor.now report.old report.new) }
+    ensures err { IfErr result (λ fault. fault ≡ NoMemory) }
+{
+    let legal = is_committed_legal(alloc, floor)?;
+    report.close(alloc, legal)?;
+    Ok(status_by(legal))
+}
+
+/// A repair that is done on a floor, and not written yet.
+#[derive(Drop)]
+struct FinishedRepair {
+    lines: CommandLog,
+    report: RepairReport,
+    /// The exit status.
+    status: u8,
+}
+
+/// Repairs the teams that are asked for, and tells of them; for each team the largest of the least ways of its cells is this.
+fn repair_selected<'a, P: Progress>(
+    alloc: Global,
+    floor: &mut Floor<IndexSeeker>,
+    asked: &RepairJob<'a>,
+    least: &[u64],
+    progress: &mut P,
+) -> Result<FinishedRepair, Fault<'a>>
+    requires { length floor.old.teams ≡ length floor.old.frame.teams + 1 }
+    ensures run { (l : Legalizer) → IfOk result (λ done. IsKeptRun l floor.old (initial_lines (path_of asked.now.lines)) (kept_text done.lines) floor.new) }
+    ensures only { OnOk result (OnlySelectedChange (map (λ team. team.now) asked.now.teams.now) floor.old floor.new) }
+    ensures kept { asked.now.legal ≡ Stay → OnOk result (KeepsAllLegalPlaces floor.old floor.new) }
+    ensures judged { IfOk result (λ done. IsStatusOf floor.new done.status) }
+    ensures told { IfOk result (λ done. IsReport (map (λ team. team.now) asked.now.teams.now) least.now floor.new done.report.text.items) }
+    ensures err { IfErr result (λ fault. fault ≡ NoMemory) }
+{
+    legalizer_exists();
+    let lines = CommandLog::new(alloc, asked.lines);
+    let mut lines = ProgressSink { lines, progress };
+    let mut report = RepairReport::new(alloc, least)?;
+    repair_teams(alloc, floor, asked, &mut lines, &mut report)?;
+    let status = close_report(alloc, floor, &mut report)?;
+    let ProgressSink { lines, .. } = lines;
+    Ok(FinishedRepair {
+        lines,
+        report,
+        status,
+    })
+}
+
+/// Writes the report.
+fn put_report<'f, W: Sink>(writer: &mut W, report: &RepairReport) -> Result<(), Fault<'f>>
+    ensures ok { OnOk result (Appends (W.contents writer.old) (W.contents writer.new) report.now.text.items) }
+    ensures healthy { OnOk result (W.has_failed writer.new ≡ W.has_failed writer.old) }
+    ensures front { OnErr result ((n : ℕ) × Appends (W.contents writer.old) (W.contents writer.new) (take n report.now.text.items)) }
+    ensures err { IfErr result (λ fault. fault ≡ Output) }
+    ensures failed { OnErr result (W.has_failed writer.new ≡ true) }
+    ensures held { W.holds writer.new ≡ W.holds writer.old }
+{
+    match send(writer, report.text.as_slice()) {
+        Ok(()) => Ok(()),
+        Err(_) => Err(Fault::Output),
+    }
+}
+
+/// Makes sure, as far as that shows beforehand, that what is asked for can be written.
+fn try_files<'a, E: OutputFiles>(asked: &RepairJob<'a>, exports: &mut E) -> Result<(), Fault<'a>>
+    ensures err { IfErr result (λ fault. IsExportFault (path_of asked.now.export) fault ⊎ IsLinesFileFault (path_of asked.now.lines) fault) }
+    ensures fails { IfErr result (λ fault. ExportFails fault (E.has_failed exports.old) (E.has_failed exports.new)) }
+    ensures sound { OnOk result (E.has_failed exports.new ≡ E.has_failed exports.old) }
+    ensures unput { E.puts exports.new ≡ E.puts exports.old }
+    ensures unasked { path_of asked.now.lines ≡ None → path_of asked.now.export ≡ None → exports.new ≡ exports.old }
+{
+    check_export_path(asked.export, exports)?;
+    check_lines_path(asked.lines, exports)
+}
+
+/// Writes what is asked for: the exported text and then the lines.
+fn put_files<'a, E: OutputFiles>(
+    floor: &Floor<IndexSeeker>,
+    original: &SourceText,
+    lines: &CommandLog,
+    asked: &RepairJob<'a>,
+    exports: &mut E,
+) -> Result<(), Fault<'a>>
+    requires fits { (places : List (ℕ × Option Place)) → AreCommittedPlaces floor.now places
+        → CanBeRenewed original.now.text.items original.now.clauses places }
+    ensures ok { (document : Document) → original.now.clauses ≡ map (clause_of original.now.text.items) document.components
+        → OnOk result ((between : Option (List Put))
+        × IsExported (path_of asked.now.export) original.now.text.items document floor.now (E.puts exports.old) between
+        × IsListed (path_of asked.now.lines) (kept_text lines.now) between (E.puts exports.new)) }
+    ensures err { (document : Document) → original.now.clauses ≡ map (clause_of original.now.text.items) document.components
+        → IfErr result (AreNotPut (path_of asked.now.export) (path_of asked.now.lines) original.now.text.items document floor.now
+        (E.puts exports.old) (E.puts exports.new)) }
+    ensures fails { IfErr result (λ fault. ExportFails fault (E.has_failed exports.old) (E.has_failed exports.new)) }
+    ensures sound { OnOk result (E.has_failed exports.new ≡ E.has_failed exports.old) }
+    ensures unput { path_of asked.now.lines ≡ None → OnErr result (E.puts exports.new ≡ E.puts exports.old) }
+    ensures unasked { path_of asked.now.lines ≡ None → path_of asked.now.export ≡ None → exports.new ≡ exports.old }
+{
+    save_export(floor, original, asked.export, exports)?;
+    save_lines(lines, asked.lines, exports)
+}
+
+/// Writes the report, and what is asked for.
+fn put_all<'a, E: OutputFiles, W: Sink>(
+    floor: &Floor<IndexSeeker>,
+    original: &SourceText,
+    done: &FinishedRepair,
+    asked: &RepairJob<'a>,
+    exports: &mut E,
+    writer: &mut W,
+) -> Result<u8, Fault<'a>>
+    requires fits { (places : List (ℕ × Option Place)) → AreCommittedPlaces floor.now places
+        → CanBeRenewed original.now.text.items original.now.clauses places }
+    ensures status { IfOk result (λ status. status ≡ done.now.status) }
+    ensures ok { (document : Document) → original.now.clauses ≡ map (clause_of original.now.text.items) document.components
+        → OnOk result (IsPut (path_of asked.now.export) (path_of asked.now.lines) original.now.text.items document floor.now (kept_text done.now.lines)
+        done.now.report.text.items (W.contents writer.old) (W.contents writer.new) (E.puts exports.old) (E.puts exports.new)) }
+    ensures err { (document : Document) → original.now.clauses ≡ map (clause_of original.now.text.items) document.components
+        → IfErr result (IsNotPut (path_of asked.now.export) (path_of asked.now.lines) original.now.text.items document floor.now
+        done.now.report.text.items (W.contents writer.old) (W.contents writer.new) (E.puts exports.old) (E.puts exports.new)) }
+    ensures blames { IfErr result (λ fault. BlamesOutputs fault (writer.new ≡ writer.old) (W.has_failed writer.old) (W.has_failed writer.new)
+        (E.has_failed exports.old) (E.has_failed exports.new)) }
+    ensures unput { path_of asked.now.lines ≡ None → OnErr result (E.puts exports.new ≡ E.puts exports.old) }
+    ensures unasked { path_of asked.now.lines ≡ None → path_of asked.now.export ≡ None → exports.new ≡ exports.old }
+    ensures held { W.holds writer.new ≡ W.holds writer.old }
+{
+    put_report(writer, &done.report)?;
+    put_files(floor, original, &done.lines, asked, exports)?;
+    Ok(done.status)
+}
+
+/// What there is beside the floor of a design, before any team is repaired.
+#[derive(Drop)]
+struct RepairContext<'p, P> {
+    original: SourceText,
+    /// For each team the largest of the least ways of its cells.
+    least: Vec<u64>,
+    /// Who is told how far the repair is.
+    progress: &'p mut P,
+}
+
+/// Repairs the teams of a floor of the text's design, and writes what is asked for. Where that cannot be, as far as it shows
+/// beforehand, nothing is asked of the floor.
+fn repair_on_floor<'a, E: OutputFiles, W: Sink, P: Progress>(
+    alloc: Global,
+    floor: &mut Floor<IndexSeeker>,
+    before: &mut RepairContext<'_, P>,
+    asked: &RepairJob<'a>,
+    exports: &mut E,
+    writer: &mut W,
+) -> Result<u8, Fault<'a>>
+    requires teams { length floor.old.teams ≡ length floor.old.frame.teams + 1 }
+    requires fits { (s : FloorState) (places : List (ℕ × Option Place)) → s.components ≡ floor.old.components → AreCommittedPlaces s places
+        → CanBeRenewed before.old.original.text.items before.old.original.clauses places }
+    ensures ok { (document : Document) → before.old.original.clauses ≡ map (clause_of before.old.original.text.items) document.components
+        → IfOk result (IsRepaired (map (λ team. team.now) asked.now.teams.now) asked.now.legal (path_of asked.now.export) (path_of asked.now.lines)
+        before.old.original.text.items document before.old.least.items floor.old
+        (W.contents writer.old) (W.contents writer.new) (E.puts exports.old) (E.puts exports.new)) }
+    ensures err { (document : Document) → before.old.original.clauses ≡ map (clause_of before.old.original.text.items) document.components
+        → IfErr result (IsUnrepaired (map (λ team. team.now) asked.now.teams.now) asked.now.legal (path_of asked.now.export) (path_of asked.now.lines)
+        before.old.original.text.items document before.old.least.items floor.old
+        (W.contents writer.old) (W.contents writer.new) (E.puts exports.old) (E.puts exports.new)) }
+    ensures blames { IfErr result (λ fault. BlamesOutputs fault (writer.new ≡ writer.old) (W.has_failed writer.old) (W.has_failed writer.new)
+        (E.has_failed exports.old) (E.has_failed exports.new)) }
+    ensures unput { path_of asked.now.lines ≡ None → OnErr result (E.puts exports.new ≡ E.puts exports.old) }
+    ensures unasked { path_of asked.now.lines ≡ None → path_of asked.now.export ≡ None → exports.new ≡ exports.old }
+    ensures held { W.holds writer.new ≡ W.holds writer.old }
+{
+    all_known(floor, asked.teams)?;
+    try_files(asked, exports)?;
+    let done = repair_selected(alloc, floor, asked, &before.least, before.progress)?;
+    put_all(floor, &before.original, &done, asked, exports, writer)
+}
+
+/// Repairs the teams of the design of a text that was opened.
+fn repair_opened<'a, E: OutputFiles, W: Sink, P: Progress>(
+    alloc: Global,
+    opened: OpenedDesign,
+    asked: &RepairJob<'a>,
+    exports: &mut E,
+    writer: &mut W,
+    progress: &mut P,
+) -> Result<u8, Fault<'a>>
+    requires loads { (limits : TheLimits) × (library : Contents) × (document : Document)
+        × IsKept limits opened.original.text.items library document opened.original.clauses opened.loaded }
+    ensures ok { (document : Document) → opened.original.clauses ≡ map (clause_of opened.original.text.items) document.components
+        → IfOk result (λ status. (bounds : List ℕ) × AreBounds opened.loaded bounds
+        × IsRepaired (map (λ team. team.now) asked.now.teams.now) asked.now.legal (path_of asked.now.export) (path_of asked.now.lines)
+        opened.original.text.items document bounds (initial_floor opened.loaded)
+        (W.contents writer.old) (W.contents writer.new) (E.puts exports.old) (E.puts exports.new) status) }
+    ensures err { (document : Document) → opened.original.clauses ≡ map (clause_of opened.original.text.items) document.components
+        → IfErr result (λ fault.
+        ((fault ≡ NoMemory) × (W.contents writer.new ≡ W.contents writer.old) × (E.puts exports.new ≡ E.puts exports.old))
+        ⊎ ((bounds : List ℕ) × AreBounds opened.loaded bounds
+        × IsUnrepaired (map (λ team. team.now) asked.now.teams.now) asked.now.legal (path_of asked.now.export) (path_of asked.now.lines)
+        opened.original.text.items document bounds (initial_floor opened.loaded)
+        (W.contents writer.old) (W.contents writer.new) (E.puts exports.old) (E.puts exports.new) fault)) }
+    ensures blames { IfErr result (λ fault. BlamesOutputs fault (writer.new ≡ writer.old) (W.has_failed writer.old) (W.has_failed writer.new)
+        (E.has_failed exports.old) (E.has_failed exports.new)) }
+    ensures unput { path_of asked.now.lines ≡ None → OnErr result (E.puts exports.new ≡ E.puts exports.old) }
+    ensures unasked { path_of asked.now.lines ≡ None → path_of asked.now.export ≡ None → exports.new ≡ exports.old }
+    ensures held { W.holds writer.new ≡ W.holds writer.old }
+{
+    kept_clauses_suffice();
+    loaded_cells_are_exportable();
+    places_follow_design();
+    let OpenedDesign { loaded, original } = opened;
+    let least = max_min_displacements(alloc, &loaded)?;
+    let mut floor = start_floor(alloc, loaded)?;
+    let mut before = RepairContext {
+        original,
+        least,
+        progress,
+    };
+    repair_on_floor(alloc, &mut floor, &mut before, asked, exports, writer)
+}
+
+/// Repairs the teams of the design of a DEF file over LEF files by the floor's own commands, writes what became of each as JSON Lines and
+/// then the files that are asked for, and returns the exit status: 0, or 4 if the committed design is not fully legal. `Err` is the first
+/// fault of: the files, LEF before DEF; the design; a name that is no team's; the paths of the files that are asked for; memory; the
+/// writer; those files, the exported text before the lines. No file is written if another than the lines' is at fault; of the report a
+/// front is if the writer is, and all of it if a file is once the repair is done.
+pub fn repair<'a, T: InputFiles, E: OutputFiles, W: Sink, P: Progress>(
+    alloc: Global,
+    texts: &T,
+    exports: &mut E,
+    writer: &mut W,
+    progress: &mut P,
+    asked: &RepairJob<'a>,
+) -> Result<u8, Fault<'a>>
+    ensures ok { IfOk result (IsOpenRepaired asked.now.limits (T.gives texts.now) asked.now.def.now (map (λ lef. lef.now) asked.now.lefs.now)
+        (map (λ team. team.now) asked.now.teams.now) asked.now.legal (path_of asked.now.export) (path_of asked.now.lines)
+        (W.contents writer.old) (W.contents writer.new) (E.puts exports.old) (E.puts exports.new)) }
+    ensures err { IfErr result (λ fault. IsNotRepaired asked.now.limits (T.gives texts.now) asked.now.def.now (map (λ lef. lef.now) asked.now.lefs.now)
+        (map (λ team. team.now) asked.now.teams.now) asked.now.legal (path_of asked.now.export) (path_of asked.now.lines)
+        (W.contents writer.old) (W.contents writer.new) (E.puts exports.old) (E.puts exports.new) fault
+        × BlamesOutputs fault (writer.new ≡ writer.old) (W.has_failed writer.old) (W.has_failed writer.new)
+        (E.has_failed exports.old) (E.has_failed exports.new)) }
+    ensures unput { path_of asked.now.lines ≡ None → OnErr result (E.puts exports.new ≡ E.puts exports.old) }
+    ensures unasked { path_of asked.now.lines ≡ None → path_of asked.now.export ≡ None → exports.new ≡ exports.old }
+    ensures held { W.holds writer.new ≡ W.holds writer.old }
+{
+    let opened = open_design(alloc, asked.limits, texts, asked.def, asked.lefs)?;
+    repair_opened(alloc, opened, asked, exports, writer, progress)
+}

@@ -1,0 +1,83 @@
+-- Steps of work on lines.
+use Rattle.std.proofs.Common.{◌≡◌, ◌⊎◌, ap, inl, inr, map, refl, subst, sym, Bool, ℕ, List, None, Ok, Option, Some}
+use Rattle.lf_def.specs.Document.{Document, document_of}
+use Rattle.lf_lef.specs.Contents.{Contents}
+use Rattle.lf_io_files.specs.Shelf.{Put}
+use Rattle.lf_server.specs.Connections.{Accepted}
+use Rattle.lf_floorplan.specs.declared.limits.Limits.{Limits}
+use Rattle.lf_floorplan.specs.declared.loaded.Loaded.{Loaded}
+use Rattle.lf_task_designs.specs.declared.faults.Fault.{Fault}
+use Rattle.lf_task_designs.specs.declared.opening.SourceText.{SourceText}
+use Rattle.lf_task_designs.specs.Designs.{ReadsFile, IsLoadedIn, IsOpened}
+use Rattle.lf_floorplan.specs.declared.place.Place.{Place}
+use Rattle.lf_write.specs.Export.{CanBeRenewed, ClauseFacts, clause_of}
+use Rattle.lf_floor_model.specs.States.{FloorState}
+use Rattle.lf_task_files.specs.Exits.{CanBePut, IsExported}
+use Rattle.lf_task_files.specs.Faults.{IsExportFault, IsSaveFault}
+use Rattle.lf_task_files.specs.States.{IsOpenedFloor}
+use Rattle.lf_task_files.proofs.WorkSteps.{design_opened}
+use Rattle.lf_task_serve.specs.Exits.{IsUndone, Streams, streams}
+use Rattle.lf_task_serve.specs.Surroundings.{IsSound}
+use Rattle.lf_task_serve.specs.Work.{AreAnswered, IsFault, IsOfOriginal, IsUnfinished, IsNotServedDesign}
+use Rattle.lf_task_serve.specs.declared.environment.Environment.{Environment}
+use Rattle.lf_task_serve.specs.declared.line_source.LineSource.{LineSource}
+use Rattle.lf_task_serve.specs.declared.line_source.LineSource.TheVariants.{Stream, Port}
+
+-- lines are done whatever is put into files beside them
+pub done_beside : (lines : LineSource) (begin floor : FloorState) (input left before after : Option (List ℕ))
+    (old_puts new_puts other_old other_new : Option (List Put)) (old_accepted new_accepted : Option Accepted)
+    → AreAnswered lines begin floor (streams input left before after old_puts new_puts old_accepted new_accepted)
+    → AreAnswered lines begin floor (streams input left before after other_old other_new old_accepted new_accepted)
+done_beside (Stream limit) begin floor input left before after old_puts new_puts other_old other_new old_accepted new_accepted is = is
+done_beside (Port port connections) begin floor input left before after old_puts new_puts other_old other_new old_accepted new_accepted is = is
+
+-- and so is a fault of them one
+pub fault_beside : (lines : LineSource) (begin : FloorState) (fault : Fault) (input left before after : Option (List ℕ))
+    (old_puts new_puts other_old other_new : Option (List Put)) (old_accepted new_accepted : Option Accepted)
+    → IsFault lines begin fault (streams input left before after old_puts new_puts old_accepted new_accepted)
+    → IsFault lines begin fault (streams input left before after other_old other_new old_accepted new_accepted)
+fault_beside (Stream limit) begin fault input left before after old_puts new_puts other_old other_new old_accepted new_accepted is = is
+fault_beside (Port port connections) begin fault input left before after old_puts new_puts other_old other_new old_accepted new_accepted is = is
+
+-- why the work on the design of a text is not done is why the work on that of its files is not
+pub undone : (limits : Limits) (gives : ReadsFile) (def : List ℕ) (lefs : List (List ℕ)) (state save export : Option (List ℕ)) (lines : LineSource) (text : List ℕ)
+    (document : Document) (loaded : Loaded) (fault : Fault) (io : Streams) → IsOpened limits gives def lefs text document loaded
+    → IsNotServedDesign gives state save export lines loaded text document fault io
+    → IsUndone limits gives def lefs state save export (IsFault lines) (AreAnswered lines) fault io
+undone limits gives def lefs state save export lines text document loaded fault io is (inl unbegun) =
+    inl (inl (inr (loaded, design_opened limits gives def lefs text document loaded is, unbegun.0)), unbegun.1)
+undone limits gives def lefs state save export lines text document loaded fault io is (inr (begin, begins, inl stopped)) =
+    inl (inr (begin, (loaded, design_opened limits gives def lefs text document loaded is, begins), stopped.0), stopped.1)
+undone limits gives def lefs state save export lines text document loaded fault io is (inr (begin, begins, inr unsaved)) =
+    inr (unsaved.0, record { text = text; document = document; loaded = loaded; opened = is; begin = begin; begins = begins; finished = unsaved.1 })
+
+-- a fault of what is written once the lines are done leaves the work unfinished
+pub outputs_unfinished : (save export : Option (List ℕ)) (lines : LineSource) (begin floor : FloorState) (text : List ℕ) (document : Document) (fault : Fault) (io : Streams)
+    → AreAnswered lines begin floor io
+    → (IsExportFault export fault × (io.new_puts ≡ io.old_puts)) ⊎ (IsSaveFault save fault × IsExported export text document floor io.old_puts io.new_puts)
+    → IsUnfinished save export lines begin text document fault io
+outputs_unfinished save export lines begin floor text document fault io done (inl unexported) =
+    inl (inr (inr (unexported.0, (floor, done))), unexported.1)
+outputs_unfinished save export lines begin floor text document fault io done (inr unsaved) =
+    inr (unsaved.0, record { floor = floor; work = done; between = io.new_puts; exports = unsaved.1; saves = refl })
+
+-- the cells of a floor with which work begins are those of its design
+pub begun_components : (gives : ReadsFile) (state : Option (List ℕ)) (opened begin : FloorState) → IsOpenedFloor gives state opened begin
+    → begin.components ≡ opened.components
+begun_components gives None opened begin is = ap (λ (f : FloorState). f.components) is
+begun_components gives (Some path) opened begin is = ap (λ (f : FloorState). f.components) is.2.2
+
+-- places can be written into the DEF text that is kept where they can be into any of which the design was loaded
+pub can_be_put : (original : Option SourceText) (loaded : Loaded) (places : List (ℕ × Option Place)) → IsOfOriginal original loaded
+    → ((text : List ℕ) (limits : Limits) (library : Contents) (document : Document) → document_of text ≡ Ok document
+    → IsLoadedIn limits library document loaded → CanBeRenewed text (map (clause_of text) document.components) places)
+    → CanBePut original places
+can_be_put None loaded places of can = tt
+can_be_put (Some original) loaded places (limits, library, document, kept) can =
+    subst (λ (clauses : List ClauseFacts). CanBeRenewed original.text.items clauses places) (sym kept.clauses_are)
+    (can original.text.items limits library document kept.read kept.loads)
+
+-- nothing fails where nothing is changed
+pub still_sound : {T E V R W F P : Type 0} (e : E → Bool) (v : V → Bool) (r : R → Bool) (w : W → Bool) (around : Environment T E V R W F P)
+    → IsSound e v r w around around
+still_sound e v r w around = record { exports = refl; services = refl; reader = refl; writer = refl }

@@ -1,0 +1,53 @@
+use Rattle.std.proofs.Common.{◌≡◌, inl, map, refl}
+use Rattle.std.proofs.lemmas.Result.{err_from_is_err_and}
+use Rattle.lf_task_designs.specs.Designs.{IsDesignFault}
+use Rattle.lf_task_serve.specs.Exits.{IsUndone}
+use Rattle.lf_task_serve.specs.Surroundings.{io_of}
+use Rattle.lf_task_serve.specs.Work.{AreAnswered, IsFault}
+use Rattle.lf_task_files.specs.Inputs.{path_of}
+use Rattle.lf_task_files.proofs.WorkSteps.{design_early, first_fails, step_fails, weaker_ok}
+use Rattle.lf_task_serve.proofs.LineSteps.{still_sound, undone}
+use Rattle.lf_task_serve.proofs.serve_task.serve_files.Goals as goal
+
+pub serve_design-requires : goal.serve_design-requires
+serve_design-requires g c =
+    let is = c.in_ok-design.ensures.ok in
+    record { ready = c.requires.ready; kept = is.kept; loads = is.of }
+
+pub returns-clause-ok : goal.returns-clause-ok
+returns-clause-ok g c =
+    let is = c.in_ok-design.ensures.ok in
+    weaker_ok c.serve_design.result _ _ (c.serve_design.ensures.ok is.text is.document is.are)
+    (λ status on. (
+      record {
+        text = is.text;
+        document = is.document;
+        loaded = c.in_ok-design.design.loaded;
+        opened = is.opened;
+        begin = on.1.0;
+        begins = on.1.1;
+        finished = on.1.2;
+      },
+      on.0,
+    ))
+
+pub returns-clause-err : goal.returns-clause-err
+returns-clause-err g c =
+    let is = c.in_ok-design.ensures.ok in
+    step_fails c.serve_design.result _ _ _ (c.serve_design.ensures.err is.text is.document is.are)
+    (λ fault why. undone _ _ _ _ (path_of c.args.inputs.state) (path_of c.args.outputs.save) (path_of c.args.outputs.export) c.args.lines is.text is.document
+    c.in_ok-design.design.loaded fault _ is.opened why)
+
+pub returns-in_err-design-clause-err : goal.returns-in_err-design-clause-err
+returns-in_err-design-clause-err g c =
+    let p = err_from_is_err_and c.from_residual.result c.from_residual.ensures.1 in
+    let gives = g.T.InputFiles.gives c.args.around.now.texts in
+    let def = c.args.inputs.def.now in
+    let lefs = map (λ lef. lef.now) c.args.inputs.lefs.now in
+    rw (p.1, p.2) (first_fails (IsDesignFault c.args.inputs.limits gives def lefs)
+    (λ fault. IsUndone c.args.inputs.limits gives def lefs (path_of c.args.inputs.state) (path_of c.args.outputs.save) (path_of c.args.outputs.export)
+    (IsFault c.args.lines) (AreAnswered c.args.lines) fault
+    (io_of g.R.Source.remaining g.W.Sink.contents g.E.OutputFiles.puts g.V.Acceptor.accepted c.args.around.now c.args.around.now))
+    (c.args.around.now.writer ≡ c.args.around.now.writer) _ _ _ _ _ _ refl
+    (still_sound g.E.OutputFiles.has_failed g.V.Acceptor.has_failed g.R.Source.has_failed g.W.Sink.has_failed c.args.around.now) c.in_err-design.ensures.err
+    (design_early c.args.inputs.limits gives def lefs) (λ fault why. inl (inl (inl why), refl)))

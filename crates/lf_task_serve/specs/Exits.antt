@@ -1,0 +1,137 @@
+-- How lines end.
+use Rattle.std.specs.Prelude.{◌≡◌, ◌<◌, ◌⊎◌, ◌++◌, ℕ, List, [], ◌∷◌, Option, Some, None, codes, take}
+use Rattle.std.specs.Io.KnownBytes.{Appends}
+use Rattle.lf_floorplan.specs.declared.limits.Limits.{Limits}
+use Rattle.lf_floorplan.specs.declared.loaded.Loaded.{Loaded}
+use Rattle.lf_rules.specs.Legalizer.{Legalizer}
+use Rattle.lf_def.specs.Document.{Document}
+use Rattle.lf_io_files.specs.Shelf.{Put}
+use Rattle.lf_floor_model.specs.States.{FloorState}
+use Rattle.lf_floor_model.specs.Designs.{initial_floor}
+use Rattle.lf_server.specs.Connections.{Accepted, AreServed}
+use Rattle.lf_server.specs.declared.serve_loop.Ending.{Ending}
+use Rattle.lf_task_designs.specs.declared.faults.Fault.{Fault}
+use Rattle.lf_task_designs.specs.declared.faults.Fault.TheVariants.{Accept, Bind, NoMemory, Output}
+use Rattle.lf_task_designs.specs.Designs.{ReadsFile, IsOpened}
+use Rattle.lf_task_files.specs.Faults.{IsExportFault, IsSaveFault}
+use Rattle.lf_task_files.specs.States.{IsOpenedFloor, IsFloorFault, IsFloorOf, IsSaved}
+use Rattle.lf_task_files.specs.Exits.{IsExported}
+use Rattle.lf_task_serve.specs.Faults.{ending_fault}
+use Rattle.lf_task_serve.specs.Lines.{IsServed, most_lines, reads_for}
+
+-- ---- what a task leaves
+
+-- what a task was given and what it left: the input and the output, each before and after, the texts that were put into files, and
+-- the connections that were accepted and closed
+pub record Streams : Type 0 where
+  pub input : Option (List ℕ)
+  pub left : Option (List ℕ)
+  pub before : Option (List ℕ)
+  pub after : Option (List ℕ)
+  pub old_puts : Option (List Put)
+  pub new_puts : Option (List Put)
+  pub old_accepted : Option Accepted
+  pub new_accepted : Option Accepted
+
+abbrev pub streams : Option (List ℕ) → Option (List ℕ) → Option (List ℕ) → Option (List ℕ) → Option (List Put) → Option (List Put)
+    → Option Accepted → Option Accepted → Streams
+streams input left before after old_puts new_puts old_accepted new_accepted =
+    record {
+      input = input;
+      left = left;
+      before = before;
+      after = after;
+      old_puts = old_puts;
+      new_puts = new_puts;
+      old_accepted = old_accepted;
+      new_accepted = new_accepted;
+    }
+
+-- the input and the output alone, where nothing is known of files and connections
+abbrev pub alone : Option (List ℕ) → Option (List ℕ) → Option (List ℕ) → Option (List ℕ) → Streams
+alone input left before after = streams input left before after None None None None
+
+-- the lines of the input, at most this many, were served on the floor, up to their end or to a bye
+pub record IsAnswered (limit : ℕ) (begin floor : FloorState) (input left before after : Option (List ℕ)) : Type 0 where
+  pub ending : Ending
+  pub well : ending_fault ending ≡ None
+  pub served : (l : Legalizer) → IsServed l limit begin floor input left before after ending
+
+-- what is written once a port is listened on
+abbrev pub listening : List ℕ
+listening = codes "listening" ++ 10 ∷ []
+
+-- this many connections were accepted and served on the floor, after 'listening' was written
+pub record IsOffered (begin floor : FloorState) (connections : ℕ) (before after : Option (List ℕ))
+    (old_accepted new_accepted : Option Accepted) : Type 0 where
+  pub told : Appends before after listening
+  pub served : AreServed most_lines (reads_for most_lines) connections old_accepted new_accepted begin floor
+
+-- this work led to the state of the floor; then the exported text of the document was put where one was asked for, and then the state
+pub record IsFinished (Work : FloorState → Streams → Type 0) (save export : Option (List ℕ)) (text : List ℕ) (document : Document) (io : Streams) : Type 0 where
+  pub floor : FloorState
+  pub work : Work floor io
+  pub between : Option (List Put)
+  pub exports : IsExported export text document floor io.old_puts between
+  pub saves : IsSaved save floor between io.new_puts
+
+-- the design was opened, its floor was brought into the state that was asked for, and this work on it finished
+pub record IsServedDesign (limits : Limits) (gives : ReadsFile) (def : List ℕ) (lefs : List (List ℕ)) (state save export : Option (List ℕ))
+    (Work : FloorState → FloorState → Streams → Type 0) (io : Streams) : Type 0 where
+  pub text : List ℕ
+  pub document : Document
+  pub loaded : Loaded
+  pub opened : IsOpened limits gives def lefs text document loaded
+  pub begin : FloorState
+  pub begins : IsOpenedFloor gives state (initial_floor loaded) begin
+  pub finished : IsFinished (Work begin) save export text document io
+
+-- ---- faults
+
+-- the lines of the input were served on the floor, up to an end that is this fault
+pub record EndsWithFault (limit : ℕ) (begin : FloorState) (fault : Fault) (input left before after : Option (List ℕ)) : Type 0 where
+  pub floor : FloorState
+  pub ending : Ending
+  pub is : ending_fault ending ≡ Some fault
+  pub served : (l : Legalizer) → IsServed l limit begin floor input left before after ending
+
+-- why the lines of a demo are not answered up to their end: an allocation for the floor failed, or serving them ended so
+abbrev pub IsLinesFault : ℕ → FloorState → Fault → Option (List ℕ) → Option (List ℕ) → Option (List ℕ) → Option (List ℕ) → Type 0
+IsLinesFault limit begin fault input left before after = (fault ≡ NoMemory) ⊎ EndsWithFault limit begin fault input left before after
+
+-- why a service ends early: the port cannot be listened on, and nothing is written; or the line of that is not written, or only a
+-- front of it; or a connection is not accepted, and those before it were served
+abbrev pub IsServiceFault : ℕ → ℕ → FloorState → Fault → Option (List ℕ) → Option (List ℕ) → Option Accepted → Option Accepted → Type 0
+IsServiceFault port connections begin (Bind its why) before after old_accepted new_accepted =
+    (its ≡ port) × (after ≡ before) × (new_accepted ≡ old_accepted)
+IsServiceFault port connections begin Output before after old_accepted new_accepted =
+    ((n : ℕ) × Appends before after (take n listening)) × (new_accepted ≡ old_accepted)
+IsServiceFault port connections begin Accept before after old_accepted new_accepted =
+    (floor : FloorState) × ((count : ℕ) × (count < connections) × IsOffered begin floor count before after old_accepted new_accepted)
+IsServiceFault port connections begin _ before after old_accepted new_accepted = ⊥
+
+-- nothing was read, written, put or accepted
+pub record IsUntouched (io : Streams) : Type 0 where
+  pub unread : io.left ≡ io.input
+  pub unwritten : io.after ≡ io.before
+  pub unput : io.new_puts ≡ io.old_puts
+  pub unaccepted : io.new_accepted ≡ io.old_accepted
+
+-- why the work on a floor is not done: it fails itself; or a text that was asked for cannot be put, which is told before anything
+-- is done; or the exported text is not put after the work
+abbrev pub IsServeFault : Option (List ℕ) → Option (List ℕ) → (Fault → Streams → Type 0) → (FloorState → Streams → Type 0) → Fault → Streams → Type 0
+IsServeFault save export why Work fault io =
+    why fault io
+    ⊎ (((IsExportFault export fault ⊎ IsSaveFault save fault) × IsUntouched io) ⊎ (IsExportFault export fault × ((floor : FloorState) × Work floor io)))
+
+-- there is nothing to work on for this reason, or there is, and this is why the work on it is not done
+abbrev pub IsJobStop : {A : Type 0} → (Fault → Type 0) → (A → Type 0) → (A → Fault → Streams → Type 0) → Fault → Streams → Type 0
+IsJobStop {A} nothing IsWorkedOn why fault io = nothing fault ⊎ ((on : A) × IsWorkedOn on × why on fault io)
+
+-- why a job on lines is not done: it is stopped, and no text is put; or all is done but that the state is not saved
+abbrev pub IsUndone : Limits → ReadsFile → List ℕ → List (List ℕ) → Option (List ℕ) → Option (List ℕ) → Option (List ℕ)
+    → (FloorState → Fault → Streams → Type 0) → (FloorState → FloorState → Streams → Type 0) → Fault → Streams → Type 0
+IsUndone limits gives def lefs state save export why Work fault io =
+    (IsJobStop (IsFloorFault limits gives def lefs state) (IsFloorOf limits gives def lefs state)
+    (λ begin. IsServeFault save export (why begin) (Work begin)) fault io × (io.new_puts ≡ io.old_puts))
+    ⊎ (IsSaveFault save fault × IsServedDesign limits gives def lefs state None export Work io)

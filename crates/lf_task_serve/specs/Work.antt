@@ -1,0 +1,93 @@
+-- Work on a design: lines that are answered, or connections that are served.
+use Rattle.std.specs.Prelude.{◌≡◌, ◌⊎◌, ℕ, Bool, IfSome, List, None, OnErr, OnOk, Option, Result, true}
+use Rattle.lf_lef.specs.Contents.{Contents}
+use Rattle.lf_def.specs.Document.{Document}
+use Rattle.lf_io_files.specs.Shelf.{Put}
+use Rattle.lf_floorplan.specs.declared.limits.Limits.{Limits}
+use Rattle.lf_floorplan.specs.declared.loaded.Loaded.{Loaded}
+use Rattle.lf_server.specs.declared.acceptor.ServiceConfig.{ServiceConfig}
+use Rattle.lf_floor_model.specs.States.{FloorState}
+use Rattle.lf_floor_model.specs.Designs.{initial_floor}
+use Rattle.lf_task_designs.specs.declared.faults.Fault.{Fault}
+use Rattle.lf_task_designs.specs.declared.opening.SourceText.{SourceText}
+use Rattle.lf_task_designs.specs.Designs.{ReadsFile, IsKept, IsOpened}
+use Rattle.lf_task_designs.specs.Faults.{BlamesDevices}
+use Rattle.lf_task_files.specs.Exits.{AreKept}
+use Rattle.lf_task_files.specs.Faults.{IsSaveFault}
+use Rattle.lf_task_files.specs.States.{IsOpenedFloor, IsNotOpened}
+use Rattle.lf_task_serve.specs.declared.environment.Environment.{Environment}
+use Rattle.lf_task_serve.specs.declared.line_source.LineSource.{LineSource}
+use Rattle.lf_task_serve.specs.declared.serve_task.OpenDesign.{OpenDesign}
+use Rattle.lf_task_serve.specs.declared.line_source.LineSource.TheVariants.{Stream, Port}
+use Rattle.lf_task_serve.specs.Exits.{IsAnswered, EndsWithFault, IsFinished, IsOffered, IsServiceFault, IsServeFault, Streams}
+use Rattle.lf_task_serve.specs.Lines.{ReadsFail}
+use Rattle.lf_task_serve.specs.Services.{OffersLocal}
+use Rattle.lf_task_serve.specs.Surroundings.{IsSound}
+
+-- the lines were answered to their end, on the floor that they began with
+abbrev pub AreAnswered : LineSource → FloorState → FloorState → Streams → Type 0
+AreAnswered (Stream limit) begin floor io = IsAnswered limit begin floor io.input io.left io.before io.after
+AreAnswered (Port port connections) begin floor io = IsOffered begin floor connections io.before io.after io.old_accepted io.new_accepted
+
+-- why they were not
+abbrev pub IsFault : LineSource → FloorState → Fault → Streams → Type 0
+IsFault (Stream limit) begin fault io = EndsWithFault limit begin fault io.input io.left io.before io.after
+IsFault (Port port connections) begin fault io = IsServiceFault port connections begin fault io.before io.after io.old_accepted io.new_accepted
+
+-- the design was loaded of the DEF text that is kept, if one is
+abbrev pub IsOfOriginal : Option SourceText → Loaded → Type 0
+IsOfOriginal original loaded = IfSome original (λ original. (limits : Limits) × (library : Contents) × (document : Document)
+    × IsKept limits original.text.items library document original.clauses loaded)
+
+-- what is worked on is the design of the files, with its DEF text if that is exported to a path
+pub record IsDesignFor (limits : Limits) (gives : ReadsFile) (def : List ℕ) (lefs : List (List ℕ)) (export : Option (List ℕ)) (design : OpenDesign) : Type 0 where
+  pub text : List ℕ
+  pub document : Document
+  pub opened : IsOpened limits gives def lefs text document design.loaded
+  pub are : AreKept design.original text document
+  pub of : IsOfOriginal design.original design.loaded
+  pub kept : design.original ≡ None → export ≡ None
+
+-- why the work on a floor is not finished: it is stopped, and no text is put; or all is done but that the state is not saved
+abbrev pub IsUnfinished : Option (List ℕ) → Option (List ℕ) → LineSource → FloorState → List ℕ → Document → Fault → Streams → Type 0
+IsUnfinished save export lines begin text document fault io =
+    (IsServeFault save export (IsFault lines begin) (AreAnswered lines begin) fault io × (io.new_puts ≡ io.old_puts))
+    ⊎ (IsSaveFault save fault × IsFinished (AreAnswered lines begin) None export text document io)
+
+-- why the work on the design of a text is not finished: there is no floor with which it begins, and no text is put; or there is
+abbrev pub IsNotServedDesign : ReadsFile → Option (List ℕ) → Option (List ℕ) → Option (List ℕ) → LineSource → Loaded → List ℕ → Document → Fault → Streams → Type 0
+IsNotServedDesign gives state save export lines loaded text document fault io =
+    (IsNotOpened gives state loaded fault × (io.new_puts ≡ io.old_puts))
+    ⊎ ((begin : FloorState) × IsOpenedFloor gives state (initial_floor loaded) begin × IsUnfinished save export lines begin text document fault io)
+
+-- the reader has failed, or was read as often as is allowed; no other lines read from it
+abbrev pub IsReaderSpent : LineSource → Bool → ℕ → ℕ → Type 0
+IsReaderSpent (Stream limit) failed old new = ReadsFail limit failed old new
+IsReaderSpent (Port port connections) failed old new = ⊥
+
+-- who is to blame for a fault of the lines
+abbrev pub BlamesIn : {T E V R W F P : Type 0} → (E → Bool) → (V → Bool) → (R → Bool) → (R → ℕ) → (W → Bool) → LineSource
+    → Environment T E V R W F P → Environment T E V R W F P → Fault → Type 0
+BlamesIn export_failed service_failed read_failed reads write_failed lines old new fault =
+    BlamesDevices fault (new.writer ≡ old.writer) (IsReaderSpent lines (read_failed new.reader) (reads old.reader) (reads new.reader)) (write_failed new.writer ≡ true)
+    (export_failed new.exports ≡ true) (service_failed new.services ≡ true) (IsSound export_failed service_failed read_failed write_failed old new)
+
+-- what was offered for the lines: a service, and nothing for those of the reader
+abbrev pub IsOfferFor : LineSource → Option (List ServiceConfig) → Option (List ServiceConfig) → Type 0
+IsOfferFor (Stream limit) old new = new ≡ old
+IsOfferFor (Port port connections) old new = OffersLocal port connections old new
+
+-- what is left of the reader: nothing is read from it for a service
+abbrev pub LeavesReader : {R : Type 0} → LineSource → R → R → Type 0
+LeavesReader (Stream limit) old new = Unit {0}
+LeavesReader (Port port connections) old new = new ≡ old
+
+-- what the work on a design leaves beside its lines: texts are put, services offered and the reader read only as was asked for, and
+-- after a fault no text is put where no state was asked for
+pub record LeavesDevices {T E V R W F P : Type 0} (puts : E → Option (List Put)) (offers : V → Option (List ServiceConfig)) (lines : LineSource) (save export : Option (List ℕ))
+    (result : Result ℕ Fault) (old new : Environment T E V R W F P) : Type 0 where
+  pub unput : save ≡ None → OnErr result (puts new.exports ≡ puts old.exports)
+  pub unasked : save ≡ None → export ≡ None → new.exports ≡ old.exports
+  pub offered : OnOk result (IsOfferFor lines (offers old.services) (offers new.services))
+  pub unoffered : (offers new.services ≡ offers old.services) ⊎ IsOfferFor lines (offers old.services) (offers new.services)
+  pub unread : LeavesReader lines old.reader new.reader

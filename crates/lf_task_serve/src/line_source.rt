@@ -1,0 +1,120 @@
+//! Where the lines of a design come from, and how they are answered: those of the reader, or of connections to a port.
+
+ghost use Rattle.std.specs.Prelude.{◌≡◌, IfErr, OnOk, false, true};
+ghost use Rattle.lf_task_designs.specs.Faults.{BlamesDevices};
+ghost use Rattle.lf_task_serve.specs.Exits.{IsAnswered, EndsWithFault, IsOffered, IsServiceFault};
+ghost use Rattle.lf_task_serve.specs.Faults.{BlamesStreams};
+ghost use Rattle.lf_task_serve.specs.Lines.{most_lines, reads_for};
+ghost use Rattle.lf_task_serve.specs.Services.{Offers};
+ghost use Rattle.lf_task_serve.specs.Surroundings.{IsReady, IsSound, KeepsDevices, io_of};
+ghost use Rattle.lf_task_serve.specs.Work.{AreAnswered, BlamesIn, IsFault, LeavesReader, IsOfferFor};
+
+use crate::environment::Environment;
+use crate::listener::{PortListener, local_service};
+use crate::serve_lines::{ending_fault, serve_lines_within};
+use lf_floor::Floor;
+use lf_io::{Sink, Source, send};
+use lf_io_files::OutputFiles;
+use lf_legalize::IndexSeeker;
+use lf_server::{ServiceConfig, serve_connections};
+use lf_task_designs::Fault;
+use std::alloc::Global;
+
+/// Where the lines of a design come from.
+#[derive(Clone, Copy, Debug, PartialEq, Eq)]
+pub enum LineSource {
+    /// From the reader, and the replies go to the writer; this many lines at most.
+    Stream { most: u32 },
+    /// From this many connections to this port, one after the other.
+    Port { port: u16, connections: u32 },
+}
+
+/// Answers the lines of the reader on the floor, this many at most.
+pub(crate) fn serve_reader<'a, R: Source, W: Sink>(
+    alloc: Global,
+    floor: &mut Floor<IndexSeeker>,
+    lines: u32,
+    reader: &mut R,
+    writer: &mut W,
+) -> Result<(), Fault<'a>>
+    requires ready { IsReady R.has_failed R.reads W.has_failed reader.old writer.old }
+    ensures ok { OnOk result (IsAnswered lines floor.old floor.new (R.remaining reader.old) (R.remaining reader.new)
+        (W.contents writer.old) (W.contents writer.new)) }
+    ensures components { floor.new.components ≡ floor.old.components }
+    ensures err { IfErr result (λ fault. EndsWithFault lines floor.old fault
+        (R.remaining reader.old) (R.remaining reader.new) (W.contents writer.old) (W.contents writer.new)
+        × BlamesStreams lines fault (writer.new ≡ writer.old) (R.has_failed reader.new) (R.reads reader.old) (R.reads reader.new) (W.has_failed writer.new)) }
+    ensures sound { OnOk result ((R.has_failed reader.new ≡ false) × (W.has_failed writer.new ≡ false)) }
+    ensures reader_held { R.holds reader.new ≡ R.holds reader.old }
+    ensures writer_held { W.holds writer.new ≡ W.holds writer.old }
+{
+    match ending_fault(serve_lines_within(alloc, floor, reader, writer, lines)) {
+        Some(fault) => Err(fault),
+        None => Ok(()),
+    }
+}
+
+/// Listens on the port of the service, says so, and serves its connections, one after the other.
+fn serve_port<'a, V: PortListener, W: Sink>(
+    alloc: Global,
+    services: &mut V,
+    floor: &mut Floor<IndexSeeker>,
+    offer: &ServiceConfig,
+    writer: &mut W,
+) -> Result<(), Fault<'a>>
+    requires lines { offer.now.limits.lines ≡ most_lines }
+    requires reads { offer.now.limits.reads ≡ reads_for most_lines }
+    ensures ok { OnOk result (IsOffered floor.old floor.new offer.now.connections (W.contents writer.old) (W.contents writer.new)
+        (V.accepted services.old) (V.accepted services.new)) }
+    ensures components { floor.new.components ≡ floor.old.components }
+    ensures err { IfErr result (λ fault.
+        IsServiceFault offer.now.port offer.now.connections floor.old fault (W.contents writer.old) (W.contents writer.new)
+        (V.accepted services.old) (V.accepted services.new)
+        × BlamesDevices fault (writer.new ≡ writer.old) ⊥ (W.has_failed writer.new ≡ true) ⊥ (V.has_failed services.new ≡ true) ⊥) }
+    ensures sound { OnOk result ((W.has_failed writer.new ≡ W.has_failed writer.old) × (V.has_failed services.new ≡ V.has_failed services.old)) }
+    ensures offered { Offers (V.offers services.old) (V.offers services.new) offer.now }
+    ensures writer_held { W.holds writer.new ≡ W.holds writer.old }
+{
+    if let Err(why) = services.listen(offer) {
+        return Err(Fault::Bind(offer.port, why));
+    }
+    if send(writer, b"listening\n").is_err() {
+        return Err(Fault::Output);
+    }
+    let served = serve_connections(alloc, floor, services, offer.connections, offer.limits);
+    if served.accept_fault {
+        return Err(Fault::Accept);
+    }
+    Ok(())
+}
+
+/// Answers the lines on the floor, wherever they come from.
+pub(crate) fn serve_source<'a, T, E: OutputFiles, V: PortListener, R: Source, W: Sink, F, P>(
+    alloc: Global,
+    around: &mut Environment<T, E, V, R, W, F, P>,
+    floor: &mut Floor<IndexSeeker>,
+    lines: LineSource,
+) -> Result<(), Fault<'a>>
+    requires ready { IsReady R.has_failed R.reads W.has_failed around.old.reader around.old.writer }
+    ensures ok { OnOk result (AreAnswered lines floor.old floor.new (io_of R.remaining W.contents E.puts V.accepted around.old around.new)) }
+    ensures components { floor.new.components ≡ floor.old.components }
+    ensures err { IfErr result (λ fault.
+        IsFault lines floor.old fault (io_of R.remaining W.contents E.puts V.accepted around.old around.new)
+        × BlamesIn E.has_failed V.has_failed R.has_failed R.reads W.has_failed lines around.old around.new fault) }
+    ensures sound { OnOk result (IsSound E.has_failed V.has_failed R.has_failed W.has_failed around.old around.new) }
+    ensures exports { around.new.exports ≡ around.old.exports }
+    ensures offered { IsOfferFor lines (V.offers around.old.services) (V.offers around.new.services) }
+    ensures unread { LeavesReader lines around.old.reader around.new.reader }
+    ensures silent { around.new.progress ≡ around.old.progress }
+    ensures keeps { KeepsDevices R.holds W.holds around.old around.new }
+{
+    let reader = &mut around.reader;
+    let writer = &mut around.writer;
+    match lines {
+        LineSource::Stream { most } => serve_reader(alloc, floor, most, reader, writer),
+        LineSource::Port { port, connections } => {
+            let local = local_service(port, connections);
+            serve_port(alloc, &mut around.services, floor, &local, writer)
+        }
+    }
+}

@@ -1,0 +1,192 @@
+//! Work on a design: its lines are answered or its connections served, and then the text with its committed places and the state of
+//! the floor are written, if they are asked for.
+
+ghost use Rattle.std.specs.Prelude.{◌≡◌, ℕ, List, None, Option, IfErr, IfOk, map, option_copied};
+ghost use Rattle.lf_def.specs.Document.{Document};
+ghost use Rattle.lf_floorplan.specs.declared.place.Place.{Place};
+ghost use Rattle.lf_floor_model.specs.Designs.{initial_floor};
+ghost use Rattle.lf_floor_model.specs.Places.{AreCommittedPlaces};
+ghost use Rattle.lf_floor_model.specs.States.{FloorState};
+ghost use Rattle.lf_task_designs.specs.Designs.{IsDesignFault};
+ghost use Rattle.lf_task_files.specs.Exits.{AreKept, CanBePut};
+ghost use Rattle.lf_task_files.specs.States.{IsOpenedFloor};
+ghost use Rattle.lf_task_files.specs.Inputs.{path_of};
+ghost use Rattle.lf_task_serve.specs.Exits.{IsAnswered, IsFinished, IsLinesFault, IsUndone, IsServedDesign};
+ghost use Rattle.lf_task_serve.specs.Faults.{BlamesStreams};
+ghost use Rattle.lf_task_serve.specs.Lines.{most_lines};
+ghost use Rattle.lf_task_serve.specs.Surroundings.{IsReady, KeepsDevices, io_of};
+ghost use Rattle.lf_task_serve.specs.Work.{AreAnswered, BlamesIn, IsDesignFor, IsFault, IsOfOriginal, IsUnfinished, IsNotServedDesign, LeavesDevices};
+
+use crate::environment::Environment;
+use crate::line_source::{LineSource, serve_reader, serve_source};
+use crate::listener::PortListener;
+use crate::serve_lines::MOST_LINES;
+use lf_floor::Floor;
+use lf_floor_model::places_follow_design;
+use lf_frame::Loaded;
+use lf_io::{Sink, Source};
+use lf_io_files::OutputFiles;
+use lf_laws_roundtrip::loaded_cells_are_exportable;
+use lf_legalize::IndexSeeker;
+use lf_task_designs::{Fault, InputFiles, OpenedDesign, SourceText, load_files, open_design};
+use lf_task_files::{
+    DesignInput, OutputPaths, check_outputs, open_floor, start_floor, write_outputs,
+};
+use lf_write::kept_clauses_suffice;
+use std::alloc::Global;
+
+/// The design that is worked on.
+#[derive(Drop)]
+struct OpenDesign {
+    loaded: Loaded,
+    /// Its DEF text, where that is exported again.
+    original: Option<SourceText>,
+}
+
+/// The design of the files. Its DEF text is kept if it is exported to the file of a path.
+fn design_for<'a, T: InputFiles>(
+    alloc: Global,
+    texts: &T,
+    inputs: DesignInput<'a>,
+    export: Option<&str>,
+) -> Result<OpenDesign, Fault<'a>>
+    ensures ok { IfOk result (λ design. IsDesignFor inputs.entry.limits (T.gives texts.now) inputs.entry.def.now (map (λ lef. lef.now) inputs.entry.lefs.now)
+        (path_of export.entry) design) }
+    ensures err { IfErr result (IsDesignFault inputs.entry.limits (T.gives texts.now) inputs.entry.def.now (map (λ lef. lef.now) inputs.entry.lefs.now)) }
+{
+    let DesignInput {
+        def,
+        lefs,
+        limits,
+        ..
+    } = inputs;
+    match export {
+        Some(_) => {
+            let OpenedDesign { loaded, original } = open_design(alloc, limits, texts, def, lefs)?;
+            Ok(OpenDesign {
+                loaded,
+                original: Some(original),
+            })
+        }
+        None => Ok(OpenDesign {
+            loaded: load_files(alloc, limits, texts, def, lefs)?,
+            original: None,
+        }),
+    }
+}
+
+/// Works on a floor of the design: its lines are answered, and then what is asked for is written. Where that cannot be, as far as it
+/// shows beforehand, no line is read. The DEF text is kept where it is exported again.
+fn serve_floor<'a, T, E: OutputFiles, V: PortListener, R: Source, W: Sink, F, P>(
+    alloc: Global,
+    around: &mut Environment<T, E, V, R, W, F, P>,
+    original: Option<&SourceText>,
+    floor: &mut Floor<IndexSeeker>,
+    lines: LineSource,
+    outputs: OutputPaths<'a>,
+) -> Result<u8, Fault<'a>>
+    requires ready { IsReady R.has_failed R.reads W.has_failed around.old.reader around.old.writer }
+    requires kept { original ≡ None → path_of outputs.export ≡ None }
+    requires fits { (s : FloorState) (places : List (ℕ × Option Place)) → s.components ≡ floor.old.components → AreCommittedPlaces s places
+        → CanBePut (option_copied original) places }
+    ensures ok { (text : List ℕ) (document : Document) → AreKept (option_copied original.entry) text document
+        → IfOk result (λ status. (status ≡ 0) × IsFinished (AreAnswered lines floor.old) (path_of outputs.entry.save) (path_of outputs.entry.export)
+        text document (io_of R.remaining W.contents E.puts V.accepted around.old around.new)) }
+    ensures err { (text : List ℕ) (document : Document) → AreKept (option_copied original.entry) text document
+        → IfErr result (λ fault. IsUnfinished (path_of outputs.entry.save) (path_of outputs.entry.export) lines floor.old
+        text document fault (io_of R.remaining W.contents E.puts V.accepted around.old around.new)
+        × BlamesIn E.has_failed V.has_failed R.has_failed R.reads W.has_failed lines around.old around.new fault) }
+    ensures leaves { LeavesDevices E.puts V.offers lines (path_of outputs.entry.save) (path_of outputs.entry.export) result around.old around.new }
+    ensures silent { around.new.progress ≡ around.old.progress }
+    ensures keeps { KeepsDevices R.holds W.holds around.old around.new }
+{
+    check_outputs(outputs, &mut around.exports)?;
+    serve_source(alloc, around, floor, lines)?;
+    write_outputs(floor, original, outputs, &mut around.exports)?;
+    Ok(0)
+}
+
+/// Works on the design in the state of the file of that path, if one is given.
+fn serve_design<'a, T: InputFiles, E: OutputFiles, V: PortListener, R: Source, W: Sink, F, P>(
+    alloc: Global,
+    around: &mut Environment<T, E, V, R, W, F, P>,
+    design: OpenDesign,
+    state: Option<&'a str>,
+    lines: LineSource,
+    outputs: OutputPaths<'a>,
+) -> Result<u8, Fault<'a>>
+    requires ready { IsReady R.has_failed R.reads W.has_failed around.old.reader around.old.writer }
+    requires kept { design.original ≡ None → path_of outputs.export ≡ None }
+    requires loads { IsOfOriginal design.original design.loaded }
+    ensures ok { (text : List ℕ) (document : Document) → AreKept design.original text document
+        → IfOk result (λ status. (status ≡ 0) × ((begin : FloorState) × IsOpenedFloor (T.gives around.old.texts) (path_of state.entry) (initial_floor design.loaded) begin
+        × IsFinished (AreAnswered lines begin) (path_of outputs.entry.save) (path_of outputs.entry.export)
+        text document (io_of R.remaining W.contents E.puts V.accepted around.old around.new))) }
+    ensures err { (text : List ℕ) (document : Document) → AreKept design.original text document
+        → IfErr result (λ fault. IsNotServedDesign (T.gives around.old.texts) (path_of state.entry) (path_of outputs.entry.save) (path_of outputs.entry.export) lines
+        design.loaded text document fault (io_of R.remaining W.contents E.puts V.accepted around.old around.new)
+        × BlamesIn E.has_failed V.has_failed R.has_failed R.reads W.has_failed lines around.old around.new fault) }
+    ensures leaves { LeavesDevices E.puts V.offers lines (path_of outputs.entry.save) (path_of outputs.entry.export) result around.old around.new }
+    ensures silent { around.new.progress ≡ around.old.progress }
+    ensures keeps { KeepsDevices R.holds W.holds around.old around.new }
+{
+    kept_clauses_suffice();
+    loaded_cells_are_exportable();
+    places_follow_design();
+    let OpenDesign { loaded, original } = design;
+    let mut floor = open_floor(alloc, &around.texts, loaded, state)?;
+    serve_floor(alloc, around, original.as_ref(), &mut floor, lines, outputs)
+}
+
+/// Works on the design of a DEF file over LEF files, in the state of a third file if one is given: its lines are answered or its
+/// connections served, and then the exported text and the state are written, where they are asked for. Returns the exit status 0. `Err`
+/// is the first fault of: the files, LEF before DEF; the design; the state; the paths of what is asked for; the port; the lines; the
+/// exported text; the state. No file is written if another than the state's is at fault.
+pub fn serve_files<'a, T: InputFiles, E: OutputFiles, V: PortListener, R: Source, W: Sink, F, P>(
+    alloc: Global,
+    around: &mut Environment<T, E, V, R, W, F, P>,
+    inputs: DesignInput<'a>,
+    lines: LineSource,
+    outputs: OutputPaths<'a>,
+) -> Result<u8, Fault<'a>>
+    requires ready { IsReady R.has_failed R.reads W.has_failed around.old.reader around.old.writer }
+    ensures ok { IfOk result (λ status. IsServedDesign inputs.entry.limits (T.gives around.old.texts)
+        inputs.entry.def.now (map (λ lef. lef.now) inputs.entry.lefs.now)
+        (path_of inputs.entry.state) (path_of outputs.entry.save) (path_of outputs.entry.export) (AreAnswered lines)
+        (io_of R.remaining W.contents E.puts V.accepted around.old around.new) × (status ≡ 0)) }
+    ensures err { IfErr result (λ fault. IsUndone inputs.entry.limits (T.gives around.old.texts)
+        inputs.entry.def.now (map (λ lef. lef.now) inputs.entry.lefs.now)
+        (path_of inputs.entry.state) (path_of outputs.entry.save) (path_of outputs.entry.export) (IsFault lines) (AreAnswered lines) fault
+        (io_of R.remaining W.contents E.puts V.accepted around.old around.new)
+        × BlamesIn E.has_failed V.has_failed R.has_failed R.reads W.has_failed lines around.old around.new fault) }
+    ensures leaves { LeavesDevices E.puts V.offers lines (path_of outputs.entry.save) (path_of outputs.entry.export) result around.old around.new }
+    ensures silent { around.new.progress ≡ around.old.progress }
+    ensures keeps { KeepsDevices R.holds W.holds around.old around.new }
+{
+    let design = design_for(alloc, &around.texts, inputs, outputs.export)?;
+    serve_design(alloc, around, design, inputs.state, lines, outputs)
+}
+
+/// Answers the lines of the reader over the design, 1,000,000 at most; no text is exported. Returns the exit status 0. `Err` is want of
+/// memory for the floor, or how the lines broke off.
+pub fn serve_loaded<'a, R: Source, W: Sink>(
+    alloc: Global,
+    loaded: Loaded,
+    reader: &mut R,
+    writer: &mut W,
+) -> Result<u8, Fault<'a>>
+    requires ready { IsReady R.has_failed R.reads W.has_failed reader.old writer.old }
+    ensures ok { IfOk result (λ status. ((floor : FloorState)
+        × IsAnswered most_lines (initial_floor loaded) floor (R.remaining reader.old) (R.remaining reader.new) (W.contents writer.old) (W.contents writer.new))
+        × (status ≡ 0)) }
+    ensures err { IfErr result (λ fault. IsLinesFault most_lines (initial_floor loaded) fault
+        (R.remaining reader.old) (R.remaining reader.new) (W.contents writer.old) (W.contents writer.new)
+        × BlamesStreams most_lines fault (writer.new ≡ writer.old) (R.has_failed reader.new) (R.reads reader.old) (R.reads reader.new)
+        (W.has_failed writer.new)) }
+    ensures reader_held { R.holds reader.new ≡ R.holds reader.old }
+    ensures writer_held { W.holds writer.new ≡ W.holds writer.old }
+{
+    let mut floor = start_floor(alloc, loaded)?;
+    serve_reader(alloc, &mut floor, MOST_LINES, reader, writer)?;
+    Ok(0)
+}

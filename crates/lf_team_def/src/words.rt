@@ -1,0 +1,48 @@
+//! Words and lines.
+
+ghost use Rattle.std.specs.Prelude.{◌∷◌, map};
+ghost use Rattle.lf_lex.specs.Splices.{spaced};
+ghost use Rattle.lf_team_def.specs.Output.{PutsText};
+ghost use Rattle.lf_team_def.specs.TeamText.{line_of};
+ghost use Rattle.lf_team_def.specs.Words.{word_text};
+
+use crate::output::Output;
+use itoa::Buffer;
+
+/// A word of a line.
+#[derive(Clone, Copy)]
+pub(crate) enum Word<'a> {
+    Text(&'a [u8]),
+    Count(usize),
+    Length(i64),
+}
+
+/// Puts the word.
+fn put_word<O: Output>(out: &mut O, word: &Word<'_>)
+    ensures { PutsText O.took out.old out.new (word_text word.now) }
+{
+    match word {
+        Word::Text(text) => out.put(text),
+        Word::Count(number) => out.put(Buffer::new().format(*number).as_bytes()),
+        Word::Length(number) => out.put(Buffer::new().format(*number).as_bytes()),
+    }
+}
+
+/// Puts the words, a space before each.
+pub(crate) fn put_spaced<O: Output>(out: &mut O, words: &[Word<'_>])
+    ensures { PutsText O.took out.old out.new (spaced (map word_text words.now)) }
+{
+    for word in words {
+        out.put(b" ");
+        put_word(out, word);
+    }
+}
+
+/// Puts a line of words, the first of them given apart.
+pub(crate) fn put_line<O: Output>(out: &mut O, first: &[u8], words: &[Word<'_>])
+    ensures { PutsText O.took out.old out.new (line_of (first.now ∷ map word_text words.now)) }
+{
+    out.put(first);
+    put_spaced(out, words);
+    out.put(b"\n");
+}

@@ -1,5 +1,0 @@
-use Rattle.lf_teams.proofs.TidyCommits.{legal_commits}
-use Rattle.lf_teams.proofs.committed_laws.legal_commits.Goals as goal
-
-pub returns : goal.returns
-returns c t session s known legal = legal_commits t s known legal session

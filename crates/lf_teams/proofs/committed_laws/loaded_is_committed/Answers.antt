@@ -1,5 +1,0 @@
-use Rattle.lf_teams.proofs.Loading.{loaded_committed}
-use Rattle.lf_teams.proofs.committed_laws.loaded_is_committed.Goals as goal
-
-pub returns : goal.returns
-returns c design = loaded_committed design

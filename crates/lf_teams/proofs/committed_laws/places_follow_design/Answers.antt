@@ -1,5 +1,0 @@
-use Rattle.lf_teams.proofs.Places.{places_follow}
-use Rattle.lf_teams.proofs.committed_laws.places_follow_design.Goals as goal
-
-pub returns : goal.returns
-returns c = places_follow

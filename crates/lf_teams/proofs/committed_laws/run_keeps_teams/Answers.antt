@@ -1,5 +1,0 @@
-use Rattle.lf_teams.proofs.Running.{run_teams}
-use Rattle.lf_teams.proofs.committed_laws.run_keeps_teams.Goals as goal
-
-pub returns : goal.returns
-returns c l old new commands replies known run = run_teams l commands replies old new known run

@@ -1,5 +1,0 @@
-use Rattle.lf_teams.proofs.TidyCommits.{tidied_commits}
-use Rattle.lf_teams.proofs.committed_laws.run_tidied_commits.Goals as goal
-
-pub returns : goal.returns
-returns c l old new commands replies known run = tidied_commits c.legal_in_range.ensures l commands replies old new known run

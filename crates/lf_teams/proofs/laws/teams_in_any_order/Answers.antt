@@ -1,5 +1,0 @@
-use Rattle.lf_teams.proofs.TeamOrder.{any_order}
-use Rattle.lf_teams.proofs.laws.teams_in_any_order.Goals as goal
-
-pub returns : goal.returns
-returns c = λ l old a b commands others replies answers run other same. any_order l old a b commands others replies answers run other same

@@ -1,5 +1,0 @@
-use Rattle.lf_teams.proofs.VerbBack.{pad_keeps}
-use Rattle.lf_teams.proofs.verb_laws.pad_keeps.Goals as goal
-
-pub returns : goal.returns
-returns c t session padding s may = pad_keeps t session padding s may

@@ -1,6 +1,0 @@
-use Rattle.lf_proto.specs.declared.verb.Change.TheVariants.{Swap}
-use Rattle.lf_teams.proofs.VerbLegal.{verb_legal}
-use Rattle.lf_teams.proofs.verb_laws.swap_makes_legal.Goals as goal
-
-pub returns : goal.returns
-returns c t session first second s known accepted = verb_legal t s known c.legal_in_range.ensures session (Swap first second) accepted

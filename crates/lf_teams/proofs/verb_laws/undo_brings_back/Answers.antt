@@ -1,5 +1,0 @@
-use Rattle.lf_teams.proofs.VerbBack.{undo_leads}
-use Rattle.lf_teams.proofs.verb_laws.undo_brings_back.Goals as goal
-
-pub returns : goal.returns
-returns c t session other change s recorded accepted may = undo_leads t session other change s recorded accepted may

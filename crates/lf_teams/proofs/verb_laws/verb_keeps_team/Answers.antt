@@ -1,5 +1,0 @@
-use Rattle.lf_teams.proofs.Kept.{verb_keeps}
-use Rattle.lf_teams.proofs.verb_laws.verb_keeps_team.Goals as goal
-
-pub returns : goal.returns
-returns c t verb s known = verb_keeps t verb s known

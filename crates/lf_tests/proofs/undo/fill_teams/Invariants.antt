@@ -1,9 +1,0 @@
-use Rattle.std.proofs.Common.{◌≡◌, ◌<◌, length}
-use Rattle.lf_tests.proofs.undo.fill_teams.Given as goal
-
--- no team goes, and the last one is a team
-abbrev pub invariant-loop-team : goal.invariant-loop-team
-invariant-loop-team l = record {
-  teams : length l.store.lists ≡ 16;
-  last : l.last < 16;
-}

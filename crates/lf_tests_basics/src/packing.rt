@@ -1,0 +1,97 @@
+//! Cells packed into a span: what no clause says of trials and of pushing.
+
+use lf_repair_packing::{Cell, CostCurve, PackedSpan, SearchEffort};
+use std::alloc::{AllocError, Global};
+use std::test::Fail;
+
+/// A span of 40 sites with cells of 4 sites at 10, 14 and 30, each where it is wanted.
+fn three(alloc: Global) -> Result<PackedSpan, AllocError> {
+    let mut segment = PackedSpan::new(alloc, 40);
+    for (number, wanted) in [(0u32, 10u32), (1, 14), (2, 30)] {
+        let gap = segment.len();
+        let cell = Cell {
+            number,
+            width: 4,
+            wanted,
+            at: wanted,
+        };
+        if gap < 3 && segment.has_room(4) {
+            segment.insert(gap, cell)?;
+        }
+    }
+    Ok(segment)
+}
+
+/// One that is wanted between the first two, across both.
+fn one_more() -> Cell {
+    Cell {
+        number: 3,
+        width: 4,
+        wanted: 12,
+        at: 12,
+    }
+}
+
+/// Those that are in the way of a cell move to either side, the others stay.
+#[test]
+fn neighbours_are_pushed_apart(rt: HostRuntime) -> Result<(), Fail> {
+    let mut segment = three(rt.alloc())?;
+    let more = one_more();
+    let gap = segment.gap_near(&more);
+    assert!(rt; gap == 1);
+    assert!(rt; segment.len() == 3);
+    assert!(rt; segment.has_room(more.width));
+    let cost = segment.insert(gap, more)?;
+    assert!(rt; cost == 4);
+    let mut places = Vec::new(rt.alloc());
+    for cell in segment.as_slice() {
+        places.push(cell.at)?;
+    }
+    assert!(rt; places.as_slice() == [8u32, 12, 16, 30].as_slice());
+    Ok(())
+}
+
+/// A trial tells the first place of least cost in each gap, and in the second what `insert` tells of it.
+#[test]
+fn trials_tell_what_gaps_cost(rt: HostRuntime) -> Result<(), Fail> {
+    let segment = three(rt.alloc())?;
+    let mut curve = CostCurve::new(rt.alloc());
+    let effort = SearchEffort {
+        reach: 1000,
+        most: 100,
+        near: 1000,
+        weight: 1,
+    };
+    let mut costs = Vec::new(rt.alloc());
+    assert!(rt; segment.len() == 3);
+    for gap in 0..4usize {
+        if let Some(trial) = segment.try_insertion(gap, &one_more(), &effort, &mut curve)? {
+            costs.push((trial.at, trial.cost))?;
+        }
+    }
+    let wanted = [(6u32, 6i64), (12, 4), (18, 6), (22, 22)];
+    assert!(rt; costs.as_slice() == wanted.as_slice());
+    Ok(())
+}
+
+/// A cell is found near to where it was, one that was taken out is found no more, and another one stands in the place of a third.
+#[test]
+fn cells_are_found_and_changed(rt: HostRuntime) -> Result<(), Fail> {
+    let mut segment = three(rt.alloc())?;
+    let own = segment.find(1, 11);
+    assert!(rt; own == Some(1));
+    assert!(rt; segment.len() == 3);
+    let out = segment.remove(1);
+    assert!(rt; out.number == 1);
+    assert!(rt; segment.find(1, 14).is_none());
+    assert!(rt; segment.as_slice()[0].width == 4);
+    let other = Cell {
+        number: 4,
+        width: 4,
+        wanted: 12,
+        at: 0,
+    };
+    segment.replace(0, other);
+    assert!(rt; segment.displacement() == 2);
+    Ok(())
+}

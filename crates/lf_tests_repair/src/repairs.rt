@@ -1,0 +1,360 @@
+//! Repairs of team A of the built-in design, with its cells at other places.
+
+use crate::writers::Room;
+use lf_def::DEMO_DEF;
+use lf_floor::Floor;
+use lf_frame::{Limits, Place};
+use lf_io::ToWrite;
+use lf_legalize::PlainSeeker;
+use lf_orient::Orient;
+use lf_proto::{Command, Refusal, TeamCommand};
+use lf_repair_team::{MovePolicy, RepairFault, RepairStats, is_team_legal, repair_team};
+use lf_tests_support::{design_of, with_line};
+use std::alloc::{AllocError, Global};
+use std::test::Fail;
+
+/// The lines of the three cells of A.
+type Cells = [&'static [u8]; 3];
+
+/// At legal places.
+const LEGAL: Cells = [
+    b"- a1 INV + PLACED ( 0 0 ) N ;",
+    b"- a2 INV + PLACED ( 400 0 ) N ;",
+    b"- a3 DBL + PLACED ( 2000 0 ) N ;",
+];
+
+/// a2 lies one site right of a1, and over it.
+const OVERLAPPING: Cells = [
+    b"- a1 INV + PLACED ( 0 0 ) N ;",
+    b"- a2 INV + PLACED ( 200 0 ) N ;",
+    b"- a3 DBL + PLACED ( 2000 0 ) N ;",
+];
+
+/// a1 faces as no cell may in its row.
+const TURNED: Cells = [
+    b"- a1 INV + PLACED ( 0 2000 ) N ;",
+    b"- a2 INV + PLACED ( 400 0 ) N ;",
+    b"- a3 DBL + PLACED ( 2000 0 ) N ;",
+];
+
+/// Nowhere.
+const UNPLACED: Cells = [
+    b"- a1 INV ;",
+    b"- a2 INV + UNPLACED ;",
+    b"- a3 DBL + WEIGHT 3 ;",
+];
+
+/// The built-in DEF text with these lines.
+fn def_of(alloc: Global, cells: &Cells) -> Result<Vec<u8>, AllocError> {
+    let first = with_line(alloc, DEMO_DEF, 15, cells[0])?;
+    let second = with_line(alloc, first.as_slice(), 16, cells[1])?;
+    with_line(alloc, second.as_slice(), 17, cells[2])
+}
+
+/// The same with room in the fence of A for one INV alone, at (0 0).
+fn narrow_def_of(alloc: Global, cells: &Cells) -> Result<Vec<u8>, AllocError> {
+    let def = def_of(alloc, cells)?;
+    let fence = b"- A ( 0 0 ) ( 400 2000 ) + TYPE FENCE ;";
+    with_line(alloc, def.as_slice(), 11, fence)
+}
+
+/// What is asked of a floor.
+trait Asked {
+    /// Whether the floor is as it is asked.
+    fn holds(&self, alloc: Global, floor: &mut Floor<PlainSeeker>) -> bool;
+}
+
+/// The floor of a DEF text, on which each team can have one session.
+fn floor_of(alloc: Global, def: &[u8]) -> Result<Floor<PlainSeeker>, Fail> {
+    let Some(limits) = Limits::checked(65_535, 1_024, 4_000_000, 1, 64, 4_000_000_000) else {
+        return Err(Fail::from("limits"));
+    };
+    let design = design_of(alloc, def, limits)?;
+    Ok(Floor::start(alloc, design, PlainSeeker)?)
+}
+
+/// Whether the floor of a DEF text is as it is asked.
+fn holds<A: Asked>(alloc: Global, def: &[u8], asked: &A) -> Result<bool, Fail> {
+    match floor_of(alloc, def) {
+        Ok(mut floor) => Ok(asked.holds(alloc, &mut floor)),
+        Err(fail) => Err(fail),
+    }
+}
+
+/// What came of a repair, and its lines.
+#[derive(Drop)]
+struct Told {
+    repaired: Result<RepairStats, RepairFault>,
+    lines: Vec<u8>,
+}
+
+/// Repairs A; its lines go to the writer.
+fn repair_to(
+    alloc: Global,
+    floor: &mut Floor<PlainSeeker>,
+    how: MovePolicy,
+    writer: &mut Room,
+) -> Result<RepairStats, RepairFault> {
+    let mut lines = ToWrite::new(writer);
+    repair_team(alloc, floor, b"A", how, &mut lines)
+}
+
+/// Repairs A, of whose lines so many bytes can be written.
+fn repair_within(
+    alloc: Global,
+    floor: &mut Floor<PlainSeeker>,
+    how: MovePolicy,
+    left: usize,
+) -> Told {
+    let mut writer = Room {
+        taken: Vec::new(alloc),
+        left,
+    };
+    let repaired = repair_to(alloc, floor, how, &mut writer);
+    Told {
+        repaired,
+        lines: writer.taken,
+    }
+}
+
+/// Whether a repair broke off by this fault, with these lines.
+fn is_fault(told: &Told, fault: RepairFault, lines: &[u8]) -> bool {
+    match &told.repaired {
+        Ok(_) => false,
+        Err(it) => *it == fault && told.lines.as_slice() == lines,
+    }
+}
+
+/// What is to come of a repair: how many cells broke a rule or had no place, and how many were kept, moved, placed and turned; the
+/// sum of the ways, and the longest; and the positions of those that stand otherwise, and of those that are left.
+#[derive(Clone, Copy)]
+struct Comes {
+    how: MovePolicy,
+    counts: [u32; 5],
+    ways: (u64, u64),
+    changed: &'static [u32],
+    left: &'static [u32],
+}
+
+/// Whether this came of it.
+fn is_told(repaired: &RepairStats, comes: &Comes) -> bool {
+    let counts = [
+        repaired.cells,
+        repaired.kept,
+        repaired.moved,
+        repaired.placed,
+        repaired.turned,
+    ];
+    counts == comes.counts
+        && (repaired.total, repaired.largest) == comes.ways
+        && repaired.changed.as_slice() == comes.changed
+        && repaired.left.as_slice() == comes.left
+}
+
+impl Asked for Comes {
+    fn holds(&self, alloc: Global, floor: &mut Floor<PlainSeeker>) -> bool {
+        let told = repair_within(alloc, floor, self.how, usize::MAX);
+        match &told.repaired {
+            Ok(repaired) => {
+                is_told(repaired, self) && is_team_legal(floor, b"A") == self.left.is_empty()
+            }
+            Err(_) => false,
+        }
+    }
+}
+
+#[test]
+fn cells_without_a_place_get_one(rt: HostRuntime) -> Result<(), Fail> {
+    let def = def_of(rt.alloc(), &UNPLACED)?;
+    for how in [MovePolicy::Keep, MovePolicy::All] {
+        let comes = Comes {
+            how,
+            counts: [3, 0, 0, 3, 0],
+            ways: (0, 0),
+            changed: &[0, 1, 2],
+            left: &[],
+        };
+        assert!(rt; holds(rt.alloc(), &def, &comes)?);
+    }
+    Ok(())
+}
+
+#[test]
+fn a_cell_that_overlaps_moves_beside_the_other(rt: HostRuntime) -> Result<(), Fail> {
+    let def = def_of(rt.alloc(), &OVERLAPPING)?;
+    for how in [MovePolicy::Keep, MovePolicy::All] {
+        let comes = Comes {
+            how,
+            counts: [2, 1, 1, 0, 0],
+            ways: (200, 200),
+            changed: &[1],
+            left: &[],
+        };
+        assert!(rt; holds(rt.alloc(), &def, &comes)?);
+    }
+    Ok(())
+}
+
+#[test]
+fn a_cell_that_faces_wrongly_turns(rt: HostRuntime) -> Result<(), Fail> {
+    let def = def_of(rt.alloc(), &TURNED)?;
+    let comes = Comes {
+        how: MovePolicy::Keep,
+        counts: [1, 2, 0, 0, 1],
+        ways: (0, 0),
+        changed: &[0],
+        left: &[],
+    };
+    assert!(rt; holds(rt.alloc(), &def, &comes)?);
+    Ok(())
+}
+
+#[test]
+fn cells_without_room_are_left(rt: HostRuntime) -> Result<(), Fail> {
+    let def = narrow_def_of(rt.alloc(), &LEGAL)?;
+    let comes = Comes {
+        how: MovePolicy::Keep,
+        counts: [2, 1, 0, 0, 0],
+        ways: (0, 0),
+        changed: &[1, 2],
+        left: &[1, 2],
+    };
+    assert!(rt; holds(rt.alloc(), &def, &comes)?);
+    Ok(())
+}
+
+#[test]
+fn cells_that_stand_legally_stay(rt: HostRuntime) -> Result<(), Fail> {
+    let def = def_of(rt.alloc(), &LEGAL)?;
+    let comes = Comes {
+        how: MovePolicy::Keep,
+        counts: [0, 3, 0, 0, 0],
+        ways: (0, 0),
+        changed: &[],
+        left: &[],
+    };
+    assert!(rt; holds(rt.alloc(), &def, &comes)?);
+    Ok(())
+}
+
+/// Whether A stands whole, and B does not, whose cell has no place, nor a team that is not there.
+#[derive(Clone, Copy)]
+struct OnlyAStands;
+
+impl Asked for OnlyAStands {
+    fn holds(&self, _alloc: Global, floor: &mut Floor<PlainSeeker>) -> bool {
+        is_team_legal(floor, b"A") && !is_team_legal(floor, b"B") && !is_team_legal(floor, b"C")
+    }
+}
+
+#[test]
+fn a_team_stands_whole(rt: HostRuntime) -> Result<(), Fail> {
+    let def = def_of(rt.alloc(), &LEGAL)?;
+    assert!(rt; holds(rt.alloc(), &def, &OnlyAStands)?);
+    Ok(())
+}
+
+/// The lines that a repair is to write.
+#[derive(Clone, Copy)]
+struct Writes {
+    how: MovePolicy,
+    lines: &'static [u8],
+}
+
+impl Asked for Writes {
+    fn holds(&self, alloc: Global, floor: &mut Floor<PlainSeeker>) -> bool {
+        let told = repair_within(alloc, floor, self.how, usize::MAX);
+        told.repaired.is_ok() && told.lines.as_slice() == self.lines
+    }
+}
+
+#[test]
+fn a_legal_team_is_committed_and_no_cell_of_it_is_named(rt: HostRuntime) -> Result<(), Fail> {
+    let def = def_of(rt.alloc(), &LEGAL)?;
+    let lines = b"open A\ncommit A 0\nclose A 0\n";
+    for how in [MovePolicy::Keep, MovePolicy::AsNeeded, MovePolicy::All] {
+        assert!(rt; holds(rt.alloc(), &def, &Writes { how, lines })?);
+    }
+    Ok(())
+}
+
+#[test]
+fn a_team_with_cells_left_is_not_committed(rt: HostRuntime) -> Result<(), Fail> {
+    let def = narrow_def_of(rt.alloc(), &LEGAL)?;
+    let how = MovePolicy::Keep;
+    let lines = b"open A\nunplace A 0 a2\nunplace A 0 a3\nclose A 0\n";
+    assert!(rt; holds(rt.alloc(), &def, &Writes { how, lines })?);
+    Ok(())
+}
+
+/// The lines of a repair of cells that overlap.
+const LINES: &[u8] = b"open A
+unplace A 0 a1
+unplace A 0 a2
+place A 0 a1 0 0 N
+place A 0 a2 400 0 N
+commit A 0
+close A 0
+";
+
+/// Where the line stands by which the team is committed.
+const COMMIT: usize = 77;
+
+/// The committed place of a2.
+fn committed(floor: &Floor<PlainSeeker>) -> Option<Place> {
+    let cells = floor.placement().cells();
+    let id = cells.cell_of(0, 1)?;
+    cells.committed(id)
+}
+
+/// So many bytes of the lines can be written, and no more. A repair breaks off there, and the command whose line is cut off is done.
+#[derive(Clone, Copy)]
+struct BreaksOff {
+    left: usize,
+}
+
+impl Asked for BreaksOff {
+    fn holds(&self, alloc: Global, floor: &mut Floor<PlainSeeker>) -> bool {
+        let told = repair_within(alloc, floor, MovePolicy::Keep, self.left);
+        let x = if self.left < COMMIT { 200 } else { 400 };
+        let written = LINES.get(..self.left).unwrap_or(LINES);
+        is_fault(&told, RepairFault::Lines, written)
+            && committed(floor) == Some(Place::new(x, 0, Orient::N))
+    }
+}
+
+#[test]
+fn each_byte_of_the_lines_may_find_no_room(rt: HostRuntime) -> Result<(), Fail> {
+    let def = def_of(rt.alloc(), &OVERLAPPING)?;
+    assert!(rt; LINES.get(COMMIT..).unwrap_or(b"").starts_with(b"commit"));
+    for left in 0..LINES.len() {
+        assert!(rt;
+            holds(rt.alloc(), &def, &BreaksOff { left })?,
+            "{left} bytes"
+        );
+    }
+    let (how, lines) = (MovePolicy::Keep, LINES);
+    assert!(rt; holds(rt.alloc(), &def, &Writes { how, lines })?);
+    Ok(())
+}
+
+/// Whether a repair is refused where no session is left, and nothing is written.
+#[derive(Clone, Copy)]
+struct IsRefused;
+
+impl Asked for IsRefused {
+    fn holds(&self, alloc: Global, floor: &mut Floor<PlainSeeker>) -> bool {
+        let _ = floor.step(&Command::To {
+            team: b"A",
+            order: TeamCommand::Open,
+        });
+        let told = repair_within(alloc, floor, MovePolicy::Keep, usize::MAX);
+        is_fault(&told, RepairFault::Refused(Refusal::SessionsFull), b"")
+    }
+}
+
+#[test]
+fn a_repair_needs_a_session(rt: HostRuntime) -> Result<(), Fail> {
+    assert!(rt; holds(rt.alloc(), DEMO_DEF, &IsRefused)?);
+    Ok(())
+}

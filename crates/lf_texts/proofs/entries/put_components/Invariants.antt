@@ -1,9 +1,0 @@
-use Rattle.std.proofs.Common.{take}
-use Rattle.std.specs.List.{flat_map}
-use Rattle.lf_cells.specs.Cells.{cell_at}
-use Rattle.lf_texts.specs.Entries.{component_line}
-use Rattle.lf_texts.specs.Output.{Puts}
-use Rattle.lf_texts.proofs.entries.put_components.Given as goal
-
-abbrev pub invariant-loop-id : goal.invariant-loop-id
-invariant-loop-id g l = Puts g.O.Output.took l.fn.out l.out (flat_map (λ id. component_line l.fn.frame (cell_at l.fn.cells id)) (take l.id-index l.id-items))

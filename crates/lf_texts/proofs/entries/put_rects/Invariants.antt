@@ -1,9 +1,0 @@
-use Rattle.std.proofs.Common.{take}
-use Rattle.std.specs.List.{flat_map}
-use Rattle.lf_lex.specs.Splices.{spaced}
-use Rattle.lf_texts.specs.Output.{Puts}
-use Rattle.lf_texts.specs.TeamText.{rect_words}
-use Rattle.lf_texts.proofs.entries.put_rects.Given as goal
-
-abbrev pub invariant-loop-rect : goal.invariant-loop-rect
-invariant-loop-rect g l = Puts g.O.Output.took l.fn.out l.out (flat_map (λ r. spaced (rect_words r)) (take l.rect-index l.rects))

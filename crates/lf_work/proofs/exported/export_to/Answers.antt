@@ -1,4 +1,0 @@
-use Rattle.lf_work.proofs.exported.export_to.Goals as goal
-
-pub exported_text-exported-requires : goal.exported_text-exported-requires
-exported_text-exported-requires g c = record { fits = λ places are. rw c.deref.ensures.value (c.requires.fits places are) }

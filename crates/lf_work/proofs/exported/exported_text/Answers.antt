@@ -1,4 +1,0 @@
-use Rattle.lf_work.proofs.exported.exported_text.Goals as goal
-
-pub invariant_of-result : goal.invariant_of-result
-invariant_of-result c = c.requires.fits c.committed.result c.committed.ensures

@@ -1,5 +1,0 @@
-use Rattle.lf_write.proofs.Standing.{stands_there, given_stands}
-use Rattle.lf_write.proofs.laws.components_stand_where_they_are.Goals as goal
-
-pub returns : goal.returns
-returns c = record { stands = λ x given. stands_there x given; given = λ x given. given_stands x given }

@@ -1,0 +1,101 @@
+//! The placement clause that is written for a location, compared with the bytes of a text. It is not written for that: its parts
+//! are taken from the front of the bytes, one after the other.
+
+ghost use Rattle.std.specs.Prelude.{◌≡◌, ◌^◌, ◌<◌, ◌≤◌, ◌++◌, IfSome, Some, bytes_eq, decimal, length, take};
+ghost use Rattle.std.specs.Fmt.{signed_decimal};
+ghost use Rattle.lf_lex.specs.Splices.{joined};
+ghost use Rattle.lf_write.specs.Comparing.{IsRestOfText, before_orient};
+ghost use Rattle.lf_write.specs.Export.{location_words};
+
+use itoa::Buffer;
+use lf_def::Location;
+use lf_orient::orient_word;
+
+/// What is left behind the bytes that are due; none if others come first.
+fn behind<'a>(bytes: &'a [u8], due: &[u8]) -> Option<&'a [u8]>
+    ensures { IsRestOfText bytes.now (λ rest. due.now ++ rest) result }
+{
+    bytes.strip_prefix(due)
+}
+
+/// How many bytes at the front write the number: its digits are read, each once, until they are as large. None if they write
+/// another one, or begin with a 0.
+fn number_len(bytes: &[u8], number: u64) -> Option<usize>
+    requires { number < 2 ^ 32 }
+    ensures within { IfSome result (λ len. len ≤ length bytes.now) }
+    ensures number { IfSome result (λ len. take len bytes.now ≡ decimal number) }
+{
+    if bytes.is_empty() || bytes[0] == b'0' {
+        return None;
+    }
+    let mut total = 0;
+    for (at, byte) in bytes.iter().enumerate() {
+        if !byte.is_ascii_digit() {
+            return None;
+        }
+        total = total * 10 + (*byte - b'0') as u64;
+        if total == number {
+            return Some(at + 1);
+        }
+        if number < total {
+            return None;
+        }
+    }
+    None
+}
+
+/// What is left behind the number, if it is not 0 and is found by its digits: faster than to write it.
+fn behind_digits<'a>(bytes: &'a [u8], number: &i32) -> Option<&'a [u8]>
+    ensures { IfSome result (λ left. bytes.now ≡ signed_decimal number.now ++ left.now) }
+{
+    if *number < 0 {
+        let [b'-', digits @ ..] = bytes else {
+            return None;
+        };
+        let len = number_len(digits, number.unsigned_abs() as u64)?;
+        return Some(&digits[len..]);
+    }
+    let len = number_len(bytes, *number as u64)?;
+    Some(&bytes[len..])
+}
+
+/// What is left behind the number.
+fn behind_number<'a>(bytes: &'a [u8], number: &i32) -> Option<&'a [u8]>
+    ensures { IsRestOfText bytes.now (λ rest. signed_decimal number.now ++ rest) result }
+{
+    if let Some(left) = behind_digits(bytes, number) {
+        return Some(left);
+    }
+    behind(bytes, Buffer::new().format(*number).as_bytes())
+}
+
+/// What is left behind `+ PLACED ( x y )` and a space.
+fn behind_point<'a>(bytes: &'a [u8], at: &Location) -> Option<&'a [u8]>
+    ensures { IsRestOfText bytes.now (before_orient at.now) result }
+{
+    let left = behind(bytes, b"+ PLACED ( ")?;
+    let left = behind_number(left, &at.x)?;
+    let left = behind(left, b" ")?;
+    let left = behind_number(left, &at.y)?;
+    behind(left, b" ) ")
+}
+
+/// Whether the bytes are the clause that is written for the location.
+fn is_placed(bytes: &[u8], at: &Location) -> bool
+    ensures { result ≡ bytes_eq bytes.now (joined (location_words (Some at.now))) }
+{
+    match behind_point(bytes, at) {
+        Some(orient) => orient == orient_word(at.orient),
+        None => false,
+    }
+}
+
+/// Whether the bytes are the clause that is written for the location, or for none.
+pub(crate) fn is_clause_of(bytes: &[u8], location: &Option<Location>) -> bool
+    ensures { result ≡ bytes_eq bytes.now (joined (location_words location.now)) }
+{
+    match location {
+        Some(at) => is_placed(bytes, at),
+        None => bytes == b"+ UNPLACED".as_slice(),
+    }
+}
