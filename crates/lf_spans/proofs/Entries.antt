@@ -1,4 +1,4 @@
--- Lists of what has a span, by the spans.
+-- Lists of values that have a span, by their spans.
 use Rattle.std.proofs.Common.{◌≡◌, ℕ, ◌+◌, ◌<◌, ◌≤◌, List, length, get_or, map, sym, ◌∙◌, ap, subst, arith}
 use Rattle.std.proofs.lemmas.List.{get_or-map, length-map}
 use Rattle.lf_spans.specs.declared.span.Span.{Span}

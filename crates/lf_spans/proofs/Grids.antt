@@ -1,4 +1,4 @@
--- Numbers that lie whole steps apart.
+-- Numbers that are whole steps apart.
 use Rattle.std.proofs.Common.{◌≡◌, ◌⊎◌, ℕ, ℤ, pos, negsuc, suc, ◌+◌, ◌*◌, ◌/◌, ◌%◌, ◌<◌, ◌≤◌, ◌+ℤ◌, ◌-ℤ◌, ◌*ℤ◌, ◌≤ℤ◌, ◌<ℤ◌, neg_ℤ, inl, inr, refl, sym, ap, subst, arith, IsTrue, int_lt, int_le, false}
 use Rattle.std.specs.Int.RustNames.{int_rem}
 use Rattle.std.proofs.lemmas.Int.{ints}
@@ -8,7 +8,7 @@ use Rattle.lf_spans.specs.declared.grid.SiteGrid.{SiteGrid}
 use Rattle.lf_spans.specs.Grids.{FitsSpan, IsNearest, IsNoFarther, IsOnGrid, distance}
 use Rattle.lf_spans.specs.GridSteps.{AreEnds, IsNearer}
 
--- a remainder lies whole steps from its number
+-- Subtracting its remainder from a number gives a number whole steps from the origin.
 after_rest : (at o : ℤ) (m n : ℕ) → 0 < n → pos m ≡ (at -ℤ o) → ((at -ℤ pos (m % n)) +ℤ pos (0 * n)) ≡ (o +ℤ pos ((m / n) * n))
 after_rest at o m n above e =
     let split : (m / n) * n + m % n ≡ m = omega arith in
@@ -28,7 +28,7 @@ rem_on_grid g at rising = by_cases (at -ℤ g.origin) g.step refl refl rising
     by_cases (pos m) (negsuc n) e f r = absurd (omega (arith, ints))
     by_cases (negsuc m) (negsuc n) e f r = absurd (omega (arith, ints))
 
--- one step further
+-- One step further.
 right_by : (s x o : ℤ) (l r : ℕ) → pos 0 <ℤ s → (x +ℤ (pos l *ℤ s)) ≡ (o +ℤ (pos r *ℤ s)) → ((x +ℤ s) +ℤ (pos l *ℤ s)) ≡ (o +ℤ (pos (r + 1) *ℤ s))
 right_by (pos n) x o l r rising e = omega (arith, ints)
 right_by (negsuc n) x o l r rising e = absurd (omega (arith, ints))
@@ -43,7 +43,7 @@ step_right g x y rising on e = rw e record { left = on.left; right = on.right + 
 pub step_left : (g : SiteGrid) (x y : ℤ) → pos 0 <ℤ g.step → IsOnGrid g x → y ≡ (x -ℤ g.step) → IsOnGrid g y
 step_left g x y rising on e = rw e record { left = on.left + 1; right = on.right; level = left_by g.step x g.origin on.left on.right rising on.level }
 
--- of two numbers of a grid the lesser lies a step below
+-- The lesser of two grid numbers is at least one step below the other.
 apart_by : (n la ra lb rb : ℕ) (a b o : ℤ) → (a +ℤ pos (la * n)) ≡ (o +ℤ pos (ra * n)) → (b +ℤ pos (lb * n)) ≡ (o +ℤ pos (rb * n)) → a <ℤ b → (a +ℤ pos n) ≤ℤ b
 apart_by n la ra lb rb a b o e f less =
     let more : (ra + lb) * n < (rb + la) * n = omega (arith, ints) in
@@ -76,14 +76,14 @@ near_left t x y a b = elim order [ inl less ↦ inl (omega (arith, ints)) | inr 
     order : (y <ℤ x) ⊎ (y ≡ x)
     order = grind (arith, ints)
 
--- left of the target and no farther from it than what lies right of it
+-- Left of the target and no farther from it than a number right of it.
 pub near_across : (t x y : ℤ) → x ≤ℤ t → t ≤ℤ y → (t -ℤ x) ≤ℤ (y -ℤ t) → IsNoFarther t x y
 near_across t x y a b c = elim order [ inl less ↦ inl less | inr same ↦ inr (same, omega (arith, ints)) ]
   where
     order : (distance t x < distance t y) ⊎ (distance t x ≡ distance t y)
     order = grind (arith, ints)
 
--- right of the target and nearer than what lies left of it
+-- Right of the target and nearer than a number left of it.
 pub near_back : (t x y : ℤ) → y ≤ℤ t → t ≤ℤ x → (x -ℤ t) <ℤ (t -ℤ y) → IsNoFarther t x y
 near_back t x y a b c = inl (omega (arith, ints))
 
@@ -99,7 +99,7 @@ at_most_from a b t = grind (arith, ints)
 pub not_at_most_from : (a b : ℤ) → int_le a b ≡ false → b <ℤ a
 not_at_most_from a b t = grind (arith, ints)
 
--- ---- the first and the last number of the grid at which the width fits
+-- ---- the first and the last grid number at which the width fits
 
 after_first : (span : Span) (g : SiteGrid) (width first last y : ℤ) → AreEnds span g width first last → FitsSpan span g width y → first ≤ℤ y
 after_first span g width first last y e f = elim order [
@@ -146,7 +146,7 @@ last_nearest span g width first last t e some after = record {
   least = λ y f. near_left t last y after (before_last span g width first last y e f);
 }
 
--- a number of the grid is not right of the left neighbour, or not left of the right one
+-- A grid number is at or left of the left neighbor, or at or right of the right one.
 either_side : (g : SiteGrid) (left y : ℤ) → pos 0 <ℤ g.step → IsOnGrid g left → IsOnGrid g y → (y ≤ℤ left) ⊎ ((left +ℤ g.step) ≤ℤ y)
 either_side g left y rising p q = elim order [ inl at_most ↦ inl at_most | inr less ↦ inr (apart g left y rising p q less) ]
   where

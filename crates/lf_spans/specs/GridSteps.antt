@@ -1,20 +1,20 @@
--- What the steps of the search for the nearest grid number return.
+-- Results of the steps of the search for the nearest grid number.
 use Rattle.std.specs.Prelude.{◌≡◌, ◌⊎◌, ℤ, pos, negsuc, ◌+ℤ◌, ◌-ℤ◌, ◌≤ℤ◌, ◌<ℤ◌}
 use Rattle.lf_spans.specs.declared.span.Span.{Span}
 use Rattle.lf_spans.specs.declared.grid.SiteGrid.{SiteGrid}
 use Rattle.lf_spans.specs.Grids.{IsOnGrid}
 
--- at most 2^42 either way
+-- The absolute value is at most 2^42.
 pub record IsSmall (v : ℤ) : Type 0 where
   pub low : negsuc 4398046511103 ≤ℤ v
   pub high : v ≤ℤ pos 4398046511104
 
--- the nearer of two numbers around a target; the left one if they are equally near
+-- The nearer of two numbers around a target; the left one if they are equally near.
 abbrev pub IsNearer : ℤ → ℤ → ℤ → ℤ → Type 0
 IsNearer left right target x =
     ((x ≡ left) × ((target -ℤ left) ≤ℤ (right -ℤ target))) ⊎ ((x ≡ right) × ((right -ℤ target) <ℤ (target -ℤ left)))
 
--- the first and the last number of the grid at which the width may lie in the span
+-- The first and the last grid number at which the width may lie in the span.
 pub record AreEnds (span : Span) (g : SiteGrid) (width first last : ℤ) : Type 0 where
   pub rising : pos 0 <ℤ g.step
   pub first_on : IsOnGrid g first

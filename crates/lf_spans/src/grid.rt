@@ -1,4 +1,4 @@
-//! Numbers of a grid, and the nearest one at which a width fits into a span.
+//! Grids, and the grid number nearest to a target at which a width fits a span.
 
 ghost use Rattle.std.specs.Prelude.{◌≡◌, ◌-ℤ◌, ◌+ℤ◌, ◌≤ℤ◌, ◌<ℤ◌, neg_ℤ, pos};
 ghost use Rattle.lf_spans.specs.Grids.{FindsNearest, FitsSpan, IsBounded, IsBoundedSpan, IsGrid, IsOnGrid, grid_of};
@@ -7,14 +7,14 @@ ghost use Rattle.lf_spans.specs.GridSteps.{AreEnds, IsNearer, IsSmall};
 use crate::span::Span;
 
 /// The numbers a whole number of steps from the origin, in database units, as the sites of a row.
-/// The contracts ask for a step above 0, and for both numbers within 2^40 either way.
+/// Contracts require a step above 0, and both numbers within 2^40 of 0.
 #[derive(Clone, Copy, Debug, PartialEq, Eq)]
 pub struct SiteGrid {
     pub origin: i64,
     pub step: i64,
 }
 
-/// The remainder of the number on the grid, less than one step either way.
+/// Returns the remainder of the number on the grid. Its absolute value is less than one step.
 fn beyond(grid: &SiteGrid, at: i64) -> i64
     requires grid { IsGrid grid.now }
     requires small { IsSmall at }
@@ -25,7 +25,7 @@ fn beyond(grid: &SiteGrid, at: i64) -> i64
     (at - grid.origin) % grid.step
 }
 
-/// The greatest grid number not above this one.
+/// Returns the greatest grid number that is not above `at`.
 fn last_to(grid: &SiteGrid, at: i64) -> i64
     requires grid { IsGrid grid.now }
     requires small { IsSmall at }
@@ -40,7 +40,7 @@ fn last_to(grid: &SiteGrid, at: i64) -> i64
     at - over
 }
 
-/// The least grid number not below this one.
+/// Returns the least grid number that is not below `at`.
 fn first_from(grid: &SiteGrid, at: i64) -> i64
     requires grid { IsGrid grid.now }
     requires small { IsSmall at }
@@ -72,7 +72,8 @@ fn ends_of(span: &Span, grid: &SiteGrid, width: i64) -> Ends
     Ends { first, last }
 }
 
-/// The nearer of two neighboring grid numbers around the target; the left one if equally near.
+/// Returns the nearer of two neighboring grid numbers around the target; the left one if both are
+/// equally near.
 fn nearer(grid: &SiteGrid, left: i64, target: i64) -> i64
     requires grid { IsGrid grid.now }
     requires target { IsBounded target }
@@ -89,8 +90,9 @@ fn nearer(grid: &SiteGrid, left: i64, target: i64) -> i64
     left
 }
 
-/// The grid number nearest to the target at which the width lies in the span; the lesser of two equally near ones; none iff
-/// there is none. All lengths are in database units and within 2^40 either way; the step is above 0.
+/// Returns the grid number nearest to the target at which the width lies in the span; the lesser of
+/// two that are equally near. `None` iff there is no such number. All lengths are in database units
+/// and within 2^40 of 0; the step is above 0.
 pub fn nearest_fit(span: &Span, grid: &SiteGrid, width: i64, target: i64) -> Option<i64>
     requires grid { IsGrid grid.now }
     requires span { IsBoundedSpan span.now }
@@ -118,7 +120,7 @@ fn grid_from(origin: i64, step: i64) -> SiteGrid
     SiteGrid { origin, step }
 }
 
-/// `nearest_fit` on the grid of this origin and step, with its conditions.
+/// Returns `nearest_fit` on the grid of this origin and step, under the same conditions.
 pub fn nearest_on_grid(span: &Span, origin: i64, step: i64, width: i64, target: i64) -> Option<i64>
     requires grid { IsGrid (grid_of origin step) }
     requires span { IsBoundedSpan span.now }

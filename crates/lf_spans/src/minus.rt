@@ -1,4 +1,4 @@
-//! What is left of spans when others are removed.
+//! Differences of spans.
 
 ghost use Rattle.std.specs.Prelude.{All, IfOk, map};
 ghost use Rattle.lf_spans.specs.Spans.{IsFree, IsInOrder, IsMinus, IsRising};
@@ -8,7 +8,7 @@ use crate::meet::{is_filled, push_filled, spans_meet};
 use crate::span::{HasSpan, Span};
 use std::alloc::{AllocError, Global};
 
-/// The part of the rest before the span.
+/// Returns the part of the rest in front of the span.
 fn before(rest: &Span, span: &Span) -> Span
     ensures { IsBefore rest.now span.now result }
 {
@@ -18,7 +18,7 @@ fn before(rest: &Span, span: &Span) -> Span
     }
 }
 
-/// The part of the rest after the span.
+/// Returns the part of the rest after the span.
 fn behind(rest: &Span, span: &Span) -> Span
     ensures { IsBehind rest.now span.now result }
 {
@@ -28,8 +28,9 @@ fn behind(rest: &Span, span: &Span) -> Span
     }
 }
 
-/// The free spans of a range: a filled span lies in one of them iff it lies in the range and shares no number with the
-/// taken ones. These are in order of `lo` and may overlap. Free spans are maximal. `Err` if an allocation fails.
+/// Returns the free spans of a range, all of them maximal. A filled span lies in one of them iff it
+/// lies in the range and shares no number with a taken span. The taken spans are in order of `lo`
+/// and may overlap. `Err` if an allocation fails.
 pub fn free_spans_in<T: HasSpan>(
     alloc: Global,
     range: &Span,
@@ -52,7 +53,7 @@ pub fn free_spans_in<T: HasSpan>(
     Ok(free)
 }
 
-/// From the start of the first span to the end of the last one.
+/// Returns the span from the start of the first span to the end of the last one.
 fn range_of(spans: &[Span]) -> Span
     requires { IsRising spans.now }
     ensures { All (λ s. ContainsSpan s result) spans.now }
@@ -66,8 +67,9 @@ fn range_of(spans: &[Span]) -> Span
     }
 }
 
-/// The spans of `a` without `b`: a filled span lies in one of them iff it lies in one of `a` and
-/// shares no number with any of `b`. Both lists rise, and so does the result. `Err` if an allocation fails.
+/// Returns the spans of `a` without `b`. A filled span lies in one of them iff it lies in one of
+/// `a` and shares no number with any of `b`. Both lists rise, and so does the result. `Err` if an
+/// allocation fails.
 pub fn spans_minus(alloc: Global, a: &[Span], b: &[Span]) -> Result<Vec<Span>, AllocError>
     requires first { IsRising a.now }
     requires second { IsRising b.now }

@@ -5,19 +5,19 @@ ghost use Rattle.lf_spans.specs.declared.span.Span.{Span};
 
 /// The whole numbers from `lo` on and below `hi`, in database units.
 ///
-/// A span that does not begin below its end is allowed, and holds no number; any other is *filled*.
+/// A span with `hi <= lo` is allowed and holds no number. Any other span is *filled*.
 #[derive(Clone, Copy, Debug, PartialEq, Eq)]
 pub struct Span {
     pub lo: i64,
     pub hi: i64,
 }
 
-/// Anything that occupies a span: a cell in a row, or a span itself.
+/// A value that occupies a span: a cell in a row, or a span itself.
 pub trait HasSpan {
-    // The span that it occupies.
+    // The span that the value occupies.
     ghost span: { Self → Span };
 
-    /// The span that it occupies.
+    /// Returns the span that the value occupies.
     fn span(&self) -> Span
         ensures { result ≡ span self.now };
 }
