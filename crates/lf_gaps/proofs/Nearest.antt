@@ -1,4 +1,4 @@
--- The nearest number for a list of spans from those of its parts.
+-- The nearest number for a list of spans, from those for its parts.
 use Rattle.std.proofs.Common.{◌≡◌, ℕ, ◌+◌, ◌-◌, ◌<◌, ◌≤◌, ℤ, pos, ◌+ℤ◌, ◌-ℤ◌, ◌≤ℤ◌, ◌<ℤ◌, ◌⊎◌, inl, inr, List, [], ◌∷◌, ◌++◌, length, get_or, take, drop, Option, Some, None, Vec, Global, map, sym, ap, ◌∙◌, subst, arith, add-one, drop-cons}
 use Rattle.std.specs.Prelude.{All, Any, IsSomeAnd}
 use Rattle.std.proofs.lemmas.Int.{ints}
@@ -22,7 +22,7 @@ along t x y z (inl a) (inr b) = inl (omega (arith, a, b.0))
 along t x y z (inr a) (inl b) = inl (omega (arith, a.0, b))
 along t x y z (inr a) (inr b) = inr (a.0 ∙ b.0, omega (arith, ints, a.1, b.1))
 
--- the nearer of two that are each the nearest of some numbers is the nearest of both
+-- The nearer of two numbers, each the nearest of a set, is the nearest of both sets.
 pub nearest_of_both : (F G H : ℤ → Type 0) (t : ℤ) (a b found : Option ℤ) → FindsNearest F t a → FindsNearest G t b → IsNearerOf a b t found →
     ((x : ℤ) → H x → F x ⊎ G x) → ((x : ℤ) → F x → H x) → ((x : ℤ) → G x → H x) → FindsNearest H t found
 nearest_of_both F G H t None None None p q n split left right = λ x h. elim (split x h) [ inl f ↦ p x f | inr g ↦ q x g ]
@@ -45,13 +45,13 @@ nearest_of_both F G H t (Some x) (Some y) (Some z) p q n split left right = reco
   least = λ w h. elim (split w h) [ inl f ↦ along t z x w n.first (p.least w f) | inr g ↦ along t z y w n.second (q.least w g) ];
 }
 
--- the same numbers have the same nearest one
+-- Equal sets of numbers have the same nearest number.
 pub nearest_of_same : (F G : ℤ → Type 0) (t : ℤ) (found : Option ℤ) → ((x : ℤ) → F x → G x) → ((x : ℤ) → G x → F x) → FindsNearest F t found →
     FindsNearest G t found
 nearest_of_same F G t None to from p = λ x g. p x (from x g)
 nearest_of_same F G t (Some z) to from p = record { fit = to z p.fit; least = λ w g. p.least w (from w g) }
 
--- what is farther than the best so far is ignored
+-- Numbers farther than the best so far do not matter.
 pub nearest_of_near : (F H : ℤ → Type 0) (t : ℤ) (found : Option ℤ) → ((x : ℤ) → F x → H x) → FindsNearest F t found →
     IsSomeAnd found (λ z. (x : ℤ) → H x → F x ⊎ (distance t z < distance t x)) → FindsNearest H t found
 nearest_of_near F H t None to p far = absurd far
@@ -105,7 +105,7 @@ ends_earlier xs k m d s r in_k in_m order is = elim same_or [
 fits_front : (spans : List Span) (g : SiteGrid) (width : ℤ) (k : ℕ) (x : ℤ) → FitsOne (take k spans) g width x → FitsOne spans g width x
 fits_front spans g width k x f = record { on_grid = f.on_grid; within = of_front (λ s. LiesInSpanFrom s width x) k spans f.within }
 
--- one span more
+-- One span more.
 pub found_more : (spans : List Span) (g : SiteGrid) (width t : ℤ) (k : ℕ) (d : Span) (best next found : Option ℤ) → k < length spans →
     FindsNearest (λ x. FitsOne (take k spans) g width x) t best → FindsNearest (λ x. FitsSpan (get_or spans k d) g width x) t next → IsNearerOf best next t
     found →
@@ -139,7 +139,7 @@ found_more spans g width t k d best next found within p q n =
         let P : Span → Type 0 = λ s. LiesInSpanFrom s width x in
         record { on_grid = f.on_grid; within = subst (λ (xs : List Span). Any P xs) (sym parts) (Any-push P (take k spans) (get_or spans k d) f.within) }
 
--- the rest lies too far right
+-- The rest is too far right.
 pub found_in_front : (spans : List Span) (g : SiteGrid) (width t : ℤ) (k : ℕ) (d : Span) (best : Option ℤ) → IsRising spans → k < length spans →
     FindsNearest (λ x. FitsOne (take k spans) g width x) t best → IsPast (get_or spans k d) best t → FindsNearest (λ x. FitsOne spans g width x) t best
 found_in_front spans g width t k d None r within p past = absurd past
@@ -165,7 +165,7 @@ pub found_all : (spans : List Span) (g : SiteGrid) (width t : ℤ) (k : ℕ) (be
     FindsNearest (λ x. FitsOne spans g width x) t best
 found_all spans g width t k best past p = subst (λ (xs : List Span). FindsNearest (λ x. FitsOne xs g width x) t best) (take_all k spans past) p
 
--- ---- and from right to left
+-- ---- a list from right to left
 
 from_place : (xs : List Span) (n : ℕ) (d : Span) → n < length xs → drop n xs ≡ get_or xs n d ∷ drop (n + 1) xs
 from_place xs n d within = cc (drop-cons xs n d within, add-one n)
@@ -217,7 +217,7 @@ in_back {X} P k xs (m, x, within, is, p) above =
     let place : m ≡ k + (m - k) = omega (arith, above) in
     (m - k, x, omega (arith, within, above, length-drop k xs), get_or-drop k xs (m - k) x ∙ subst At place is, p)
 
--- the rest lies too far left
+-- The rest is too far left.
 pub found_in_back : (spans : List Span) (g : SiteGrid) (wanted : Target) (k : ℕ) (d : Span) (best : Option ℤ) → IsRising spans → k < length spans →
     FindsNearest (λ x. FitsOne (drop (k + 1) spans) g wanted.width x) wanted.target best → IsBefore (get_or spans k d) best wanted →
     FindsNearest (λ x. FitsOne spans g wanted.width x) wanted.target best
@@ -240,7 +240,7 @@ found_in_back spans g wanted k d (Some z) r within p before =
               inr (before x (omega (arith, ints, ends, held.high)))
         ]
 
--- ---- the part of a list that a slice takes
+-- ---- the part of a list in a slice
 
 pub rest_from : {X : Type 0} (xs : List X) (n : ℕ) → take (length xs - n) (drop n xs) ≡ drop n xs
 rest_from xs n = take_all (length xs - n) (drop n xs) (omega (arith, length-drop n xs))
@@ -264,7 +264,7 @@ found_at_last spans g width t n best none p =
     let zero_is : n ≡ 0 = omega (arith, none) in
     subst At zero_is p
 
--- ---- where lists meet
+-- ---- intersections of lists
 
 abbrev from_on : ℤ → ℤ → Span
 from_on x width = record { lo = x; hi = x +ℤ width }
@@ -314,7 +314,7 @@ found_in_rows lists met g width target w t best some same_width same_target m p 
     nearest_of_same (λ x. FitsOne met g width x) (λ x. FitsRows lists g width x) target best
     (λ x. rows_of_met lists met g width x some m) (λ x. met_of_rows lists met g width x some m) second
 
--- one list alone
+-- One list alone.
 pub meet_of_one : (spans : List Span) → IsRising spans → IsMeetAll (spans ∷ []) spans
 meet_of_one spans rising = record {
   rising = rising;
@@ -330,7 +330,7 @@ one_list [] first one is = absurd (omega (arith, one))
 one_list (v ∷ []) first one is = ap (λ (w : Vec Span Global). w.items ∷ []) (sym is)
 one_list (v ∷ w ∷ vs) first one is = absurd (omega (arith, one))
 
--- what is met lies as near as the first list
+-- The intersection is within the bounds of the first list.
 pub near_met : (lists : List (List Span)) (met : List Span) → 0 < length lists → ((d : List Span) → All IsBoundedSpan (get_or lists 0 d)) →
     IsMeetAll lists met → All IsBoundedSpan met
 near_met lists met some near m k d within =

@@ -1,31 +1,32 @@
--- What the steps of the search for the nearest gap return.
+-- Results of the steps of the search for the nearest gap.
 use Rattle.std.specs.Prelude.{◌≡◌, ℤ, pos, ◌+ℤ◌, ◌≤ℤ◌, ◌<ℤ◌, ◌<◌, ◌⊎◌, List, Any, Option, IfSome, IsSomeAnd}
 use Rattle.lf_spans.specs.declared.span.Span.{Span}
 use Rattle.lf_spans.specs.declared.grid.SiteGrid.{SiteGrid}
 use Rattle.lf_spans.specs.Grids.{IsBounded, IsNoFarther, IsOnGrid, LiesInSpanFrom, distance}
 use Rattle.lf_gaps.specs.declared.row.Target.{Target}
 
--- a width above 0, and a target; both are at most 2^40 either way
+-- A width above 0, and a target. The absolute values of both are at most 2^40.
 pub record IsWanted (wanted : Target) : Type 0 where
   pub some : pos 0 <ℤ wanted.width
   pub width : IsBounded wanted.width
   pub target : IsBounded wanted.target
 
--- the width fits, at this number of the grid, into one span of the list
+-- The width fits, at this grid number, one span of the list.
 pub record FitsOne (spans : List Span) (g : SiteGrid) (width x : ℤ) : Type 0 where
   pub on_grid : IsOnGrid g x
   pub within : Any (λ s. LiesInSpanFrom s width x) spans
 
--- one of the two, and no farther from the target than either
+-- One of the two options, and no farther from the target than either.
 pub record IsNearerOf (a b : Option ℤ) (target : ℤ) (found : Option ℤ) : Type 0 where
   pub from : (found ≡ a) ⊎ (found ≡ b)
   pub first : IfSome a (λ x. IsSomeAnd found (λ z. IsNoFarther target z x))
   pub second : IfSome b (λ x. IsSomeAnd found (λ z. IsNoFarther target z x))
 
--- there is a best so far, and it is nearer than each number from the start of the span on
+-- There is a best number so far, nearer than each number from the start of the span on.
 abbrev pub IsPast : Span → Option ℤ → ℤ → Type 0
 IsPast span best target = IsSomeAnd best (λ x. (y : ℤ) → span.lo ≤ℤ y → distance target x < distance target y)
 
--- there is a best so far, and it is nearer than each number at which the width ends in the span or left of it
+-- There is a best number so far, nearer than each number at which the width ends in the span or
+-- left of it.
 abbrev pub IsBefore : Span → Option ℤ → Target → Type 0
 IsBefore span best wanted = IsSomeAnd best (λ x. (y : ℤ) → (y +ℤ wanted.width) ≤ℤ span.hi → distance wanted.target x < distance wanted.target y)

@@ -1,12 +1,22 @@
-//! The place nearest to a target at which a width fits into one span of each of several lists.
+//! The place nearest to a target at which a width fits one span of each of several lists.
 //!
-//! So a cell that stands on several rows is placed: each list has the free spans of one row. Spans, lists that rise and
-//! grids are those of `lf_spans`.
+//! This places a cell on several rows: each list has the free spans of one row. Spans, rising lists
+//! and grids are those of `lf_spans`.
+//!
+//! Used by `lf_legalize`.
+//!
+//! Modules, in reading order:
+//!
+//! - `row`: the search, outwards from the target
+//!
+//! From `crates/lf_tests_basics/src/spans.rt`:
 //!
 //! ```
-//! let grid = Grid { origin: 0, step: 10 };
-//! let lists = [lower, upper]; // the free spans of two rows: 0..100 and 35..90
-//! let x = best_in_row(Global, &lists, &grid, 20, 0)?; // Some(40)
+//! let sites = SiteGrid {
+//!     origin: 0,
+//!     step: 200,
+//! };
+//! let found = best_in_row(rt.alloc(), rows.as_slice(), &sites, 600, 0)?;
 //! ```
 #![tactic(auto)]
 

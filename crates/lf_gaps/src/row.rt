@@ -1,4 +1,4 @@
-//! The nearest number of a grid at which a width fits into one span of each of several lists.
+//! The nearest grid number at which a width fits one span of each of several lists.
 
 ghost use Rattle.std.specs.Prelude.{◌≡◌, ◌<◌, ◌≤ℤ◌, ◌<ℤ◌, ◌↔◌, All, IfOk, IsTrue, length, map, pos};
 ghost use Rattle.std.specs.Bool.{OnFalse, OnTrue};
@@ -10,7 +10,7 @@ ghost use Rattle.lf_gaps.specs.Steps.{FitsOne, IsBefore, IsNearerOf, IsPast, IsW
 use lf_spans::{SiteGrid, Span, nearest_fit, spans_meet_all};
 use std::alloc::{AllocError, Global};
 
-/// The width that a gap must have, and the target that it is to be near.
+/// The width that a gap must have, and the target.
 #[derive(Clone, Copy)]
 struct Target {
     width: i64,
@@ -24,7 +24,7 @@ fn wanted_of(width: i64, target: i64) -> Target
     Target { width, target }
 }
 
-/// The nearest number at which the width fits into the span.
+/// Returns the grid number nearest to the target at which the width fits the span.
 fn nearest_in_span(span: &Span, grid: &SiteGrid, wanted: &Target) -> Option<i64>
     requires grid { IsGrid grid.now }
     requires bounded { IsBoundedSpan span.now }
@@ -34,7 +34,8 @@ fn nearest_in_span(span: &Span, grid: &SiteGrid, wanted: &Target) -> Option<i64>
     nearest_fit(span, grid, wanted.width, wanted.target)
 }
 
-/// Whether the first number is nearer to the target than the second, or equally near and less.
+/// Returns whether the first number is nearer to the target than the second, or equally near and
+/// less or equal.
 fn is_nearer(first: &i64, second: &i64, wanted: &Target) -> bool
     ensures yes { OnTrue result (IsNoFarther wanted.now.target first.now second.now) }
     ensures other { OnFalse result (IsNoFarther wanted.now.target second.now first.now) }
@@ -47,7 +48,7 @@ fn is_nearer(first: &i64, second: &i64, wanted: &Target) -> bool
     near < far
 }
 
-/// The nearer of two options; the other one if one is none.
+/// Returns the nearer of two options; the other one if one is `None`.
 fn nearer_of(best: &Option<i64>, next: &Option<i64>, wanted: &Target) -> Option<i64>
     ensures { IsNearerOf best.now next.now wanted.now.target result }
 {
@@ -64,7 +65,7 @@ fn nearer_of(best: &Option<i64>, next: &Option<i64>, wanted: &Target) -> Option<
     }
 }
 
-/// Whether nothing in the span or right of it can be as near as the best so far.
+/// Returns whether no number in the span or right of it can be as near as the best so far.
 fn is_past(span: &Span, best: &Option<i64>, wanted: &Target) -> bool
     ensures { IsTrue result → IsPast span.now best.now wanted.now.target }
 {
@@ -77,7 +78,7 @@ fn is_past(span: &Span, best: &Option<i64>, wanted: &Target) -> bool
     found.abs_diff(wanted.target) < span.lo.abs_diff(wanted.target)
 }
 
-/// Whether nothing in the span or left of it can be as near as the best so far.
+/// Returns whether no number in the span or left of it can be as near as the best so far.
 fn is_before(span: &Span, best: &Option<i64>, wanted: &Target) -> bool
     requires bounded { IsBoundedSpan span.now }
     requires wanted { IsWanted wanted.now }
@@ -93,8 +94,8 @@ fn is_before(span: &Span, best: &Option<i64>, wanted: &Target) -> bool
     found.abs_diff(wanted.target) < last.abs_diff(wanted.target)
 }
 
-/// The nearest number at which the width fits into one of the spans. They are searched from left to
-/// right until the rest is too far right.
+/// Returns the nearest number at which the width fits one of the spans. Searches from left to right
+/// until the rest is too far right.
 fn nearest_rightwards(spans: &[Span], grid: &SiteGrid, wanted: &Target) -> Option<i64>
     requires grid { IsGrid grid.now }
     requires rising { IsRising spans.now }
@@ -112,8 +113,8 @@ fn nearest_rightwards(spans: &[Span], grid: &SiteGrid, wanted: &Target) -> Optio
     best
 }
 
-/// The nearest number at which the width fits into one of the spans. The search goes outwards from
-/// the target, first right and then left, and ends where the rest is too far.
+/// Returns the nearest number at which the width fits one of the spans. Searches outwards from the
+/// target, first right and then left, until the rest is too far.
 fn nearest_of(spans: &[Span], grid: &SiteGrid, wanted: &Target) -> Option<i64>
     requires grid { IsGrid grid.now }
     requires rising { IsRising spans.now }
@@ -135,11 +136,12 @@ fn nearest_of(spans: &[Span], grid: &SiteGrid, wanted: &Target) -> Option<i64>
     best
 }
 
-/// The grid number nearest to the target at which the width lies in one span of each list; the
-/// lesser of two equally near ones; none iff there is none. Spans that touch stay apart.
+/// Returns the grid number nearest to the target at which the width lies in one span of each list;
+/// the lesser of two that are equally near. `None` iff there is no such number. Spans that touch
+/// remain separate.
 ///
-/// There is one list or more, and each rises. Width and step are above 0, and all numbers, in database units, within 2^40
-/// either way. `Err` if an allocation fails.
+/// There is at least one list, and each rises. Width and step are above 0. All numbers are in
+/// database units, within 2^40 of 0. `Err` if an allocation fails.
 pub fn best_in_row(
     alloc: Global,
     lists: &[Vec<Span>],

@@ -3,7 +3,7 @@ use Rattle.lf_spans.specs.Grids.{FindsNearest}
 use Rattle.lf_gaps.specs.Steps.{FitsOne}
 use Rattle.lf_gaps.proofs.row.nearest_of.Given as goal
 
--- the nearest one in the spans from here on
+-- The nearest number in the spans from here on.
 abbrev pub invariant-loop-i : goal.invariant-loop-i
 invariant-loop-i l = record {
   within : l.i ≤ length l.spans;
