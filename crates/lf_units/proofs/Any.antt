@@ -18,7 +18,7 @@ any_cases P x xs (suc k, y, within, is, p) = inr (k, y, omega arith, is, p)
 pub none_of_nothing : {A : Type 0} (P : A → Type 0) → Any P [] → ⊥
 none_of_nothing P h = omega (arith, h.2)
 
--- an entry of a name, and the name among all names
+-- An entry with a name, and the name among all names.
 pub name_of_any : {A : Type 0} (name : A → List ℕ) (xs : List A) (n : List ℕ) → Any (λ x. name x ≡ n) xs → Contains (map name xs) n
 name_of_any name xs n (k, x, within, is, same) =
     let there : k < length (map name xs) = omega (arith, length-map xs name) in
@@ -29,7 +29,7 @@ any_of_name name [] n (k, within, is) = absurd (omega arith)
 any_of_name name (x ∷ xs) n (zero, within, is) = any_first (λ y. name y ≡ n) x xs is
 any_of_name name (x ∷ xs) n (suc k, within, is) = any_later (λ y. name y ≡ n) x xs (any_of_name name xs n (k, omega arith, is))
 
--- an entry of a list that is put together
+-- An entry of a concatenated list.
 pub any_parts : {A : Type 0} (P : A → Type 0) (xs ys : List A) → Any P (xs ++ ys) → Any P xs ⊎ Any P ys
 any_parts P [] ys h = inr h
 any_parts P (x ∷ xs) ys h = elim (any_cases P x (xs ++ ys) h) [
@@ -65,7 +65,7 @@ any_map f P (x ∷ xs) h = elim (any_cases (λ y. P (f y)) x xs h) [
   | inr rest ↦ any_later P (f x) (map f xs) (any_map f P xs rest)
 ]
 
--- an entry that passes a test, and the entries that do
+-- An entry that passes a test, and the list of all entries that pass it.
 pub any_kept : {A : Type 0} (p : A → Bool) (P : A → Type 0) (xs : List A) → Any (λ x. (p x ≡ true) × P x) xs → Any P (filter p xs)
 any_kept p P [] h = absurd (none_of_nothing (λ x. (p x ≡ true) × P x) h)
 any_kept p P (x ∷ xs) h = by (p x) refl (any_cases (λ y. (p y ≡ true) × P y) x xs h) (any_kept p P xs)
@@ -90,13 +90,13 @@ any_of_kept p P (x ∷ xs) h = by (p x) refl h (any_of_kept p P xs)
         first (inr later) rest e = any_later (λ y. (p y ≡ true) × P y) x xs (rest later)
     by false e g rest = any_later (λ y. (p y ≡ true) × P y) x xs (rest (rw e at g))
 
--- an item of a list that has the property, and where it stands
+-- An item of a list that has the property, and its position.
 pub has_item : {A : Type 0} (P : A → Type 0) (xs : List A) (x : A) → Contains xs x → P x → Any P xs
 has_item P xs x there p = (there.0, x, there.1, there.2, p)
 
 pub any_more : {A : Type 0} (P Q : A → Type 0) (xs ys : List A) → ((x : A) → Contains xs x → Contains ys x) → ((x : A) → P x → Q x) → Any P xs → Any Q ys
 any_more P Q xs ys more forth h = has_item Q ys h.1 (more h.1 (h.0, h.2, h.3)) (forth h.1 h.4)
 
--- an element that is read at a place
+-- An element that is read at a position.
 pub any_here : {A : Type 0} (P : A → Type 0) (xs : List A) (k : ℕ) (d : A) → k < length xs → P (get_or xs k d) → Any P xs
 any_here P xs k d within p = (k, get_or xs k d, within, get_or_default xs k (get_or xs k d) d within, p)

@@ -1,4 +1,5 @@
--- A number that was read is a digit string's, with a sign, and no larger than the largest that is read.
+-- A number read from a text is that of a digit string with a sign, and at most the largest that is
+-- read.
 use Rattle.std.proofs.Common.{◌≡◌, ℕ, ◌≤◌, Bool, true, false, cond, List, ℤ, Result, Ok, Err, refl, subst, arith}
 use Rattle.std.specs.Prelude.{nat_lt}
 use Rattle.std.proofs.lemmas.Bool.Decides.{nat_tests}
@@ -7,7 +8,7 @@ use Rattle.lf_units.specs.declared.number.NumberFault.{NumberFault}
 use Rattle.lf_units.specs.declared.number.NumberFault.TheVariants.{NotANumber, TooFine, TooLarge}
 use Rattle.lf_units.specs.Number.{fixed_of, digits_fixed, is_number, whole_of, fraction_of, is_too_fine, magnitude_of, with_sign}
 
--- each number up to the largest has the property, with either sign
+-- Each number up to the largest has the property, with either sign.
 abbrev pub EachHas : (ℤ → Type 0) → ℕ → Type 0
 EachHas P max = (negative : Bool) (n : ℕ) → n ≤ max → P (with_sign negative n)
 

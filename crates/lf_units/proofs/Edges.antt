@@ -4,7 +4,7 @@ use Rattle.std.proofs.lemmas.Int.{ints, by_lt_z}
 use Rattle.lf_units.specs.declared.geometry.Rect.{Rect}
 use Rattle.lf_units.specs.Area.{Covers, SharesPoint}
 
--- what the edges of two rectangles say where they share a point
+-- The order of the edges of two rectangles that share a point.
 pub record EdgesCross (a b : Rect) : Type 0 where
   pub wide_first : a.x1 <ℤ a.x2
   pub wide_second : b.x1 <ℤ b.x2
@@ -27,7 +27,7 @@ edges_of_shared a b s = record {
   above = omega (arith, ints);
 }
 
--- a number in both of two spans
+-- A number in both of two spans.
 record InBoth (a1 a2 b1 b2 : ℤ) : Type 0 where
   at : ℤ
   low_first : a1 ≤ℤ at
@@ -52,7 +52,7 @@ shared_of_edges a b e =
       in_second = record { left = h.low_second; right = h.high_second; bottom = v.low_second; top = v.high_second };
     }
 
--- a point lies in a rectangle by its edges
+-- A point lies in a rectangle, by its edges.
 pub covers_by_edges : (r : Rect) (x y : ℤ) → r.x1 ≤ℤ x → x <ℤ r.x2 → r.y1 ≤ℤ y → y <ℤ r.y2 → Covers r x y
 covers_by_edges r x y a b c d = record { left = a; right = b; bottom = c; top = d }
 

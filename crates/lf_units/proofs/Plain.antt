@@ -36,7 +36,7 @@ whole_value negative ds max v is le =
     let once : digits_value 10 ds * 1 ≡ v = omega (arith, is) in
     rw (append_nothing ds, once, le-ltb max v le) refl
 
--- the number that digits alone write, at no decimals
+-- The number that digits alone write, with no decimals.
 pub plain_is : (negative : Bool) (ds : List ℕ) (max v : ℕ) → list_all is_ascii_digit ds ≡ true → 0 < length ds → v ≡ digits_value 10 ds → v ≤ max
     → (is_number (take (position_or_len is_point ds) ds) (drop (position_or_len is_point ds + 1) ds) ≡ true)
     × (Ok (with_sign negative v) ≡ digits_fixed negative (take (position_or_len is_point ds) ds) (drop (position_or_len is_point ds + 1) ds) 0 max)
@@ -46,7 +46,7 @@ plain_is negative ds max v all some is le =
       rw (no_point ds all, take-length ds, nothing_after ds) (whole_value negative ds max v is le),
     )
 
--- the number that a text writes, where nothing but digits follows its sign
+-- The number that a text writes if only digits follow its sign.
 pub plain_fixed : (text ds : List ℕ) (max v decimals : ℕ) → ds ≡ without_leading_sign text → decimals ≡ 0 → list_all is_ascii_digit ds ≡ true → 0 < length ds → v ≡ digits_value 10 ds → v ≤ max
     → Ok (with_sign (starts_with_minus text) v) ≡ fixed_of text decimals max
 plain_fixed text ds max v decimals body none all some is le =

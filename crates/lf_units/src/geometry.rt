@@ -1,18 +1,18 @@
-//! Whole points and rectangles.
+//! Points and rectangles.
 
 ghost use Rattle.std.specs.Prelude.{ℤ, ◌↔◌, ◌≤ℤ◌, ◌<ℤ◌, IsTrue};
 ghost use Rattle.lf_units.specs.Area.{SharesPoint, Covers};
 
-/// A whole point, or a size: x across and y up, in database units or in millionths of a micron.
+/// A point, or a size: x across and y up, in whole database units or in millionths of a micron.
 #[derive(Clone, Copy, Debug, PartialEq, Eq)]
 pub struct Point {
     pub x: i64,
     pub y: i64,
 }
 
-/// The whole points (x, y) with x1 <= x < x2 and y1 <= y < y2, in database units.
+/// The points (x, y) with x1 <= x < x2 and y1 <= y < y2, in whole database units.
 ///
-/// A rectangle without points is allowed, and covers nothing.
+/// A rectangle without points is allowed and covers nothing.
 #[derive(Clone, Copy, Debug, PartialEq, Eq)]
 pub struct Rect {
     pub x1: i64,
@@ -22,8 +22,8 @@ pub struct Rect {
 }
 
 impl Rect {
-    /// Whether the point lies in the rectangle: left and lower edges count, right and upper ones do
-    /// not.
+    /// Returns whether the point lies in the rectangle: left and lower edges count, right and upper
+    /// edges do not.
     #[tactic(auto, using(crate::proofs::Edges::edges))]
     pub fn covers(&self, point: &Point) -> bool
         ensures { IsTrue result ↔ Covers self.now point.now.x point.now.y }
@@ -34,8 +34,8 @@ impl Rect {
         self.y1 <= point.y && point.y < self.y2
     }
 
-    /// Whether some point lies in both: rectangles that only touch do not overlap, and one without
-    /// points overlaps none.
+    /// Returns whether some point lies in both. Rectangles that only touch do not overlap, and one
+    /// without points overlaps nothing.
     #[tactic(auto, using(crate::proofs::Edges::edges))]
     pub fn overlaps(&self, other: &Rect) -> bool
         ensures { IsTrue result ↔ SharesPoint self.now other.now }

@@ -1,14 +1,24 @@
-//! Numbers of LEF and DEF texts in whole units, points and rectangles, and the lists that public types hold.
+//! Exact numbers of LEF and DEF texts, points and rectangles, and the lists that public types hold.
 //!
-//! Lengths of LEF are whole millionths of a micron, coordinates of DEF whole database units; nothing is rounded. A contract
-//! sees of a `Sequence` the list of its elements, and of a `Name` the list of its bytes.
+//! Lengths of LEF are in whole millionths of a micron, coordinates of DEF in whole database units.
+//! Nothing is rounded. Contracts see a `Sequence` as the list of its elements, and a `Name` as the
+//! list of its bytes.
 //!
 //! `Span`, `nearest_on_grid`, `spans_join`, `spans_meet` and `spans_minus` are those of `lf_spans`.
 //!
+//! Used by most other crates.
+//!
+//! Modules, in reading order:
+//!
+//! - `geometry`: points and rectangles
+//! - `number`: decimal numbers of texts, and lengths in database units
+//! - `sequence`: lists and names as public types hold them
+//!
+//! From `crates/lf_tests_basics/src/units.rt`:
+//!
 //! ```
-//! let width = read_fixed(b"0.46", 6, 1_000_000_000_000)?; // 460,000 millionths of a micron
-//! micros_to_dbu(width, 1000); // Some(460)
-//! micros_to_dbu(width, 10); // None: 4.6 units are not whole
+//! assert_eq!(rt; micros_to_dbu(200_000, 1000), Some(200));
+//! assert_eq!(rt; micros_to_dbu(190_500, 1000), None);
 //! ```
 #![tactic(auto)]
 

@@ -7,14 +7,14 @@ ghost use Rattle.std.specs.Str.Parse.{starts_with_minus, without_leading_sign, d
 ghost use Rattle.lf_units.specs.Length.{IsLength};
 ghost use Rattle.lf_units.specs.Number.{fixed_of, digits_fixed, up_to, is_point, is_not_zero, with_sign};
 
-/// Why a text is not the number asked for: the first of these that applies.
+/// Why a text is not a number of the requested form: the first fault that applies, in this order.
 #[derive(Clone, Copy, Debug, PartialEq, Eq)]
 pub enum NumberFault {
-    /// Not an optional sign and then digits with at most one point, at least one digit among them.
+    /// Not an optional sign followed by digits with at most one point, or no digit.
     NotANumber,
     /// A digit other than 0 follows the decimals that are kept.
     TooFine,
-    /// The number without its sign exceeds the largest one asked for.
+    /// The number without its sign exceeds the given maximum.
     TooLarge,
 }
 
@@ -51,7 +51,7 @@ fn are_digits(text: &[u8]) -> bool
     text.iter().all(|b| b.is_ascii_digit())
 }
 
-/// Whether one of the digits is not 0.
+/// Returns whether a digit is not 0.
 fn has_more(digits: &[u8]) -> bool
     ensures { result ≡ list_any is_not_zero digits.now }
 {
@@ -66,7 +66,7 @@ fn signed(negative: bool, magnitude: u64) -> i64
     if negative { -magnitude } else { magnitude }
 }
 
-/// The value of `value`'s digits followed by these; none if it exceeds `max`.
+/// Returns the value of `value`'s digits followed by these. `None` if it exceeds `max`.
 fn digits_after(value: u64, digits: &[u8], max: u64) -> Option<u64>
     requires digits { list_all is_ascii_digit digits.now ≡ true }
     requires max { max ≤ 10 ^ 12 }
@@ -83,7 +83,8 @@ fn digits_after(value: u64, digits: &[u8], max: u64) -> Option<u64>
     Some(total)
 }
 
-/// The value of a text of digits alone, if it is at most `max`; none if anything else is in the text. Each byte is looked at once.
+/// Returns the value of a text of digits, in one pass. `None` if the text is empty, has another
+/// byte, or the value exceeds `max`.
 fn plain_value(text: &[u8], max: u64) -> Option<u64>
     requires max { max ≤ 10 ^ 12 }
     ensures { IfSome result (λ n. (list_all is_ascii_digit text.now ≡ true) × (0 < length text.now) × (n ≡ digits_value 10 text.now) × (n ≤ max)) }
@@ -104,7 +105,7 @@ fn plain_value(text: &[u8], max: u64) -> Option<u64>
     Some(total)
 }
 
-/// `value` followed by that many zeros; none if it exceeds `max`.
+/// Returns `value` followed by `zeros` zeros. `None` if it exceeds `max`.
 fn shifted(value: u64, zeros: usize, max: u64) -> Option<u64>
     requires zeros { zeros ≤ 6 }
     requires value { value ≤ 10 ^ 12 }
@@ -114,7 +115,8 @@ fn shifted(value: u64, zeros: usize, max: u64) -> Option<u64>
     (total <= max).then_some(total)
 }
 
-/// The value of both texts' digits one after the other, then that many zeros; none above `max`.
+/// Returns the value of the digits of both texts, joined and followed by `zeros` zeros. `None` if
+/// it exceeds `max`.
 fn joined_digits(whole: &[u8], kept: &[u8], zeros: usize, max: u64) -> Option<u64>
     requires whole { list_all is_ascii_digit whole.now ≡ true }
     requires kept { list_all is_ascii_digit kept.now ≡ true }
@@ -127,7 +129,7 @@ fn joined_digits(whole: &[u8], kept: &[u8], zeros: usize, max: u64) -> Option<u6
     shifted(value, zeros, max)
 }
 
-/// The decimals that are kept, and the remaining ones.
+/// Returns the decimals that are kept, and the remaining ones.
 fn split_decimals(fraction: &[u8], decimals: usize) -> (&[u8], &[u8])
     ensures kept { result.0.now ≡ take decimals fraction.now }
     ensures finer { result.1.now ≡ drop decimals fraction.now }
@@ -135,7 +137,9 @@ fn split_decimals(fraction: &[u8], decimals: usize) -> (&[u8], &[u8])
     fraction.split_at(decimals.min(fraction.len()))
 }
 
-/// The value of the digits before and after the point, or its fault.
+/// Returns the number with the digits `whole` in front of the point and `fraction` after it.
+/// `Err(TooFine)` if a digit other than 0 is cut off; `Err(TooLarge)` if the number without its
+/// sign exceeds `max`.
 fn value_of(
     negative: bool,
     whole: &[u8],
@@ -159,13 +163,14 @@ fn value_of(
     }
 }
 
-/// The number that a text writes, in units of 1 / 10 ^ `decimals`: 6 for lengths of LEF, which
-/// become millionths of a micron, and 0 for coordinates of DEF.
+/// Returns the number that a text writes, in units of 1 / 10 ^ `decimals`. Lengths of LEF use 6
+/// decimals and become millionths of a micron; coordinates of DEF use 0.
 ///
 /// The text is an optional sign and decimal digits with at most one point, as `-.5` or `100.00`.
-/// `max`, at most 10^12, bounds the number without its sign, in the same units. `decimals` is at most 6.
+/// `max`, at most 10^12, bounds the number without its sign, in the same units. `decimals` is at
+/// most 6.
 ///
-/// `Err` is the first of NotANumber, TooFine and TooLarge that applies; it never is a failed allocation.
+/// `Err` is the first of `NotANumber`, `TooFine` and `TooLarge` that applies. Allocates nothing.
 pub fn read_fixed(text: &[u8], decimals: usize, max: u64) -> Result<i64, NumberFault>
     requires decimals { decimals ≤ 6 }
     requires max { max ≤ 10 ^ 12 }
@@ -185,9 +190,11 @@ pub fn read_fixed(text: &[u8], decimals: usize, max: u64) -> Result<i64, NumberF
     }
 }
 
-/// A length in millionths of a micron, within 10^12 either way, as one in database units; none iff it is not whole in them.
+/// Converts a length from millionths of a micron, within 10^12 of 0, to database units. `None` iff
+/// it is not whole in database units.
 ///
-/// `units` is the number of database units per micron, 1 to 20,000 (LEF/DEF 5.8, DEF UNITS). Nothing is rounded.
+/// `units` is the number of database units per micron, 1 to 20,000 (LEF/DEF 5.8, DEF UNITS).
+/// Nothing is rounded.
 pub fn micros_to_dbu(length: i64, units: u32) -> Option<i64>
     requires low { negsuc 999999999999 ≤ℤ length }
     requires high { length ≤ℤ pos (10 ^ 12) }

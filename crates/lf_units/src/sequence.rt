@@ -1,12 +1,12 @@
-//! Lists that contracts see as lists.
+//! Lists that contracts see without their capacity.
 
 ghost use Rattle.std.specs.Prelude.{◌≡◌, [], ◌∷◌, ◌++◌, length, bytes_eq, IsTrue, ◌↔◌, IfOk, OnErr, OnOk};
 
 use std::alloc::{AllocError, Global};
 use std::marker::Model;
 
-/// A list of values that a public type holds. A contract sees the list itself and no capacity: two
-/// are equal if their elements are.
+/// A list of values that a public type holds. A contract sees the list without a capacity: two are
+/// equal if their elements are.
 #[derive(Drop)]
 pub struct Sequence<T> {
     values: Vec<T>,
@@ -21,7 +21,7 @@ impl<T> Model for Sequence<T> {
 }
 
 impl<T> Sequence<T> {
-    /// The empty list.
+    /// Returns the empty list.
     pub fn new(alloc: Global) -> Self
         ensures { result ≡ [] }
     {
@@ -30,14 +30,14 @@ impl<T> Sequence<T> {
         }
     }
 
-    /// The list of a vector's elements.
+    /// Returns the list of a vector's elements.
     pub fn from_vec(values: Vec<T>) -> Self
         ensures { result ≡ values.items }
     {
         Sequence { values }
     }
 
-    /// The elements as a vector.
+    /// Returns the elements as a vector.
     pub fn into_vec(self) -> Vec<T>
         ensures { result.items ≡ self }
     {
@@ -45,21 +45,21 @@ impl<T> Sequence<T> {
         values
     }
 
-    /// The elements, borrowed.
+    /// Returns the elements, borrowed.
     pub fn as_slice(&self) -> &[T]
         ensures { result.now ≡ self.now }
     {
         self.values.as_slice()
     }
 
-    /// How many elements the list has.
+    /// Returns the number of elements.
     pub fn len(&self) -> usize
         ensures { result ≡ length self.now }
     {
         self.values.len()
     }
 
-    /// Whether the list has no element.
+    /// Returns whether the list has no element.
     pub fn is_empty(&self) -> bool
         ensures { IsTrue result ↔ (self.now ≡ []) }
     {
@@ -78,7 +78,8 @@ impl<T: Drop> Sequence<T> {
     }
 }
 
-/// The bytes of a name or of another word of a text. Upper and lower case differ. A contract sees the list of the bytes.
+/// The bytes of a name or of another word of a text. Upper and lower case differ. A contract sees
+/// the list of the bytes.
 #[derive(Drop)]
 pub struct Name {
     bytes: Vec<u8>,
@@ -93,7 +94,7 @@ impl Model for Name {
 }
 
 impl Name {
-    /// A copy of the bytes. `Err` if an allocation fails.
+    /// Returns a copy of the bytes. `Err` if an allocation fails.
     pub fn from_slice(alloc: Global, bytes: &[u8]) -> Result<Self, AllocError>
         ensures { IfOk result (λ name. name ≡ bytes.now) }
     {
@@ -102,21 +103,21 @@ impl Name {
         })
     }
 
-    /// The name of these bytes, without a copy.
+    /// Returns the name with these bytes, without a copy.
     pub fn from_vec(bytes: Vec<u8>) -> Self
         ensures { result ≡ bytes.items }
     {
         Name { bytes }
     }
 
-    /// The bytes, borrowed.
+    /// Returns the bytes, borrowed.
     pub fn as_bytes(&self) -> &[u8]
         ensures { result.now ≡ self.now }
     {
         self.bytes.as_slice()
     }
 
-    /// Whether these are the name's bytes.
+    /// Returns whether these are the name's bytes.
     pub fn is(&self, bytes: &[u8]) -> bool
         ensures { result ≡ bytes_eq self.now bytes.now }
     {

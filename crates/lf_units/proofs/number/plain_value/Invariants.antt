@@ -4,7 +4,8 @@ use Rattle.std.specs.List.{list_all}
 use Rattle.std.specs.Str.Parse.{digits_value_after}
 use Rattle.lf_units.proofs.number.plain_value.Given as goal
 
--- the number so far, followed by the bytes that are left, is the whole number; those bytes decide whether all are digits
+-- The number so far, followed by the remaining bytes, is the whole number. The remaining bytes
+-- decide whether all are digits.
 abbrev pub invariant-loop-byte : goal.invariant-loop-byte
 invariant-loop-byte l = record {
   total : digits_value_after 10 l.total (drop l.byte-index l.text) ≡ digits_value_after 10 0 l.text;
