@@ -1,4 +1,4 @@
--- What lies within a bound.
+-- Boxes within a bound.
 use Rattle.std.proofs.Common.{ℕ, ◌+◌, ◌<◌, List, [], ◌∷◌, sym, subst, length, get_or, take, drop, arith}
 use Rattle.std.specs.Prelude.{All}
 use Rattle.std.proofs.lemmas.Int.{ints}
@@ -10,7 +10,7 @@ use Rattle.lf_rtree.specs.Packed.{IsBound}
 use Rattle.lf_rtree.specs.declared.placed.Placed.{Placed}
 use Rattle.lf_rtree.specs.declared.bound.Bound.{Bound}
 
--- what shares a point with a box shares it with the box's bound
+-- A rectangle that shares a point with a box shares it with the box's bound.
 pub shares_with_bound : (rect : Rect) (bound : Bound) (p : Placed) → IsBound bound p → SharesPoint rect p.rect → SharesPoint rect bound.rect
 shares_with_bound rect bound p within s = record {
   x = s.x;
@@ -19,7 +19,7 @@ shares_with_bound rect bound p within s = record {
   in_second = record { left = omega (arith, ints); right = omega (arith, ints); bottom = omega (arith, ints); top = omega (arith, ints) };
 }
 
--- a bound that holds one box more
+-- A bound of one box more.
 pub bounds_more : (old new : Bound) (boxes : List Placed) (n : ℕ) (d : Placed) → n < length boxes → All (IsBound old) (take n boxes) →
     IsBound new (get_or boxes n d) → ((p : Placed) → IsBound old p → IsBound new p) → All (IsBound new) (take (n + 1) boxes)
 bounds_more old new boxes n d within before here wider =
@@ -27,7 +27,7 @@ bounds_more old new boxes n d within before here wider =
     (All-append (IsBound new) (take n boxes) (get_or boxes n d ∷ []) (All-weaker (IsBound old) (IsBound new) wider (take n boxes) before)
     (All-cons (IsBound new) (get_or boxes n d) [] here (All-nil (IsBound new))))
 
--- a bound of both parts of a list bounds the list
+-- A bound of both parts of a list bounds the list.
 pub bounds_both : (first last both : Bound) (boxes : List Placed) (n : ℕ) → All (IsBound first) (take n boxes) → All (IsBound last) (drop n boxes) →
     ((p : Placed) → IsBound first p → IsBound both p) → ((p : Placed) → IsBound last p → IsBound both p) → All (IsBound both) boxes
 bounds_both first last both boxes n before behind wider wider_last =

@@ -1,4 +1,4 @@
--- The least number of a list of boxes from those of its parts.
+-- The least number of a list of boxes, from those of its parts.
 use Rattle.std.proofs.Common.{◌≢◌, inl, inr, ℕ, List, [], ◌∷◌, ◌++◌, Option, Some, None, refl, sym, subst, ◌∙◌, ◌+◌, ◌<◌, length, get_or, take, drop, arith}
 use Rattle.std.specs.Prelude.{All, IfSome, IsSomeAnd, IsPermutation}
 use Rattle.std.proofs.lemmas.List.Elements.{All-append, All-weaker, Contains-append_left, Contains-append_right}
@@ -11,23 +11,24 @@ use Rattle.lf_rtree.specs.Packed.{IsBound, IsUpTo, IsLeastOf, HoldsNoLess}
 use Rattle.lf_rtree.specs.declared.placed.Placed.{Placed}
 use Rattle.lf_rtree.specs.declared.bound.Bound.{Bound}
 
--- what is up to a number is up to a lesser one too
+-- If a is at most n, and b is at most a, then b is at most n.
 up_to_less : (a b : Option ℕ) (n : ℕ) → IsUpTo a n → IfSome a (IsUpTo b) → IsUpTo b n
 up_to_less None b n low less = absurd low
 up_to_less (Some x) None n low less = absurd less
 up_to_less (Some x) (Some y) n low less = omega arith
 
--- a number is no greater than itself
+-- A number is no greater than itself.
 up_to_itself : (a : Option ℕ) → IfSome a (IsUpTo a)
 up_to_itself None = tt
 up_to_itself (Some x) = omega arith
 
--- no greater than what is no greater
+-- The relation `no greater` is transitive.
 no_greater_along : (a b c : Option ℕ) → IfSome a (IsUpTo b) → IfSome b (IsUpTo c) → IfSome a (IsUpTo c)
 no_greater_along None b c first second = tt
 no_greater_along (Some x) b c first second = up_to_less b c x first second
 
--- what is met of the first list, of the second and of a list in another order is met of both and of the other
+-- A number found in one of two lists is found in their concatenation, and one found in a list is
+-- found in its permutations.
 met_before : (xs ys : List Placed) (rect : Rect) (but : ℕ) (a : Option ℕ) → IsSomeAnd a (IsOverlapping xs rect but) → IsSomeAnd a (IsOverlapping (xs ++ ys) rect but)
 met_before xs ys rect but None m = absurd m
 met_before xs ys rect but (Some own) m = record {
@@ -58,7 +59,7 @@ met_permuted xs ys rect but (Some own) moved m = record {
   shares = m.shares;
 }
 
--- the least of one list, taken on through another, is the least of both
+-- The least of one list, continued through another, is the least of both.
 pub least_along : (xs ys : List Placed) (rect : Rect) (but : ℕ) (a b c : Option ℕ) →
     IsLeastOf xs rect but a b → IsLeastOf ys rect but b c → IsLeastOf (xs ++ ys) rect but a c
 least_along xs ys rect but a b c first second = record {
@@ -79,14 +80,14 @@ least_along xs ys rect but a b c first second = record {
       second.least_met;
 }
 
--- one box more
+-- One box more.
 pub least_one_more : (boxes : List Placed) (n : ℕ) (d : Placed) (rect : Rect) (but : ℕ) (a b c : Option ℕ) → n < length boxes →
     IsLeastOf (take n boxes) rect but a b → IsLeastOf (get_or boxes n d ∷ []) rect but b c → IsLeastOf (take (n + 1) boxes) rect but a c
 least_one_more boxes n d rect but a b c within first second =
     subst (λ (xs : List Placed). IsLeastOf xs rect but a c) (sym (take_more boxes n d within))
     (least_along (take n boxes) (get_or boxes n d ∷ []) rect but a b c first second)
 
--- the order of the boxes does not matter
+-- The order of the boxes does not matter.
 pub least_permuted : (xs ys : List Placed) (rect : Rect) (but : ℕ) (a b : Option ℕ) → IsPermutation xs ys → IsLeastOf xs rect but a b → IsLeastOf ys rect but a b
 least_permuted xs ys rect but a b moved of = record {
   from = elim of.from [ inl kept ↦ inl kept | inr m ↦ inr (met_permuted xs ys rect but b moved m) ];
@@ -94,7 +95,7 @@ least_permuted xs ys rect but a b moved of = record {
   least_met = All-permutation (λ p. p.own ≢ but → SharesPoint rect p.rect → IsUpTo b p.own) xs ys moved of.least_met;
 }
 
--- the front of a list and then what follows it, and the other way round
+-- The front of a list and then the rest, or the rest and then the front.
 pub least_of_halves : (boxes : List Placed) (n : ℕ) (rect : Rect) (but : ℕ) (a b c : Option ℕ) → IsLeastOf (take n boxes) rect but a b →
     IsLeastOf (drop n boxes) rect but b c → IsLeastOf boxes rect but a c
 least_of_halves boxes n rect but a b c first second =
@@ -110,7 +111,7 @@ least_turned boxes n rect but a b c first second =
     (least_permuted (back ++ front) (front ++ back) rect but a c (IsPermutation-append_comm back front)
     (least_along back front rect but a b c first second))
 
--- boxes within a bound within which no number is less change nothing
+-- Boxes in a bound within which no number is less change nothing.
 pub least_kept : (bound : Bound) (boxes : List Placed) (rect : Rect) (but : ℕ) (a : Option ℕ) → All (IsBound bound) boxes →
     HoldsNoLess bound rect a → IsLeastOf boxes rect but a a
 least_kept bound boxes rect but a within low = record {

@@ -1,4 +1,4 @@
--- The boxes near a rectangle from those of a list's parts.
+-- The boxes near a rectangle, from those of a list's parts.
 use Rattle.std.proofs.Common.{◌≡◌, ℕ, ◌+◌, ◌<◌, List, [], ◌∷◌, ◌++◌, length, get_or, take, drop, sym, ap, subst, ◌∙◌, append_assoc, append-nil}
 use Rattle.std.specs.Prelude.{All, Contains, IsPermutation}
 use Rattle.std.proofs.lemmas.List.{take_more, take-append-drop}
@@ -13,7 +13,7 @@ use Rattle.lf_rtree.specs.declared.placed.Placed.{Placed}
 use Rattle.lf_rtree.specs.declared.bound.Bound.{Bound}
 use Rattle.lf_rtree.proofs.Bounds.{shares_with_bound}
 
--- lists that are parted, one after the other, are parted so
+-- Partitions of two lists make a partition of their concatenation.
 parted_along : (xs ys found others more rest : List Placed) → IsPermutation xs (found ++ others) → IsPermutation ys (more ++ rest) →
     IsPermutation (xs ++ ys) ((found ++ more) ++ (others ++ rest))
 parted_along xs ys found others more rest first second =
@@ -30,7 +30,7 @@ parted_along xs ys found others more rest first second =
     (IsPermutation-append_right found (others ++ (more ++ rest)) (more ++ (others ++ rest)) behind) in
     IsPermutation-trans (xs ++ ys) all ((found ++ more) ++ (others ++ rest)) both last
 
--- what is near of two lists is near of both, one after the other
+-- The near boxes of two lists, one after the other, are those of their concatenation.
 pub near_along : (xs ys : List Placed) (rect : Rect) (front back : List Placed) → AreNear xs rect front → AreNear ys rect back →
     AreNear (xs ++ ys) rect (front ++ back)
 near_along xs ys rect front back first second = record {
@@ -40,11 +40,11 @@ near_along xs ys rect front back first second = record {
   far = All-append (λ p. SharesPoint rect p.rect → ⊥) first.others second.others first.far second.far;
 }
 
--- of boxes that share no point with the rectangle none is near
+-- If no box shares a point with the rectangle, no box is near.
 pub none_near : (xs : List Placed) (rect : Rect) → All (λ p. SharesPoint rect p.rect → ⊥) xs → AreNear xs rect []
 none_near xs rect far = record { others = xs; parted = IsPermutation-refl xs; near = All-nil (λ p. SharesPoint rect p.rect); far = far }
 
--- one box that shares none, and one that does
+-- One box that shares no point, and one that does.
 pub far_box : (p : Placed) (rect : Rect) → (SharesPoint rect p.rect → ⊥) → AreNear (p ∷ []) rect []
 far_box p rect apart = let Apart : Placed → Type 0 = λ q. SharesPoint rect q.rect → ⊥ in none_near (p ∷ []) rect (All-cons Apart p [] apart (All-nil Apart))
 
@@ -56,7 +56,7 @@ near_box p rect shares = record {
   far = All-nil (λ q. SharesPoint rect q.rect → ⊥);
 }
 
--- each near box is found, and only those. A caller's proof may cite these
+-- Each near box is found, and only those. A caller's proof may cite these.
 pub each_near : (boxes : List Placed) (rect : Rect) (found : List Placed) → AreNear boxes rect found →
     All (λ p. SharesPoint rect p.rect → Contains found p) boxes
 each_near boxes rect found are =
@@ -73,7 +73,7 @@ only_near boxes rect found are k d within = (
   are.near k d within,
 )
 
--- found of one list and then of another, they are found of both
+-- Boxes found in one list and then in another are those found in both.
 adds_along : (xs ys : List Placed) (rect : Rect) (old middle new : List Placed) → AddsNear xs rect old middle → AddsNear ys rect middle new →
     AddsNear (xs ++ ys) rect old new
 adds_along xs ys rect old middle new first second = record {
@@ -82,32 +82,32 @@ adds_along xs ys rect old middle new first second = record {
   near = near_along xs ys rect first.found second.found first.near second.near;
 }
 
--- of boxes that share no point with the rectangle none is found
+-- If no box shares a point with the rectangle, no box is found.
 adds_none : (xs : List Placed) (rect : Rect) (old : List Placed) → All (λ p. SharesPoint rect p.rect → ⊥) xs → AddsNear xs rect old old
 adds_none xs rect old far = record { found = []; is = sym (append-nil old); near = none_near xs rect far }
 
--- one box that shares no point with the rectangle, and one that does
+-- One box that shares no point with the rectangle, and one that does.
 pub adds_no_box : (p : Placed) (rect : Rect) (old : List Placed) → (SharesPoint rect p.rect → ⊥) → AddsNear (p ∷ []) rect old old
 adds_no_box p rect old apart = record { found = []; is = sym (append-nil old); near = far_box p rect apart }
 
 pub adds_box : (p : Placed) (rect : Rect) (old new : List Placed) → new ≡ old ++ p ∷ [] → SharesPoint rect p.rect → AddsNear (p ∷ []) rect old new
 adds_box p rect old new is shares = record { found = p ∷ []; is = is; near = near_box p rect shares }
 
--- boxes within a bound that is apart from the rectangle
+-- Boxes within a bound that is apart from the rectangle.
 pub adds_nothing : (bound : Bound) (boxes : List Placed) (rect : Rect) (old : List Placed) → All (IsBound bound) boxes →
     (SharesPoint rect bound.rect → ⊥) → AddsNear boxes rect old old
 adds_nothing bound boxes rect old within apart =
     adds_none boxes rect old
     (All-weaker (IsBound bound) (λ p. SharesPoint rect p.rect → ⊥) (λ p held shares. apart (shares_with_bound rect bound p held shares)) boxes within)
 
--- one box more
+-- One box more.
 pub adds_one_more : (boxes : List Placed) (n : ℕ) (d : Placed) (rect : Rect) (old middle new : List Placed) → n < length boxes →
     AddsNear (take n boxes) rect old middle → AddsNear (get_or boxes n d ∷ []) rect middle new → AddsNear (take (n + 1) boxes) rect old new
 adds_one_more boxes n d rect old middle new within first second =
     subst (λ (xs : List Placed). AddsNear xs rect old new) (sym (take_more boxes n d within))
     (adds_along (take n boxes) (get_or boxes n d ∷ []) rect old middle new first second)
 
--- the front of a list and then what follows it
+-- The front of a list and then the rest.
 pub adds_of_halves : (boxes : List Placed) (n : ℕ) (rect : Rect) (old middle new : List Placed) → AddsNear (take n boxes) rect old middle →
     AddsNear (drop n boxes) rect middle new → AddsNear boxes rect old new
 adds_of_halves boxes n rect old middle new first second =

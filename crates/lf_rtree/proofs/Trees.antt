@@ -6,7 +6,7 @@ use Rattle.lf_rtree.specs.Packed.{IsBound, IsTree, divided, undivided}
 use Rattle.lf_rtree.specs.declared.placed.Placed.{Placed}
 use Rattle.lf_rtree.specs.declared.bound.Bound.{Bound}
 
--- the first bound of a divided run bounds the run
+-- The first bound of a divided run bounds the run.
 bounds_run : (boxes : List Placed) (bound : Bound) (below : List Bound) → IsTree boxes (bound ∷ below) → All (IsBound bound) boxes
 bounds_run boxes bound below (divided _ _ _ all first last) = all
 
@@ -14,12 +14,12 @@ pub bounded_by_first : (boxes : List Placed) (bounds : List Bound) (bound : Boun
     All (IsBound bound) boxes
 bounded_by_first boxes bounds bound below are tree = bounds_run boxes bound below (subst (IsTree boxes) are tree)
 
--- a run without bounds is not divided
+-- A run without bounds is not divided.
 pub without_bounds : (boxes : List Placed) (bounds : List Bound) → length bounds ≡ 0 → IsTree boxes bounds
 without_bounds boxes [] none = undivided boxes
 without_bounds boxes (bound ∷ below) none = absurd (omega (arith, none))
 
--- a bound of a run, and the bounds of its halves
+-- A bound of a run, and the bounds of its halves.
 pub joined_tree : (boxes : List Placed) (bound : Bound) (first last : List Bound) → All (IsBound bound) boxes →
     length first ≡ length (first ++ last) / 2 → IsTree (take (length boxes / 2) boxes) first → IsTree (drop (length boxes / 2) boxes) last →
     IsTree boxes (bound ∷ (first ++ last))

@@ -5,8 +5,8 @@ ghost use Rattle.lf_rtree.specs.Packed.{IsBound};
 use crate::placed::Placed;
 use lf_units::Rect;
 
-/// A bound of the boxes of a run: a rectangle that contains all of theirs, and the least of their
-/// numbers.
+/// A bound of the boxes of a run: a rectangle that contains all of their rectangles, and the least
+/// of their numbers.
 #[derive(Clone, Copy, Debug)]
 pub struct Bound {
     pub rect: Rect,
@@ -25,7 +25,7 @@ pub(crate) const NOTHING: Bound = Bound {
 };
 
 impl Bound {
-    /// The bound of one box.
+    /// Returns the bound of one box.
     pub(crate) fn of(placed: &Placed) -> Self
         ensures { IsBound result placed.now }
     {
@@ -35,7 +35,7 @@ impl Bound {
         }
     }
 
-    /// A bound of all boxes that either bounds.
+    /// Returns a bound of all boxes that either bounds.
     pub(crate) fn joined(&self, other: &Bound) -> Self
         ensures the_same { (p : Placed) → IsBound self.now p → IsBound result p }
         ensures the_others { (p : Placed) → IsBound other.now p → IsBound result p }

@@ -1,5 +1,5 @@
-//! How the bounds of a tree are made of boxes in order, from the shortest runs upwards, with one
-//! look at each box.
+//! The bounds of a tree, built from ordered boxes. Starts with the shortest runs and visits each
+//! box once.
 
 ghost use Rattle.std.specs.Prelude.{All, IfOk};
 ghost use Rattle.lf_rtree.specs.Packed.{IsBound, IsTree};
@@ -8,7 +8,7 @@ use crate::bound::{Bound, NOTHING};
 use crate::placed::Placed;
 use std::alloc::{AllocError, Global};
 
-/// A bound of these boxes.
+/// Returns a bound of the given boxes.
 fn bound_of(boxes: &[Placed]) -> Bound
     ensures { All (IsBound result) boxes.now }
 {
@@ -19,7 +19,7 @@ fn bound_of(boxes: &[Placed]) -> Bound
     bound
 }
 
-/// Sets the bounds of a run of these boxes, and returns that of the run itself.
+/// Sets the bounds of a run of the given boxes. Returns the bound of the run itself.
 fn bind(boxes: &[Placed], bounds: &mut [Bound]) -> Bound
     ensures tree { IsTree boxes.now bounds.new }
     ensures bound { All (IsBound result) boxes.now }
@@ -37,7 +37,8 @@ fn bind(boxes: &[Placed], bounds: &mut [Bound]) -> Bound
     joined
 }
 
-/// This many bounds, those of a tree of the boxes in their order.
+/// Returns `count` bounds, those of a tree of the boxes in their order. `Err` if an allocation
+/// fails.
 pub(crate) fn grow(alloc: Global, boxes: &[Placed], count: usize) -> Result<Vec<Bound>, AllocError>
     ensures { IfOk result (λ bounds. IsTree boxes.now bounds.items) }
 {

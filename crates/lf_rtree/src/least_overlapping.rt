@@ -8,8 +8,8 @@ use crate::bound::Bound;
 use crate::placed::Placed;
 use lf_units::Rect;
 
-/// The lesser of the number so far and the box's number, the latter only if it is not `but` and the
-/// box shares a point with the rectangle.
+/// Returns the lesser of the number so far and the box's number. The box counts only if its number
+/// is not `but` and it shares a point with the rectangle.
 fn lesser(placed: &Placed, rect: &Rect, but: u32, so_far: Option<u32>) -> Option<u32>
     ensures { IsLeastOf (placed.now ∷ []) rect.now but so_far result }
 {
@@ -28,7 +28,7 @@ fn lesser(placed: &Placed, rect: &Rect, but: u32, so_far: Option<u32>) -> Option
     }
 }
 
-/// The least over several boxes, one after another.
+/// Returns the least number over several boxes, one after another.
 fn least_in(boxes: &[Placed], rect: &Rect, but: u32, so_far: Option<u32>) -> Option<u32>
     ensures { IsLeastOf boxes.now rect.now but so_far result }
 {
@@ -39,8 +39,8 @@ fn least_in(boxes: &[Placed], rect: &Rect, but: u32, so_far: Option<u32>) -> Opt
     least
 }
 
-/// Whether a box within the bound may have a number below the one so far and share a point with the
-/// rectangle.
+/// Returns whether a box within the bound may have a number below the one so far and share a point
+/// with the rectangle.
 fn may_be_less(bound: &Bound, rect: &Rect, so_far: Option<u32>) -> bool
     ensures { OnFalse result (HoldsNoLess bound.now rect.now so_far) }
 {
@@ -52,14 +52,14 @@ fn may_be_less(bound: &Bound, rect: &Rect, so_far: Option<u32>) -> bool
     rect.overlaps(&bound.rect)
 }
 
-/// The least number of a run, by its own bound, or an estimate if the run is not divided. It only
-/// chooses which half is searched first.
+/// Returns the least number of a run by its own bound, or an estimate if the run is not divided.
+/// Only chooses which half is searched first.
 fn likely_least(bounds: &[Bound]) -> u32 {
     bounds.first().map_or(u32::MAX, |bound| bound.least)
 }
 
-/// The least over a run of a tree. Parts that cannot hold a lesser number are skipped, and the half
-/// that is likely to hold the least comes first.
+/// Returns the least number over a run of a tree. Skips parts that cannot hold a lesser number, and
+/// searches first the half that is likely to hold the least.
 pub(crate) fn least_among(
     boxes: &[Placed],
     bounds: &[Bound],

@@ -8,7 +8,7 @@ use crate::placed::Placed;
 use lf_units::Rect;
 use std::alloc::AllocError;
 
-/// Appends the box if it shares a point with the rectangle.
+/// Appends the box if it shares a point with the rectangle. `Err` if an allocation fails.
 fn push_near(placed: &Placed, rect: &Rect, found: &mut Vec<Placed>) -> Result<(), AllocError>
     ensures { OnOk result (AddsNear (placed.now ∷ []) rect.now found.old.items found.new.items) }
 {
@@ -19,7 +19,7 @@ fn push_near(placed: &Placed, rect: &Rect, found: &mut Vec<Placed>) -> Result<()
     Ok(())
 }
 
-/// Appends those of the boxes that share a point with the rectangle.
+/// Appends the boxes that share a point with the rectangle. `Err` if an allocation fails.
 fn push_near_of_all(
     boxes: &[Placed],
     rect: &Rect,
@@ -33,7 +33,8 @@ fn push_near_of_all(
     Ok(())
 }
 
-/// The same for a run of a tree. Parts whose bound shares no point with the rectangle are skipped.
+/// Appends the boxes of a run of a tree that share a point with the rectangle. Skips parts whose
+/// bound shares no point with it. `Err` if an allocation fails.
 pub(crate) fn push_near_of_run(
     boxes: &[Placed],
     bounds: &[Bound],

@@ -2,7 +2,7 @@
 
 use lf_units::Rect;
 
-/// A rectangle, in database units, with the number of what it is the box of.
+/// A rectangle in database units, with the number of its owner.
 #[derive(Clone, Copy, Debug, PartialEq, Eq)]
 pub struct Placed {
     pub own: u32,

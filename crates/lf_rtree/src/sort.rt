@@ -4,9 +4,9 @@ ghost use Rattle.std.specs.Prelude.{IsPermutation};
 
 use crate::placed::Placed;
 
-/// Orders the boxes for a tree of this depth: into bands from the bottom upwards, each a run of
-/// half the depth, and from left to right in a band. So the boxes of a short run are close together
-/// both ways.
+/// Orders the boxes for a tree of this depth: into bands from the bottom upwards, and from left to
+/// right within a band. A band is a run of half the depth. The boxes of a short run are then close
+/// together in x and in y.
 pub(crate) fn sort_for_depth(boxes: &mut [Placed], depth: u32)
     ensures { IsPermutation boxes.old boxes.new }
 {

@@ -13,7 +13,7 @@ use lf_units::Rect;
 use std::alloc::{AllocError, Global};
 use std::marker::Model;
 
-/// About how many boxes a part of a tree has that is not divided further.
+/// The approximate number of boxes in a part of a tree that is not divided further.
 const BUCKET: usize = 8;
 
 /// Boxes in a packed tree. A contract sees the list of the boxes, in the tree's order.
@@ -36,8 +36,8 @@ impl Model for RTree {
 }
 
 impl RTree {
-    /// A tree of these boxes, in some order. Numbers may repeat, and rectangles without points are never found. `Err` if an
-    /// allocation fails.
+    /// Returns a tree of the given boxes, in some order. Numbers may repeat, and rectangles without
+    /// points are never found. `Err` if an allocation fails.
     pub fn build(alloc: Global, boxes: Vec<Placed>) -> Result<Self, AllocError>
         ensures { IfOk result (λ tree. IsPermutation boxes.items tree) }
     {
@@ -49,7 +49,8 @@ impl RTree {
         Ok(RTree { boxes, bounds })
     }
 
-    /// The boxes, in the tree's order: boxes that lie near one another mostly follow one another.
+    /// Returns the boxes in the tree's order. Boxes that lie near each other mostly follow each
+    /// other.
     pub fn boxes(&self) -> &[Placed]
         ensures { result.now ≡ self.now }
     {
@@ -65,8 +66,8 @@ impl RTree {
         push_near_of_run(self.boxes.as_slice(), self.bounds.as_slice(), rect, found)
     }
 
-    /// The least number, other than `but`, of a box that shares a point with this rectangle; none
-    /// iff there is no such box. It allocates nothing.
+    /// Returns the least number, other than `but`, of a box that shares a point with this
+    /// rectangle. `None` iff there is no such box. Allocates nothing.
     pub fn least_overlapping(&self, rect: &Rect, but: u32) -> Option<u32>
         ensures { MatchOption result (IsNoneOverlapping self.now rect.now but) (IsLeastOverlapping self.now rect.now but) }
     {
