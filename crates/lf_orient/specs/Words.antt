@@ -3,7 +3,7 @@ use Rattle.std.specs.Prelude.{ℕ, List, codes}
 use Rattle.lf_orient.specs.declared.Orient.{Orient}
 use Rattle.lf_orient.specs.declared.Orient.TheVariants.{N, W, S, E, FN, FW, FS, FE}
 
--- the word of an orientation
+-- The word of an orientation.
 abbrev pub orient_word : Orient → List ℕ
 orient_word N = codes "N"
 orient_word W = codes "W"

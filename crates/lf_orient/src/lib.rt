@@ -1,12 +1,14 @@
-//! Orientations of cells and rows, the symmetries that allow them, and the supply rail along the bottom.
+//! Orientations of cells and rows, the symmetries that allow them, and the bottom supply rails.
 //!
-//! Of the eight orientations of DEF, N, S, FN and FS are upright; W, E, FW and FE lie on their side, and no cell is legal so.
+//! DEF has eight orientations. N, S, FN and FS are upright. W, E, FW and FE lie on their side, and
+//! no cell is legal in them.
+//!
+//! Used by most other crates.
+//!
+//! From `crates/lf_repair_strategy/src/rounds.rt`:
 //!
 //! ```
-//! let symmetry = Symmetry { x: true, y: false };
-//! is_candidate(symmetry, Orient::FS); // true: N flipped over the x axis
-//! equal_under(symmetry, Orient::FN, Orient::S); // true
-//! row_rail(Orient::FS); // Some(Rail::Power)
+//! is_candidate(mac.symmetry, orient) && equal_under(frame.site.symmetry, orient, row)
 //! ```
 #![tactic(auto)]
 
@@ -17,8 +19,8 @@ ghost use Rattle.lf_orient.specs.Words.{orient_word};
 /// The eight orientations of a DEF text: north, west, south, east, and each of them flipped
 /// (LEF/DEF 5.8, DEF COMPONENTS and ROW).
 ///
-/// N, S, FN and FS are upright. W, E, FW and FE lie on their side: cells may be loaded so, and are
-/// never legal.
+/// N, S, FN and FS are upright. W, E, FW and FE lie on their side: cells may be loaded in them, but
+/// are never legal.
 #[derive(Clone, Copy, Debug, PartialEq, Eq)]
 pub enum Orient {
     N,
@@ -43,15 +45,16 @@ pub struct Symmetry {
     pub y: bool,
 }
 
-/// The supply rail along the bottom of a row or a macro: its ground pin's (USE GROUND), or its
-/// power pin's (USE POWER; LEF/DEF 5.8, LEF PIN).
+/// The supply rail along the bottom of a row or a macro: that of its ground pin (USE GROUND) or its
+/// power pin (USE POWER; LEF/DEF 5.8, LEF PIN).
 #[derive(Clone, Copy, Debug, PartialEq, Eq)]
 pub enum Rail {
     Ground,
     Power,
 }
 
-/// The word for an orientation in a DEF text and a reply (LEF/DEF 5.8, DEF COMPONENTS): its own name, as `FN`.
+/// Returns the word for an orientation in a DEF text and a reply (LEF/DEF 5.8, DEF COMPONENTS): its
+/// own name, as `FN`.
 pub fn orient_word(orient: Orient) -> &'static [u8]
     ensures { result.now ≡ orient_word orient }
 {
@@ -67,8 +70,8 @@ pub fn orient_word(orient: Orient) -> &'static [u8]
     }
 }
 
-/// Whether a macro of this symmetry may have this orientation: N always, FS with X, FN with Y, S with both, and none of those
-/// that lie on their side.
+/// Returns whether a macro of this symmetry may have this orientation: N always, FS with X, FN with
+/// Y, S with both; never one that lies on its side.
 pub fn is_candidate(symmetry: Symmetry, orient: Orient) -> bool
     ensures { result ≡ is_allowed symmetry orient }
 {
@@ -81,7 +84,7 @@ pub fn is_candidate(symmetry: Symmetry, orient: Orient) -> bool
     }
 }
 
-/// The orientation flipped over the x axis; W, E, FW and FE are left unchanged.
+/// Returns the orientation flipped over the x axis. W, E, FW and FE are unchanged.
 fn over_x(orient: Orient) -> Orient
     ensures { result ≡ flipped_over_x orient }
 {
@@ -94,7 +97,7 @@ fn over_x(orient: Orient) -> Orient
     }
 }
 
-/// The orientation flipped over the y axis; W, E, FW and FE are left unchanged.
+/// Returns the orientation flipped over the y axis. W, E, FW and FE are unchanged.
 fn over_y(orient: Orient) -> Orient
     ensures { result ≡ flipped_over_y orient }
 {
@@ -107,8 +110,9 @@ fn over_y(orient: Orient) -> Orient
     }
 }
 
-/// Whether the two orientations are equal under a site's symmetry, so that a cell of one may be in
-/// a row of the other: they are the same, or the flips that the symmetry allows make one the other.
+/// Returns whether the two orientations are equal under a site's symmetry, so a cell of one may be
+/// in a row of the other. They are the same, or the flips that the symmetry allows turn one into
+/// the other.
 pub fn equal_under(symmetry: Symmetry, a: Orient, b: Orient) -> bool
     ensures { IsTrue result ↔ EqualUnder symmetry a b }
 {
@@ -118,8 +122,8 @@ pub fn equal_under(symmetry: Symmetry, a: Orient, b: Orient) -> bool
         || (symmetry.x && symmetry.y && b == over_x(over_y(a)))
 }
 
-/// The rail along the bottom of a row of this orientation: ground for N and FN, power for S and FS; none for one that lies on
-/// its side.
+/// Returns the rail along the bottom of a row of this orientation: ground for N and FN, power for S
+/// and FS. `None` for one that lies on its side.
 pub fn row_rail(orient: Orient) -> Option<Rail>
     ensures { result ≡ rail_below orient }
 {
@@ -130,7 +134,8 @@ pub fn row_rail(orient: Orient) -> Option<Rail>
     }
 }
 
-/// The other rail: rails alternate from row to row, and from the bottom of a row to its top.
+/// Returns the other rail. Rails alternate from row to row, and from the bottom of a row to its
+/// top.
 pub fn opposite(rail: Rail) -> Rail
     ensures { result ≡ other_rail rail }
 {
