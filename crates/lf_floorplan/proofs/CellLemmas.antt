@@ -8,11 +8,11 @@ use Rattle.lf_floorplan.specs.declared.macros.Macro.{Macro}
 use Rattle.lf_floorplan.specs.Boxes.{IsSized, macro_of, no_macro}
 use Rattle.lf_floorplan.specs.Design.{IsCell}
 
--- what stands in the list at the number is the number's macro
+-- The entry of the list at the number is the number's macro.
 pub macro_there : (f : Frame) (number : ℕ) (m : Macro) → number < length f.macros → m ≡ get_or f.macros number m → m ≡ macro_of f number
 macro_there f number m within is = is ∙ get_or_default f.macros number m no_macro within ∙ sym (unwrap_or-slice_get f.macros number no_macro)
 
--- a cell's macro is whole in database units
+-- A cell's macro is whole in database units.
 pub cell_sized : (f : Frame) (c : Cell) → IsCell f c → IsSized f (macro_of f c.mac)
 cell_sized f c cell =
     let at : macro_of f c.mac ≡ get_or f.macros c.mac no_macro = unwrap_or-slice_get f.macros c.mac no_macro in

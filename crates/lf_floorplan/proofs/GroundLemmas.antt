@@ -11,7 +11,7 @@ use Rattle.lf_floorplan.specs.declared.parts.Team.{Team}
 use Rattle.lf_floorplan.specs.Fences.{AreApart}
 use Rattle.lf_floorplan.specs.Ground.{InGround, StaysInGround}
 
--- two fences that cover a point are one
+-- Two fences that cover a point are the same.
 fences_one : (f : Frame) (s t : ℕ) (u v : Team) (x y : ℤ) → slice_get f.teams s ≡ Some u → slice_get f.teams t ≡ Some v →
     CoveredBy u.rects x y → CoveredBy v.rects x y → s ≡ t
 fences_one f s t u v x y is_u is_v first second = elim order [
@@ -29,13 +29,13 @@ fences_one f s t u v x y is_u is_v first second = elim order [
         let held : AreApart a b = rw (here, there) at (f.fences_apart i j a less (slice_get_within f.teams j b is_b)) in
         held.no_point x y covers_a covers_b
 
--- a fence that covers a point leaves none of it open
+-- A point that a fence covers is not ground of the ground team.
 not_open : (f : Frame) (s : ℕ) (u : Team) (x y : ℤ) → slice_get f.teams s ≡ Some u → CoveredBy u.rects x y → All (λ fence. CoveredBy fence.rects x y → ⊥) f.teams → ⊥
 not_open f s u x y is covers all =
     let here : get_or f.teams s u ≡ u = get_or_from_slice_get f.teams s u u is in
     all s u (slice_get_within f.teams s u is) (rw here covers)
 
--- the same, by what the numbers name
+-- The same, by the entries at the numbers.
 one_by : (f : Frame) (s t : ℕ) (x y : ℤ) (a b : Option Team) → slice_get f.teams s ≡ a → slice_get f.teams t ≡ b → InGround f s x y → InGround f t x y → s ≡ t
 one_by f s t x y (Some u) (Some v) is_u is_v first second = fences_one f s t u v x y is_u is_v (rw is_u at first) (rw is_v at second)
 one_by f s t x y (Some u) None is_u past first second = absurd (not_open f s u x y is_u (rw is_u at first) (rw past at second).1)
@@ -48,7 +48,7 @@ ground_one f s t x y first second = one_by f s t x y (slice_get f.teams s) (slic
 pub teams_apart : (f : Frame) (s t : ℕ) (a b : Rect) → (s ≡ t → ⊥) → StaysInGround f s a → StaysInGround f t b → SharesPoint a b → ⊥
 teams_apart f s t a b differ first second meet = differ (ground_one f s t meet.x meet.y (first meet.x meet.y meet.in_first) (second meet.x meet.y meet.in_second))
 
--- one of the list, or each not
+-- One element of the list has the property, or no element has it.
 one_or_none : {X : Type 0} (P : X → Type 0) → ((x : X) → P x ⊎ (P x → ⊥)) → (xs : List X) → ((n : ℕ) × (x : X) × (slice_get xs n ≡ Some x) × P x) ⊎ All (λ x. P x → ⊥) xs
 one_or_none P d [] = inr (All-nil (λ x. P x → ⊥))
 one_or_none P d (x ∷ xs) = elim (d x) [

@@ -26,7 +26,7 @@ near_either : (units : ℕ) (macros : List Macro) (r : Rect) → IsDefRect r ⊎
 near_either units macros r (inl d) = record { across = near_range r.x1 r.x2 d.across; up = near_range r.y1 r.y2 d.up }
 near_either units macros r (inr b) = near_box units macros r b
 
--- an order of numbers holds where it cannot fail
+-- An order of numbers holds if its negation is impossible.
 sure : (a b : ℤ) → ((a ≤ℤ b → ⊥) → ⊥) → a ≤ℤ b
 sure a b never = elim order [ inl h ↦ h | inr h ↦ absurd (never (λ g. omega (arith, ints, g, h))) ]
   where

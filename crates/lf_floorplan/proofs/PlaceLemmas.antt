@@ -1,4 +1,4 @@
--- Places of the same coordinates and orientation are one.
+-- Places of the same coordinates and orientation are equal.
 use Rattle.std.proofs.Common.{◌≡◌, negsuc, Some, ap, ◌∙◌}
 use Rattle.std.specs.Prelude.{ℤ, ◌<ℤ◌}
 use Rattle.std.proofs.Props.{props}
@@ -8,7 +8,7 @@ use Rattle.lf_floorplan.specs.declared.place.Place.{Place}
 use Rattle.lf_floorplan.specs.declared.packed_place.PackedPlace.TheInside.{Inside}
 use Rattle.lf_floorplan.specs.PackedPlaces.{place_in}
 
--- a number of DEF
+-- A number of DEF.
 abbrev Num : Type 0
 Num = (z : ℤ) × (negsuc 2147483647 <ℤ z)
 
@@ -27,6 +27,6 @@ same_place p q x y o =
     ∙ ap (λ (n : Num). at_nums (q.x, q.x_in_def) n p.orient) (same_num (p.y, p.y_in_def) (q.y, q.y_in_def) y)
     ∙ ap (λ (r : Orient). at_nums (q.x, q.x_in_def) (q.y, q.y_in_def) r) o
 
--- the place of packed fields that have an orientation
+-- The place of packed fields that have an orientation.
 pub place_seen : (p : Inside) (o : Orient) (q : Place) → p.orient ≡ Some o → q.x ≡ p.x → q.y ≡ p.y → q.orient ≡ o → Some q ≡ place_in p
 place_seen p o q is x y same = rw is (ap (λ (r : Place). Some r) (same_place q (record { x = p.x; y = p.y; orient = o; x_in_def = p.x_in_def; y_in_def = p.y_in_def }) x y same))

@@ -1,4 +1,4 @@
--- The size of a box stays small.
+-- The size of a box is small.
 use Rattle.std.proofs.Common.{pos, ◌≤ℤ◌, ◌<ℤ◌, ℕ}
 use Rattle.lf_units.specs.declared.geometry.Point.{Point}
 use Rattle.lf_orient.specs.declared.Orient.{Orient}
@@ -10,7 +10,7 @@ use Rattle.lf_floorplan.specs.Rows.{IsPitch}
 use Rattle.lf_floorplan.specs.Sizes.{turned}
 use Rattle.lf_floorplan.proofs.LengthLemmas.{small_length}
 
--- a size that is above 0 both ways, and small
+-- A size that is above 0 in x and in y, and small.
 pub record IsSmall (size : Point) : Type 0 where
   pub wide : pos 0 <ℤ size.x
   pub high : pos 0 <ℤ size.y
@@ -33,7 +33,7 @@ turned_small size S m = m
 turned_small size FN m = m
 turned_small size FS m = m
 
--- the size of a macro that a cell may be of
+-- The size of a macro that a cell may have.
 pub sized_pitch : (f : Frame) (m : Macro) → IsSized f m → IsPitch f.header.units m.size (size_of f m)
 sized_pitch f m s = record {
   across = s.across;

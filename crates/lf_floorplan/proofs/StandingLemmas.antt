@@ -14,7 +14,7 @@ use Rattle.lf_floorplan.specs.Standing.{IsSitesHigh, IsBottomRow, IsRowOfBox}
 cancel : (k m n : ℕ) → 0 < n → k * n ≡ m * n → k ≡ m
 cancel k m n above same = sym (mul-div_left k above) ∙ ap (λ (v : ℕ). v / n) same ∙ mul-div_left m above
 
--- a whole number of positive lengths is that number only
+-- Equal multiples of a positive length have equal factors.
 one_count : (p : ℤ) → pos 0 <ℤ p → (k m : ℕ) → pos k *ℤ p ≡ pos m *ℤ p → k ≡ m
 one_count (pos n) positive k m e =
     let above : 0 < n = omega (arith, ints) in
@@ -22,11 +22,11 @@ one_count (pos n) positive k m e =
     cancel k m n above same
 one_count (negsuc n) positive k m e = absurd (omega (arith, ints))
 
--- a box has one height
+-- A box has one height.
 pub height_one : (f : Frame) (box : Rect) (k m : ℕ) → IsSitesHigh f box k → IsSitesHigh f box m → k ≡ m
 height_one f box k m a b = one_count f.pitch.y f.pitch_whole.high k m (omega (arith, ints, a.high, b.high))
 
--- two rows under one level of a box share a point
+-- Two rows at one level of a box share a point.
 shared : (f : Frame) (box : Rect) (j : ℕ) (r s : Row) → box.x1 <ℤ box.x2 → IsRowOfBox f box j r → IsRowOfBox f box j s → SharesPoint (row_area f.pitch r) (row_area f.pitch s)
 shared f box j r s wide u v =
     let high : pos 0 <ℤ f.pitch.y = f.pitch_whole.high in
@@ -38,11 +38,11 @@ shared f box j r s wide u v =
       in_second = record { left = v.left; right = omega (arith, ints, v.right); bottom = omega (arith, ints); top = omega (arith, ints) };
     }
 
--- the point seen from the other side
+-- Sharing a point is symmetric.
 turn : {a b : Rect} → SharesPoint a b → SharesPoint b a
 turn m = record { x = m.x; y = m.y; in_first = m.in_second; in_second = m.in_first }
 
--- rows of core sites that share a point are one
+-- Rows of core sites that share a point are the same.
 row_one : (f : Frame) (r s : Row) → Contains f.rows r → Contains f.rows s → SharesPoint (row_area f.pitch r) (row_area f.pitch s) → r ≡ s
 row_one f r s (i, within_i, is_r) (j, within_j, is_s) meet =
     let here : get_or f.rows j r ≡ s = get_or_default f.rows j r s within_j ∙ is_s in
@@ -56,6 +56,6 @@ row_one f r s (i, within_i, is_r) (j, within_j, is_s) meet =
       ]
     ]
 
--- a box has one bottom row
+-- A box has one bottom row.
 pub bottom_one : (f : Frame) (box : Rect) (r s : Row) → box.x1 <ℤ box.x2 → IsBottomRow f box r → IsBottomRow f box s → r ≡ s
 bottom_one f box r s wide a b = row_one f r s a.heeded b.heeded (shared f box 0 r s wide a.at_bottom b.at_bottom)

@@ -8,11 +8,11 @@ use Rattle.lf_floorplan.specs.Bounds.{IsLefSize}
 use Rattle.lf_floorplan.specs.declared.frame.Frame.{Frame}
 use Rattle.lf_floorplan.specs.declared.macros.Macro.{Macro}
 
--- the size of a macro that is upright, in database units
+-- The size of an upright macro, in database units.
 abbrev pub size_of : Frame → Macro → Point
 size_of f m = size_in_dbu f.header.units m.size
 
--- the macro's size is one that LEF can hold, whole in database units, and above 0 both ways
+-- The macro's size is one that LEF can hold, whole in database units, and above 0 in x and in y.
 pub record IsSized (f : Frame) (m : Macro) : Type 0 where
   pub in_lef : IsLefSize m.size
   pub across : IsLength f.header.units m.size.x (size_of f m).x
@@ -20,7 +20,7 @@ pub record IsSized (f : Frame) (m : Macro) : Type 0 where
   pub wide : pos 0 <ℤ (size_of f m).x
   pub high : pos 0 <ℤ (size_of f m).y
 
--- a macro without name and size
+-- A macro without name and size.
 abbrev pub no_macro : Macro
 no_macro = record {
   name = [];
@@ -30,6 +30,6 @@ no_macro = record {
   rail = Ground;
 }
 
--- the macro of this number; cells of a loaded design have numbers of the frame's macros alone
+-- The macro of this number. Cells of a loaded design have only numbers of the frame's macros.
 abbrev pub macro_of : Frame → ℕ → Macro
 macro_of f number = unwrap_or (slice_get f.macros number) no_macro

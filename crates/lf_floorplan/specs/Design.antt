@@ -1,4 +1,4 @@
--- What a loaded design keeps of its cells (DEF COMPONENTS).
+-- The facts that a loaded design keeps about its cells (DEF COMPONENTS).
 use Rattle.std.specs.Prelude.{◌≢◌, ◌<◌, ◌≤◌, List, All, AllPairs, length, slice_get}
 use Rattle.std.specs.Option.{ForSome}
 use Rattle.lf_floorplan.specs.declared.frame.Frame.{Frame}
@@ -7,26 +7,27 @@ use Rattle.lf_floorplan.specs.Bounds.{IsName}
 use Rattle.lf_floorplan.specs.Boxes.{IsSized, macro_of}
 use Rattle.lf_floorplan.specs.Ground.{IsTeam}
 
--- the cell's team and macro exist, the macro's size is whole and above 0, and the name is one of a text
+-- The cell's team and macro exist, the macro's size is whole and above 0, and the name is one of a
+-- text.
 pub record IsCell (f : Frame) (c : Cell) : Type 0 where
   pub team_known : IsTeam f c.team
   pub mac_known : c.mac < length f.macros
   pub mac_sized : ForSome (slice_get f.macros c.mac) (λ m. IsSized f m)
   pub name_printed : IsName c.name
 
--- the macro of a cell has a size that is whole in database units and above 0
+-- The macro of a cell has a size that is whole in database units and above 0.
 abbrev pub CellIsSized : Type 0
 CellIsSized = (f : Frame) (c : Cell) → IsCell f c → IsSized f (macro_of f c.mac)
 
--- no two cells have the same name
+-- No two cells have the same name.
 abbrev pub CellsNamed : List Cell → Type 0
 CellsNamed cells = AllPairs (λ a b. a.name ≢ b.name) cells
 
--- the cells are in the order of their components
+-- The cells are in the order of their components.
 abbrev pub ComponentsRise : List Cell → Type 0
 ComponentsRise cells = AllPairs (λ a b. a.component < b.component) cells
 
--- the cells make a design on this frame
+-- The cells make a design on this frame.
 pub record MakeDesign (f : Frame) (cells : List Cell) : Type 0 where
   pub few_cells : length cells ≤ 4000000
   pub cells_known : All (IsCell f) cells

@@ -1,19 +1,19 @@
--- Cells whose names stand apart.
+-- Cells whose names are stored separately.
 use Rattle.std.specs.Prelude.{ℕ, List, [], ◌∷◌}
 use Rattle.lf_floorplan.specs.declared.loaded.Cell.{Cell}
 use Rattle.lf_floorplan.specs.declared.cells.UnnamedCell.{UnnamedCell}
 use Rattle.lf_floorplan.specs.declared.cells.CellRef.{CellRef}
 
--- the cell of this name
+-- The cell with this name.
 abbrev pub with_name : List ℕ → UnnamedCell → Cell
 with_name name c = record { name = name; team = c.team; mac = c.mac; place = c.place; component = c.component }
 
--- the cells of these names, in their order
+-- The cells with these names, in their order.
 abbrev pub with_names : List (List ℕ) → List UnnamedCell → List Cell
 with_names [] cells = []
 with_names (name ∷ names) [] = []
 with_names (name ∷ names) (c ∷ cells) = with_name name c ∷ with_names names cells
 
--- the cell whose name is borrowed
+-- The cell that a reference with a borrowed name denotes.
 abbrev pub borrowed_cell : CellRef → Cell
 borrowed_cell c = record { name = c.name.now; team = c.team; mac = c.mac; place = c.place; component = c.component }

@@ -1,4 +1,4 @@
--- What a frame keeps of its obstacles (DEF BLOCKAGES, COMPONENTS).
+-- The facts that a frame keeps about its obstacles (DEF BLOCKAGES, COMPONENTS).
 use Rattle.std.specs.Prelude.{◌≡◌, ℕ, ◌⊎◌, List, Contains}
 use Rattle.lf_units.specs.declared.geometry.Rect.{Rect}
 use Rattle.lf_orient.specs.declared.Orient.{Orient}
@@ -7,7 +7,8 @@ use Rattle.lf_floorplan.specs.Bounds.{IsDefNumber, IsDefRect}
 use Rattle.lf_floorplan.specs.Rows.{IsPitch}
 use Rattle.lf_floorplan.specs.Sizes.{size_in_dbu, turned, box_at}
 
--- the box of one of the macros of whole size in database units, with its lower left corner in the range of DEF coordinates
+-- The box of one of the macros that are whole in database units, with its lower left corner in the
+-- range of DEF coordinates.
 pub record IsMacroBox (units : ℕ) (macros : List Macro) (r : Rect) : Type 0 where
   pub mac : Macro
   pub known : Contains macros mac
@@ -17,6 +18,7 @@ pub record IsMacroBox (units : ℕ) (macros : List Macro) (r : Rect) : Type 0 wh
   pub y_in_def : IsDefNumber r.y1
   pub box : r ≡ box_at (turned (size_in_dbu units mac.size) orient) r.x1 r.y1
 
--- an obstacle: a rectangle of a blockage, within the range of DEF coordinates, or the box of a FIXED component
+-- An obstacle: a rectangle of a blockage, within the range of DEF coordinates, or the box of a
+-- FIXED component.
 abbrev pub IsObstacle : ℕ → List Macro → Rect → Type 0
 IsObstacle units macros r = ∥ IsDefRect r ⊎ IsMacroBox units macros r ∥₁

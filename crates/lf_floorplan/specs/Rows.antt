@@ -1,4 +1,4 @@
--- Core sites and rows (LEF SITE, DEF ROW), and what a frame keeps of them.
+-- Core sites and rows (LEF SITE, DEF ROW), and the facts that a frame keeps about them.
 use Rattle.std.specs.Prelude.{ℕ, pos, ◌+ℤ◌, ◌*ℤ◌, ◌≤ℤ◌, ◌<ℤ◌, ◌≤◌, List, AllPairs, IsSome}
 use Rattle.lf_units.specs.declared.geometry.Point.{Point}
 use Rattle.lf_units.specs.declared.geometry.Rect.{Rect}
@@ -8,7 +8,8 @@ use Rattle.lf_orient.specs.Orientation.{rail_below}
 use Rattle.lf_floorplan.specs.Bounds.{IsDefNumber}
 use Rattle.lf_floorplan.specs.declared.parts.Row.{Row}
 
--- the size of a site or a macro in database units: whole, above 0 both ways, and within the largest length of LEF
+-- The size of a site or a macro in database units: whole, above 0 in x and in y, and within the
+-- largest length of LEF.
 pub record IsPitch (units : ℕ) (size pitch : Point) : Type 0 where
   pub across : IsLength units size.x pitch.x
   pub up : IsLength units size.y pitch.y
@@ -17,7 +18,7 @@ pub record IsPitch (units : ℕ) (size pitch : Point) : Type 0 where
   pub x_small : pitch.x ≤ℤ pos 20000000000
   pub y_small : pitch.y ≤ℤ pos 20000000000
 
--- the points of a row, where `pitch` is the size of a core site
+-- The points of a row; `pitch` is the size of a core site.
 abbrev pub row_area : Point → Row → Rect
 row_area pitch r = record {
   x1 = r.x;
@@ -26,8 +27,8 @@ row_area pitch r = record {
   y2 = r.y +ℤ pitch.y;
 }
 
--- a row of core sites: its corner has coordinates of DEF, it has a site or more, it ends within those coordinates, and it is N,
--- S, FN or FS
+-- A row of core sites. Its corner has coordinates of DEF, it has at least one site, and it ends
+-- within the range of DEF. Its orientation is N, S, FN or FS.
 pub record IsCoreRow (pitch : Point) (r : Row) : Type 0 where
   pub x_in_def : IsDefNumber r.x
   pub y_in_def : IsDefNumber r.y
@@ -35,6 +36,6 @@ pub record IsCoreRow (pitch : Point) (r : Row) : Type 0 where
   pub ends : (row_area pitch r).x2 ≤ℤ pos 2147483647
   pub upright : IsSome (rail_below r.orient)
 
--- no two rows share a point
+-- No two rows share a point.
 abbrev pub RowsApart : Point → List Row → Type 0
 RowsApart pitch rows = AllPairs (λ a b. SharesPoint (row_area pitch a) (row_area pitch b) → ⊥) rows

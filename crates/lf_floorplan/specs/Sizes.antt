@@ -6,11 +6,11 @@ use Rattle.lf_units.specs.Length.{in_dbu}
 use Rattle.lf_orient.specs.declared.Orient.{Orient}
 use Rattle.lf_orient.specs.declared.Orient.TheVariants.{W, E, FW, FE}
 
--- a size in database units
+-- A size in database units.
 abbrev pub size_in_dbu : ℕ → Point → Point
 size_in_dbu units size = record { x = in_dbu units size.x; y = in_dbu units size.y }
 
--- the size in an orientation: width and height are exchanged for E, W, FE and FW
+-- The size in an orientation: width and height are exchanged for E, W, FE and FW.
 abbrev pub turned : Point → Orient → Point
 turned size E = record { x = size.y; y = size.x }
 turned size W = record { x = size.y; y = size.x }
@@ -18,10 +18,10 @@ turned size FE = record { x = size.y; y = size.x }
 turned size FW = record { x = size.y; y = size.x }
 turned size _ = size
 
--- the box of this size with its lower left corner at (x, y)
+-- The box of this size with its lower left corner at (x, y).
 abbrev pub box_at : Point → ℤ → ℤ → Rect
 box_at size x y = record { x1 = x; y1 = y; x2 = x +ℤ size.x; y2 = y +ℤ size.y }
 
--- turning a size twice by the same orientation gives the size back
+-- Turning a size twice by the same orientation gives the original size.
 abbrev pub TurningTwiceIsIdentity : Type 0
 TurningTwiceIsIdentity = (size : Point) (o : Orient) → turned (turned size o) o ≡ size

@@ -1,4 +1,4 @@
-//! The movable cells of a loaded design, as they are kept.
+//! The movable cells of a loaded design, stored with a shared table of names.
 
 ghost use Rattle.std.specs.Prelude.{◌≡◌, ◌≢◌, ◌++◌, ◌∷◌, [], All, IfOk, OnErr, OnOk, length, slice_get};
 ghost use Rattle.std.specs.Option.{option_map};
@@ -19,11 +19,11 @@ pub struct UnnamedCell {
     pub mac: u32,
     /// The position of its entry among all COMPONENTS of the DEF text.
     pub component: u32,
-    /// Its place in the DEF text; none if it is unplaced there.
+    /// Its place in the DEF text; `None` if it is unplaced there.
     pub place: PackedPlace,
 }
 
-/// A movable cell, whose name is borrowed from the list of cells.
+/// A movable cell. Its name is borrowed from the list of cells.
 #[derive(Clone, Copy)]
 pub struct CellRef<'a> {
     pub name: &'a [u8],
@@ -31,26 +31,27 @@ pub struct CellRef<'a> {
     pub team: usize,
     /// The position of its macro in the frame.
     pub mac: usize,
-    /// Its place in the DEF text; none if it is unplaced there.
+    /// Its place in the DEF text; `None` if it is unplaced there.
     pub place: Option<Place>,
     /// The position of its entry among all COMPONENTS of the DEF text.
     pub component: usize,
 }
 
-/// The names of cells, and beside each the cell without it.
+/// The names of cells, and in the same order the cells without their names.
 #[derive(Drop)]
 pub struct CellParts {
     pub names: NameTable,
     pub cells: Vec<UnnamedCell>,
 }
 
-/// The movable cells of a design, in loading order: each name stands once, in a table that `into_parts` hands on. Contracts see
-/// the list of cells with their names.
+/// The movable cells of a design, in loading order. Each name is stored once, in a table that
+/// `into_parts` returns. Contracts see the list of cells with their names.
 pub struct LoadedCells {
     parts: CellParts,
 }
 
-/// (Written out: the proof of a function that lets one go does not take it apart.)
+/// Written by hand: with a derived `drop`, the proof of each function that drops a `LoadedCells`
+/// unfolds its fields.
 impl Drop for LoadedCells {
     fn drop(self) {
         let LoadedCells { parts: _ } = self;
@@ -71,7 +72,8 @@ impl Model for LoadedCells {
     ghost invariant = { λ l. length l.parts.names ≡ length l.parts.cells.items };
 }
 
-/// Appends a cell, for which there is room if its name could be added.
+/// Appends a cell. Reserves its room first, then adds the name. `Err` if an allocation fails; both
+/// lists are then unchanged.
 fn push_cell(parts: &mut CellParts, name: &[u8], cell: UnnamedCell) -> Result<(), AllocError>
     requires { All (λ n. n ≢ name.now) parts.old.names }
     ensures names { OnOk result (parts.new.names ≡ parts.old.names ++ name.now ∷ []) }
@@ -85,7 +87,7 @@ fn push_cell(parts: &mut CellParts, name: &[u8], cell: UnnamedCell) -> Result<()
     Ok(())
 }
 
-/// The cell of this position; none if there is none.
+/// Returns the cell at this position. `None` if there is no such cell.
 fn plain_at(cells: &[UnnamedCell], at: usize) -> Option<UnnamedCell>
     ensures { result ≡ slice_get cells.now at }
 {
@@ -96,7 +98,7 @@ fn plain_at(cells: &[UnnamedCell], at: usize) -> Option<UnnamedCell>
 }
 
 impl LoadedCells {
-    /// The empty list, which allocates nothing.
+    /// Returns the empty list. Allocates nothing.
     pub fn new(alloc: Global) -> Self
         ensures { result ≡ [] }
     {
@@ -108,7 +110,8 @@ impl LoadedCells {
         }
     }
 
-    /// The empty list, with room for this many cells; longer names take memory of their own. `Err` if an allocation fails.
+    /// Returns the empty list, with room for `cells` cells. Longer names allocate memory of their
+    /// own. `Err` if an allocation fails.
     pub fn with_capacity(alloc: Global, cells: usize) -> Result<Self, AllocError>
         ensures { IfOk result (λ list. list ≡ []) }
     {
@@ -120,7 +123,7 @@ impl LoadedCells {
         })
     }
 
-    /// Appends a cell whose name no other cell has, behind the others.
+    /// Appends a cell whose name no other cell has.
     ///
     /// `Err` if an allocation fails; the list is then unchanged.
     pub fn push(&mut self, name: &[u8], cell: UnnamedCell) -> Result<(), AllocError>
@@ -132,14 +135,15 @@ impl LoadedCells {
         Ok(())
     }
 
-    /// How many cells there are.
+    /// Returns the number of cells.
     pub fn len(&self) -> usize
         ensures { result ≡ length self.now }
     {
         self.parts.cells.len()
     }
 
-    /// The cell of this position, its name borrowed from the list; none iff there is none.
+    /// Returns the cell at this position, its name borrowed from the list. `None` iff there is no
+    /// such cell.
     pub fn get(&self, at: usize) -> Option<CellRef<'_>>
         ensures { option_map borrowed_cell result ≡ slice_get self.now at }
     {
@@ -154,7 +158,8 @@ impl LoadedCells {
         })
     }
 
-    /// The table of names, and beside it the cells without them, as many and in the same order; together they are the list.
+    /// Returns the table of names and the cells without them. Both have the same length and order,
+    /// and together they are the list.
     pub fn into_parts(self) -> CellParts
         ensures cells { with_names result.names result.cells.items ≡ self }
         ensures count { length result.names ≡ length result.cells.items }

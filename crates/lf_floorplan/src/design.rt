@@ -9,7 +9,7 @@ use crate::frame::Frame;
 use crate::macros::Macro;
 use lf_units::{Point, micros_to_dbu};
 
-/// Whether a LEF text can hold the length.
+/// Returns whether a LEF text can hold the length.
 fn is_lef_length(micros: i64) -> bool
     ensures { IsTrue result ↔ IsLefLength micros }
 {
@@ -19,7 +19,7 @@ fn is_lef_length(micros: i64) -> bool
     micros <= 1_000_000_000_000
 }
 
-/// Whether a LEF text can hold both lengths.
+/// Returns whether a LEF text can hold both lengths.
 fn is_lef_size(size: &Point) -> bool
     ensures { IsTrue result ↔ IsLefSize size.now }
 {
@@ -29,7 +29,7 @@ fn is_lef_size(size: &Point) -> bool
     is_lef_length(size.y)
 }
 
-/// Whether the length is whole in database units, and above 0.
+/// Returns whether the length is whole in database units and above 0.
 fn is_whole(micros: i64, units: u32) -> bool
     requires least { 1 ≤ units }
     requires most { units ≤ 20000 }
@@ -42,7 +42,7 @@ fn is_whole(micros: i64, units: u32) -> bool
     }
 }
 
-/// The macro of this number, as in a cell's `mac`; there must be one.
+/// Returns the macro of this number, as in a cell's `mac`. The number must be that of a macro.
 pub fn mac_at(frame: &Frame, number: usize) -> &Macro
     requires { number < length frame.now.macros }
     ensures { result.now ≡ macro_of frame.now number }
@@ -50,7 +50,8 @@ pub fn mac_at(frame: &Frame, number: usize) -> &Macro
     &frame.macros.as_slice()[number]
 }
 
-/// Whether cells may be of the macro: its size is whole in database units and above 0 both ways.
+/// Returns whether cells may be of the macro: its size is whole in database units and above 0 in x
+/// and in y.
 pub fn is_sized(frame: &Frame, mac: &Macro) -> bool
     ensures { IsTrue result ↔ IsSized frame.now mac.now }
 {

@@ -1,4 +1,4 @@
-//! The frame, with what loading has checked.
+//! The frame, with the facts that loading has checked.
 
 ghost use Rattle.std.specs.Prelude.{◌≡◌, ℕ, ◌<◌, ◌≤◌, All, length};
 ghost use Rattle.lf_floorplan.specs.Bounds.{IsDefRect, IsLimit, IsLefSize};
@@ -12,16 +12,21 @@ use crate::parts::{Header, Row, Team};
 use crate::sites::Site;
 use lf_units::{Point, Rect, Sequence};
 
-/// What every team sees, and no command changes.
+/// The part of a design that every team sees and no command changes.
 ///
-/// A team's number is the position of its fence in `teams`; the ground team `-` has the number of
-/// fences, and a greater number is no team. The type keeps what loading has checked:
+/// A team's number is the position of its fence in `teams`. The number of the ground team `-` is
+/// the number of fences; a greater number is no team. The type keeps the facts that loading has
+/// checked:
 ///
-/// - 1 to 20,000 database units per micron; a core site in the range of LEF, whose size is whole in them and above 0.
-/// - One row or more, up to the limit, each with a corner in the range of DEF, a site or more, N, S, FN or FS, and its end
-///   at x 2147483647 or before; no two share a point.
-/// - Fences up to the limit, none named `-`, names different, each of one rectangle or more; no two share a point.
-/// - Obstacles are rectangles in the range of DEF, or boxes of the frame's macros with their lower left corner in it.
+/// - 1 to 20,000 database units per micron; a core site in the range of LEF, whose size is whole in
+///   database units and above 0.
+/// - At least one row, and rows up to the limit. Each has a corner in the range of DEF, at least
+///   one site, and orientation N, S, FN or FS. Each ends at x 2147483647 or less. No two share a
+///   point.
+/// - Fences up to the limit, with different names other than `-`, each of at least one rectangle.
+///   No two share a point.
+/// - Obstacles are rectangles in the range of DEF, or boxes of the frame's macros with their lower
+///   left corner in it.
 /// - Macros have sizes and origins in the range of LEF.
 pub struct Frame {
     /// The core site: that of the first ROW whose site has CLASS CORE and a size above 0.
@@ -34,8 +39,8 @@ pub struct Frame {
     pub teams: Sequence<Team>,
     /// The boxes of FIXED components, and then the placement blockages, in database units.
     pub obstacles: Sequence<Rect>,
-    /// The rectangles of the soft placement blockages, in the order of the DEF text, in database units. A search for a best
-    /// place keeps clear of them; they are no obstacles.
+    /// The rectangles of the soft placement blockages, in the order of the DEF text, in database
+    /// units. A search for a best place avoids them; they are no obstacles.
     pub soft: Sequence<Rect>,
     /// All macros of the LEF texts, used or not.
     pub macros: Sequence<Macro>,
@@ -58,7 +63,8 @@ pub struct Frame {
     pub ghost macros_in_lef: { All (λ m. IsLefSize m.size × IsLefSize m.origin) macros },
 }
 
-/// (Written out: the proof of a function that lets one go does not take it apart.)
+/// Written by hand: with a derived `drop`, the proof of each function that drops a `Frame` unfolds
+/// its fields.
 impl Drop for Frame {
     fn drop(self) {
         let Frame {

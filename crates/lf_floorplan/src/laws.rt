@@ -5,12 +5,13 @@ ghost use Rattle.lf_floorplan.specs.Design.{CellIsSized};
 ghost use Rattle.lf_floorplan.specs.Ground.{ObstaclesAreBounded, PointHasOneTeam, TeamsStayApart};
 ghost use Rattle.lf_floorplan.specs.Standing.{RowAtIsUnique, BottomRowIsUnique};
 
-/// Turning a size twice by the same orientation gives the size back.
+/// Turning a size twice by the same orientation gives the original size.
 pub fn turning_twice_is_identity()
     ensures { TurningTwiceIsIdentity }
 {}
 
-/// Each point is ground of exactly one team: of the fence that covers it, or else of the ground team.
+/// Each point is ground of exactly one team: of the fence that covers it, or else of the ground
+/// team.
 pub fn point_has_one_team()
     ensures { PointHasOneTeam }
 {}
@@ -20,13 +21,13 @@ pub fn teams_stay_apart()
     ensures { TeamsStayApart }
 {}
 
-/// Each obstacle has its lower left corner in the range of DEF coordinates, and reaches past the largest of them by at
-/// most the largest size of a macro.
+/// Each obstacle has its lower left corner in the range of DEF coordinates. It reaches past the
+/// largest of them by at most the largest size of a macro.
 pub fn obstacles_are_bounded()
     ensures { ObstaclesAreBounded }
 {}
 
-/// A box has one height in sites at most, and a box with a width has one bottom row at most.
+/// A box has at most one height in sites, and a box with a width has at most one bottom row.
 pub fn bottom_row_is_unique()
     ensures { BottomRowIsUnique }
 {}

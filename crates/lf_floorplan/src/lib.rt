@@ -1,17 +1,38 @@
-//! The floor plan of a design: the frame, which no command changes, the cells, and the measures of legality.
+//! The floor plan of a design: the frame, which no command changes, the cells, and their boxes.
 //!
-//! The types keep what loading has checked, as clauses of their fields: whoever holds a `Frame` or a `Loaded` need not check
-//! it again. The range of DEF is that of its coordinates, -2147483647 to 2147483647 database units; the range of LEF is a
-//! million microns either way, in millionths of a micron. A *team* is a fence, or the ground team `-`, which has all ground
-//! outside the fences.
+//! Loading checks a design once, and the types keep the result as clauses of their fields. Code
+//! that holds a `Frame` or a `Loaded` need not check it again. The range of DEF is that of its
+//! coordinates, -2147483647 to 2147483647 database units. The range of LEF is a million microns on
+//! either side of 0, in millionths of a micron. A *team* is a fence, or the ground team `-`, which
+//! has all ground outside the fences.
 //!
-//! A contract sees of `LoadedCells` the list of the cells with their names, and of a `PackedPlace` the place or none.
-//! `FrameQuery` is what legality asks of a frame, however it is looked up.
+//! A contract sees `LoadedCells` as the list of the cells with their names, and a `PackedPlace` as
+//! an optional place. `FrameQuery` has the questions that legality asks of a frame, independent of
+//! the way they are computed.
+//!
+//! Used by most other crates.
+//!
+//! Modules, in reading order:
+//!
+//! - `sites`: placement sites
+//! - `macros`: library cells
+//! - `place`: the place of a cell
+//! - `packed_place`: an optional place in 12 bytes
+//! - `limits`: the limits of a design
+//! - `parts`: rows, fences and the header of a frame
+//! - `frame`: the frame, with the facts that loading has checked
+//! - `measure`: the extent of a row in database units
+//! - `sizes`: sizes in database units, and the boxes of macros
+//! - `design`: the macros of a frame's cells
+//! - `cells`: the list of movable cells
+//! - `loaded`: a loaded design
+//! - `frame_query`: the questions that legality asks of a frame
+//! - `laws`: laws on boxes, ground and rows
+//!
+//! From `crates/lf_rules/src/boxes.rt`:
 //!
 //! ```
-//! let limits = Limits::standard(); // 65,535 rows, 1,024 fences, 4,000,000 components, ..
-//! let place = Place::new(0, 1400, Orient::FS);
-//! let rect = macro_box(&mac.size, frame.header.units, &place); // in database units
+//! macro_box(&mac.size, frame.header.units, place)
 //! ```
 #![tactic(auto)]
 

@@ -3,8 +3,8 @@
 ghost use Rattle.std.specs.Prelude.{◌≡◌, ◌≤◌, ◌<◌, ◌↔◌, IsSome, IfSome};
 ghost use Rattle.lf_floorplan.specs.Bounds.{IsLimit, AreLimits};
 
-/// The limits of a design, each from 1 to its largest value. Loading refuses a design above those of rows, fences or
-/// components.
+/// The limits of a design, each from 1 to its largest value. Loading refuses a design that exceeds
+/// those of rows, fences or components.
 #[derive(Clone, Copy, Debug, PartialEq, Eq)]
 pub struct Limits {
     /// Rows of core sites, at most 65,535.
@@ -23,8 +23,9 @@ pub struct Limits {
 }
 
 impl Limits {
-    /// The default limits: 8 sessions, 64 undo entries, and each other limit at its largest value: 65,535 rows, 1,024 fences,
-    /// 4,000,000 components and 4,000,000,000 revisions.
+    /// Returns the default limits: 8 sessions, 64 undo entries, and all others at their largest
+    /// values. These are 65,535 rows, 1,024 fences, 4,000,000 components and 4,000,000,000
+    /// revisions.
     pub fn standard() -> Self
         ensures rows { result.rows ≡ 65535 }
         ensures fences { result.fences ≡ 1024 }
@@ -43,7 +44,7 @@ impl Limits {
         }
     }
 
-    /// These limits; none iff one of them is 0 or above its largest value.
+    /// Returns these limits. `None` iff one of them is 0 or above its largest value.
     pub fn checked(
         rows: u32,
         fences: u32,

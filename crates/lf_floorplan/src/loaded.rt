@@ -8,7 +8,7 @@ use crate::frame::Frame;
 use crate::place::Place;
 use lf_units::Name;
 
-/// What contracts see of a movable cell: a component of the DEF text that is neither FIXED nor COVER.
+/// A movable cell as contracts see it: a component of the DEF text that is neither FIXED nor COVER.
 #[derive(Drop)]
 pub struct Cell {
     pub name: Name,
@@ -16,7 +16,7 @@ pub struct Cell {
     pub team: usize,
     /// The position of its macro in the frame.
     pub mac: usize,
-    /// Its place in the DEF text; none if it is unplaced there.
+    /// Its place in the DEF text; `None` if it is unplaced there.
     pub place: Option<Place>,
     /// The position of its entry among all COMPONENTS of the DEF text.
     pub component: usize,
@@ -24,8 +24,9 @@ pub struct Cell {
 
 /// A frame and its movable cells, in loading order: the order of the DEF text.
 ///
-/// There are at most 4,000,000 cells. Each has a team and a macro of the frame, whose size is whole in database units and above
-/// 0, and a name of at most 1,024 bytes from 33 to 126; all names differ. The positions among COMPONENTS rise.
+/// There are at most 4,000,000 cells. Each has a team and a macro of the frame; the macro's size is
+/// whole in database units and above 0. Each has a name of at most 1,024 bytes from 33 to 126, and
+/// all names differ. The positions among COMPONENTS rise.
 #[derive(Drop)]
 pub struct Loaded {
     pub frame: Frame,

@@ -12,7 +12,7 @@ pub struct Macro {
     /// The offset added to its points; 0 0 if it has no ORIGIN.
     pub origin: Point,
     pub symmetry: Symmetry,
-    /// The supply rail along its bottom: power if a RECT of a POWER pin reaches y = 0 after ORIGIN
-    /// is added and none of a GROUND pin does, else ground.
+    /// The supply rail along its bottom. Power if, after ORIGIN is added, a RECT of a POWER pin
+    /// reaches y = 0 and no RECT of a GROUND pin does; otherwise ground.
     pub rail: Rail,
 }

@@ -7,7 +7,7 @@ use crate::parts::Row;
 use lf_units::{Point, Rect};
 
 impl Row {
-    /// The width of all sites of the row.
+    /// Returns the width of all sites of the row, in database units.
     fn width(&self, pitch: &Point) -> i64
         requires heeded { IsCoreRow pitch.now self.now }
         requires wide { pos 0 <ℤ pitch.now.x }
@@ -16,8 +16,8 @@ impl Row {
         i64::from(self.sites) * pitch.x
     }
 
-    /// The x at which the row ends, the first one that is not in it. `pitch` is the size of a core site in database units. Row and
-    /// pitch are as a frame has them.
+    /// Returns the x at which the row ends, the first one outside it. `pitch` is the size of a core
+    /// site in database units. Row and pitch are those of a frame.
     pub fn right_edge(&self, pitch: &Point) -> i64
         requires heeded { IsCoreRow pitch.now self.now }
         requires wide { pos 0 <ℤ pitch.now.x }
@@ -26,8 +26,8 @@ impl Row {
         i64::from(self.x) + self.width(pitch)
     }
 
-    /// The points of the row, one site height high. `pitch` is the size of a core site in database units. Row and pitch are as a
-    /// frame has them.
+    /// Returns the points of the row, one site height high. `pitch` is the size of a core site in
+    /// database units. Row and pitch are those of a frame.
     pub fn area(&self, pitch: &Point) -> Rect
         requires heeded { IsCoreRow pitch.now self.now }
         requires wide { pos 0 <ℤ pitch.now.x }

@@ -1,4 +1,4 @@
-//! A place or none in few bytes.
+//! An optional place in few bytes.
 
 ghost use Rattle.std.specs.Prelude.{◌≡◌, ◌<ℤ◌, negsuc, Some};
 
@@ -6,12 +6,12 @@ use crate::place::Place;
 use lf_orient::Orient;
 use std::marker::Model;
 
-/// A place or none, in 12 bytes: tables of many cells keep their places so. Contracts see the place or none.
+/// An optional place in 12 bytes, for tables of many cells. Contracts see the optional place.
 #[derive(Clone, Copy, Debug, PartialEq, Eq)]
 pub struct PackedPlace {
     x: i32,
     y: i32,
-    /// None if there is no place; x and y are then 0.
+    /// `None` if there is no place; x and y are then 0.
     orient: Option<Orient>,
     ghost x_in_def: { negsuc 2147483647 <ℤ x },
     ghost y_in_def: { negsuc 2147483647 <ℤ y },
@@ -35,7 +35,7 @@ impl Model for PackedPlace {
 }
 
 impl PackedPlace {
-    /// The place, packed.
+    /// Returns the place, packed.
     fn at(place: &Place) -> Self
         ensures { result ≡ Some place.now }
     {
@@ -46,7 +46,7 @@ impl PackedPlace {
         }
     }
 
-    /// The place or none, packed.
+    /// Returns the optional place, packed.
     pub fn of(place: Option<Place>) -> Self
         ensures { result ≡ place }
     {
@@ -60,7 +60,7 @@ impl PackedPlace {
         }
     }
 
-    /// The place or none.
+    /// Returns the optional place.
     pub fn place(&self) -> Option<Place>
         ensures { result ≡ self.now }
     {

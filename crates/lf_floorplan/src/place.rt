@@ -4,8 +4,8 @@ ghost use Rattle.std.specs.Prelude.{◌≡◌, ◌↔◌, ◌<ℤ◌, IsTrue, ne
 
 use lf_orient::Orient;
 
-/// The lower left corner of a cell's box in database units, and the cell's orientation
-/// (DEF COMPONENTS, the point of PLACED).
+/// The lower left corner of a cell's box in database units, and the cell's orientation (DEF
+/// COMPONENTS, the point of PLACED).
 ///
 /// Neither number is -2147483648, which no DEF text can hold.
 #[derive(Clone, Copy, Debug, PartialEq, Eq)]
@@ -18,7 +18,7 @@ pub struct Place {
 }
 
 impl Place {
-    /// The place at a corner that a DEF text can hold: neither number is -2147483648.
+    /// Returns the place at a corner that a DEF text can hold: neither number is -2147483648.
     pub fn new(x: i32, y: i32, orient: Orient) -> Place
         requires x_in_def { negsuc 2147483647 <ℤ x }
         requires y_in_def { negsuc 2147483647 <ℤ y }
@@ -30,14 +30,14 @@ impl Place {
     }
 }
 
-/// Whether both are one place.
+/// Returns whether both are the same place.
 fn is_one_place(a: &Place, b: &Place) -> bool
     ensures { IsTrue result ↔ a.now ≡ b.now }
 {
     a.x == b.x && a.y == b.y && a.orient == b.orient
 }
 
-/// Whether both are one place, or both none.
+/// Returns whether both are the same place, or both are `None`.
 pub fn same_place(a: Option<Place>, b: Option<Place>) -> bool
     ensures { IsTrue result ↔ a ≡ b }
 {

@@ -10,10 +10,10 @@ use crate::place::Place;
 use lf_orient::Orient;
 use lf_units::{Point, Rect};
 
-/// Millionths of a micron in one micron.
+/// The number of millionths of a micron in a micron.
 const MICRON: i64 = 1_000_000;
 
-/// A length of LEF, in millionths of a micron, as one in database units.
+/// Converts a length of LEF from millionths of a micron to database units.
 fn length_in_units(micros: i64, units: u32) -> i64
     requires whole { IsLength units micros (in_dbu units micros) }
     requires positive { pos 0 <ℤ in_dbu units micros }
@@ -23,7 +23,8 @@ fn length_in_units(micros: i64, units: u32) -> i64
     micros * i64::from(units) / MICRON
 }
 
-/// A size of LEF, in millionths of a micron, as one in database units, in which it must be whole and above 0 both ways.
+/// Converts a size of LEF from millionths of a micron to database units. It must be whole in them
+/// and above 0 in x and in y.
 pub fn size_in_units(size: &Point, units: u32) -> Point
     requires whole { IsPitch units size.now (size_in_dbu units size.now) }
     ensures { result ≡ size_in_dbu units size.now }
@@ -33,7 +34,7 @@ pub fn size_in_units(size: &Point, units: u32) -> Point
     Point { x: across, y: up }
 }
 
-/// A size with width and height exchanged for E, W, FE and FW.
+/// Returns the size with width and height exchanged for E, W, FE and FW.
 fn turned_size(size: Point, orient: Orient) -> Point
     ensures { result ≡ turned size orient }
 {
@@ -46,9 +47,10 @@ fn turned_size(size: Point, orient: Orient) -> Point
     }
 }
 
-/// The box of a macro of this size, in millionths of a micron, at the place, in database units (LEF MACRO SIZE, DEF
-/// COMPONENTS). The size must be whole in them and above 0 both ways; W, E, FW and FE exchange width and height. The box ends
-/// at most a macro's largest size past the range of DEF.
+/// Returns the box of a macro at the place, in database units (LEF MACRO SIZE, DEF COMPONENTS).
+/// `size` is in millionths of a micron and must be whole in database units and above 0 in x and in
+/// y. W, E, FW and FE exchange width and height. The box ends at most a macro's largest size past
+/// the range of DEF.
 pub fn macro_box(size: &Point, units: u32, place: &Place) -> Rect
     requires whole { IsPitch units size.now (size_in_dbu units size.now) }
     ensures near { IsNearDefRect result }
