@@ -6,10 +6,10 @@ ghost use Rattle.lf_sessions.specs.Slots.{seen_at};
 use std::alloc::{AllocError, Global};
 use std::marker::Model;
 
-/// The session slots of one team, at most as many as 32 bits number.
+/// The session slots of one team. Their number fits into 32 bits.
 #[derive(Drop)]
 pub(crate) struct Slots {
-    /// For each slot the revision that its session has seen; none if the slot is free.
+    /// For each slot the revision that its session has seen; `None` if the slot is free.
     slots: Vec<Option<u32>>,
 }
 
@@ -23,7 +23,7 @@ impl Model for Slots {
     ghost invariant = { λ s. length s.slots.items ≤ 4294967295 };
 }
 
-/// The least free slot; none if all are taken.
+/// Returns the least free slot. `None` if all slots are taken.
 fn least_free(slots: &[Option<u32>]) -> Option<usize>
     ensures free { result ≡ position is_none slots.now }
     ensures within { IfSome result (λ session. session < length slots.now) }
@@ -32,7 +32,7 @@ fn least_free(slots: &[Option<u32>]) -> Option<usize>
 }
 
 impl Slots {
-    /// `count` free slots.
+    /// Returns `count` free slots. `Err` if an allocation fails.
     pub(crate) fn free(alloc: Global, count: u32) -> Result<Self, AllocError>
         ensures { IfOk result (λ slots. slots ≡ replicate count None) }
     {
@@ -41,7 +41,7 @@ impl Slots {
         })
     }
 
-    /// These slots, at most as many as 32 bits number.
+    /// Returns these slots. Their number must fit into 32 bits.
     pub(crate) fn of(slots: Vec<Option<u32>>) -> Self
         requires { length slots.items ≤ 4294967295 }
         ensures { result ≡ slots.items }
@@ -49,14 +49,15 @@ impl Slots {
         Slots { slots }
     }
 
-    /// The slots, in their order.
+    /// Returns the slots, in their order.
     pub(crate) fn as_slice(&self) -> &[Option<u32>]
         ensures { result.now ≡ self.now }
     {
         self.slots.as_slice()
     }
 
-    /// Takes the least free slot for a session that has seen this revision; none if all are taken.
+    /// Takes the least free slot for a session that has seen this revision. `None` if all slots are
+    /// taken.
     pub(crate) fn take(&mut self, revision: u32) -> Option<u32>
         ensures session { result ≡ position is_none self.old }
         ensures slots { MatchOption result (self.new ≡ self.old) (λ session. self.new ≡ slice_set self.old session (Some revision)) }
@@ -66,7 +67,7 @@ impl Slots {
         Some(session as u32)
     }
 
-    /// The revision that a session has seen; none if it is not open.
+    /// Returns the revision that a session has seen. `None` if the session is not open.
     pub(crate) fn seen(&self, session: u32) -> Option<u32>
         ensures { result ≡ seen_at self.now session }
     {
@@ -76,7 +77,7 @@ impl Slots {
         }
     }
 
-    /// Sets the slot of an open session; false if it is not open.
+    /// Sets the slot of an open session. Returns false if the session is not open.
     pub(crate) fn write_open(&mut self, session: u32, seen: Option<u32>) -> bool
         ensures open { result ≡ is_some (seen_at self.old session) }
         ensures slots { self.new ≡ (if result then slice_set self.old session seen else self.old) }

@@ -11,7 +11,7 @@ use std::marker::Model;
 /// the first at 0.
 ///
 /// Contracts see for each team the list of its slots: for each slot the revision that its session
-/// has seen, none if the slot is free. Only `build` allocates.
+/// has seen, `None` if the slot is free. Only `build` allocates.
 #[derive(Drop)]
 pub struct SessionTable {
     teams: Vec<Slots>,
@@ -26,7 +26,7 @@ impl Model for SessionTable {
 }
 
 impl SessionTable {
-    /// The table of this many teams, each with this many slots, all free.
+    /// Returns a table of `teams` teams, each with `slots` slots, all free.
     ///
     /// `Err` if an allocation fails.
     pub fn build(alloc: Global, teams: usize, slots: u32) -> Result<SessionTable, AllocError>
@@ -39,8 +39,8 @@ impl SessionTable {
         Ok(SessionTable { teams: table })
     }
 
-    /// The slots of the team: for each the revision that its session has seen, none if it is free. There are none if there is
-    /// no such team.
+    /// Returns the slots of the team: for each the revision that its session has seen, `None` if it
+    /// is free. The list is empty if there is no such team.
     pub fn slots(&self, team: usize) -> &[Option<u32>]
         ensures { result.now ≡ slots_of self.now team }
     {
@@ -50,7 +50,8 @@ impl SessionTable {
         }
     }
 
-    /// Gives the team these slots, at most as many as 32 bits number, in place of those that it has; no other team's change.
+    /// Replaces the slots of the team. Their number must fit into 32 bits. No other team's slots
+    /// change.
     pub fn set_slots(&mut self, team: usize, slots: Vec<Option<u32>>)
         requires team { team < length self.old }
         requires few { length slots.items ≤ 4294967295 }
@@ -59,9 +60,9 @@ impl SessionTable {
         self.teams[team] = Slots::of(slots);
     }
 
-    /// Opens a session of the team, which has seen this revision: takes the team's least free slot
-    /// and returns its number. None iff all are taken or there is no such team; then nothing
-    /// changes. Else only this slot changes.
+    /// Opens a session of the team, which has seen this revision. Takes the team's least free slot
+    /// and returns its number; no other slot changes. `None`, and no change, iff all slots are
+    /// taken or there is no such team.
     pub fn take_slot(&mut self, team: usize, revision: u32) -> Option<u32>
         ensures session { result ≡ position is_none (slots_of self.old team) }
         ensures table { MatchOption result (self.new ≡ self.old) (λ session. self.new ≡ with_slot self.old team session (Some revision)) }
@@ -70,8 +71,8 @@ impl SessionTable {
         self.teams.get_mut(team)?.take(revision)
     }
 
-    /// Closes a session of the team and frees its slot, which alone changes. False iff it is not open or there is no such
-    /// team; then nothing changes.
+    /// Closes a session of the team and frees its slot; no other slot changes. Returns false, and
+    /// changes nothing, iff the session is not open or there is no such team.
     pub fn free_slot(&mut self, team: usize, session: u32) -> bool
         ensures open { result ≡ is_some (seen_at (slots_of self.old team) session) }
         ensures table { self.new ≡ (if result then with_slot self.old team session None else self.old) }
@@ -80,16 +81,16 @@ impl SessionTable {
         write_open(&mut self.teams, team, session, None)
     }
 
-    /// The revision that a session of the team has seen; none iff it is not open, or there is no
-    /// such team.
+    /// Returns the revision that a session of the team has seen. `None` iff the session is not
+    /// open, or there is no such team.
     pub fn seen(&self, team: usize, session: u32) -> Option<u32>
         ensures { result ≡ seen_at (slots_of self.now team) session }
     {
         self.teams.get(team)?.seen(session)
     }
 
-    /// Sets the revision that an open session of the team has seen; no other slot changes. False iff it is not open or
-    /// there is no such team; then nothing changes.
+    /// Sets the revision that an open session of the team has seen; no other slot changes. Returns
+    /// false, and changes nothing, iff the session is not open or there is no such team.
     pub fn set_seen(&mut self, team: usize, session: u32, revision: u32) -> bool
         ensures open { result ≡ is_some (seen_at (slots_of self.old team) session) }
         ensures table { self.new ≡ (if result then with_slot self.old team session (Some revision) else self.old) }
@@ -99,7 +100,7 @@ impl SessionTable {
     }
 }
 
-/// Sets the slot of an open session of the team; false if it is not open.
+/// Sets the slot of an open session of the team. Returns false if the session is not open.
 fn write_open(teams: &mut Vec<Slots>, team: usize, session: u32, seen: Option<u32>) -> bool
     ensures open { result ≡ is_some (seen_at (slots_of teams.old.items team) session) }
     ensures table { teams.new.items ≡ (if result then with_slot teams.old.items team session seen else teams.old.items) }
