@@ -1,4 +1,4 @@
--- What a change to a team's cells makes of the lists that contracts see.
+-- How a change to a team's cells appears in the lists that contracts see.
 use Rattle.std.proofs.Common.{◌≡◌, ℕ, zero, suc, ◌≤◌, List, [], ◌∷◌, length, map, get_or, set, Option, refl, ap, arith}
 use Rattle.lf_floorplan.specs.declared.place.Place.{Place}
 use Rattle.lf_cells.specs.declared.cell.Cell.{Cell}
@@ -7,7 +7,7 @@ use Rattle.lf_cells.specs.Cells.{moved, as_committed}
 use Rattle.lf_cells.specs.Slots.{cell_in, cells_in, components_in, labels, labels_in, moved_records, committed_record}
 use Rattle.lf_cells.proofs.Lists.{same_seen, change_seen}
 
--- a write to the field of one cell moves that cell
+-- A write to the field of one cell moves that cell.
 pub moved_is : (slots : List CellRecord) (own : ℕ) (x : CellRecord) (place : Option Place) → x ≡ get_or slots own x
     → set slots own (record x { working = place }) ≡ moved_records slots own place
 moved_is [] own x place is = refl

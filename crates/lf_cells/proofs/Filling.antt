@@ -17,7 +17,7 @@ use Rattle.lf_cells.specs.Cells.{id_of}
 use Rattle.lf_cells.specs.Slots.{initial_record, own_records, labels, labels_in, label_at, IsIndex, AreListed, AddsCell, AreAdded}
 use Rattle.lf_cells.proofs.Lists.{map_at, get_kept, get_last, IsOneOf, Earlier, Last, one_of}
 
--- ---- one more position of a name, behind the others of its team
+-- ---- one more position of a name, after the others of its team
 
 with_label : List (List ℕ) → ℕ → ℕ → List (List ℕ)
 with_label all team n = set all team (get_or all team [] ++ n ∷ [])
@@ -37,7 +37,7 @@ label_new [] team n within = absurd (omega (arith, within))
 label_new (l ∷ ls) zero n within = get_last l n
 label_new (l ∷ ls) (suc team) n within = label_new ls team n (omega (arith, within))
 
--- the position is an earlier one, or the new one
+-- The position is an earlier one, or the new one.
 data IsOldOrNew (all : List (List ℕ)) (team n other own label : ℕ) : Type 0 where
   Old : slice_get (get_or all other []) own ≡ Some label → IsOldOrNew all team n other own label
   New : other ≡ team → own ≡ length (get_or all team []) → label ≡ n → IsOldOrNew all team n other own label
@@ -80,7 +80,7 @@ index_more owners all team within index =
         let whole : id_of team (length (get_or all team [])) ≡ id = ap₂ id_of (sym here) (sym at) in
         rw is (get_last owners (id_of team (length (get_or all team []))) ∙ ap (λ (i : CellId). Some i) whole)
 
--- ---- one more id, behind the others of its team
+-- ---- one more id, after the others of its team
 
 listed_more : (ids : List (List CellId)) (all : List (List ℕ)) (team n : ℕ) → team < length all → team < length ids → AreListed ids all
     → AreListed (set ids team (get_or ids team [] ++ id_of team (length (get_or all team [])) ∷ [])) (with_label all team n)

@@ -1,4 +1,4 @@
--- A team's cell by its name: the owner of the name, where it is the team's.
+-- A team's cell by its name: the owner of the name, if it is a cell of the team.
 use Rattle.std.proofs.Common.{◌≡◌, ℕ, zero, suc, ◌+◌, ◌<◌, Bool, true, false, cond, List, [], ◌∷◌, length}
 use Rattle.std.proofs.Common.{map, get_or, Option, Some, None, refl, ap, sym, ◌∙◌, add-zero, zero-add, arith}
 use Rattle.std.specs.Prelude.{slice_get, bytes_eq}
@@ -17,7 +17,7 @@ use Rattle.lf_cells.specs.Cells.{Cells, cells_of, cell_named, id_of, ids_of}
 use Rattle.lf_cells.specs.Slots.{cell_in, labels, labels_in, AreIndexed, table_of}
 use Rattle.lf_cells.proofs.Lists.{map_at}
 
--- the search for the first cell of that name
+-- The search for the first cell with this name.
 search_from : List ℕ → ℕ → List Cell → Option ℕ
 search_from name n cells = position_from (λ (c : Cell). bytes_eq c.name name) n cells
 
@@ -46,7 +46,7 @@ none_from names (s ∷ ss) name n fails =
     ap (λ (t : Bool). cond t (Some n) (search_from name (n + 1) (map (cell_in names) ss))) (fails 0 s.label refl)
     ∙ none_from names ss name (n + 1) (λ k l there. fails (suc k) l there)
 
--- the team's cells in the parts of a table
+-- The team's cells in the lists of a table.
 own_of : TableParts → ℕ → List CellRecord
 own_of p team = get_or p.teams.items team []
 
@@ -69,7 +69,7 @@ many_are p table team view =
     ∙ ap (λ (cells : List Cell). length cells) (map_at (λ (slots : List CellRecord). map (cell_in p.names) slots) p.teams.items team [])
     ∙ length-map (get_or p.teams.items team []) (cell_in p.names)
 
--- the ids that a table keeps of a team are those of its cells
+-- The ids that a table stores for a team are those of its cells.
 pub ids_are : (p : TableParts) (table : Cells) (team : ℕ) → AreIndexed p → table_of p ≡ table → get_or p.ids.items team [] ≡ ids_of team (cells_of table team)
 unfolding own_of
 ids_are p table team indexed view =
@@ -78,7 +78,7 @@ ids_are p table team indexed view =
     ∙ length-map (get_or p.teams.items team []) (λ (s : CellRecord). s.label) ∙ sym (many_are p table team view) in
     indexed.ids.listed team ∙ ap (λ (k : ℕ). map (λ (own : ℕ). id_of team own) (range_with_len 0 k)) many
 
--- a cell of that name: its name's position is that of the name, and it is the owner
+-- A cell with this name: the position of its name is that of the name, and it is the owner.
 pub record Bears (p : TableParts) (name : List ℕ) (team k l : ℕ) : Type 0 where
   pub position : position_of p.names name ≡ Some l
   pub owner : slice_get p.owners.items l ≡ Some (id_of team k)
@@ -93,7 +93,7 @@ bears p name team k l indexed there same =
     let at : slice_get p.names l ≡ Some name = slice_get-get_or p.names l [] inside ∙ ap (λ (n : List ℕ). Some n) is in
     record { position = found_there p.names name l indexed.differ at; owner = owner }
 
--- a test that cannot be true is false
+-- A test that cannot be true is false.
 refuted : (t : Bool) → (t ≡ true → ⊥) → t ≡ false
 refuted true fails = absurd (fails refl)
 refuted false fails = refl
@@ -136,7 +136,7 @@ found_own p table name team label id indexed view found owner own =
     absurd (omega (arith, below, place)))) ∙ ap (λ (k : ℕ). Some k) (zero-add id.own) in
     rw (← own) (named_is p table name id.team view ∙ first)
 
--- the owner of a name stands among its team's cells
+-- The owner of a name is among its team's cells.
 pub found_within : (p : TableParts) (table : Cells) (team label : ℕ) (id : CellId) → AreIndexed p → table_of p ≡ table → slice_get p.owners.items label ≡ Some id
     → id.team ≡ team → id.own < length (cells_of table team)
 found_within p table team label id indexed view owner own =

@@ -1,8 +1,8 @@
--- Elements of lists by their positions, and lists seen through a map.
+-- Elements of lists by their positions, and lists under a map.
 use Rattle.std.proofs.Common.{◌≡◌, ℕ, zero, suc, ◌<◌, List, [], ◌∷◌, ◌++◌, length, map, get_or, set, Some, refl, ap, arith}
 use Rattle.std.specs.Prelude.{slice_get}
 
--- an element of a mapped list
+-- An element of a mapped list.
 pub map_at : {X Y : Type 0} (f : X → Y) (xs : List X) (i : ℕ) (d : X) → get_or (map f xs) i (f d) ≡ f (get_or xs i d)
 map_at f [] i d = refl
 map_at f (x ∷ xs) zero d = refl
@@ -13,13 +13,13 @@ map_within f [] i d e within = absurd (omega (arith, within))
 map_within f (x ∷ xs) zero d e within = refl
 map_within f (x ∷ xs) (suc i) d e within = map_within f xs i d e (omega (arith, within))
 
--- a change of one element that the map does not show
+-- A change of one element that the map hides.
 pub same_seen : {X Y : Type 0} (f : X → Y) (xs : List X) (i : ℕ) (d x : X) → f x ≡ f (get_or xs i d) → map f (set xs i x) ≡ map f xs
 same_seen f [] i d x e = refl
 same_seen {X} {Y} f (a ∷ rest) zero d x e = ap (λ (b : Y). b ∷ map f rest) e
 same_seen {X} {Y} f (a ∷ rest) (suc i) d x e = ap (λ (bs : List Y). f a ∷ bs) (same_seen f rest i d x e)
 
--- a change of one element that the map shows as another change
+-- A change of one element that the map shows as another change.
 pub change_seen : {X Y : Type 0} (f : X → Y) (h : Y → Y) (xs : List X) (i : ℕ) (d x : X) → f x ≡ h (f (get_or xs i d))
     → map f (set xs i x) ≡ set (map f xs) i (h (get_or (map f xs) i (f d)))
 change_seen f h [] i d x e = refl
@@ -37,7 +37,7 @@ pub get_last : {X : Type 0} (xs : List X) (y : X) → slice_get (xs ++ y ∷ [])
 get_last [] y = refl
 get_last (a ∷ rest) y = get_last rest y
 
--- the element is an earlier one or the last one
+-- The element is an earlier one or the last one.
 pub data IsOneOf {X : Type 0} (xs : List X) (y : X) (k : ℕ) (x : X) : Type 0 where
   Earlier : slice_get xs k ≡ Some x → IsOneOf xs y k x
   Last : k ≡ length xs → y ≡ x → IsOneOf xs y k x

@@ -1,4 +1,4 @@
--- What a look at one cell says.
+-- The facts that a query about one cell returns.
 use Rattle.std.proofs.Common.{◌≡◌, ℕ, ◌<◌, List, [], length, map, get_or, Option, Some, None, refl, ap, sym, ◌∙◌, arith}
 use Rattle.std.specs.Prelude.{slice_get, option_map, option_and_then}
 use Rattle.std.proofs.lemmas.Option.{slice_get-map, slice_get_within, slice_get-get_or}
@@ -11,7 +11,7 @@ use Rattle.lf_cells.specs.Cells.{Cells, cell_at, component_at, placement_of, wor
 use Rattle.lf_cells.specs.Slots.{cell_in, labels, labels_in, record_at, label_at, AreIndexed, table_of}
 use Rattle.lf_cells.proofs.Lists.{map_at}
 
--- the cell of an id is that of its slot
+-- The cell with an id is that of its record.
 pub cell_is : (p : TableParts) (table : Cells) (id : CellId) → table_of p ≡ table → cell_at table id ≡ option_map (cell_in p.names) (record_at p.teams.items id)
 cell_is p table id view =
     ap (λ (t : Cells). cell_at t id) (sym view)
@@ -25,7 +25,7 @@ component_is p table id view =
     ∙ ap (λ (cs : List ℕ). slice_get cs id.own) (map_at (λ (slots : List CellRecord). map (λ (s : CellRecord). s.component) slots) p.teams.items id.team [])
     ∙ slice_get-map (λ (s : CellRecord). s.component) (get_or p.teams.items id.team []) id.own
 
--- the cell owns its name
+-- The cell owns its name.
 pub owner_is : (p : TableParts) (id : CellId) (s : CellRecord) → AreIndexed p → record_at p.teams.items id ≡ Some s → slice_get p.owners.items s.label ≡ Some id
 owner_is p id s indexed there =
     let label : label_at (labels_in p.teams.items) id ≡ Some s.label =
@@ -34,7 +34,7 @@ owner_is p id s indexed there =
     ∙ ap (option_map (λ (x : CellRecord). x.label)) there in
     (indexed.index.owned id s.label).1 label
 
--- the cell's name stands in the table of names
+-- The cell's name is in the table of names.
 pub name_there : (p : TableParts) (id : CellId) (s : CellRecord) → AreIndexed p → record_at p.teams.items id ≡ Some s
     → slice_get p.names s.label ≡ Some (get_or p.names s.label [])
 name_there p id s indexed there =

@@ -56,7 +56,7 @@ seen_components number n (name ∷ names) (c ∷ cs) same = go (eqb c.team numbe
   go true e = ap (λ (r : List ℕ). c.component ∷ r) e
   go false e = e
 
--- what is seen of each team is what its number gives
+-- The value that contracts see of each team is the one that its number gives.
 by_numbers : {Y : Type 0} (f : List CellRecord → Y) (g : ℕ → Y) (teams : List (List CellRecord)) (count : ℕ) → length teams ≡ count
     → ((number : ℕ) → f (get_or teams number []) ≡ g number)
     → map f teams ≡ map g (range_with_len 0 count)
@@ -83,7 +83,7 @@ opened_components names cells count p same taken =
     (λ number.
     ap (λ (slots : List CellRecord). map (λ (s : CellRecord). s.component) slots) (taken.each number) ∙ seen_components number 0 names cells same)
 
--- a cell of the list is that of its name
+-- A cell of the list is that of its name.
 pub named_at : (names : List (List ℕ)) (cells : List UnnamedCell) (k : ℕ) (d : LoadedCell) (name : List ℕ) (e : UnnamedCell) → length names ≡ length cells
     → k < length cells → get_or (with_names names cells) k d ≡ with_name (get_or names k name) (get_or cells k e)
 named_at names [] k d name e same within = absurd (omega (arith, within))
@@ -126,7 +126,7 @@ opened_index names cells count p same named rise taken =
       ids = taken.ids;
     }
 
--- what holds of all cells holds of them without their names
+-- A property of all cells holds for them without their names.
 pub all_plain : (P : ℕ → Type 0) (names : List (List ℕ)) (cells : List UnnamedCell) → length names ≡ length cells → All (λ c. P c.team) (with_names names cells)
     → All (λ c. P c.team) cells
 all_plain P names cells same all k d within =

@@ -14,9 +14,9 @@ use Rattle.lf_cells.specs.Slots.{table_of, AreIndexed, AreAdded}
 use Rattle.lf_cells.proofs.Lists.{map_at}
 use Rattle.lf_cells.proofs.Looks.{cell_is, component_is, owner_is}
 
--- ---- one slot
+-- ---- one record
 
--- the slot of a cell whose name has that position
+-- The record of a cell whose name has this position.
 record HasSlot (p : TableParts) (id : CellId) (label : ℕ) : Type 0 where
   slot : CellRecord
   there : record_at p.teams.items id ≡ Some slot
@@ -26,7 +26,7 @@ some_slot : (o : Option CellRecord) (label : ℕ) → option_map (λ (s : CellRe
 some_slot None label e = absurd (cc)
 some_slot (Some s) label e = (s, refl, cc)
 
--- the owner of a name has its slot
+-- The owner of a name has its record.
 owner_slot : (p : TableParts) (id : CellId) (label : ℕ) → label_at (labels_in p.teams.items) id ≡ Some label → HasSlot p id label
 owner_slot p id label at =
     let seen : option_map (λ (s : CellRecord). s.label) (record_at p.teams.items id) ≡ Some label =
@@ -35,7 +35,7 @@ owner_slot p id label at =
     let found = some_slot (record_at p.teams.items id) label seen in
     record { slot = found.0; there = found.1; label_is = found.2 }
 
--- the position of the entry is that of the slot
+-- The position of the entry is that of the record.
 slot_position : (p : TableParts) (id : CellId) (s : CellRecord) → record_at p.teams.items id ≡ Some s → position_in (components_in p.teams.items) id ≡ s.component
 slot_position p id s there =
     ap (λ (cs : List ℕ). get_or cs id.own 0) (map_at (λ (slots : List CellRecord). map (λ (x : CellRecord). x.component) slots) p.teams.items id.team [])
@@ -44,7 +44,7 @@ slot_position p id s there =
 
 -- ---- the order of the entries
 
--- the slot is that of one of the cells, the first of which has this label
+-- The record is that of one of the cells, the first of them with this label.
 record IsFrom (n : ℕ) (cells : List UnnamedCell) (s : CellRecord) : Type 0 where
   place : ℕ
   label_is : s.label ≡ n + place
@@ -66,7 +66,7 @@ slot_from number n (c ∷ cs) own s e = go (eqb c.team number) own (λ k at. slo
   go true (suc k) rest e = later (rest k e)
   go false k rest e = later (rest k e)
 
--- the position of the entry of the owner of a name is that of the cell with that name
+-- The position of the entry of the owner of a name is that of the cell with that name.
 owner_position : (names : List (List ℕ)) (cells : List UnnamedCell) (count : ℕ) (p : TableParts) → AreAdded names cells count p → (i : ℕ) (id : CellId) (d : UnnamedCell)
     → slice_get p.owners.items i ≡ Some id → position_in (components_in p.teams.items) id ≡ (get_or cells i d).component
 owner_position names cells count p taken i id d there =
@@ -81,7 +81,7 @@ a_cell : (cells : List UnnamedCell) (j : ℕ) → j < length cells → UnnamedCe
 a_cell [] j within = absurd (omega (arith, within))
 a_cell (c ∷ cs) j within = c
 
--- the owners of a table that is built stand in the order of the entries
+-- The owners of a table that is built are in the order of the entries.
 pub owners_rise : (names : List (List ℕ)) (cells : List UnnamedCell) (count : ℕ) (p : TableParts) → AllPairs (λ a b. a.component < b.component) cells → AreAdded names cells count p
     → AllPairs (λ id later. position_in (components_in p.teams.items) id < position_in (components_in p.teams.items) later) p.owners.items
 owners_rise names cells count p rise taken i j e less within =
@@ -107,14 +107,14 @@ one_is f None e = absurd (cc)
 one_is f (Some x) e = (x, refl)
 
 module _ (p : TableParts) (table : Cells) (indexed : AreIndexed p) (view : table_of p ≡ table) where
-  -- an owner has a slot
+  -- An owner has a record.
   slotted : (id : CellId) → Contains p.owners.items id → (s : CellRecord) × (record_at p.teams.items id ≡ Some s)
   slotted id (k, within, is) =
       let there : slice_get p.owners.items k ≡ Some id = slice_get-get_or p.owners.items k id within ∙ ap (λ (x : CellId). Some x) is in
       let has = owner_slot p id k ((indexed.index.owned id k).0 there) in
       (has.slot, has.there)
 
-  -- and what has a slot is an owner
+  -- A cell that has a record is an owner.
   owns : (id : CellId) (s : CellRecord) → record_at p.teams.items id ≡ Some s → Contains p.owners.items id
   owns id s there =
       let owner = owner_is p id s indexed there in
@@ -134,6 +134,6 @@ module _ (p : TableParts) (table : Cells) (indexed : AreIndexed p) (view : table
         λ some. let s = one_is (λ (x : CellRecord). x.component) (record_at p.teams.items id) (sym (ap is_some is) ∙ some) in owns id s.0 s.1,
       )
 
-  -- the owners are the ids of all cells
+  -- The owners are the ids of all cells.
   pub owners_are_all : AreAllIds table p.owners.items
   owners_are_all = record { rise = rw (← view) indexed.rise; cells = cells_owned; entries = entries_owned }

@@ -7,7 +7,7 @@ use Rattle.lf_cells.specs.declared.cell.Cell.{Cell}
 use Rattle.lf_cells.specs.declared.cell.CellId.{CellId}
 use Rattle.lf_cells.specs.Cells.{id_in, id_of, ids_of}
 
--- they are as many as the cells
+-- There are as many ids as cells.
 pub ids_many : (team : ℕ) (cells : List Cell) → length (ids_of team cells) ≡ length cells
 ids_many team cells = length-map-range_with_len (id_of team) 0 (length cells)
 
@@ -17,7 +17,7 @@ ids_item team own cells d within = get_or-map-range_with_len (id_of team) 0 (len
 pub ids_long : (team : ℕ) (cells : List Cell) (ids : List CellId) → ids ≡ ids_of team cells → length ids ≡ length cells
 ids_long team cells ids are = ap (λ (is : List CellId). length is) are ∙ ids_many team cells
 
--- each is that of the cell of its position
+-- Each id is that of the cell at its position.
 pub ids_read : (team own : ℕ) (cells : List Cell) (ids : List CellId) (id : CellId) → ids ≡ ids_of team cells → own < length ids → id ≡ get_or ids own id
     → id ≡ id_of team own
 ids_read team own cells ids id are within is =

@@ -1,4 +1,4 @@
-//! A cell, its id, and what no command changes of it.
+//! A cell, its id, and the parts that no command changes.
 
 use lf_floorplan::Place;
 use lf_units::Name;
@@ -9,9 +9,9 @@ pub struct Cell {
     pub name: Name,
     /// The position of its macro in the frame.
     pub mac: usize,
-    /// Its working place; none if it is unplaced.
+    /// Its working place; `None` if it is unplaced.
     pub working: Option<Place>,
-    /// Its committed place; none if it is unplaced.
+    /// Its committed place; `None` if it is unplaced.
     pub committed: Option<Place>,
 }
 
@@ -27,11 +27,11 @@ pub struct CellId {
 pub struct CellPlacement {
     /// The position of its macro in the frame.
     pub mac: usize,
-    /// Its working place; none if it is unplaced.
+    /// Its working place; `None` if it is unplaced.
     pub working: Option<Place>,
 }
 
-/// What no command changes of a cell.
+/// The parts of a cell that no command changes.
 #[derive(Clone, Copy)]
 pub struct CellFacts<'a> {
     pub name: &'a [u8],

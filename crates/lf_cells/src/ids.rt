@@ -22,7 +22,7 @@ impl Model for Ids {
 }
 
 impl Ids {
-    /// The empty list.
+    /// Returns the empty list.
     pub(crate) fn new(alloc: Global) -> Self
         ensures { result ≡ [] }
     {
@@ -31,7 +31,7 @@ impl Ids {
         }
     }
 
-    /// Appends an id.
+    /// Appends an id. `Err` if an allocation fails.
     pub(crate) fn push(&mut self, id: CellId) -> Result<(), AllocError>
         ensures { OnOk result (self.new ≡ self.old ++ id ∷ []) }
     {
@@ -39,7 +39,7 @@ impl Ids {
         Ok(())
     }
 
-    /// The ids as a slice.
+    /// Returns the ids as a slice.
     pub(crate) fn as_slice(&self) -> &[CellId]
         ensures { result.now ≡ self.now }
     {

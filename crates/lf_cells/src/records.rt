@@ -19,7 +19,7 @@ pub(crate) struct CellRecord {
 }
 
 impl CellRecord {
-    /// A cell at its loaded place; its name has this position.
+    /// Returns a cell at its loaded place. `label` is the position of its name.
     pub(crate) fn initial(label: u32, cell: &UnnamedCell) -> Self
         ensures { result ≡ initial_record label cell.now }
     {
@@ -32,7 +32,7 @@ impl CellRecord {
         }
     }
 
-    /// The cell with its working place committed.
+    /// Returns the cell with its working place committed.
     fn committed(&self) -> Self
         ensures { result ≡ committed_record self.now }
     {
@@ -62,7 +62,7 @@ impl Model for TeamCells {
 }
 
 impl TeamCells {
-    /// The empty list.
+    /// Returns the empty list.
     pub(crate) fn new(alloc: Global) -> Self
         ensures { result ≡ [] }
     {
@@ -71,7 +71,7 @@ impl TeamCells {
         }
     }
 
-    /// Appends a cell.
+    /// Appends a cell. `Err` if an allocation fails.
     pub(crate) fn push(&mut self, slot: CellRecord) -> Result<(), AllocError>
         ensures { OnOk result (self.new ≡ self.old ++ slot ∷ []) }
     {
@@ -79,14 +79,14 @@ impl TeamCells {
         Ok(())
     }
 
-    /// How many cells there are.
+    /// Returns the number of cells.
     pub(crate) fn len(&self) -> usize
         ensures { result ≡ length self.now }
     {
         self.slots.len()
     }
 
-    /// The cell at this position.
+    /// Returns the cell at this position. `None` if there is no such cell.
     pub(crate) fn get(&self, own: usize) -> Option<CellRecord>
         ensures { result ≡ slice_get self.now own }
     {
@@ -103,7 +103,7 @@ impl TeamCells {
         put(&mut self.slots, own, place);
     }
 
-    /// Makes the working places the committed ones.
+    /// Commits the working places.
     pub(crate) fn commit(&mut self)
         ensures { self.new ≡ map committed_record self.old }
     {
@@ -120,7 +120,7 @@ fn put(slots: &mut Vec<CellRecord>, own: usize, place: Option<Place>)
     }
 }
 
-/// Makes the working places the committed ones.
+/// Commits the working places.
 fn commit_all(slots: &mut Vec<CellRecord>)
     ensures { slots.new.items ≡ map committed_record slots.old.items }
 {

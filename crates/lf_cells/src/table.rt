@@ -11,16 +11,17 @@ use lf_floorplan::{Frame, Loaded, Place};
 use std::alloc::{AllocError, Global};
 use std::marker::Model;
 
-/// The cells of all teams of a loaded design. A team's number is its position among the fences of the frame; the ground
-/// team `-` is last.
+/// The cells of all teams of a loaded design. A team's number is its position among the fences of
+/// the frame; the ground team `-` is last.
 ///
-/// Contracts see for each team the list of its cells in loading order, and the positions of their entries among all
-/// COMPONENTS of the DEF text. Only `build` allocates.
+/// Contracts see for each team, in loading order, its cells and the positions of their entries
+/// among all COMPONENTS of the DEF text. Only `build` allocates.
 pub struct CellTable {
     parts: TableParts,
 }
 
-/// (Written out: the proof of a function that lets one go does not take it apart.)
+/// Written by hand: with a derived `drop`, the proof of each function that drops a `CellTable`
+/// unfolds its fields.
 impl Drop for CellTable {
     fn drop(self) {
         let CellTable { parts: _ } = self;
@@ -40,11 +41,11 @@ impl Model for CellTable {
 }
 
 impl CellTable {
-    /// The table of a design as it is loaded, and the frame of the design: each team has its own cells, in loading order, each
-    /// with its place in the DEF text as its working place and its committed place. The table of names moves from the design
-    /// into this one.
+    /// Returns the frame of a design, and the table of its cells. Each team has its own cells, in
+    /// loading order. Each cell's working place and committed place are its place in the DEF text.
+    /// The table of names moves from the design into this one.
     ///
-    /// `Err` if an allocation fails; the design is then gone.
+    /// `Err` if an allocation fails; the design is then dropped.
     pub fn build(alloc: Global, loaded: Loaded) -> Result<(Frame, CellTable), AllocError>
         ensures frame { IfOk result (λ built. built.0 ≡ loaded.frame) }
         ensures cells { IfOk result (λ built. built.1.cells ≡ initial_cells loaded) }
@@ -56,7 +57,8 @@ impl CellTable {
         Ok((frame, CellTable { parts }))
     }
 
-    /// The team's cell of that name; none iff it has none: another team's cell is answered like a name that no cell has.
+    /// Returns the team's cell with this name. `None` iff the team has no such cell, even if
+    /// another team has one.
     pub fn find_own(&self, team: usize, name: &[u8]) -> Option<CellId>
         ensures own { option_map (λ id. id.own) result ≡ cell_named name.now (cells_of self.now team) }
         ensures team { IfSome result (λ id. id.team ≡ team) }
@@ -70,14 +72,14 @@ impl CellTable {
         None
     }
 
-    /// The ids of the team's cells, in loading order; empty if there is no such team.
+    /// Returns the ids of the team's cells, in loading order; empty if there is no such team.
     pub fn cells_of(&self, team: usize) -> &[CellId]
         ensures { result.now ≡ ids_of team (cells_of self.now team) }
     {
         self.parts.ids_of(team)
     }
 
-    /// The id of the team's cell at this position; none iff the team has no such cell.
+    /// Returns the id of the team's cell at this position. `None` iff the team has no such cell.
     pub fn cell_of(&self, team: usize, own: usize) -> Option<CellId>
         ensures { result ≡ id_in (cells_of self.now team) team own }
     {
@@ -87,14 +89,16 @@ impl CellTable {
         }
     }
 
-    /// The ids of the cells of all teams, in loading order: the positions of their entries among all COMPONENTS rise.
+    /// Returns the ids of the cells of all teams, in loading order: the positions of their entries
+    /// among all COMPONENTS rise.
     pub fn cell_ids(&self) -> &[CellId]
         ensures { AreAllIds self.now result.now }
     {
         self.parts.owners.as_slice()
     }
 
-    /// The name, the macro and the entry of a cell, which no command changes; none iff there is no such cell.
+    /// Returns the name, the macro and the entry of a cell, which no command changes. `None` iff
+    /// there is no such cell.
     pub fn cell(&self, id: CellId) -> Option<CellFacts<'_>>
         ensures name { option_map (λ facts. facts.name.now) result ≡ option_map (λ c. c.name) (cell_at self.now id) }
         ensures mac { option_map (λ facts. facts.mac) result ≡ option_map (λ c. c.mac) (cell_at self.now id) }
@@ -108,7 +112,7 @@ impl CellTable {
         })
     }
 
-    /// The macro and working place of a cell; none iff there is no such cell.
+    /// Returns the macro and working place of a cell. `None` iff there is no such cell.
     pub fn placement_of(&self, id: CellId) -> Option<CellPlacement>
         ensures { result ≡ option_map placement_of (slice_get (cells_of self.now id.team) id.own) }
     {
@@ -119,7 +123,7 @@ impl CellTable {
         })
     }
 
-    /// The working place of a cell; none if it is unplaced, or there is no such cell.
+    /// Returns the working place of a cell. `None` if it is unplaced, or there is no such cell.
     pub fn working(&self, id: CellId) -> Option<Place>
         ensures { result ≡ working_at (cells_of self.now id.team) id.own }
     {
@@ -127,7 +131,7 @@ impl CellTable {
         slot.working.place()
     }
 
-    /// The committed place of a cell; none if it is unplaced, or there is no such cell.
+    /// Returns the committed place of a cell. `None` if it is unplaced, or there is no such cell.
     pub fn committed(&self, id: CellId) -> Option<Place>
         ensures { result ≡ committed_at (cells_of self.now id.team) id.own }
     {
@@ -137,7 +141,8 @@ impl CellTable {
             .place()
     }
 
-    /// Changes the working place of one cell and nothing else; if there is no such cell, nothing changes.
+    /// Changes the working place of one cell and nothing else. Changes nothing if there is no such
+    /// cell.
     pub fn set_working(&mut self, id: CellId, place: Option<Place>)
         ensures cells { self.new.cells ≡ slice_set self.old.cells id.team (moved (cells_of self.old id.team) id.own place) }
         ensures components { self.new.components ≡ self.old.components }
@@ -148,7 +153,7 @@ impl CellTable {
         }
     }
 
-    /// Makes the working places of the team's cells their committed ones, and changes nothing else.
+    /// Commits the working places of the team's cells, and changes nothing else.
     pub fn commit_team(&mut self, team: usize)
         ensures cells { self.new.cells ≡ slice_set self.old.cells team (map as_committed (cells_of self.old team)) }
         ensures components { self.new.components ≡ self.old.components }

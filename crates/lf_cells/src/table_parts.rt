@@ -1,4 +1,4 @@
-//! The parts of a table, and how they are filled from a loaded design.
+//! The lists of a table, and how a loaded design fills them.
 
 ghost use Rattle.std.specs.Prelude.{◌≡◌, ◌≤◌, ◌<◌, ◌+◌, ◌++◌, ◌∷◌, [], All, OnOk, IfOk, length, map, replicate, slice_get, slice_index_or, slice_set};
 ghost use Rattle.lf_cells.specs.Slots.{moved_records, committed_record, record_at, AddsCell, AreAdded};
@@ -11,12 +11,12 @@ use lf_floorplan::{CellParts, Place, UnnamedCell};
 use lf_names::NameTable;
 use std::alloc::{AllocError, Global};
 
-/// The parts of a table.
+/// The lists of a table.
 #[derive(Drop)]
 pub(crate) struct TableParts {
     /// The names of all cells, in loading order.
     pub(crate) names: NameTable,
-    /// The cell of each of these names.
+    /// The cell with each of the names.
     pub(crate) owners: Vec<CellId>,
     /// Each team's cells without their names.
     pub(crate) teams: Vec<TeamCells>,
@@ -24,7 +24,7 @@ pub(crate) struct TableParts {
     pub(crate) ids: Vec<Ids>,
 }
 
-/// The id of the team's cell at this position.
+/// Returns the id of the team's cell at this position.
 fn id_of(team: usize, own: usize) -> CellId
     requires team { team ≤ 4000000 }
     requires own { own ≤ 4000000 }
@@ -36,7 +36,7 @@ fn id_of(team: usize, own: usize) -> CellId
     }
 }
 
-/// Appends a cell to its team.
+/// Appends a cell to its team. `Err` if an allocation fails.
 fn push_cell(teams: &mut Vec<TeamCells>, team: usize, slot: CellRecord) -> Result<(), AllocError>
     requires { team < length teams.old.items }
     ensures { OnOk result (teams.new.items ≡ slice_set teams.old.items team (slice_index_or teams.old.items team [] ++ slot ∷ [])) }
@@ -44,7 +44,7 @@ fn push_cell(teams: &mut Vec<TeamCells>, team: usize, slot: CellRecord) -> Resul
     teams[team].push(slot)
 }
 
-/// Appends an id to its team.
+/// Appends an id to its team. `Err` if an allocation fails.
 fn push_id(ids: &mut Vec<Ids>, team: usize, id: CellId) -> Result<(), AllocError>
     requires { team < length ids.old.items }
     ensures { OnOk result (ids.new.items ≡ slice_set ids.old.items team (slice_index_or ids.old.items team [] ++ id ∷ [])) }
@@ -60,7 +60,7 @@ pub(crate) fn move_cell(teams: &mut Vec<TeamCells>, team: usize, own: usize, pla
     teams[team].set_working(own, place);
 }
 
-/// Makes the working places of the team's cells the committed ones.
+/// Commits the working places of the team's cells.
 pub(crate) fn commit_cells(teams: &mut Vec<TeamCells>, team: usize)
     requires { team < length teams.old.items }
     ensures { teams.new.items ≡ slice_set teams.old.items team (map committed_record (slice_index_or teams.old.items team [])) }
@@ -68,7 +68,7 @@ pub(crate) fn commit_cells(teams: &mut Vec<TeamCells>, team: usize)
     teams[team].commit();
 }
 
-/// A list of this many teams without cells.
+/// Returns a list of `count` teams without cells. `Err` if an allocation fails.
 fn empty_teams(alloc: Global, count: usize) -> Result<Vec<TeamCells>, AllocError>
     ensures { IfOk result (λ teams. teams.items ≡ replicate count []) }
 {
@@ -79,7 +79,7 @@ fn empty_teams(alloc: Global, count: usize) -> Result<Vec<TeamCells>, AllocError
     Ok(teams)
 }
 
-/// A list of this many teams without ids.
+/// Returns a list of `count` teams without ids. `Err` if an allocation fails.
 fn empty_ids(alloc: Global, count: usize) -> Result<Vec<Ids>, AllocError>
     ensures { IfOk result (λ ids. ids.items ≡ replicate count []) }
 {
@@ -91,7 +91,7 @@ fn empty_ids(alloc: Global, count: usize) -> Result<Vec<Ids>, AllocError>
 }
 
 impl TableParts {
-    /// Appends the cell to its team.
+    /// Appends the cell to its team. `Err` if an allocation fails.
     fn add_cell(&mut self, cell: &UnnamedCell) -> Result<(), AllocError>
         requires team { cell.now.team < length self.old.teams.items }
         requires ids { length self.old.ids.items ≡ length self.old.teams.items }
@@ -108,7 +108,8 @@ impl TableParts {
         push_cell(&mut self.teams, team, CellRecord::initial(label, cell))
     }
 
-    /// The parts of a table of these cells, for this many teams.
+    /// Returns the lists of a table for these cells and for `count` teams. `Err` if an allocation
+    /// fails.
     pub(crate) fn of_cells(
         alloc: Global,
         count: usize,
@@ -132,14 +133,14 @@ impl TableParts {
         Ok(parts)
     }
 
-    /// The team's cell at this position, without its name.
+    /// Returns the team's cell at this position, without its name. `None` if there is no such cell.
     pub(crate) fn slot(&self, team: usize, own: usize) -> Option<CellRecord>
         ensures { result ≡ record_at self.now.teams.items (id_of team own) }
     {
         self.teams.get(team)?.get(own)
     }
 
-    /// The ids of the team's cells; none if there is no such team.
+    /// Returns the ids of the team's cells; empty if there is no such team.
     pub(crate) fn ids_of(&self, team: usize) -> &[CellId]
         ensures { result.now ≡ slice_index_or self.now.ids.items team [] }
     {
