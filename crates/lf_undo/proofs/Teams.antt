@@ -1,4 +1,4 @@
--- A team's chain inside the stacks: what a contract sees of it, and of its changes.
+-- A team's chain in the stacks: the value that contracts see of it, and of its changes.
 use Rattle.std.proofs.Common.{◌≡◌, ℕ, suc, ◌+◌, ◌-◌, ◌<◌, ◌≤◌, List, [], ◌∷◌, length, get_or, take, drop, set, Some, None, sym, ap, subst, ◌∙◌, refl, arith}
 use Rattle.std.specs.Prelude.{slice_get, map}
 use Rattle.std.proofs.lemmas.List.{length-map}
@@ -14,7 +14,7 @@ use Rattle.lf_undo.proofs.Chains.{values_at, without_oldest, oldest, reaches, le
 use Rattle.lf_undo.proofs.Changes.{Become, popped, shortened, pushed}
 
 module _ {T A : Type 0} where
-  -- a team's chain inside the stacks, and what a contract sees of it
+  -- A team's chain in the stacks, and the value that contracts see of it.
   pub record IsTeam (inside : Inside T A) (now : Stacks T) (team : ℕ) (c : Chain) : Type 0 where
     pub linked : AreLinked inside.links inside.chains.items inside.limit
     pub shown : map (chain_values inside.links) inside.chains.items ≡ now.lists
@@ -42,7 +42,7 @@ module _ {T A : Type 0} where
         depth = ap length stack ∙ length_values (get inside.links) a.owner a.rank team old.0 c.depth c.newest old.1;
       }
 
-  -- the newest link of a team that has one, and its value
+  -- The newest link of a team that has one, and its value.
   pub newest_link : {inside : Inside T A} {now : Stacks T} {team : ℕ} {c : Chain} → IsTeam inside now team c → 0 < c.depth →
       (link : Link T) × (get inside.links c.newest ≡ Some link)
   newest_link {inside} {now} {team} {c} t some =
@@ -61,7 +61,7 @@ module _ {T A : Type 0} where
       ∙ ap (λ (n : ℕ). slice_get (values_from look n c.newest) 0) less
       ∙ ap (λ (xs : List T). slice_get xs 0) (values_at look (c.depth - 1) c.newest link found))
 
-  -- the links below the newest one are there, up to the oldest
+  -- The links below the newest one exist, down to the oldest.
   pub reaches_oldest : {inside : Inside T A} {now : Stacks T} {team : ℕ} {c : Chain} → IsTeam inside now team c → 0 < c.depth →
       Reaches (get inside.links) (c.depth - 1) c.newest
   reaches_oldest {inside} {now} {team} {c} t some =
@@ -84,19 +84,19 @@ module _ {T A : Type 0} where
       let last = oldest look a.owner a.rank team old.0 (c.depth - 1) c.newest chain in
       (last.link, last.found)
 
-  -- the links of the team are there
+  -- The links of the team exist.
   all_reached : {inside : Inside T A} {now : Stacks T} {team : ℕ} {c : Chain} → IsTeam inside now team c → Reaches (get inside.links) c.depth c.newest
   all_reached {inside} {now} {team} {c} t =
       let a = t.linked in
       let old = a.linked team c t.at in
       reaches (get inside.links) a.owner a.rank team old.0 c.depth c.newest old.1
 
-  -- so are those above one of them
+  -- The links above one of them exist too.
   pub reaches_newer : {inside : Inside T A} {now : Stacks T} {team : ℕ} {c : Chain} → IsTeam inside now team c → (newer : ℕ) → newer < c.depth →
       Reaches (get inside.links) newer c.newest
   reaches_newer {inside} {now} {team} {c} t newer less = reaches_below (get inside.links) c.depth c.newest (all_reached t) newer (omega arith)
 
-  -- the link below so many newer ones, and its value
+  -- The link below `newer` newer ones, and its value.
   pub newer_link : {inside : Inside T A} {now : Stacks T} {team : ℕ} {c : Chain} → IsTeam inside now team c → (newer : ℕ) → newer < c.depth →
       (link : Link T) × (get inside.links (key_at (get inside.links) newer c.newest) ≡ Some link)
   newer_link {inside} {now} {team} {c} t newer less = link_below (get inside.links) c.depth c.newest (all_reached t) newer less
@@ -112,7 +112,7 @@ module _ {T A : Type 0} where
       None ≡ slice_get (stack_of now team) newer
   none_newer {inside} {now} {team} {c} t newer past = sym (slice_get_past (stack_of now team) newer (omega (arith, past, t.depth)))
 
-  -- a change of a team's chain, by what a contract sees before it
+  -- A change of a team's chain, in terms of the value that contracts see prior to it.
   told : {inside : Inside T A} {now : Stacks T} {team : ℕ} {c : Chain} → IsTeam inside now team c
       → (later : Slab (Link T)) (after : List Chain) (f : List T → List T) →
       Become later after inside.limit (set (map (chain_values inside.links) inside.chains.items) team (f (chain_values inside.links c))) →

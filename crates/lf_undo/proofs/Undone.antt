@@ -1,4 +1,4 @@
--- The places that undo entries stand for: the laws.
+-- The places that undo entries give: the laws.
 use Rattle.std.proofs.Common.{◌≡◌, ℕ, zero, suc, List, [], ◌∷◌, ◌++◌, length, get_or, set, take, drop, Option, Some, None, refl, sym, ap, ◌∙◌}
 use Rattle.std.specs.Prelude.{All, slice_get}
 use Rattle.std.proofs.lemmas.List.{set-set, set-get_or, length-set}
@@ -8,7 +8,7 @@ use Rattle.lf_floorplan.specs.declared.place.Place.{Place}
 use Rattle.lf_undo.specs.declared.moves.Move.{Move}
 use Rattle.lf_undo.specs.Entries.{Places, moves_taken_back, entries_of, moves_with, places_set, moves_of}
 
--- a cell's new place, taken back
+-- A cell's new place, taken back.
 set_back : (places : Places) (cell : ℕ) (to : Option Place) → set (set places cell to) cell (get_or places cell None) ≡ places
 set_back places cell to = set-set places cell to (get_or places cell None) ∙ set-get_or places cell None
 
@@ -17,12 +17,12 @@ undo_settings places [] = refl
 undo_settings places (s ∷ settings) =
     ap (λ (ps : Places). set ps s.0 (get_or places s.0 None)) (undo_settings (set places s.0 s.1) settings) ∙ set_back places s.0 s.1
 
--- moves in two runs: the second is taken back first
+-- Moves in two runs: the second is taken back first.
 pub taken_back-append : (first second : List Move) (places : Places) → moves_taken_back (first ++ second) places ≡ moves_taken_back first (moves_taken_back second places)
 taken_back-append [] second places = refl
 taken_back-append (m ∷ first) second places = ap (λ (ps : Places). set ps m.own m.old) (taken_back-append first second places)
 
--- the last move is taken back first
+-- The last move is taken back first.
 pub back_append : (moves : List Move) (m : Move) (places : Places) → moves_taken_back (moves ++ m ∷ []) places ≡ moves_taken_back moves (set places m.own m.old)
 back_append moves m places = taken_back-append moves (m ∷ []) places
 

@@ -4,21 +4,23 @@ use Rattle.lf_floorplan.specs.declared.place.Place.{Place}
 use Rattle.lf_undo.specs.declared.moves.Move.{Move}
 use Rattle.lf_undo.specs.Entries.{Places, moves_taken_back, entries_of, moves_with, places_set, moves_of}
 
--- The moves of settings, taken back from the places after them, give the places before them.
+-- The moves of settings, taken back from the places after them, give the places prior to them.
 abbrev pub MovesUndoSettings : Type 0
 MovesUndoSettings = (places : Places) (settings : List (ℕ × Option Place)) → moves_taken_back (moves_of places settings) (places_set places settings) ≡ places
 
--- The same one setting at a time: a cell gets a place, and its old one is appended to the moves so far.
+-- The same one setting at a time: a cell gets a place, and its previous one is appended to the
+-- moves so far.
 abbrev pub MovesUndoOneMore : Type 0
 MovesUndoOneMore = (before now : Places) (moves : List Move) (cell : ℕ) (to : Option Place) →
     moves_taken_back moves now ≡ before → moves_taken_back (moves_with moves now cell) (slice_set now cell to) ≡ before
 
--- A change whose moves are pushed puts the old places in front of the entries, and drops what is past the limit.
+-- A change whose moves are pushed adds the previous places at the front, and drops the entries past
+-- the limit.
 abbrev pub EntriesGrow : Type 0
 EntriesGrow = (before now : Places) (moves : List Move) (entries : List (List Move)) (limit : ℕ) →
     moves_taken_back moves now ≡ before → entries_of now (take limit (moves ∷ entries)) ≡ take limit (before ∷ entries_of before entries)
 
--- The front entry, taken off and taken back, gives the newest places, and the others stay entries.
+-- The front entry, removed and taken back, gives the newest places; the others remain entries.
 abbrev pub EntriesShrink : Type 0
 EntriesShrink = (now : Places) (moves : List Move) (entries : List (List Move)) →
     slice_get entries 0 ≡ Some moves → entries_of now entries ≡ moves_taken_back moves now ∷ entries_of (moves_taken_back moves now) (drop 1 entries)
@@ -31,7 +33,7 @@ EntriesKeep = (now : Places) (entries : List (List Move)) → slice_get entries 
 abbrev pub EntriesTake : Type 0
 EntriesTake = (now : Places) (entries : List (List Move)) (limit : ℕ) → entries_of now (take limit entries) ≡ take limit (entries_of now entries)
 
--- As many lists as entries, each of as many places as there are cells.
+-- There are as many lists as entries, each of as many places as there are cells.
 abbrev pub EntriesAreWhole : Type 0
 EntriesAreWhole = (now : Places) (entries : List (List Move)) →
     (length (entries_of now entries) ≡ length entries) × All (λ places. length places ≡ length now) (entries_of now entries)

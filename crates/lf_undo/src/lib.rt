@@ -1,16 +1,26 @@
-//! What undo keeps: for each team a bounded stack of entries, newest first, all of them in one slab.
+//! Undo entries: for each team a bounded stack, newest entry first, with all entries in one slab.
 //!
-//! An entry has the moves of one command, each with the place that its cell had before.
+//! An entry has the moves of one command, each with the previous place of its cell.
 //!
-//! A contract sees of `Stacks` each team's values, newest first, their limit, and how many more values fit without an
-//! allocation; and of `Moves` the list of the moves. `UndoStore` is stacks of `Moves`. Every call but `build` asks for a
-//! team of the stacks.
+//! A contract sees `Stacks` as each team's values, newest first, their limit, and the number of
+//! further values that fit without an allocation. It sees `Moves` as the list of the moves.
+//! `UndoStore` is stacks of `Moves`. Every call except `build` requires a team of the stacks.
+//!
+//! Used by `lf_placement`, `lf_state_text`, `lf_state_restore`, `lf_floor_verbs` and `lf_floor`.
+//!
+//! Modules, in reading order:
+//!
+//! - `moves`: the cells that a command moved, with their previous places
+//! - `stacks`: a bounded stack for each team
+//! - `laws`: laws of the places that undo entries give
+//!
+//! From `crates/lf_tests_basics/src/undo.rt`:
 //!
 //! ```
-//! let mut undo = Stacks::build(Global, 3, 64)?; // 3 teams, 64 entries each
-//! undo.reserve(0)?; // the next `push` of team 0 allocates nothing
-//! undo.push(0, moves); // Ok(())
-//! let newest = undo.pop(0); // Some(moves)
+//! match store.front(team) {
+//!     Some(front) => store.depth(team) == 1 && is_of(front, own),
+//!     None => false,
+//! }
 //! ```
 #![tactic(auto)]
 

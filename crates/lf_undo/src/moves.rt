@@ -1,4 +1,4 @@
-//! What an undo entry keeps: the cells that a command moved, with the places that they had.
+//! The content of an undo entry: the cells that a command moved, with their previous places.
 
 ghost use Rattle.std.specs.Prelude.{◌≡◌, ◌++◌, ◌∷◌, ◌<◌, ◌≤◌, [], IfOk, OnOk, OnErr, length};
 ghost use Rattle.lf_undo.specs.Entries.{replaced};
@@ -8,8 +8,8 @@ use lf_floorplan::{PackedPlace, Place};
 use std::alloc::{AllocError, Allocator, Global};
 use std::marker::Model;
 
-/// A cell of a team, by its position among the team's cells, with the place that it had before a
-/// command: none if it was unplaced.
+/// A cell of a team, by its position among the team's cells, and its place prior to a command;
+/// `None` if it was unplaced.
 #[derive(Clone, Copy, Debug, PartialEq, Eq)]
 pub struct Move {
     pub own: u32,
@@ -17,7 +17,7 @@ pub struct Move {
 }
 
 impl Move {
-    /// The move of the cell of that position, with that place.
+    /// Returns the move of the cell at this position, with this previous place.
     pub fn new(own: u32, old: Option<Place>) -> Self
         ensures { result ≡ record { own = own; old = old } }
     {
@@ -28,8 +28,8 @@ impl Move {
     }
 }
 
-/// The moves of one command, in their order, at most 4,294,967,295. A cell that the command moved twice is there
-/// twice.
+/// The moves of one command, in their order, at most 4,294,967,295. A cell that the command moves
+/// twice is in the list twice.
 #[derive(Drop)]
 pub struct Moves<A: Allocator = Global> {
     moves: Vec<Move, A>,
@@ -49,7 +49,7 @@ impl<A: Allocator> Model for Moves<A> {
 }
 
 impl<A: Allocator> Moves<A> {
-    /// No move; this allocates nothing.
+    /// Returns the empty list. Allocates nothing.
     pub fn new(alloc: A) -> Self
         ensures { result ≡ [] }
     {
@@ -58,7 +58,7 @@ impl<A: Allocator> Moves<A> {
         }
     }
 
-    /// No move, with room for this many; contracts say nothing of the room.
+    /// Returns the empty list, with room for `count` moves. Contracts do not mention the room.
     ///
     /// `Err` if an allocation fails.
     pub fn with_capacity(alloc: A, count: usize) -> Result<Self, AllocError>
@@ -83,7 +83,7 @@ impl<A: Allocator> Moves<A> {
         Ok(())
     }
 
-    /// Gives the move of that position, which there must be, another place. It allocates nothing.
+    /// Replaces the place in the move at this position, which must exist. Allocates nothing.
     pub fn replace(&mut self, at: usize, old: Option<Place>)
         requires { at < length self.old }
         ensures { self.new ≡ replaced self.old at old }
@@ -98,7 +98,7 @@ impl<A: Allocator> Moves<A> {
         let _ = &self.moves;
     }
 
-    /// The moves, in their order.
+    /// Returns the moves, in their order.
     pub fn as_slice(&self) -> &[Move]
         ensures { result.now ≡ self.now }
     {
