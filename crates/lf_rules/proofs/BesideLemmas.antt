@@ -1,4 +1,4 @@
--- What holds of the boxes of a team's other cells, cell by cell.
+-- Properties of the boxes of a team's other cells, cell by cell.
 use Rattle.std.proofs.Common.{◌≡◌, ℕ, zero, suc, ◌+◌, Bool, true, false, cond, List, [], ◌∷◌, Option, Some, None, refl, ◌∙◌, ap, subst, arith, slice_get}
 use Rattle.std.specs.Prelude.{All, filter, not, ◌==◌}
 use Rattle.std.proofs.lemmas.Bool.Decides.{nat_tests}
@@ -9,7 +9,7 @@ use Rattle.lf_rtree.specs.declared.placed.Placed.{Placed}
 use Rattle.lf_rules.specs.Choice.{SpotPlace}
 use Rattle.lf_rules.specs.Team.{Member, box_in, with_box, boxes_from, boxes_beside}
 
--- what holds of each element that passes the test holds of the filtered list
+-- A property of each element that passes the test holds for the filtered list.
 pub filtered_hold : {X : Type 0} (P : X → Type 0) (test : X → Bool) (xs : List X) → All (λ x. test x ≡ true → P x) xs → All P (filter test xs)
 filtered_hold P test [] h = All-nil P
 filtered_hold P test (x ∷ xs) h = by (test x) refl (filtered_hold P test xs (All-tail (λ y. test y ≡ true → P y) x xs h))

@@ -1,4 +1,4 @@
--- Where it is settled at which places the cell may go, there is a choice.
+-- If it is decided for each place whether the cell may be put there, there is a choice.
 use Rattle.std.proofs.Common.{◌≡◌, ◌⊎◌, ℕ, zero, suc, ◌<◌, ◌≤◌, List, [], ◌∷◌, length, Option, Some, None, inl, inr, refl, sym, subst, arith, slice_get}
 use Rattle.lf_units.specs.declared.geometry.Point.{Point}
 use Rattle.lf_orient.specs.declared.Orient.TheVariants.{N, S, FN, FS}

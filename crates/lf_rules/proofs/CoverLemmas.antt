@@ -8,7 +8,7 @@ steps_by_case : (a b : ℤ) → a ≤ℤ b → (d : ℤ) → b -ℤ a ≡ d → 
 steps_by_case a b h (pos n) e = (n, omega (arith, ints))
 steps_by_case a b h (negsuc n) e = absurd (omega (arith, ints))
 
--- how far b is above a
+-- The distance of b above a.
 pub steps_to : (a b : ℤ) → a ≤ℤ b → (n : ℕ) × (b ≡ a +ℤ pos n)
 steps_to a b h =
     let go : (d : ℤ) → b -ℤ a ≡ d → (n : ℕ) × (b ≡ a +ℤ pos n) = λ d e. steps_by_case a b h d e in
@@ -22,7 +22,7 @@ up_one rect rects x edges y inside (k, r, within, is, held) =
     (λ less. (k, r, within, is, record { left = held.left; right = held.right; bottom = omega (arith, ints); top = less }))
     (λ more. let at : y ≡ (get_or rects k r).y2 = rw is (omega (arith, ints)) in rw at (edges k r within (rw (← at) inside)))
 
--- the points of a column, from its lowest on
+-- The points of a column, from its lowest on.
 column_at : (rect : Rect) (rects : List Rect) (x low : ℤ) → low ≡ rect.y1
     → (Covers rect x low → CoveredBy rects x low)
     → ((k : ℕ) (d : Rect) → k < length rects → Covers rect x (get_or rects k d).y2 → CoveredBy rects x (get_or rects k d).y2)
@@ -51,7 +51,7 @@ right_one rect rects edges x y inside (k, r, within, is, held) =
     (λ less. (k, r, within, is, record { left = omega (arith, ints); right = less; bottom = held.bottom; top = held.top }))
     (λ more. let at : x ≡ (get_or rects k r).x2 = rw is (omega (arith, ints)) in rw at (edges k r within y (rw (← at) inside)))
 
--- the points of the box, column by column
+-- The points of the box, column by column.
 row_at : (rect : Rect) (rects : List Rect) (low : ℤ) → low ≡ rect.x1
     → ((y : ℤ) → Covers rect low y → CoveredBy rects low y)
     → ((k : ℕ) (d : Rect) → k < length rects → (y : ℤ) → Covers rect (get_or rects k d).x2 y → CoveredBy rects (get_or rects k d).x2 y)

@@ -1,4 +1,4 @@
--- Which facts of a trial are settled: each holds or does not.
+-- The facts about a candidate that are decided: each holds or does not hold.
 use Rattle.std.proofs.Common.{◌≡◌, ◌⊎◌, ℕ, zero, suc, ℤ, pos, negsuc, ◌*◌, ◌%◌, ◌/◌, ◌<◌, ◌≤◌, ◌+ℤ◌, ◌-ℤ◌, ◌*ℤ◌, ◌<ℤ◌, ◌≤ℤ◌, List, [], ◌∷◌, length, Option, Some, None, inl, inr, refl, sym, ap, subst, arith, slice_get}
 use Rattle.std.specs.Prelude.{All, Any, MatchOption}
 use Rattle.std.proofs.lemmas.Int.{ints}
@@ -63,7 +63,7 @@ each P d (x ∷ xs) = elim (d x) [
   | inl p ↦ elim (each P d xs) [ inl q ↦ inl (All-cons P x xs p q) | inr n ↦ inr (λ h. n (All-tail P x xs h)) ]
 ]
 
--- one of the list, or each not
+-- One element of the list has the property, or no element has it.
 pub one_or_none : {X : Type 0} (P : X → Type 0) → ((x : X) → Settles (P x)) → (xs : List X) → Any P xs ⊎ All (λ x. P x → ⊥) xs
 one_or_none P d [] = inr (All-nil (λ x. P x → ⊥))
 one_or_none P d (x ∷ xs) = elim (d x) [
@@ -80,7 +80,7 @@ some P d xs = elim (one_or_none P d xs) [
   | inr n ↦ inr (λ a. n a.0 a.1 a.2 (rw a.3 a.4))
 ]
 
--- for each number below n
+-- For each number below n.
 pub each_below : (P : ℕ → Type 0) → ((k : ℕ) → Settles (P k)) → (n : ℕ) → Settles ((k : ℕ) → k < n → P k)
 each_below P d zero = inl (λ k l. absurd (omega arith))
 each_below P d (suc n) = elim (d n) [
@@ -122,7 +122,7 @@ steps_to lo z l = by (z -ℤ lo) refl
     by (pos k) e = (k, omega (arith, ints))
     by (negsuc k) e = absurd (omega (arith, ints))
 
--- for each number of a range
+-- For each number of a range.
 pub on_range : (P : ℤ → Type 0) → ((z : ℤ) → Settles (P z)) → (lo hi : ℤ) → Settles ((z : ℤ) → lo ≤ℤ z → z <ℤ hi → P z)
 on_range P d lo hi = elim (at_most lo hi) [
   | inr none_there ↦ inl (λ z a b. absurd (none_there (omega (arith, ints, a, b))))

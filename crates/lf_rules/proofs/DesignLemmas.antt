@@ -14,7 +14,7 @@ use Rattle.lf_rules.proofs.LegalParts.{frame_beside, legal_by_parts}
 use Rattle.lf_rules.proofs.TidyLemmas.{clear_of_legal}
 use Rattle.lf_rules.proofs.WiderLemmas.{shares_padded}
 
--- what holds of each cell of the team and of the others holds of all
+-- What holds for each cell of the team and for the others holds for all.
 team_hold : (P : DesignCell → Type 0) (team : ℕ) (cells : List Member) (rest : List DesignCell) →
     ((own : ℕ) (m : Member) → slice_get cells own ≡ Some m → P (design_cell team m)) → All P rest → All P (with_team team cells rest)
 team_hold P team [] rest h all = all
@@ -29,7 +29,8 @@ teams_hold P team (cells ∷ teams) h =
     team_hold P team cells (design_cells_from (team + 1) teams) (λ own m there. subst (λ (n : ℕ). P (design_cell n m)) (omega arith) (h 0 cells refl own m there))
     (teams_hold P (team + 1) teams (λ k others is own m there. subst (λ (n : ℕ). P (design_cell n m)) (omega arith) (h (suc k) others is own m there)))
 
--- what holds between each two cells of the team, of each of them and of the others among each other
+-- What holds between each two cells of the team, between each of them and the others, and among the
+-- others holds for all pairs.
 team_pairs : (R : DesignCell → DesignCell → Type 0) (team : ℕ) (cells : List Member) (rest : List DesignCell) →
     ((i j : ℕ) (a b : Member) → i < j → slice_get cells i ≡ Some a → slice_get cells j ≡ Some b → R (design_cell team a) (design_cell team b)) →
     ((i : ℕ) (a : Member) → slice_get cells i ≡ Some a → All (R (design_cell team a)) rest) →
@@ -40,13 +41,13 @@ team_pairs R team (m ∷ cells) rest within beyond pairs =
     (team_hold (R (design_cell team m)) team cells rest (λ own x there. within 0 (suc own) m x (omega arith) refl there) (beyond 0 m refl))
     (team_pairs R team cells rest (λ i j a b less here there. within (suc i) (suc j) a b (omega arith) here there) (λ i a there. beyond (suc i) a there) pairs)
 
--- a team-legal cell keeps rules 1 to 7 alone
+-- A team-legal cell keeps rules 1 to 7 alone.
 pub keeps : (f : Frame) (team : ℕ) (cells : List Member) (own : ℕ) (m : Member) (p : SpotPlace) → IsLegalAt (query_from f team 0 cells own m.mac) p → KeepsRules f (design_cell team m) p
 keeps f team cells own m p legal =
     let t = candidate_at (query_from f team 0 cells own m.mac) p in
     frame_beside t [] ((legal_by_parts t).0 legal).0
 
--- a cell that stands legal is placed, and legal at its place
+-- A legal cell is placed, and legal at its place.
 placed_there : (P : SpotPlace → Type 0) (place : Option SpotPlace) → MatchOption place ⊥ P → IsSome place
 placed_there P None stands = absurd stands
 placed_there P (Some p) stands = refl
@@ -55,7 +56,7 @@ legal_there : (P : SpotPlace → Type 0) (place : Option SpotPlace) → MatchOpt
 legal_there P None stands p is = absurd stands
 legal_there P (Some q) stands p is = let same : q ≡ p = cc in subst P same stands
 
--- the design of the teams from `team` on, each of whose cells stands legal
+-- The design of the teams from `team` on, all of whose cells are legal.
 abbrev TeamsLegal : Frame → ℕ → List (List Member) → Type 0
 TeamsLegal f team teams = (k : ℕ) (cells : List Member) → slice_get teams k ≡ Some cells → (own : ℕ) → IsLegalCell f (team + k) 0 cells own
 
@@ -63,14 +64,14 @@ legal_at : (f : Frame) (team : ℕ) (cells : List Member) (own : ℕ) (m : Membe
     IsLegalAt (query_from f team 0 cells own m.mac) p
 legal_at f team cells own m p stands there is = legal_there (λ s. IsLegalAt (query_from f team 0 cells own m.mac) s) m.place (stands m there) p is
 
--- two cells of one team stand apart
+-- Two cells of one team are apart.
 one_team : (f : Frame) (team : ℕ) (cells : List Member) (i j : ℕ) (a b : Member) → i < j → ((own : ℕ) → IsLegalCell f team 0 cells own) →
     slice_get cells i ≡ Some a → slice_get cells j ≡ Some b → DoNotOverlap f (design_cell team a) (design_cell team b)
 one_team f team cells i j a b less stands here there p is_p q is_q meet =
     clear_of_legal f team 0 cells i a.mac p (legal_at f team cells i a p (stands i) here is_p) j b q (λ e. omega (arith, less, e)) there is_q
     (shares_padded f 0 (box_in f a.mac p) (box_in f b.mac q) meet)
 
--- two cells of different teams stand apart
+-- Two cells of different teams are apart.
 two_teams : (f : Frame) (s t : ℕ) (first second : List Member) (i j : ℕ) (a b : Member) → (s ≡ t → ⊥) → IsLegalCell f s 0 first i → IsLegalCell f t 0 second j →
     slice_get first i ≡ Some a → slice_get second j ≡ Some b → DoNotOverlap f (design_cell s a) (design_cell t b)
 two_teams f s t first second i j a b differ stands_a stands_b here there p is_p q is_q meet =

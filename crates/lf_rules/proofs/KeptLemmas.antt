@@ -1,4 +1,4 @@
--- Tidying moves cells alone.
+-- Tidying only moves cells.
 use Rattle.std.proofs.Common.{◌≡◌, ℕ, zero, suc, ◌+◌, List, [], ◌∷◌, Option, Some, None, refl, ◌∙◌, ap, slice_get}
 use Rattle.std.specs.Prelude.{map, slice_set, length}
 use Rattle.lf_units.specs.declared.geometry.Point.{Point}
@@ -14,7 +14,7 @@ macs_of cells = map (λ m. m.mac) cells
 abbrev placed_at : ℕ → Option SpotPlace → Member
 placed_at mac place = record { mac = mac; place = place }
 
--- a cell that is set to another place keeps all macros
+-- Setting a cell to another place keeps all macros.
 macs_set : (cells : List Member) (n : ℕ) (m : Member) (place : Option SpotPlace) → slice_get cells n ≡ Some m → macs_of (slice_set cells n (placed_at m.mac place)) ≡ macs_of cells
 macs_set [] n m place there = refl
 macs_set (x ∷ cells) zero m place there =
@@ -22,7 +22,7 @@ macs_set (x ∷ cells) zero m place there =
     ap (λ (y : Member). y.mac ∷ macs_of cells) same
 macs_set (x ∷ cells) (suc n) m place there = ap (λ (macs : List ℕ). x.mac ∷ macs) (macs_set cells n m place there)
 
--- so far the macros are these
+-- The macros so far are these.
 abbrev HasMacs : List ℕ → Tidied → Type 0
 HasMacs macs (Going cells moved) = macs_of cells ≡ macs
 HasMacs macs (Stuck own) = Unit {0}

@@ -1,4 +1,5 @@
--- The least number that is met among the boxes of cells is the first other cell that is met: the boxes stand in the order of their numbers.
+-- The least number that overlaps among the boxes of cells is the first other cell that overlaps.
+-- The boxes are in the order of their numbers.
 use Rattle.std.proofs.Common.{◌≡◌, ◌≢◌, ℕ, zero, suc, ◌+◌, ◌<◌, ◌≤◌, Bool, true, false, cond, not, eqb, List, [], ◌∷◌, Option, Some, None, refl, sym, ◌∙◌, ap, subst, arith}
 use Rattle.std.specs.Prelude.{All, Contains, IsPermutation, filter, take}
 use Rattle.std.proofs.lemmas.Bool.Decides.{nat_tests}
@@ -14,7 +15,7 @@ use Rattle.lf_rules.specs.Legality.{IsFirstOverlapping}
 use Rattle.lf_rules.specs.Team.{Member, box_in, with_box, boxes_from, boxes_beside}
 use Rattle.lf_rules.proofs.BesideLemmas.{filtered_hold}
 
--- each later box has a greater number
+-- Each later box has a greater number.
 abbrev Rise : List Placed → Type 0
 Rise [] = Unit {0}
 Rise (b ∷ boxes) = All (λ p. b.own < p.own) boxes × Rise boxes
@@ -39,7 +40,7 @@ boxes_rise f n (m ∷ cells) = by m.place (boxes_rise f (n + 1) cells)
 abbrev others : List Placed → ℕ → List Placed
 others boxes but = filter (λ p. not (eqb p.own but)) boxes
 
--- what is met among more boxes, of which the first is not met
+-- The first overlapping box of a longer list whose first box does not overlap.
 later : (b : Placed) (boxes : List Placed) (box : Rect) (own : ℕ) → (SharesPoint box b.rect → ⊥) → IsFirstOverlapping box boxes own → IsFirstOverlapping box (b ∷ boxes) own
 later b boxes box own apart met = record {
   place = suc met.place;
@@ -50,7 +51,7 @@ later b boxes box own apart met = record {
   first = All-cons (λ p. SharesPoint box p.rect → ⊥) b (take met.place boxes) apart met.first;
 }
 
--- the box itself is the least one met
+-- The first box is the least that overlaps.
 here : (b : Placed) (boxes : List Placed) (box : Rect) (but own : ℕ) (t : Bool) → not (eqb b.own but) ≡ t → b.own ≡ own → own ≢ but → SharesPoint box b.rect →
     IsFirstOverlapping box (cond t (b ∷ others boxes but) (others boxes but)) own
 here b boxes box but own true e same other shares = record {
@@ -65,7 +66,7 @@ here b boxes box but own false e same other shares =
     let the_same : b.own ≡ but = grind (arith, nat_tests) in
     absurd (other (sym same ∙ the_same))
 
--- the least one met is a later box
+-- The least that overlaps is a later box.
 there : (b : Placed) (boxes : List Placed) (box : Rect) (but own : ℕ) (t : Bool) → not (eqb b.own but) ≡ t → b.own < own →
     (b.own ≢ but → SharesPoint box b.rect → own ≤ b.own) →
     IsFirstOverlapping box (others boxes but) own → IsFirstOverlapping box (cond t (b ∷ others boxes but) (others boxes but)) own
@@ -95,7 +96,8 @@ first_of_least (b ∷ boxes) box but own rise least = at least.met.among (first_
           least = All-tail (λ q. q.own ≢ but → SharesPoint box q.rect → own ≤ q.own) b boxes least.least;
         }))
 
--- the least number that is met in a tree of the cells' boxes is the first other cell that is met
+-- The least number that overlaps in a tree of the cells' boxes is the first other cell that
+-- overlaps.
 pub first_beside : (f : Frame) (cells : List Member) (tree : List Placed) (box : Rect) (but own : ℕ) → IsPermutation (boxes_from f 0 cells) tree →
     IsLeastOverlapping tree box but own → IsFirstOverlapping box (boxes_beside f cells but) own
 first_beside f cells tree box but own same least =
@@ -112,7 +114,7 @@ first_beside f cells tree box but own same least =
       least = All-permutation (λ q. q.own ≢ but → SharesPoint box q.rect → own ≤ q.own) tree boxes back least.least;
     })
 
--- where none is met in the tree, no other cell is
+-- If no box of the tree overlaps, no other cell does.
 pub none_beside : (f : Frame) (cells : List Member) (tree : List Placed) (box : Rect) (but : ℕ) → IsPermutation (boxes_from f 0 cells) tree →
     IsNoneOverlapping tree box but → All (λ p. SharesPoint box p.rect → ⊥) (boxes_beside f cells but)
 none_beside f cells tree box but same none =

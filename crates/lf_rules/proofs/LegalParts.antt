@@ -1,5 +1,5 @@
--- A place is team-legal exactly where it keeps the frame's rules and is apart from the team's other cells; and a rule
--- is the first broken where each lesser one holds. Here alone the eight rules are listed.
+-- A place is team-legal exactly if it keeps the frame's rules and is apart from the team's other
+-- cells. A rule is the first broken if each lesser one holds. Only this file lists the eight rules.
 use Rattle.std.proofs.Common.{◌≡◌, ◌≢◌, ◌⊎◌, ◌↔◌, ℕ, zero, suc, ◌+◌, ◌<◌, ◌≤◌, List, None, inl, inr, refl, sym, ◌∙◌, ap, subst, arith}
 use Rattle.lf_floorplan.specs.Ground.{StaysInGround, IsClear}
 use Rattle.lf_floorplan.specs.Standing.{RestsOnRows}
@@ -10,17 +10,17 @@ use Rattle.lf_rules.specs.Legality.{Candidate, box_of, Holds, IsApart, IsOnRail,
 use Rattle.lf_rules.specs.Padding.{length_of}
 use Rattle.lf_rules.proofs.WiderLemmas.{length_upto, shares_wider}
 
--- each lesser rule holds
+-- Each lesser rule holds.
 abbrev pub HoldsBelow : Candidate → Rule → Type 0
 HoldsBelow t r = (s : Rule) → number_of s < number_of r → Holds t s
 
--- the frame's rules hold: those of numbers up to 7
+-- The frame's rules hold: those with numbers up to 7.
 abbrev pub KeepsFrame : Candidate → Type 0
 KeepsFrame t = (r : Rule) → number_of r ≤ 7 → Holds t r
 
 -- ---- the rules and their numbers
 
--- a rule from its number
+-- The rule with a number.
 abbrev rule_at : ℕ → Rule
 rule_at zero = Overlap
 rule_at (suc zero) = Height
@@ -32,7 +32,7 @@ rule_at (suc (suc (suc (suc (suc (suc zero)))))) = Fence
 rule_at (suc (suc (suc (suc (suc (suc (suc zero))))))) = Obstacle
 rule_at (suc (suc (suc (suc (suc (suc (suc (suc n)))))))) = Overlap
 
--- a rule's number is from 1 to 8, and tells the rule
+-- A rule's number is from 1 to 8 and determines the rule.
 record IsNumbered (r : Rule) : Type 0 where
   back : rule_at (number_of r) ≡ r
   least : 1 ≤ number_of r
@@ -48,15 +48,15 @@ numbered Fence = record { back = refl; least = omega arith; most = omega arith }
 numbered Obstacle = record { back = refl; least = omega arith; most = omega arith }
 numbered Overlap = record { back = refl; least = omega arith; most = omega arith }
 
--- rules of one number are one
+-- Rules with the same number are equal.
 pub rule_same : (a b : Rule) → number_of a ≡ number_of b → a ≡ b
 rule_same a b e = sym (numbered a).back ∙ ap rule_at e ∙ (numbered b).back
 
--- no rule is lesser than the first
+-- No rule is lesser than the first.
 pub none_below : (t : Candidate) → HoldsBelow t Height
 none_below t s less = let least = (numbered s).least in absurd (omega (arith, less, least))
 
--- where a rule holds and each lesser one, each holds that is lesser than the next
+-- If a rule and each lesser one hold, each rule lesser than the next one holds.
 pub next_below : (t : Candidate) (r next : Rule) → number_of next ≡ number_of r + 1 → HoldsBelow t r → Holds t r → HoldsBelow t next
 next_below t r next is below held s less = elim order [
   | inl lesser ↦ below s lesser
@@ -68,7 +68,7 @@ next_below t r next is below held s less = elim order [
 
 -- ---- the first broken rule
 
--- a rule but overlap that is broken is the first broken where each lesser one holds
+-- A rule other than Overlap that is broken is the first broken if each lesser one holds.
 pub first_broken_by : (t : Candidate) (r : Rule) → HoldsBelow t r → (Holds t r → ⊥) → r ≢ Overlap → IsFirstBroken t record { rule = r; other = None }
 first_broken_by t r below not_so other = record { broken = not_so; lesser = below; other = other }
 
@@ -89,13 +89,13 @@ all_hold t keeps apart r = elim order [
     order : (number_of r ≤ 7) ⊎ (number_of r ≡ 8)
     order = let most = (numbered r).most in grind (arith, most)
 
--- a place is team-legal exactly where it keeps the frame's rules and is apart
+-- A place is team-legal exactly if it keeps the frame's rules and is apart.
 pub legal_by_parts : (t : Candidate) → IsTeamLegal t ↔ (KeepsFrame t × IsApart t)
 legal_by_parts t = (λ legal. ((λ r few. legal r), legal Overlap), λ parts. all_hold t parts.0 parts.1)
 
 -- ---- the frame's rules by their meaning
 
--- what the frame's rules say: where the box stands, how it is turned, and which ground it covers
+-- The content of the frame's rules: where the box rests, its orientation, and the ground it covers.
 pub record StandsInFrame (t : Candidate) : Type 0 where
   pub stands : RestsOnRows t.frame (box_of t)
   pub oriented : IsOriented t
@@ -122,23 +122,23 @@ frame_meant t keeps = record {
   clear = keeps Obstacle (omega arith);
 }
 
--- the same cell at the same place, with these other cells beside it
+-- The same cell at the same place, with these other cells.
 abbrev pub beside : Candidate → List Placed → Candidate
 beside t others = record t { others = others }
 
--- the frame's rules do not ask for the other cells
+-- The frame's rules do not depend on the other cells.
 pub frame_beside : (t : Candidate) (others : List Placed) → KeepsFrame t → KeepsFrame (beside t others)
 frame_beside t others keeps =
     let s = frame_meant t keeps in
     frame_kept (beside t others) record { stands = s.stands; oriented = s.oriented; on_rail = s.on_rail; ground = s.ground; clear = s.clear }
 
--- nor for the padding
+-- They do not depend on the padding either.
 pub frame_padded : (t : Candidate) (padding : ℕ) → KeepsFrame t → KeepsFrame (record t { padding = padding })
 frame_padded t padding keeps =
     let s = frame_meant t keeps in
     frame_kept (record t { padding = padding }) record { stands = s.stands; oriented = s.oriented; on_rail = s.on_rail; ground = s.ground; clear = s.clear }
 
--- with less padding a legal place stays legal
+-- A legal place remains legal with less padding.
 pub legal_with_less : LessPaddingKeepsLegal
 legal_with_less t less upto legal =
     let longer = length_upto t.frame less t.padding upto in

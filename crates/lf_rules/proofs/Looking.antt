@@ -1,11 +1,11 @@
--- Looking at ever more places keeps the best of them.
+-- A scan of more and more places keeps the best of them.
 use Rattle.std.proofs.Common.{◌≡◌, ◌⊎◌, inl, inr, subst, Option, Some, None}
 use Rattle.lf_units.specs.declared.geometry.Point.{Point}
 use Rattle.lf_rules.specs.Choice.{SpotPlace, PlacementQuery, IsAllowedPlace, Precedes}
 use Rattle.lf_rules.specs.Looking.{ScansPlaces}
 use Rattle.lf_rules.proofs.Order.{through, not_itself}
 
--- a place where the cell may not go leaves the best one
+-- A place where the cell may not be put leaves the best one unchanged.
 pub passed_over : (cell : PlacementQuery) (target : Point) (best : Option SpotPlace) (s : SpotPlace) → (IsAllowedPlace cell s → ⊥) → ScansPlaces (λ p. p ≡ s) cell target best best
 passed_over cell target best s not_so = record {
   may_go = λ h. h;
@@ -13,7 +13,7 @@ passed_over cell target best s not_so = record {
   seen = λ p e l. absurd (not_so (subst (λ (q : SpotPlace). IsAllowedPlace cell q) e l));
 }
 
--- a first place where it may go is the best so far
+-- The first allowed place is the best so far.
 pub taken_first : (cell : PlacementQuery) (target : Point) (s : SpotPlace) → IsAllowedPlace cell s → ScansPlaces (λ p. p ≡ s) cell target None (Some s)
 taken_first cell target s is = record {
   may_go = λ h. is;
@@ -21,7 +21,7 @@ taken_first cell target s is = record {
   seen = λ p e l before. not_itself target s (subst (λ (q : SpotPlace). Precedes target q s) e before);
 }
 
--- such a place of lesser key takes the place of the best one
+-- An allowed place of lesser key replaces the best one.
 pub taken : (cell : PlacementQuery) (target : Point) (b s : SpotPlace) → IsAllowedPlace cell s → Precedes target s b → ScansPlaces (λ p. p ≡ s) cell target (Some b) (Some s)
 taken cell target b s is less = record {
   may_go = λ h. is;
@@ -29,7 +29,7 @@ taken cell target b s is less = record {
   seen = λ p e l before. not_itself target s (subst (λ (q : SpotPlace). Precedes target q s) e before);
 }
 
--- a place of no lesser key leaves the best one
+-- A place of no lesser key leaves the best one unchanged.
 pub left : (cell : PlacementQuery) (target : Point) (b s : SpotPlace) → (Precedes target s b → ⊥) → ScansPlaces (λ p. p ≡ s) cell target (Some b) (Some b)
 left cell target b s not_less = record {
   may_go = λ h. h;
@@ -37,7 +37,7 @@ left cell target b s not_less = record {
   seen = λ p e l before. not_less (subst (λ (q : SpotPlace). Precedes target q b) e before);
 }
 
--- looking at nothing
+-- A scan of no place.
 pub idle : (Seen : SpotPlace → Type 0) (cell : PlacementQuery) (target : Point) (best : Option SpotPlace) → ((p : SpotPlace) → Seen p → ⊥) → ScansPlaces Seen cell target best best
 idle Seen cell target best none = record {
   may_go = λ h. h;
@@ -45,7 +45,7 @@ idle Seen cell target best none = record {
   seen = λ p s l. absurd (none p s);
 }
 
--- looking at places, and then at others
+-- A scan of places, followed by a scan of others.
 pub onward : (First Second Both : SpotPlace → Type 0) (cell : PlacementQuery) (target : Point) (old mid new : Option SpotPlace) →
     ((p : SpotPlace) → Both p → IsAllowedPlace cell p → First p ⊎ Second p) →
     ScansPlaces First cell target old mid → ScansPlaces Second cell target mid new → ScansPlaces Both cell target old new

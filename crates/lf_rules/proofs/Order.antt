@@ -33,7 +33,7 @@ not_itself target p (inr (d, inl a)) = omega (arith, ints)
 not_itself target p (inr (d, inr (u, inl a))) = omega (arith, ints)
 not_itself target p (inr (d, inr (u, inr (w, a)))) = omega arith
 
--- at equal distance and y, and at different x, the lesser x comes first
+-- At equal distance and y, and at different x, the lesser x comes first.
 pub by_x : (target : Point) (p q : SpotPlace) → distance target p ≡ distance target q → p.y ≡ q.y → (p.x ≡ q.x → ⊥) → (p.x <ℤ q.x) ↔ Precedes target p q
 by_x target p q d u differ = (λ less. inr (d, inr (u, inl less)), back)
   where
@@ -43,7 +43,7 @@ by_x target p q d u differ = (λ less. inr (d, inr (u, inl less)), back)
     back (inr (_, inr (_, inl a))) = a
     back (inr (_, inr (_, inr (e, _)))) = absurd (differ e)
 
--- at one corner the lesser rank comes first
+-- At the same corner the lesser rank comes first.
 pub by_rank : (target : Point) (p q : SpotPlace) → distance target p ≡ distance target q → p.y ≡ q.y → p.x ≡ q.x → (rank p.orient < rank q.orient) ↔ Precedes target p q
 by_rank target p q d u v = (λ less. inr (d, inr (u, inr (v, less))), back)
   where
@@ -56,7 +56,7 @@ by_rank target p q d u v = (λ less. inr (d, inr (u, inr (v, less))), back)
 pub rank_test : (m n a b : ℕ) (P : Type 0) → m ≡ a → n ≡ b → (a < b) ↔ P → IsTrue (nat_lt m n) ↔ P
 rank_test m n a b P e f both = (λ t. both.0 (grind arith), λ s. let less = both.1 s in grind arith)
 
--- of two places that stand upright one precedes the other, unless they are one
+-- Of two upright places one precedes the other, unless they are equal.
 pub compared : (target : Point) (p q : SpotPlace) → (rank p.orient ≡ rank q.orient → p.orient ≡ q.orient) → (p ≡ q) ⊎ (Precedes target p q ⊎ Precedes target q p)
 compared target p q injective = by_distance order
   where

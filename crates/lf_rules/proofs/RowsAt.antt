@@ -17,7 +17,7 @@ use Rattle.lf_rules.specs.Solid.{IsOnlyRow}
 pub no_row : (f : Frame) (p : Point) → IsRowAt f p.y p.x None → IsOnlyRow f p None
 no_row f p none s there over = All-contains (λ r. ExtendsOver f p.y p.x r → ⊥) f.rows s none there over
 
--- the row at that position
+-- The row at this position.
 there : (f : Frame) (p : Point) (n : ℕ) → IsRowAt f p.y p.x (Some n) → (r : Row) × (slice_get f.rows n ≡ Some r) × ExtendsOver f p.y p.x r
 there f p n found = by (slice_get f.rows n) refl found
   where
@@ -44,11 +44,11 @@ only_row f p n r at found = (
 abbrev corner : Rect → Point
 corner box = record { x = box.x1; y = box.y1 }
 
--- the point at the box's left edge, so many site heights above its lower edge
+-- The point at the box's left edge, j site heights above its lower edge.
 abbrev pub foot : Frame → Rect → ℕ → Point
 foot f box j = record { x = box.x1; y = box.y1 +ℤ (pos j *ℤ f.pitch.y) }
 
--- a row of the box extends over the box's left edge
+-- A row of the box extends over the box's left edge.
 extends : (f : Frame) (box : Rect) (j : ℕ) (r : Row) → box.x1 <ℤ box.x2 → IsRowOfBox f box j r → ExtendsOver f (foot f box j).y box.x1 r
 extends f box j r wide of =
     let most = of.right in

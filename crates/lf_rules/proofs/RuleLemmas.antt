@@ -1,4 +1,4 @@
--- The rules of a trial, from what is known at one height and one bottom row.
+-- The rules on a candidate, from the facts known at one height and one bottom row.
 use Rattle.std.proofs.Common.{◌≡◌, ℕ, ℤ, ◌<◌, ◌≤◌, ◌%◌, ◌<ℤ◌, length, get_or, Option, Some, None, refl, sym, subst, arith, IsTrue}
 use Rattle.std.specs.Prelude.{All, MatchOption}
 use Rattle.std.specs.Option.{option_map}
@@ -17,7 +17,7 @@ use Rattle.lf_rules.proofs.LegalParts.{HoldsBelow, KeepsFrame, below_overlap, fi
 use Rattle.lf_floorplan.specs.Standing.{IsSitesHigh, IsBottomRow, Supports, RestsOnRows}
 use Rattle.lf_floorplan.specs.Ground.{InGround}
 
--- what holds at the height and the bottom row holds at each height and bottom row there are
+-- What holds at the height and the bottom row holds at each height and each bottom row of the box.
 pub at_each : (P : ℕ → Row → Type 0) (f : Frame) (box : Rect) → box.x1 <ℤ box.x2 → (k : ℕ) (r : Row) → IsSitesHigh f box k → IsBottomRow f box r → P k r →
     (m : ℕ) (s : Row) → IsSitesHigh f box m → IsBottomRow f box s → P m s
 at_each P f box wide k r tall bottom p m s tall' bottom' =
@@ -26,7 +26,7 @@ at_each P f box wide k r tall bottom p m s tall' bottom' =
 
 -- ---- the rules in their order
 
--- what the walk through the rules has found at the box, its height and its bottom row
+-- The facts that the walk through the rules has found at the box, its height and its bottom row.
 pub record Found (t : Candidate) (box : Rect) (k : ℕ) (r : Row) : Type 0 where
   pub box_is : box ≡ box_of t
   pub wide : box.x1 <ℤ box.x2
@@ -56,7 +56,7 @@ pub row_broken : (t : Candidate) (box : Rect) → box ≡ box_of t → (k : ℕ)
 row_broken t box is k tall none =
     first_broken_by t RowRule (below_row t (height_holds t box is k tall)) (λ h. none h.0 (rw is h.1)) (λ e. cc)
 
--- the facts found, seen at the trial's own box
+-- The facts found, at the candidate's own box.
 at_box : (t : Candidate) (box : Rect) (k : ℕ) (r : Row) → Found t box k r → Found t (box_of t) k r
 at_box t box k r f = subst (λ (b : Rect). Found t b k r) f.box_is f
 
@@ -75,15 +75,15 @@ orient_holds t k r f s = (s.0, λ m q tall bottom. at_each (λ n p. n % 2 ≡ 1 
 rail_holds : (t : Candidate) (k : ℕ) (r : Row) → Found t (box_of t) k r → RailAt t k r → Holds t RailRule
 rail_holds t k r f s m q tall bottom = at_each (λ n p. RailAt t n p) t.frame (box_of t) f.wide k r f.tall f.bottom s m q tall bottom
 
--- the rules on rows hold: those of numbers up to 5
+-- The rules on rows hold: those with numbers up to 5.
 abbrev pub OnRows : Candidate → Type 0
 OnRows t = (r : Rule) → number_of r ≤ 5 → Holds t r
 
--- the box stands on rows
+-- The box rests on rows.
 pub rows_stand : (t : Candidate) → OnRows t → RestsOnRows t.frame (box_of t)
 rows_stand t rows = record { height = rows Height (omega arith); row = rows RowRule (omega arith); stand = rows Stand (omega arith) }
 
--- so it is where the code has the box
+-- The box of the code rests on rows too.
 pub rows_stand_at : (t : Candidate) (box : Rect) → box ≡ box_of t → OnRows t → RestsOnRows t.frame box
 rows_stand_at t box is rows = subst (RestsOnRows t.frame) (sym is) (rows_stand t rows)
 
@@ -99,7 +99,7 @@ below_orient t k r f s = next_below t Stand OrientRule refl (below_stand t k r f
 below_rail : (t : Candidate) (k : ℕ) (r : Row) → Found t (box_of t) k r → StandsAt t (box_of t) k r → OrientedAt t k r → HoldsBelow t RailRule
 below_rail t k r f s o = next_below t OrientRule RailRule refl (below_orient t k r f s) (orient_holds t k r f o)
 
--- what is found of the levels at the code's box is so at the trial's own
+-- The facts found about the levels at the code's box hold at the candidate's own.
 stands_at_box : (t : Candidate) (box : Rect) (k : ℕ) (r : Row) → Found t box k r → StandsAt t box k r → StandsAt t (box_of t) k r
 stands_at_box t box k r found s = subst (λ (b : Rect). StandsAt t b k r) found.box_is s
 
@@ -137,11 +137,11 @@ below_obstacle t rows ground = next_below t Fence Obstacle refl (below_fence t r
 pub obstacle_broken : (t : Candidate) → OnRows t → Holds t Fence → (Holds t Obstacle → ⊥) → IsFirstBroken t record { rule = Obstacle; other = None }
 obstacle_broken t rows ground not_so = first_broken_by t Obstacle (below_obstacle t rows ground) not_so (λ e. cc)
 
--- the rules on rows, on ground and on obstacles are the frame's
+-- The rules on rows, on ground and on obstacles are the frame's.
 pub frame_of : (t : Candidate) → OnRows t → Holds t Fence → Holds t Obstacle → KeepsFrame t
 frame_of t rows ground clear = frame_below t (next_below t Obstacle Overlap refl (below_obstacle t rows ground) clear)
 
--- if a cell is met, not all are clear
+-- If a cell overlaps, not all cells are clear.
 met_is_met : (t : Candidate) (own : ℕ) → IsFirstOverlapping (padded_box t) t.others own → Holds t Overlap → ⊥
 met_is_met t own met clear =
     let within : met.place < length t.others = slice_get_within t.others met.place met.cell met.there in
@@ -155,7 +155,7 @@ overlap_broken t own keeps met = record {
   other = (refl, met);
 }
 
--- ---- the rules on areas, said of the box that the code has
+-- ---- the rules on areas, for the box of the code
 
 abbrev pub InGroundAt : Candidate → Rect → Type 0
 InGroundAt t box = (x y : ℤ) → Covers box x y → InGround t.frame t.team x y
@@ -190,12 +190,12 @@ all_at t box is keeps a = (legal_by_parts t).1 (keeps, subst (ApartAt t) is a)
 
 -- ---- the verdict
 
--- a rule but overlap that is the first broken
+-- A rule other than Overlap that is the first broken.
 pub frame_broken : (t : Candidate) (verdict : Option Rule) (rule : Rule) → verdict ≡ Some rule → IsFrameRuleVerdict t verdict →
     IsFirstBroken t record { rule = rule; other = None }
 frame_broken t verdict rule is said = subst (IsFrameRuleVerdict t) is said
 
--- where all rules but overlap hold, the other cell that is met decides
+-- If all rules except Overlap hold, the overlapping cell decides.
 pub met_verdict : (t : Candidate) (box : Rect) (verdict : Option Rule) (met : Option ℕ) → box ≡ padded_box t → verdict ≡ None → IsFrameRuleVerdict t verdict →
     MatchOption met (ApartAt t box) (λ own. IsFirstOverlapping box t.others own) → IsVerdict t (option_map (λ own. record { rule = Overlap; other = Some own }) met)
 met_verdict t box verdict met at none said found = by met found

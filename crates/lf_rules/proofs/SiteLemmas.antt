@@ -22,7 +22,7 @@ use Rattle.lf_rules.proofs.Order.{same_spot, compared}
 abbrev pub OneOfFour : Orient → Type 0
 OneOfFour o = (o ≡ N) ⊎ ((o ≡ S) ⊎ ((o ≡ FN) ⊎ (o ≡ FS)))
 
--- one of the four stands upright
+-- Each of the four is upright.
 pub upright_of_four : (o : Orient) → OneOfFour o → IsUpright o
 upright_of_four o (inl n) = rw n refl
 upright_of_four o (inr (inl s)) = rw s refl
@@ -52,7 +52,7 @@ one_of_four s FE t = absurd cc
 pub legal_upright : (cell : PlacementQuery) (p : SpotPlace) → IsLegalAt cell p → OneOfFour p.orient
 legal_upright cell p legal = let held : Holds (candidate_at cell p) OrientRule = legal OrientRule in one_of_four cell.mac.symmetry p.orient held.0
 
--- a place on a site where the cell may go is one of the four there
+-- An allowed place on a site is one of the four there.
 pub which : (cell : PlacementQuery) (pitch : Point) (r : Row) (site : ℕ) (p : SpotPlace) → IsAtSite pitch r site p → IsAllowedPlace cell p →
     (p ≡ spot_at pitch r site N) ⊎ ((p ≡ spot_at pitch r site S) ⊎ ((p ≡ spot_at pitch r site FN) ⊎ (p ≡ spot_at pitch r site FS)))
 which cell pitch r site p at may = elim (legal_upright cell p may.legal) [
@@ -66,7 +66,7 @@ which cell pitch r site p at may = elim (legal_upright cell p may.legal) [
   ]
 ]
 
--- looking at the four places on a site
+-- A scan of the four places on a site.
 pub all_four : (cell : PlacementQuery) (target pitch : Point) (r : Row) (site : ℕ) (a b c d e : Option SpotPlace) (n s fn fs : SpotPlace) →
     n ≡ spot_at pitch r site N → s ≡ spot_at pitch r site S → fn ≡ spot_at pitch r site FN → fs ≡ spot_at pitch r site FS →
     ScansPlaces (λ p. p ≡ n) cell target a b → ScansPlaces (λ p. p ≡ s) cell target b c →
@@ -78,7 +78,7 @@ all_four cell target pitch r site a b c d e n s fn fs is_n is_s is_fn is_fs l1 l
     onward (λ p. p ≡ n) (λ p. (p ≡ s) ⊎ ((p ≡ fn) ⊎ (p ≡ fs))) (IsAtSite pitch r site) cell target a b e
     (λ p at may. rw (is_n, is_s, is_fn, is_fs) (which cell pitch r site p at may)) l1 later
 
--- one more site of a row
+-- One more site of a row.
 pub next_site : (cell : PlacementQuery) (target pitch : Point) (r : Row) (site : ℕ) (a b c : Option SpotPlace) →
     ScansPlaces (IsOnSites pitch r site) cell target a b → ScansPlaces (IsAtSite pitch r site) cell target b c →
     ScansPlaces (IsOnSites pitch r (site + 1)) cell target a c
@@ -94,7 +94,7 @@ next_site cell target pitch r site a b c l1 l2 =
           | inr same ↦ inr (subst (λ (k : ℕ). IsAtSite pitch r k p) same on.at_site)
         ]
 
--- one more row
+-- One more row.
 pub next_row : (cell : PlacementQuery) (target pitch : Point) (rows : List Row) (n : ℕ) (r : Row) (a b c : Option SpotPlace) → slice_get rows n ≡ Some r →
     ScansPlaces (IsOnRows pitch rows n) cell target a b → ScansPlaces (IsOnSites pitch r r.sites) cell target b c →
     ScansPlaces (IsOnRows pitch rows (n + 1)) cell target a c
@@ -114,7 +114,7 @@ next_row cell target pitch rows n r a b c there l1 l2 =
               inr (subst (λ (s : Row). IsOnSites pitch s s.sites p) (sym too ∙ is) on.on_sites)
         ]
 
--- the site on which a box stands that ends within the row
+-- The site under a box that ends within the row.
 site_within : (pitch x left width : ℤ) (site sites : ℕ) → pos 0 <ℤ pitch → pos 0 <ℤ width → (x -ℤ left) ≡ (pos site *ℤ pitch) →
     (x +ℤ width) ≤ℤ (left +ℤ (pos sites *ℤ pitch)) → site < sites
 site_within (pos n) x left width site sites positive wide on_grid ends =
@@ -122,7 +122,7 @@ site_within (pos n) x left width site sites positive wide on_grid ends =
     lt_of_mul-lt-mul_right n less
 site_within (negsuc n) x left width site sites positive wide on_grid ends = absurd (omega (arith, ints))
 
--- a legal place is on a site of a row of the frame
+-- A legal place is on a site of a row of the frame.
 pub stands : (cell : PlacementQuery) (p : SpotPlace) → IsSized cell.frame cell.mac → IsLegalAt cell p → IsOnRows cell.frame.pitch cell.frame.rows (length cell.frame.rows) p
 stands cell p sized legal =
     let held : Holds (candidate_at cell p) RowRule = legal RowRule in
@@ -147,7 +147,7 @@ stands cell p sized legal =
 clash : (a b c d : Orient) → a ≡ c → b ≡ d → rank a ≡ rank b → (rank c ≡ rank d → ⊥) → ⊥
 clash a b c d p q e differ = differ (sym (ap rank p) ∙ e ∙ ap rank q)
 
--- the four orientations have different ranks
+-- The four orientations have different ranks.
 pub rank_tells : (a b : Orient) → OneOfFour a → OneOfFour b → rank a ≡ rank b → a ≡ b
 rank_tells a b (inl p) (inl q) e = p ∙ sym q
 rank_tells a b (inr (inl p)) (inr (inl q)) e = p ∙ sym q
@@ -166,7 +166,8 @@ rank_tells a b (inr (inr (inr p))) (inl q) e = absurd (clash a b _ _ p q e (omeg
 rank_tells a b (inr (inr (inr p))) (inr (inl q)) e = absurd (clash a b _ _ p q e (omega arith))
 rank_tells a b (inr (inr (inr p))) (inr (inr (inl q))) e = absurd (clash a b _ _ p q e (omega arith))
 
--- what was looked at holds every place where the cell may go, so the best of it is the choice
+-- The places scanned include every place where the cell may be put, so the best of them is the
+-- choice.
 pub chosen : (cell : PlacementQuery) (target : Point) (found : Option SpotPlace) → IsSized cell.frame cell.mac →
     ScansPlaces (IsOnRows cell.frame.pitch cell.frame.rows (length cell.frame.rows)) cell target None found → IsChoice cell target found
 chosen cell target None sized looked = λ p may. looked.seen p (stands cell p sized may.legal) may

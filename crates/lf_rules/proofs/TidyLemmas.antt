@@ -23,7 +23,7 @@ use Rattle.lf_rules.proofs.WiderLemmas.{either_way, length_least}
 use Rattle.lf_rules.proofs.BesideLemmas.{beside_hold, beside_each}
 use Rattle.lf_rules.proofs.LegalParts.{beside, frame_beside, legal_by_parts, legal_with_less}
 
--- rules 1 to 7 do not ask for the other cells
+-- Rules 1 to 7 do not depend on the other cells.
 beside_others : (c : PlacementQuery) (others : List Placed) (p : SpotPlace) → IsLegalAt c p →
     IsApart (candidate_at (record c { others = others }) p) → IsLegalAt (record c { others = others }) p
 beside_others c others p legal apart =
@@ -33,28 +33,28 @@ beside_others c others p legal apart =
 pub turn : (a b : Rect) → SharesPoint a b → SharesPoint b a
 turn a b m = record { x = m.x; y = m.y; in_first = m.in_second; in_second = m.in_first }
 
--- the box of the macro at the place, made wider by the padding
+-- The box of the macro at the place, widened by the padding.
 abbrev pub padded_in : Frame → ℕ → ℕ → SpotPlace → Rect
 padded_in f padding mac p = wider (length_of f padding) (box_in f mac p)
 
--- no other placed cell meets the box
+-- No other placed cell overlaps the box.
 abbrev pub Clear : Frame → List Member → ℕ → Rect → Type 0
 Clear f cells own box = (k : ℕ) (m : Member) (p : SpotPlace) → (k ≡ own → ⊥) → slice_get cells k ≡ Some m → m.place ≡ Some p → SharesPoint box (box_in f m.mac p) → ⊥
 
--- a legal place meets none, its box made wider by the padding
+-- At a legal place no cell overlaps the box, widened by the padding.
 pub clear_of_legal : (f : Frame) (team padding : ℕ) (cells : List Member) (own mac : ℕ) (p : SpotPlace) → IsLegalAt (query_from f team padding cells own mac) p →
     Clear f cells own (padded_in f padding mac p)
 clear_of_legal f team padding cells own mac p legal =
     beside_each (λ rect. SharesPoint (padded_in f padding mac p) rect → ⊥) f cells own ((legal_by_parts (candidate_at (query_from f team padding cells own mac) p)).0 legal).1
 
--- a place that was legal among other cells is so among these if it meets none
+-- A place that was legal among other cells is legal among these if no cell overlaps it.
 legal_of_clear : (f : Frame) (team padding : ℕ) (old new : List Member) (own mac : ℕ) (p : SpotPlace) → IsLegalAt (query_from f team padding old own mac) p →
     Clear f new own (padded_in f padding mac p) → IsLegalAt (query_from f team padding new own mac) p
 legal_of_clear f team padding old new own mac p legal clear =
     beside_others (query_from f team padding old own mac) (boxes_beside f new own) p legal
     (beside_hold (λ rect. SharesPoint (padded_in f padding mac p) rect → ⊥) f new own clear)
 
--- the box of a macro of whole size holds a point
+-- The box of a macro of whole size holds a point.
 pub wide_box : (f : Frame) (mac : ℕ) (p : SpotPlace) → IsSized f (macro_of f mac) → (box_in f mac p).x1 <ℤ (box_in f mac p).x2
 wide_box f mac p sized =
     let small : IsSmall (turned (size_of f (macro_of f mac)) p.orient) = turned_small _ _ (small_pitch _ _ _ (sized_pitch f (macro_of f mac) sized)) in
@@ -78,7 +78,7 @@ get_other (z ∷ xs) (suc n) (suc k) y differ = get_other xs n k y (λ e. differ
 abbrev placed_at : ℕ → SpotPlace → Member
 placed_at mac p = record { mac = mac; place = Some p }
 
--- the new cell's box is clear among the new cells
+-- The new cell's box is clear among the new cells.
 new_clear : (f : Frame) (cells : List Member) (n mac : ℕ) (p : SpotPlace) (box : Rect) → Clear f cells n box → Clear f (slice_set cells n (placed_at mac p)) n box
 new_clear f cells n mac p box clear k m q differ there is = clear k m q differ (sym (get_other cells n k (placed_at mac p) differ) ∙ there) is
 
@@ -88,7 +88,7 @@ order_of k n = elim cases [ inl less ↦ inr (λ e. omega arith) | inr rest ↦ 
     cases : (k < n) ⊎ ((k ≡ n) ⊎ (n < k))
     cases = grind arith
 
--- a box that was clear stays clear if a cell comes that does not meet it
+-- A clear box remains clear if a cell is added that does not overlap it.
 old_clear : (f : Frame) (cells : List Member) (own n mac : ℕ) (p : SpotPlace) (box : Rect) → Clear f cells own box → (SharesPoint box (box_in f mac p) → ⊥) →
     Clear f (slice_set cells n (placed_at mac p)) own box
 old_clear f cells own n mac p box clear apart k m q differ there is meets = elim (order_of k n) [
@@ -103,14 +103,14 @@ old_clear f cells own n mac p box clear apart k m q differ there is meets = elim
     some_one : {a b : SpotPlace} → Some a ≡ Some b → a ≡ b
     some_one e = cc
 
--- the first cells are placed and team-legal
+-- The first cells are placed and team-legal.
 abbrev Done : Frame → ℕ → ℕ → ℕ → List Member → Type 0
 Done f team padding n cells = (own : ℕ) → own < n → IsLegalCell f team padding cells own
 
 below_or_at : (own n : ℕ) → own < n + 1 → (own < n) ⊎ (own ≡ n)
 below_or_at own n less = grind arith
 
--- a cell that goes to a place that is legal for it stands there legally
+-- A cell that moves to a place that is legal for it is legal there.
 went_legal : (f : Frame) (team padding n : ℕ) (cells : List Member) (m : Member) (p : SpotPlace) →
     IsLegalAt (query_from f team padding cells n m.mac) p → IsLegalCell f team padding (slice_set cells n (placed_at m.mac p)) n
 went_legal f team padding n cells m p legal x here =
@@ -120,7 +120,7 @@ went_legal f team padding n cells m p legal x here =
 abbrev Sized : Frame → List Member → Type 0
 Sized f cells = (k : ℕ) (m : Member) → slice_get cells k ≡ Some m → IsSized f (macro_of f m.mac)
 
--- and a cell that stands legally stays so where another one goes there
+-- A legal cell remains legal if another cell moves to a place that is legal for that cell.
 others_stay : (f : Frame) (team padding n own : ℕ) (cells : List Member) (m : Member) (p : SpotPlace) → Sized f cells → slice_get cells n ≡ Some m →
     IsLegalAt (query_from f team padding cells n m.mac) p → (own ≡ n → ⊥) → IsLegalCell f team padding cells own →
     IsLegalCell f team padding (slice_set cells n (placed_at m.mac p)) own
@@ -143,7 +143,7 @@ others_stay f team padding n own cells m p sized there legal other stands x here
         (old_clear f cells own n m.mac p (padded_in f padding x.mac q) (clear_of_legal f team padding cells own x.mac q stands)
         (λ meets. clear_of_legal f team padding cells n m.mac p legal own x q other was is (meets_back x q (sized own x was) meets)))
 
--- the cell of number n goes to a place that is legal for it
+-- The cell of number n moves to a place that is legal for it.
 gone : (f : Frame) (team padding n : ℕ) (cells : List Member) (m : Member) (p : SpotPlace) → Sized f cells → slice_get cells n ≡ Some m →
     IsLegalAt (query_from f team padding cells n m.mac) p → Done f team padding n cells → Done f team padding (n + 1) (slice_set cells n (placed_at m.mac p))
 gone f team padding n cells m p sized there legal done own less = elim (below_or_at own n less) [
@@ -151,14 +151,14 @@ gone f team padding n cells m p sized there legal done own less = elim (below_or
   | inl before ↦ others_stay f team padding n own cells m p sized there legal (λ e. omega (arith, before, e)) (done own before)
 ]
 
--- the cell of number n stays, and its place is legal for it
+-- The cell of number n stays, and its place is legal for it.
 stayed : (f : Frame) (team padding n : ℕ) (cells : List Member) → IsLegalCell f team padding cells n → Done f team padding n cells → Done f team padding (n + 1) cells
 stayed f team padding n cells stands done own less = elim (below_or_at own n less) [
   | inl before ↦ done own before
   | inr same ↦ subst (λ (j : ℕ). IsLegalCell f team padding cells j) (sym same) stands
 ]
 
--- how far tidying has come after the cells below n
+-- The state of tidying after the cells below n.
 pub record Came (f : Frame) (team padding n count : ℕ) (cells : List Member) : Type 0 where
   pub done : Done f team padding n cells
   pub sized : Sized f cells
@@ -173,7 +173,7 @@ length_set [] n y = refl
 length_set (x ∷ xs) zero y = refl
 length_set (x ∷ xs) (suc n) y = ap suc (length_set xs n y)
 
--- the macros stay
+-- The macros are unchanged.
 sized_set : (f : Frame) (cells : List Member) (n : ℕ) (m : Member) (p : SpotPlace) → slice_get cells n ≡ Some m → Sized f cells → Sized f (slice_set cells n (placed_at m.mac p))
 sized_set f cells n m p there sized k x here = elim (order_of k n) [
   | inl same ↦
@@ -182,7 +182,7 @@ sized_set f cells n m p there sized k x here = elim (order_of k n) [
   | inr other ↦ sized k x (sym (get_other cells n k (placed_at m.mac p) other) ∙ here)
 ]
 
--- the cell is sent to what the search has found
+-- The cell moves to the place that the search has found.
 sent : (f : Frame) (team padding n count : ℕ) (cells : List Member) (moved : ℕ) (m : Member) (target : Point) (found : Option SpotPlace) → slice_get cells n ≡ Some m →
     IsChoice (query_from f team padding cells n m.mac) target found → Came f team padding n count cells → CameTo f team padding (n + 1) count (tidied_to_best found cells moved n m.mac)
 sent f team padding n count cells moved m target None there choice came = tt
@@ -195,14 +195,14 @@ sent f team padding n count cells moved m target (Some p) there choice came = re
 same_member : {a b : Member} → Some a ≡ Some b → a ≡ b
 same_member e = cc
 
--- a cell that stays breaks no rule
+-- A cell that stays breaks no rule.
 stays : (f : Frame) (team padding n : ℕ) (cells : List Member) (m : Member) (p : SpotPlace) → slice_get cells n ≡ Some m → m.place ≡ Some p →
     IsLegalAt (query_from f team padding cells n m.mac) p → IsLegalCell f team padding cells n
 stays f team padding n cells m p there is legal x here =
     let same : m ≡ x = same_member (sym there ∙ here) in
     subst (λ (y : Member). MatchOption y.place ⊥ (λ s. IsLegalAt (query_from f team padding cells n y.mac) s)) same (rw is legal)
 
--- a placed cell stays or is sent, by its first broken rule
+-- A placed cell stays or moves, by its first broken rule.
 judged : (l : Legalizer) (f : Frame) (team padding n count : ℕ) (cells : List Member) (moved : ℕ) (m : Member) (p : SpotPlace) (verdict : Option Broken) →
     slice_get cells n ≡ Some m → m.place ≡ Some p → IsVerdict (candidate_at (query_from f team padding cells n m.mac) p) verdict → Came f team padding n count cells →
     CameTo f team padding (n + 1) count (tidied_to (option_map (λ broken. point_of p) verdict) l (query_from f team padding cells n m.mac) cells moved n m.mac)
@@ -262,12 +262,12 @@ tidied_legal l f team padding cells new moved all is =
     let upto : Came f team padding (length cells) (length cells) new = subst (λ (k : ℕ). Came f team padding k (length cells) new) (omega arith) came in
     every f team padding new (subst (λ (k : ℕ). Came f team padding k k new) (sym came.many) upto)
 
--- ---- while one cell is tidied, the others stay legal
+-- ---- while one cell is tidied, the others remain legal
 
 same_cells : {a b : List Member} {i j : ℕ} → Going a i ≡ Going b j → a ≡ b
 same_cells e = cc
 
--- the cell that is sent finds its choice
+-- The cell that moves finds its choice.
 legal_when_sent : (f : Frame) (team padding : ℕ) (cells new : List Member) (moved count own other : ℕ) (m : Member) (target : Point) (found : Option SpotPlace) →
     Sized f cells → slice_get cells own ≡ Some m → IsChoice (query_from f team padding cells own m.mac) target found → tidied_to_best found cells moved own m.mac ≡ Going new count →
     IsLegalCell f team padding cells other → IsLegalCell f team padding new other
@@ -297,7 +297,7 @@ legal_when_tidied l f team padding cells new moved count own other all is stands
   go (Some m) there is =
       legal_when_aimed l f team padding cells new moved count own other m (target_of l (query_from f team padding cells own m.mac) m.place) (sized_each f cells all) there is stands
 
--- ---- with less padding a cell that stands legal stays so
+-- ---- with less padding a legal cell remains legal
 
 pub less_stands : (f : Frame) (team less more : ℕ) (cells : List Member) (own : ℕ) → less ≤ more → IsLegalCell f team more cells own → IsLegalCell f team less cells own
 less_stands f team less more cells own upto stands m there = go m.place (stands m there) where

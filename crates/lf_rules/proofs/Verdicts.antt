@@ -1,4 +1,4 @@
--- Each trial of a cell of whole size has a verdict.
+-- Each candidate of a cell of whole size has a verdict.
 use Rattle.std.proofs.Common.{◌≡◌, ◌⊎◌, ℕ, zero, suc, ℤ, ◌%◌, ◌+ℤ◌, ◌<ℤ◌, pos, List, [], ◌∷◌, Option, Some, None, inl, inr, refl, sym, ◌∙◌, ap, arith, IsTrue, Bool, true, false}
 use Rattle.std.specs.Prelude.{All, take}
 use Rattle.std.proofs.lemmas.Int.{ints}
@@ -65,7 +65,7 @@ equal_under s a b =
     either (same_orient a b) (either (both (truth s.x) (same_orient b (flipped_over_x a))) (either (both (truth s.y) (same_orient b (flipped_over_y a)))
     (turned_round (λ p. (p.0.0, p.0.1, p.1)) (λ p. ((p.0, p.1), p.2)) (both (both (truth s.x) (truth s.y)) (same_orient b (flipped_over_x (flipped_over_y a)))))))
 
--- the first that is met, or none is
+-- There is a first box that overlaps, or no box overlaps.
 first_or_none : (box : Rect) (others : List Placed) → ((own : ℕ) × IsFirstOverlapping box others own) ⊎ All (λ p. SharesPoint box p.rect → ⊥) others
 first_or_none box [] = inr (All-nil (λ p. SharesPoint box p.rect → ⊥))
 first_or_none box (p ∷ ps) = elim (shares box p.rect) [
@@ -79,7 +79,7 @@ first_or_none box (p ∷ ps) = elim (shares box p.rect) [
 abbrev Verdict : Candidate → Type 0
 Verdict t = (v : Option Broken) × IsVerdict t v
 
--- the answer that this rule is the first broken
+-- The verdict that this rule is the first broken.
 broke : {t : Candidate} {b : Broken} → IsFirstBroken t b → Verdict t
 broke {b = b} is = (Some b, is)
 

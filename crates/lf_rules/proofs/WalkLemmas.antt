@@ -1,4 +1,5 @@
--- The walk through the rules in their order: a frame `h` was measured, and the answers are about `f`, which is the same frame.
+-- The walk through the rules in their order. The code measures a frame `h`, and the results are
+-- about `f`, which is the same frame.
 use Rattle.std.proofs.Common.{◌≡◌, ◌%◌, ℕ, List, [], None, sym, subst, IsTrue}
 use Rattle.lf_units.specs.declared.geometry.Rect.{Rect}
 use Rattle.lf_orient.specs.Orientation.{EqualUnder, is_allowed}
@@ -15,7 +16,7 @@ use Rattle.lf_rules.specs.Solid.{IsSolid}
 use Rattle.lf_rules.proofs.LegalParts.{KeepsFrame}
 use Rattle.lf_rules.proofs.RuleLemmas.{Found, OnRows, OrientedAt, RailAt, StandsAt, fence_not, frame_at, obstacle_not, on_rows, orient_broken, rail_broken, row_broken, rows_stand_at, stand_broken}
 
--- the orientation fits, as it was measured
+-- The orientation fits, as measured.
 abbrev MeasuredFit : Frame → Macro → Place → ℕ → Row → Type 0
 MeasuredFit h mac place k r = IsTrue (is_allowed mac.symmetry place.orient) × (k % 2 ≡ 1 → EqualUnder h.site.symmetry place.orient r.orient)
 
@@ -67,7 +68,7 @@ module _ (h f : Frame) (same : h ≡ f) (team : ℕ) (mac : Macro) (place : Plac
   stand_there : OnRows t → RestsOnRows f box
   stand_there rows = rows_stand_at t box box_is rows
 
--- the box stands on rows
+-- The box rests on rows.
 pub stands : (h f : Frame) (same : h ≡ f) (team : ℕ) (mac : Macro) (place : Place) (box : Rect) → box ≡ box_of (candidate_of h team 0 mac place []) → IsSolid box →
     (k : ℕ) (r : Row) → IsSitesHigh h box k → IsBottomRow f box r → StandsAt (candidate_of f team 0 mac place []) box k r → MeasuredFit h mac place k r →
     RailAt (candidate_of f team 0 mac place []) k r → RestsOnRows f box

@@ -1,4 +1,4 @@
--- What rectangles that are made wider share with others.
+-- The rectangles that a widened rectangle shares points with.
 use Rattle.std.proofs.Common.{◌≡◌, ◌⊎◌, ℕ, ℤ, pos, negsuc, ◌+ℤ◌, ◌-ℤ◌, ◌*ℤ◌, ◌*◌, ◌≤ℤ◌, ◌<ℤ◌, ◌≤◌, inl, inr, arith}
 use Rattle.std.proofs.lemmas.Int.{ints}
 use Rattle.std.proofs.lemmas.Nat.{mul-le}
@@ -8,7 +8,7 @@ use Rattle.lf_units.proofs.Same.{same_rect}
 use Rattle.lf_floorplan.specs.declared.frame.Frame.{Frame}
 use Rattle.lf_rules.specs.Padding.{PaddingIsSymmetric, length_of, wider}
 
--- of two boxes that hold a point it makes no difference which is made wider
+-- For two boxes with points, widening either is the same.
 pub either_way : PaddingIsSymmetric
 either_way by a b least wide_a wide_b m = elim order [
   | inl left ↦ record {
@@ -40,7 +40,7 @@ either_way by a b least wide_a wide_b m = elim order [
     order : ((b.x1 -ℤ by) ≤ℤ a.x1) ⊎ (a.x1 <ℤ (b.x1 -ℤ by))
     order = grind (arith, ints)
 
--- what a rectangle shares a point with, it does so if it is made wider by more
+-- A rectangle that is widened by more still shares its points.
 pub shares_wider : (less more : ℤ) (a b : Rect) → less ≤ℤ more → SharesPoint (wider less a) b → SharesPoint (wider more a) b
 shares_wider less more a b upto m =
     let from : (a.x1 -ℤ less) ≤ℤ m.x = m.in_first.left in
@@ -58,7 +58,7 @@ sites_upto (pos n) less more positive upto =
     omega (arith, ints)
 sites_upto (negsuc n) less more positive upto = absurd (omega (arith, ints))
 
--- fewer sites are no longer
+-- Fewer sites are not longer.
 pub length_upto : (f : Frame) (less more : ℕ) → less ≤ more → length_of f less ≤ℤ length_of f more
 length_upto f less more upto = sites_upto f.pitch.x less more f.pitch_whole.wide upto
 
@@ -66,24 +66,24 @@ no_site : (p : ℤ) → (pos 0 *ℤ p) ≡ pos 0
 no_site (pos n) = omega (arith, ints)
 no_site (negsuc n) = omega (arith, ints)
 
--- no padding has no length
+-- A padding of 0 sites has length 0.
 pub no_length : (f : Frame) → length_of f 0 ≡ pos 0
 no_length f = no_site f.pitch.x
 
--- no padding makes no box wider
+-- A padding of 0 sites widens no box.
 pub wider_none : (f : Frame) (r : Rect) → wider (length_of f 0) r ≡ r
 wider_none f r =
     let is = no_length f in
     same_rect (wider (length_of f 0) r) r (omega (arith, ints, is)) (omega (arith, ints)) (omega (arith, ints, is)) (omega (arith, ints))
 
--- a padding has a length of 0 or more
+-- The length of a padding is 0 or more.
 pub length_least : (f : Frame) (sites : ℕ) → pos 0 ≤ℤ length_of f sites
 length_least f sites =
     let none = no_length f in
     let more = length_upto f 0 sites (omega arith) in
     omega (arith, ints, none, more)
 
--- a rectangle shares what it does also if it is made wider by a padding
+-- A rectangle widened by a padding still shares its points.
 pub shares_padded : (f : Frame) (sites : ℕ) (a b : Rect) → SharesPoint a b → SharesPoint (wider (length_of f sites) a) b
 shares_padded f sites a b m =
     let least = length_least f sites in

@@ -18,8 +18,8 @@ use Rattle.lf_rules.specs.declared.rule.Rule.TheVariants.{Height, Row as RowRule
 use Rattle.lf_rtree.specs.declared.placed.Placed.{Placed}
 use Rattle.lf_rules.specs.declared.rule.Broken.{Broken}
 
--- a cell of a team, by its macro, tried at a place beside the team's other placed cells, from which the team's padding, in core
--- sites, is to keep it apart
+-- A cell of a team, given by its macro, at a candidate place. `others` are the team's other placed
+-- cells; the team's padding, in core sites, is to separate it from them.
 pub record Candidate : Type 0 where
   pub frame : Frame
   pub team : ℕ
@@ -30,39 +30,40 @@ pub record Candidate : Type 0 where
   pub orient : Orient
   pub others : List Placed
 
--- the same, at a place of the program
+-- The candidate at a place of the program.
 abbrev pub candidate_of : Frame → ℕ → ℕ → Macro → Place → List Placed → Candidate
 candidate_of f team padding m p others =
     record { frame = f; team = team; padding = padding; mac = m; x = p.x; y = p.y; orient = p.orient; others = others }
 
--- the box of the cell there
+-- The box of the cell there.
 abbrev pub box_of : Candidate → Rect
 box_of t = box_at (turned (size_of t.frame t.mac) t.orient) t.x t.y
 
--- that box, made wider on its left and right by the padding
+-- The box of the cell, widened on its left and right by the padding.
 abbrev pub padded_box : Candidate → Rect
 padded_box t = wider (length_of t.frame t.padding) (box_of t)
 
--- the orientation fits the macro and, if the height is odd, also the bottom row (LEF SYMMETRY of MACRO and SITE)
+-- The orientation fits the macro and, if the height is odd, also the bottom row (LEF SYMMETRY of
+-- MACRO and SITE).
 abbrev pub IsOriented : Candidate → Type 0
 IsOriented t =
     IsTrue (is_allowed t.mac.symmetry t.orient)
     × ((k : ℕ) (r : Row) → IsSitesHigh t.frame (box_of t) k → IsBottomRow t.frame (box_of t) r →
     k % 2 ≡ 1 → EqualUnder t.frame.site.symmetry t.orient r.orient)
 
--- if the height is even, the macro's bottom rail is the bottom row's
+-- If the height is even, the macro's bottom rail is the bottom row's.
 abbrev pub IsOnRail : Candidate → Type 0
 IsOnRail t =
     (k : ℕ) (r : Row) → IsSitesHigh t.frame (box_of t) k → IsBottomRow t.frame (box_of t) r →
     k % 2 ≡ 0 → rail_below r.orient ≡ Some t.mac.rail
 
--- the box, made wider by the padding, shares no point with the box of another placed cell of the team
+-- The box, widened by the padding, shares no point with the box of another placed cell of the team.
 abbrev pub IsApart : Candidate → Type 0
 IsApart t = All (λ other. SharesPoint (padded_box t) other.rect → ⊥) t.others
 
--- The rule holds. A rule on the height or the bottom row speaks of every one there is, and a box has one
--- of each at most. So if rule 1 or 2 fails, rules 3 and 5 hold trivially, and rule 4 only asks for an
--- orientation of the macro; the first broken rule is the lesser one in any case.
+-- The rule holds. A rule on the height or the bottom row quantifies over every one, and a box has
+-- at most one of each. So if rule 1 or 2 fails, rules 3 and 5 hold trivially, and rule 4 only
+-- requires an orientation of the macro. The first broken rule is the lesser one in any case.
 abbrev pub Holds : Candidate → Rule → Type 0
 Holds t Height = HasHeight t.frame (box_of t)
 Holds t RowRule = HasBottomRow t.frame (box_of t)
@@ -73,11 +74,11 @@ Holds t Fence = StaysInGround t.frame t.team (box_of t)
 Holds t Obstacle = IsClear t.frame (box_of t)
 Holds t Overlap = IsApart t
 
--- a place is team-legal: every rule holds
+-- A place is team-legal: every rule holds.
 abbrev pub IsTeamLegal : Candidate → Type 0
 IsTeamLegal t = (r : Rule) → Holds t r
 
--- the rules are tested in the order of their numbers
+-- The rules are tested in the order of their numbers.
 abbrev pub number_of : Rule → ℕ
 number_of Height = 1
 number_of RowRule = 2
@@ -88,7 +89,7 @@ number_of Fence = 6
 number_of Obstacle = 7
 number_of Overlap = 8
 
--- the first of the placed cells whose box shares a point with this rectangle has this number
+-- The first of the placed cells whose box shares a point with this rectangle has this number.
 pub record IsFirstOverlapping (box : Rect) (others : List Placed) (own : ℕ) : Type 0 where
   pub place : ℕ
   pub cell : Placed
@@ -97,17 +98,18 @@ pub record IsFirstOverlapping (box : Rect) (others : List Placed) (own : ℕ) : 
   pub meets : SharesPoint box cell.rect
   pub first : All (λ other. SharesPoint box other.rect → ⊥) (take place others)
 
--- the first broken rule: it is broken, each lesser one holds, and for Overlap the first other cell that
--- is met is named
+-- The first broken rule: it is broken, each lesser one holds, and for Overlap the first other cell
+-- that overlaps is named.
 pub record IsFirstBroken (t : Candidate) (b : Broken) : Type 0 where
   pub broken : Holds t b.rule → ⊥
   pub lesser : (r : Rule) → number_of r < number_of b.rule → Holds t r
   pub other : MatchOption b.other (b.rule ≢ Overlap) (λ own. (b.rule ≡ Overlap) × IsFirstOverlapping (padded_box t) t.others own)
 
--- the rules but overlap: all of them hold, or this one is the first that is broken
+-- The verdict on all rules except Overlap: all of them hold, or this one is the first that is
+-- broken.
 abbrev pub IsFrameRuleVerdict : Candidate → Option Rule → Type 0
 IsFrameRuleVerdict t verdict = MatchOption verdict ((r : Rule) → number_of r ≤ 7 → Holds t r) (λ rule. IsFirstBroken t record { rule = rule; other = None })
 
--- with less padding a place that was team-legal stays so
+-- A team-legal place remains team-legal with less padding.
 abbrev pub LessPaddingKeepsLegal : Type 0
 LessPaddingKeepsLegal = (t : Candidate) (less : ℕ) → less ≤ t.padding → IsTeamLegal t → IsTeamLegal (record t { padding = less })

@@ -10,8 +10,9 @@ use crate::padding::{Padding, widen};
 use lf_floorplan::{Frame, Macro, Place, macro_box};
 use lf_units::Rect;
 
-/// The box of the macro with its lower left corner at the place, as `box_of`; the contract says also that it has points.
-/// The macro's size is whole in database units and above 0.
+/// Returns the box of the macro with its lower left corner at the place, as `box_of` does. The
+/// contract also states that the box has points. The macro's size is whole in database units and
+/// above 0.
 pub fn box_with_points(frame: &Frame, mac: &Macro, place: &Place) -> Rect
     requires { IsSized frame.now mac.now }
     ensures is { result ≡ box_at (turned (size_of frame.now mac.now) place.now.orient) place.now.x place.now.y }
@@ -20,8 +21,8 @@ pub fn box_with_points(frame: &Frame, mac: &Macro, place: &Place) -> Rect
     macro_box(&mac.size, frame.header.units, place)
 }
 
-/// The box of the macro with its lower left corner at the place, in database units
-/// (LEF MACRO SIZE, DEF COMPONENTS). The macro's size is whole in them and above 0.
+/// Returns the box of the macro with its lower left corner at the place, in database units (LEF
+/// MACRO SIZE, DEF COMPONENTS). The macro's size is whole in database units and above 0.
 pub fn box_of(frame: &Frame, mac: &Macro, place: &Place) -> Rect
     requires { IsSized frame.now mac.now }
     ensures { result ≡ box_at (turned (size_of frame.now mac.now) place.now.orient) place.now.x place.now.y }
@@ -29,7 +30,8 @@ pub fn box_of(frame: &Frame, mac: &Macro, place: &Place) -> Rect
     box_with_points(frame, mac, place)
 }
 
-/// That box, made wider on its left and right by the padding: what rule 8 asks to share no point with another cell of the team.
+/// Returns the box of the macro, widened on its left and right by the padding. Rule 8 requires that
+/// it shares no point with another cell of the team.
 pub fn padded_box(frame: &Frame, mac: &Macro, place: &Place, padding: Padding) -> Rect
     requires { IsSized frame.now mac.now }
     ensures { result ≡ widened (length_of frame.now padding.sites) (box_at (turned (size_of frame.now mac.now) place.now.orient) place.now.x place.now.y) }

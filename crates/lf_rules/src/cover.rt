@@ -1,12 +1,13 @@
-//! Whether rectangles together cover all of a box. If they leave points of it out, then one of these has as
-//! its x the box's x1 or some rectangle's x2, and as its y the box's y1 or some rectangle's y2.
+//! Whether rectangles together cover all of a box. It is enough to test the points of the box with
+//! two properties. Their x is the box's x1 or some rectangle's x2, and their y is the box's y1 or
+//! some rectangle's y2.
 
 ghost use Rattle.std.specs.Prelude.{◌≡◌, ◌↔◌, ℤ, ◌<ℤ◌, IsTrue};
 ghost use Rattle.lf_units.specs.Area.{Covers, CoveredBy};
 
 use lf_units::{Point, Rect};
 
-/// Whether one of the rectangles holds the point.
+/// Returns whether one of the rectangles holds the point.
 fn is_point_covered(rects: &[Rect], point: &Point) -> bool
     ensures { IsTrue result ↔ CoveredBy rects.now point.now.x point.now.y }
 {
@@ -18,14 +19,14 @@ fn is_point_covered(rects: &[Rect], point: &Point) -> bool
     false
 }
 
-/// Whether the point lies outside the box or in one of the rectangles.
+/// Returns whether the point lies outside the box or in one of the rectangles.
 fn is_settled(rect: &Rect, rects: &[Rect], point: &Point) -> bool
     ensures { IsTrue result ↔ (Covers rect.now point.now.x point.now.y → CoveredBy rects.now point.now.x point.now.y) }
 {
     !rect.covers(point) || is_point_covered(rects, point)
 }
 
-/// The point of this x that is level with the rectangle's upper edge.
+/// Returns the point with this x that is level with the rectangle's upper edge.
 fn level_with(foot: &Point, edge: &Rect) -> Point
     ensures { result ≡ record { x = foot.now.x; y = edge.now.y2 } }
 {
@@ -35,7 +36,7 @@ fn level_with(foot: &Point, edge: &Rect) -> Point
     }
 }
 
-/// The point at the box's lower edge that is level with the rectangle's right edge.
+/// Returns the point at the box's lower edge that is level with the rectangle's right edge.
 fn foot_of(rect: &Rect, edge: &Rect) -> Point
     ensures { result ≡ record { x = edge.now.x2; y = rect.now.y1 } }
 {
@@ -45,7 +46,7 @@ fn foot_of(rect: &Rect, edge: &Rect) -> Point
     }
 }
 
-/// The lower left corner of the box.
+/// Returns the lower left corner of the box.
 pub(crate) fn corner_of(rect: &Rect) -> Point
     ensures { result ≡ record { x = rect.now.x1; y = rect.now.y1 } }
 {
@@ -55,7 +56,7 @@ pub(crate) fn corner_of(rect: &Rect) -> Point
     }
 }
 
-/// Whether the rectangles cover the points of the box that have the foot's x.
+/// Returns whether the rectangles cover all points of the box with the foot's x.
 fn is_column_covered(rect: &Rect, rects: &[Rect], foot: &Point) -> bool
     requires high { rect.now.y1 <ℤ rect.now.y2 }
     requires lowest { foot.now.y ≡ rect.now.y1 }
@@ -72,7 +73,8 @@ fn is_column_covered(rect: &Rect, rects: &[Rect], foot: &Point) -> bool
     true
 }
 
-/// Whether the rectangles together cover every point of the box, which is higher than 0. For a fence this is rule 6.
+/// Returns whether the rectangles together cover every point of the box, whose height is above 0.
+/// For a fence this is rule 6.
 pub fn is_covered(rect: &Rect, rects: &[Rect]) -> bool
     requires { rect.now.y1 <ℤ rect.now.y2 }
     ensures { IsTrue result ↔ ((x y : ℤ) → Covers rect.now x y → CoveredBy rects.now x y) }

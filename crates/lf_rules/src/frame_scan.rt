@@ -1,4 +1,4 @@
-//! A frame alone, of which all rows, fences and obstacles are looked at.
+//! A frame without an index: each question scans all rows, fences or obstacles.
 
 ghost use Rattle.std.specs.Prelude.{◌≡◌, ◌↔◌, ◌<ℤ◌, IsTrue};
 ghost use Rattle.lf_floorplan.specs.Ground.{StaysInGround};
@@ -10,13 +10,14 @@ use crate::overlap::{is_clear_of, is_in_open_ground};
 use lf_floorplan::{Frame, FrameQuery, Row};
 use lf_units::{Point, Rect};
 
-/// A frame of which nothing is looked up: each answer is by a look at all of its rows, fences or obstacles. It takes no memory.
+/// A frame without an index. Each question scans all of its rows, fences or obstacles. Allocates
+/// nothing.
 #[derive(Clone, Copy)]
 pub struct FrameScan<'a> {
     pub frame: &'a Frame,
 }
 
-/// Whether the row lies at the point's y and extends over its x.
+/// Returns whether the row lies at the point's y and extends over its x.
 fn extends_over(frame: &Frame, point: &Point, row: &Row) -> bool
     requires { IsCoreRow frame.now.pitch row.now }
     ensures { IsTrue result ↔ ExtendsOver frame.now point.now.y point.now.x row.now }
@@ -33,7 +34,8 @@ fn extends_over(frame: &Frame, point: &Point, row: &Row) -> bool
     true
 }
 
-/// The position of the row that lies at the point's y and extends over its x.
+/// Returns the position of the row that lies at the point's y and extends over its x. `None` if
+/// there is no such row.
 fn row_at(frame: &Frame, point: &Point) -> Option<usize>
     ensures { IsRowAt frame.now point.now.y point.now.x result }
 {
@@ -45,7 +47,7 @@ fn row_at(frame: &Frame, point: &Point) -> Option<usize>
     None
 }
 
-/// Whether every point of the box is ground of the team.
+/// Returns whether every point of the box is ground of the team.
 fn is_in_ground(frame: &Frame, team: usize, rect: &Rect) -> bool
     requires wide { rect.now.x1 <ℤ rect.now.x2 }
     requires high { rect.now.y1 <ℤ rect.now.y2 }

@@ -7,7 +7,7 @@ ghost use Rattle.lf_rules.specs.Legalizer.{Legalizer, VerdictIsUnique, VerdictEx
 ghost use Rattle.lf_rules.specs.Padding.{PaddingIsSymmetric};
 ghost use Rattle.lf_rules.specs.Tidy.{TidiedIsLegal, TidiedKeepsCells, TidyKeepsLegal};
 
-/// A cell at a place has one verdict: one first broken rule with one other cell, or none.
+/// A cell at a place has one verdict: one first broken rule with one other cell, or `None`.
 pub fn verdict_is_unique()
     ensures { VerdictIsUnique }
 {}
@@ -32,7 +32,7 @@ pub fn key_is_total()
     ensures { KeyOrders }
 {}
 
-/// A search for a best place has one answer.
+/// A search for a best place has one result.
 pub fn best_place_is_unique()
     ensures { BestPlaceIsUnique }
 {}
@@ -42,7 +42,8 @@ pub fn legal_in_range()
     ensures { LegalInRange }
 {}
 
-/// There is a legalizer: at each place a cell has a first broken rule or none, and each cell has a best place or none.
+/// There is a legalizer: at each place a cell has a first broken rule or `None`, and each cell has
+/// a best place or `None`.
 pub fn legalizer_exists()
     ensures { Legalizer }
 {}
@@ -52,12 +53,12 @@ pub fn tidied_is_legal()
     ensures { TidiedIsLegal }
 {}
 
-/// Tidying only moves cells: their number, order and macros stay.
+/// Tidying only moves cells: their number, order and macros are unchanged.
 pub fn tidied_keeps_cells()
     ensures { TidiedKeepsCells }
 {}
 
-/// A cell that is placed and team-legal stays so while a cell is tidied.
+/// A cell that is placed and team-legal remains so while another cell is tidied.
 pub fn tidy_keeps_legal()
     ensures { TidyKeepsLegal }
 {}
@@ -67,12 +68,13 @@ pub fn teams_make_legal()
     ensures { TeamsMakeLegal }
 {}
 
-/// With less padding a place that was team-legal stays so.
+/// A team-legal place remains team-legal with less padding.
 pub fn less_padding_keeps_legal()
     ensures { LessPaddingKeepsLegal }
 {}
 
-/// It makes no difference which of two boxes that hold a point is made wider by a padding: rule 8 holds of both cells or of none.
+/// Widening either of two boxes with points by a padding is the same: rule 8 holds for both cells
+/// or for neither.
 pub fn padding_is_symmetric()
     ensures { PaddingIsSymmetric }
 {}

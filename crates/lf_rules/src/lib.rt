@@ -1,19 +1,37 @@
-//! The legality of a place: eight rules, said by points, and the first of them that is broken.
+//! The legality of a place: eight rules, defined by points, and the first rule that is broken.
 //!
-//! A place is *team-legal* for a cell of a team if it keeps all eight (`Rule`). A *verdict* is the first broken rule, with the
-//! first other cell that is met if this is Overlap, or none for a team-legal place. A *legalizer* is any pair of functions
-//! that give verdicts and best places.
+//! A place is *team-legal* for a cell of a team if it keeps all eight rules (`Rule`). A *verdict*
+//! is the first broken rule; if this is Overlap, it names the first other cell that overlaps. The
+//! verdict of a team-legal place is `None`. A *legalizer* is any pair of functions that give
+//! verdicts and best places.
 //!
-//! A best place is one that is team-legal, meets no soft blockage, and has the least *key*: the distance from the target along
-//! x plus along y, then y, then x, then the orientation in the order N, S, FN, FS. To *tidy* a team is to take its cells in
-//! loading order, each that is unplaced or breaks a rule to its best place. A design is fully legal if every cell is placed
-//! and keeps rules 1 to 7, and no two cells share a point.
+//! A best place is team-legal, overlaps no soft blockage, and has the least *key*: the distance
+//! from the target along x plus along y, then y, then x, then the orientation in the order N, S,
+//! FN, FS. To *tidy* a team is to move, in loading order, each cell that is unplaced or breaks a
+//! rule to its best place. A design is fully legal if every cell is placed and keeps rules 1 to 7,
+//! and no two cells share a point.
+//!
+//! Used by most other crates.
+//!
+//! Modules, in reading order:
+//!
+//! - `rule`: the eight rules, and a broken rule
+//! - `padding`: the padding of a team
+//! - `boxes`: the box of a cell
+//! - `cover`: whether rectangles together cover a box
+//! - `rows`: the rules on rows
+//! - `overlap`: the rules on ground, obstacles and other cells
+//! - `soft`: soft blockages
+//! - `frame_scan`: a frame without an index
+//! - `verdict`: the first broken rule
+//! - `report_types`: the parts of a report
+//! - `laws`: laws of legal places, best places and tidying
+//!
+//! From `crates/lf_placement/src/placement.rt`:
 //!
 //! ```
-//! let broken = first_broken(&frame, team, mac_at(&frame, 0), &place, &others, Padding::none());
-//! if let Some(Broken { rule, .. }) = broken {
-//!     rule.number(); // 1 to 8
-//! }
+//! let mac = &self.frame.macros.as_slice()[standing.mac];
+//! broken_frame_rule(&self.indexed_frame(), id.team as usize, mac, place)
 //! ```
 #![tactic(auto)]
 

@@ -8,7 +8,7 @@ use lf_floorplan::Team;
 use lf_rtree::Placed;
 use lf_units::Rect;
 
-/// Whether the box shares no point with any of the rectangles.
+/// Returns whether the box shares no point with any of the rectangles.
 pub(crate) fn is_clear_of(rect: &Rect, rects: &[Rect]) -> bool
     ensures { IsTrue result ↔ All (λ r. SharesPoint rect.now r → ⊥) rects.now }
 {
@@ -20,7 +20,8 @@ pub(crate) fn is_clear_of(rect: &Rect, rects: &[Rect]) -> bool
     true
 }
 
-/// The first of the placed cells whose box shares a point with this one.
+/// Returns the number of the first placed cell whose box shares a point with this one. `None` if
+/// there is no such cell.
 pub(crate) fn first_overlapping(rect: &Rect, others: &[Placed]) -> Option<u32>
     ensures { MatchOption result (All (λ p. SharesPoint rect.now p.rect → ⊥) others.now) (λ own. IsFirstOverlapping rect.now others.now own) }
 {
@@ -32,7 +33,7 @@ pub(crate) fn first_overlapping(rect: &Rect, others: &[Placed]) -> Option<u32>
     None
 }
 
-/// Whether no fence covers a point of the box.
+/// Returns whether no fence covers a point of the box.
 #[tactic(auto, using(crate::proofs::GroundLemmas::open_of_clear, crate::proofs::GroundLemmas::clear_of_open))]
 pub(crate) fn is_in_open_ground(rect: &Rect, teams: &[Team]) -> bool
     ensures { IsTrue result ↔ ((x y : ℤ) → Covers rect.now x y → All (λ u. CoveredBy u.rects x y → ⊥) teams.now) }

@@ -6,16 +6,16 @@ ghost use Rattle.lf_rules.specs.Padding.{HasRoomAround, IsShort, length_of, wide
 use lf_floorplan::Frame;
 use lf_units::Rect;
 
-/// How far apart a team keeps its own cells along x, in core sites: from 0 to 16.
+/// The distance along x that a team keeps between its own cells, in core sites: from 0 to 16.
 ///
-/// Rule 8 makes a cell's box wider by it on its left and on its right.
+/// Rule 8 widens a cell's box by it on its left and on its right.
 #[derive(Clone, Copy, Debug, PartialEq, Eq)]
 pub struct Padding {
     pub sites: u32,
     pub ghost most: { sites ≤ 16 },
 }
 
-/// The length of this many core sites, of which a padding has at most 16.
+/// Returns the length of `sites` core sites, at most 16, in database units.
 fn length_in(frame: &Frame, sites: u32) -> i64
     requires { sites ≤ 16 }
     ensures { result ≡ length_of frame.now sites }
@@ -24,7 +24,7 @@ fn length_in(frame: &Frame, sites: u32) -> i64
 }
 
 impl Padding {
-    /// The padding of this many core sites; none iff that is more than 16.
+    /// Returns the padding of `sites` core sites. `None` iff `sites` is more than 16.
     pub fn new(sites: u32) -> Option<Padding>
         ensures { MatchOption result (16 < sites) (λ padding. padding.sites ≡ sites) }
     {
@@ -34,14 +34,14 @@ impl Padding {
         Some(Padding { sites })
     }
 
-    /// No padding: cells may touch.
+    /// Returns the padding of 0 sites: cells may touch.
     pub fn none() -> Padding
         ensures { result.sites ≡ 0 }
     {
         Padding { sites: 0 }
     }
 
-    /// Its length in database units: so many widths of the frame's core site.
+    /// Returns its length in database units: `sites` widths of the frame's core site.
     pub fn length(self, frame: &Frame) -> i64
         ensures is { result ≡ length_of frame.now self.sites }
         ensures short { IsShort result }
@@ -50,7 +50,7 @@ impl Padding {
     }
 }
 
-/// The number less a length.
+/// Returns the number minus a length.
 fn minus(x: i64, by: i64) -> i64
     requires short { IsShort by }
     requires low { negsuc 4611686018427387903 ≤ℤ x }
@@ -59,7 +59,7 @@ fn minus(x: i64, by: i64) -> i64
     x - by
 }
 
-/// The number and a length.
+/// Returns the number plus a length.
 fn plus(x: i64, by: i64) -> i64
     requires short { IsShort by }
     requires high { x ≤ℤ pos 4611686018427387904 }
@@ -68,8 +68,8 @@ fn plus(x: i64, by: i64) -> i64
     x + by
 }
 
-/// The rectangle made wider by a length on its left and on its right, in database units. The length is from 0 to
-/// 320,000,000,000, and the x range within 2^62 either way.
+/// Returns the rectangle, widened by a length on its left and on its right, in database units. The
+/// length is from 0 to 320,000,000,000, and the x range is within 2^62 of 0.
 pub fn widen(rect: &Rect, by: i64) -> Rect
     requires short { IsShort by }
     requires room { HasRoomAround rect.now }

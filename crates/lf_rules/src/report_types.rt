@@ -1,19 +1,21 @@
-//! What a report says: how many cells there are, how many of them are unplaced, and which break a rule where they stand.
+//! The parts of a report: the number of cells, the number of unplaced cells, and the placed cells
+//! that break a rule.
 
 use crate::rule::Rule;
 use lf_floorplan::Place;
 use lf_units::{Name, Sequence};
 
-/// A movable cell as a report lists it. Its name is of the type `N`: a slice in the program, a list of bytes
-/// in a contract.
+/// A movable cell as a report lists it. Its name has the type `N`: a slice in the program, a list
+/// of bytes in a contract.
 #[derive(Clone, Copy)]
 pub struct Listed<N> {
     pub name: N,
-    /// The number of its team: the position of a fence in the frame, or the number of fences for the ground team.
+    /// The number of its team: the position of a fence in the frame, or the number of fences for
+    /// the ground team.
     pub team: usize,
     /// The position of its macro in the frame.
     pub mac: usize,
-    /// Its place, in database units; none if it is unplaced.
+    /// Its place, in database units; `None` if it is unplaced.
     pub place: Option<Place>,
 }
 
@@ -24,16 +26,17 @@ pub struct Violation {
     pub cell: Name,
     /// The first rule that it breaks.
     pub rule: Rule,
-    /// For Overlap the name of the first other cell in loading order that it meets; none for another rule.
+    /// For Overlap, the name of the first other cell in loading order that it overlaps; `None` for
+    /// another rule.
     pub other: Option<Name>,
 }
 
-/// What a check of cells found.
+/// The result of checking cells.
 #[derive(Drop)]
 pub struct Report {
-    /// How many cells there are.
+    /// The number of cells.
     pub cells: usize,
-    /// How many of them are unplaced.
+    /// The number of unplaced cells.
     pub unplaced: usize,
     /// The placed cells that break a rule, in loading order.
     pub violations: Sequence<Violation>,

@@ -1,4 +1,4 @@
-//! The rules on rows: height, bottom row, the rows that carry the box.
+//! The rules on rows: height, bottom row, and the rows that carry the box.
 
 ghost use Rattle.std.specs.Prelude.{◌≡◌, ◌↔◌, ℕ, ℤ, pos, ◌<◌, ◌≤◌, ◌+ℤ◌, ◌-ℤ◌, ◌*ℤ◌, ◌<ℤ◌, ◌≤ℤ◌, IsTrue, MatchOption, Contains, Some, if◌then◌else◌, IfSome, length, slice_get};
 ghost use Rattle.std.specs.Option.{option_map};
@@ -13,7 +13,7 @@ use lf_floorplan::{Frame, FrameQuery, Row};
 use lf_orient::{Orient, Rail, opposite, row_rail};
 use lf_units::{Point, Rect};
 
-/// The y that is this many site heights above the box's lower edge.
+/// Returns the y that is `sites` site heights above the box's lower edge.
 fn level(pitch: &Point, rect: &Rect, sites: u32) -> i64
     requires high { pos 0 <ℤ pitch.now.y }
     requires low { pitch.now.y ≤ℤ pos 20000000000 }
@@ -24,7 +24,7 @@ fn level(pitch: &Point, rect: &Rect, sites: u32) -> i64
     rect.y1 + i64::from(sites) * pitch.y
 }
 
-/// The point that is this many site heights above the box's lower left corner.
+/// Returns the point that is `sites` site heights above the box's lower left corner.
 fn foot_of(pitch: &Point, rect: &Rect, sites: u32) -> Point
     requires high { pos 0 <ℤ pitch.now.y }
     requires low { pitch.now.y ≤ℤ pos 20000000000 }
@@ -38,7 +38,8 @@ fn foot_of(pitch: &Point, rect: &Rect, sites: u32) -> Point
     }
 }
 
-/// How many core sites high the box is; none iff that is not a whole number from 1 to 8. This is rule 1. The box has points.
+/// Returns the height of the box in core sites. `None` iff that is not a whole number from 1 to 8.
+/// This is rule 1. The box has points.
 pub fn height_in_sites(frame: &Frame, rect: &Rect) -> Option<u32>
     requires { IsSolid rect.now }
     ensures { MatchOption result ((k : ℕ) → IsSitesHigh frame.now rect.now k → ⊥) (λ k. IsSitesHigh frame.now rect.now k) }
@@ -51,7 +52,7 @@ pub fn height_in_sites(frame: &Frame, rect: &Rect) -> Option<u32>
     None
 }
 
-/// Whether the box's left edge is a whole number of core sites right of the row's.
+/// Returns whether the box's left edge is a whole number of core sites right of the row's.
 fn is_on_grid(pitch: &Point, rect: &Rect, row: &Row) -> bool
     requires wide { pos 0 <ℤ pitch.now.x }
     requires solid { IsSolid rect.now }
@@ -62,7 +63,8 @@ fn is_on_grid(pitch: &Point, rect: &Rect, row: &Row) -> bool
     offset % pitch.x == 0
 }
 
-/// Whether the row lies this many site heights above the box's lower edge, under all of its width.
+/// Returns whether the row lies `sites` site heights above the box's lower edge, under all of its
+/// width.
 fn is_row_of_box(frame: &Frame, rect: &Rect, sites: u32, row: &Row) -> bool
     requires solid { IsSolid rect.now }
     requires few { sites ≤ 8 }
@@ -81,8 +83,9 @@ fn is_row_of_box(frame: &Frame, rect: &Rect, sites: u32, row: &Row) -> bool
     true
 }
 
-/// Whether the row lies at the box's lower edge, under all of its width, and its grid holds the box's left edge. Rule 2 asks
-/// for such a row. The box has points, and the row is one of the frame.
+/// Returns whether the row lies at the box's lower edge, under all of its width, and its grid holds
+/// the box's left edge. Rule 2 requires such a row. The box has points, and the row is one of the
+/// frame.
 pub fn is_bottom_row(frame: &Frame, rect: &Rect, row: &Row) -> bool
     requires solid { IsSolid rect.now }
     requires known { Contains frame.now.rows row.now }
@@ -95,7 +98,7 @@ pub fn is_bottom_row(frame: &Frame, rect: &Rect, row: &Row) -> bool
     is_on_grid(&frame.pitch, rect, row)
 }
 
-/// The row at that position.
+/// Returns the row at this position.
 fn row_of(frame: &Frame, number: usize) -> &Row
     requires { number < length frame.now.rows }
     ensures row { slice_get frame.now.rows number ≡ Some result.now }
@@ -105,7 +108,8 @@ fn row_of(frame: &Frame, number: usize) -> &Row
     &frame.rows.as_slice()[number]
 }
 
-/// The row that lies at the point's y and extends over its x.
+/// Returns the row that lies at the point's y and extends over its x. `None` if there is no such
+/// row.
 fn row_at<'a, N: FrameQuery>(near: &'a N, point: &Point) -> Option<&'a Row>
     ensures only { IsOnlyRow (N.of near.now) point.now (option_map (λ r. r.now) result) }
     ensures heeded { IfSome result (λ r. IsCoreRow (N.of near.now).pitch r.now) }
@@ -116,7 +120,7 @@ fn row_at<'a, N: FrameQuery>(near: &'a N, point: &Point) -> Option<&'a Row>
     }
 }
 
-/// The bottom row of the box.
+/// Returns the bottom row of the box. `None` if the box has no bottom row.
 pub(crate) fn bottom_row<'a, N: FrameQuery>(near: &'a N, rect: &Rect) -> Option<&'a Row>
     requires { IsSolid rect.now }
     ensures { MatchOption result ((r : Row) → IsBottomRow (N.of near.now) rect.now r → ⊥) (λ r. IsBottomRow (N.of near.now) rect.now r.now) }
@@ -130,7 +134,8 @@ pub(crate) fn bottom_row<'a, N: FrameQuery>(near: &'a N, rect: &Rect) -> Option<
     None
 }
 
-/// The rail of a row of this orientation, changed this many times.
+/// Returns the rail of a row of this orientation, alternated `times` times. `None` if the
+/// orientation lies on its side.
 fn changed_rail(orient: Orient, times: u32) -> Option<Rail>
     ensures { result ≡ option_map (changed times) (rail_below orient) }
 {
@@ -141,9 +146,10 @@ fn changed_rail(orient: Orient, times: u32) -> Option<Rail>
     rail
 }
 
-/// Whether the row carries the box this many site heights above its bottom row: it lies there, under all of its width, and its
-/// rail is the bottom row's, alternated as often. Rule 3 asks for such a row at each height. The box has points, the row is one
-/// of the frame, and it is at most 8 sites up.
+/// Returns whether the row carries the box `sites` site heights above its bottom row. The row lies
+/// there, under all of the box's width, and its rail is the bottom row's, alternated `sites` times.
+/// Rule 3 requires such a row at each height. The box has points, the row is one of the frame, and
+/// `sites` is at most 8.
 pub fn supports(frame: &Frame, rect: &Rect, bottom: &Row, sites: u32, row: &Row) -> bool
     requires solid { IsSolid rect.now }
     requires few { sites ≤ 8 }
@@ -157,7 +163,7 @@ pub fn supports(frame: &Frame, rect: &Rect, bottom: &Row, sites: u32, row: &Row)
     row_rail(row.orient) == changed_rail(bottom.orient, sites)
 }
 
-/// Whether a row of the frame carries the box this many site heights above its bottom row.
+/// Returns whether a row of the frame carries the box `sites` site heights above its bottom row.
 fn is_carried<N: FrameQuery>(near: &N, rect: &Rect, bottom: &Row, sites: u32) -> bool
     requires solid { IsSolid rect.now }
     requires few { sites ≤ 8 }
@@ -170,7 +176,7 @@ fn is_carried<N: FrameQuery>(near: &N, rect: &Rect, bottom: &Row, sites: u32) ->
     supports(frame, rect, bottom, sites, row)
 }
 
-/// Whether rows of the frame carry the box over all of its height.
+/// Returns whether rows of the frame carry the box over all of its height.
 pub(crate) fn is_standing<N: FrameQuery>(near: &N, rect: &Rect, bottom: &Row, height: u32) -> bool
     requires solid { IsSolid rect.now }
     requires few { height ≤ 8 }

@@ -1,4 +1,4 @@
-//! The rules by name, and what an answer says of them.
+//! The rules by name, and a broken rule.
 
 ghost use Rattle.std.specs.Prelude.{◌≡◌};
 
@@ -7,26 +7,27 @@ ghost use Rattle.std.specs.Prelude.{◌≡◌};
 pub enum Rule {
     /// The box is from 1 to 8 core sites high.
     Height,
-    /// A row lies at its lower edge, holds its x range, and has its x on the grid of sites.
+    /// A row lies at the box's lower edge, holds its x range, and has its x on the grid of sites.
     Row,
-    /// Rows of alternating rails carry it over all of its height.
+    /// Rows of alternating rails carry the box over all of its height.
     Stand,
-    /// Its orientation fits the macro and, if its height is odd, the bottom row.
+    /// The orientation fits the macro and, if the height is odd, the bottom row.
     Orient,
-    /// If its height is even, its bottom rail is the bottom row's.
+    /// If the height is even, the macro's bottom rail is the bottom row's.
     Rail,
-    /// It stays in its team's ground.
+    /// The box stays in its team's ground.
     Fence,
-    /// It meets no obstacle.
+    /// The box overlaps no obstacle.
     Obstacle,
-    /// Made wider on its left and right by its team's padding, it meets no other placed cell of the team.
+    /// The box, widened on its left and right by its team's padding, overlaps no other placed cell
+    /// of the team.
     Overlap,
 }
 
 impl Rule {
     ghost use Rattle.lf_rules.specs.Legality.{number_of};
 
-    /// The rule's number in replies and reports, from 1 to 8.
+    /// Returns the rule's number in replies and reports, from 1 to 8.
     pub fn number(self) -> u32
         ensures { result ≡ number_of self }
     {
@@ -47,6 +48,7 @@ impl Rule {
 #[derive(Clone, Copy, Debug, PartialEq, Eq)]
 pub struct Broken {
     pub rule: Rule,
-    /// For Overlap the number of the first cell in loading order that is met; none for another rule.
+    /// For Overlap, the number of the first cell in loading order that overlaps; `None` for another
+    /// rule.
     pub other: Option<u32>,
 }

@@ -1,4 +1,4 @@
-//! Soft blockages: no rule speaks of them, but a search for a best place keeps clear of them.
+//! Soft blockages: no rule mentions them, but a search for a best place avoids them.
 
 ghost use Rattle.std.specs.Prelude.{◌↔◌, Any, IsTrue};
 ghost use Rattle.lf_units.specs.Area.{SharesPoint};
@@ -7,15 +7,15 @@ ghost use Rattle.lf_floorplan.specs.Ground.{MeetsSoft};
 use lf_floorplan::Frame;
 use lf_units::Rect;
 
-/// Whether the rectangle shares a point with one of the list.
+/// Returns whether the rectangle shares a point with one of the list.
 fn meets_one(rect: &Rect, others: &[Rect]) -> bool
     ensures { IsTrue result ↔ Any (λ r. SharesPoint rect.now r) others.now }
 {
     others.iter().any(|other| rect.overlaps(other))
 }
 
-/// Whether the rectangle, in database units, shares a point with a soft blockage of the frame. It
-/// allocates nothing.
+/// Returns whether the rectangle, in database units, shares a point with a soft blockage of the
+/// frame. Allocates nothing.
 pub fn overlaps_soft(frame: &Frame, rect: &Rect) -> bool
     ensures { IsTrue result ↔ MeetsSoft frame.now rect.now }
 {

@@ -17,8 +17,9 @@ use lf_floorplan::{Frame, FrameQuery, Macro, Place, Row};
 use lf_orient::{Orient, equal_under, is_candidate, row_rail};
 use lf_rtree::Placed;
 
-/// Whether a cell of the macro may have this orientation on this bottom row: the macro's symmetry allows it and, if the height
-/// in core sites is odd, the core site's symmetry makes it equal to the row's. This is rule 4.
+/// Returns whether a cell of the macro may have this orientation on this bottom row. The macro's
+/// symmetry must allow it. If the height in core sites is odd, the core site's symmetry must make
+/// it equal to the row's. This is rule 4.
 pub fn is_oriented(frame: &Frame, mac: &Macro, orient: Orient, height: u32, bottom: &Row) -> bool
     ensures { IsTrue result ↔ (IsTrue (is_allowed mac.now.symmetry orient) × (height % 2 ≡ 1 → EqualUnder frame.now.site.symmetry orient bottom.now.orient)) }
 {
@@ -28,18 +29,20 @@ pub fn is_oriented(frame: &Frame, mac: &Macro, orient: Orient, height: u32, bott
     height % 2 == 0 || equal_under(frame.site.symmetry, orient, bottom.orient)
 }
 
-/// Whether the macro's bottom rail is the bottom row's, if the height in core sites is even. This is rule 5.
+/// Returns whether the macro's bottom rail is the bottom row's, if the height in core sites is
+/// even. This is rule 5.
 pub fn is_on_rail(mac: &Macro, height: u32, bottom: &Row) -> bool
     ensures { IsTrue result ↔ (height % 2 ≡ 0 → rail_below bottom.now.orient ≡ Some mac.now.rail) }
 {
     height % 2 == 1 || row_rail(bottom.orient) == Some(mac.rail)
 }
 
-/// The first of rules 1 to 7 that a cell of the team breaks at the place, whatever else is placed and whatever the padding is;
-/// none iff it keeps them all.
+/// Returns the first of rules 1 to 7 that a cell of the team breaks at the place. The result does
+/// not depend on other cells or on the padding. `None` iff the cell keeps all seven.
 ///
-/// `team` is a fence's position in the frame, or the number of fences for the ground team. The macro's size is whole in
-/// database units. `near` is any `FrameQuery` of the frame, as `FrameScan`. It allocates nothing.
+/// `team` is a fence's position in the frame, or the number of fences for the ground team. The
+/// macro's size is whole in database units. `near` is any `FrameQuery` of the frame, as
+/// `FrameScan`. Allocates nothing.
 pub fn broken_frame_rule<N: FrameQuery>(
     near: &N,
     team: usize,
@@ -75,7 +78,8 @@ pub fn broken_frame_rule<N: FrameQuery>(
     None
 }
 
-/// Overlap with the other cell of this number, as the first broken rule; none if there is no number.
+/// Returns Overlap with the other cell of this number as the first broken rule. `None` if `met` is
+/// `None`.
 pub fn overlap_of(met: Option<u32>) -> Option<Broken>
     ensures { result ≡ option_map (λ own. record { rule = Overlap; other = Some own }) met }
 {
@@ -88,12 +92,12 @@ pub fn overlap_of(met: Option<u32>) -> Option<Broken>
     }
 }
 
-/// The first rule that a cell of the team breaks at the place, beside the team's other placed cells;
-/// none iff the place is team-legal.
+/// Returns the first rule that a cell of the team breaks at the place, given the team's other
+/// placed cells. `None` iff the place is team-legal.
 ///
 /// `team` is a fence's position in the frame, or the number of fences for the ground team. `others`
-/// are the team's other placed cells in loading order, and `padding` is the team's. The macro's size is whole in database
-/// units. It allocates nothing.
+/// are the team's other placed cells in loading order, and `padding` is the team's. The macro's
+/// size is whole in database units. Allocates nothing.
 pub fn first_broken(
     frame: &Frame,
     team: usize,

@@ -22,7 +22,7 @@ rule_one t a b p q = elim order [
     order : (number_of a.rule < number_of b.rule) ⊎ ((number_of a.rule ≡ number_of b.rule) ⊎ (number_of b.rule < number_of a.rule))
     order = grind arith
 
--- no cell that is met is before the first that is met
+-- No overlapping cell precedes the first one.
 earlier : (box : Rect) (others : List Placed) (own i : ℕ) (cell : Placed) (b : IsFirstOverlapping box others own) → i < b.place →
     slice_get others i ≡ Some cell → SharesPoint box cell.rect → ⊥
 earlier box others own i cell b less there meets =
@@ -33,7 +33,7 @@ earlier box others own i cell b less there meets =
     let at : get_or (take b.place others) i cell ≡ get_or others i cell = grind (arith, common_steps) in
     b.first i cell early (rw (at, is) meets)
 
--- the first cell that is met is one
+-- The first overlapping cell is unique.
 met_one : (box : Rect) (others : List Placed) (m n : ℕ) → IsFirstOverlapping box others m → IsFirstOverlapping box others n → m ≡ n
 met_one box others m n a b = elim order [
   | inl less ↦ absurd (earlier box others n a.place a.cell b less a.there a.meets)
