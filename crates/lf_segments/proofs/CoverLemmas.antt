@@ -1,4 +1,4 @@
--- What boxes cover at one y, and over a height.
+-- The parts that boxes cover at one y, and over a height.
 use Rattle.std.proofs.Common.{◌≡◌, ◌⊎◌, inl, inr, ℕ, ℤ, ◌+◌, ◌<◌, ◌≤◌, ◌≤ℤ◌, ◌<ℤ◌, List, [], ◌∷◌, ◌++◌}
 use Rattle.std.proofs.Common.{length, get_or, take, refl, sym, ap, subst, ◌∙◌, arith}
 use Rattle.std.specs.Prelude.{Any, IfSome, IsPermutation, IsSomeAnd, None, Option, Some}
@@ -13,7 +13,7 @@ use Rattle.lf_rtree.specs.declared.placed.Placed.{Placed}
 use Rattle.lf_spans.specs.Spans.{Holds, IsFilled, AreApart, LiesInOneOf, IsRising, IsFree, IsJoin, IsMeet}
 use Rattle.lf_segments.specs.Boxes.{x_extent, AreSpansAt, AreUnder, IsCoveredAt, IsCoveredOver}
 
--- the order of what is taken is nothing to what is free
+-- The order of the taken spans does not change the free ones.
 pub free_moved : (range : Span) (taken sorted free : List Span) → IsPermutation taken sorted → IsFree range sorted free → IsFree range taken free
 free_moved range taken sorted free moved f = record {
   rising = f.rising;
@@ -104,7 +104,7 @@ covers_start boxes lower upper free covered high c = record {
 below_or_at : (m k : ℕ) → m < k + 1 → (m < k) ⊎ (m ≡ k)
 below_or_at m k less = grind arith
 
--- a box that ends where the last one does
+-- A box that ends at the same y as the last one.
 under_last : (boxes : List Placed) (last : Option Placed) (p : Placed) (s : Span) → IsSomeAnd last (λ l. l.rect.y2 ≡ p.rect.y2) →
     IfSome last (λ l. AreUnder boxes l.rect.y2 s) → AreUnder boxes p.rect.y2 s
 under_last boxes None p s same under = elim same [ ]
@@ -161,7 +161,7 @@ covers_more boxes lower upper last free covered slice new k e within c from unde
     older : (s : Span) → IsFilled s → LiesInOneOf new s → LiesInOneOf covered s
     older s g h = ((n.exact s g).0 h).0
 
--- the last of the lower edge and the ends at y or below it: no box ends between it and y
+-- The last of the lower edge and the ends at y or below it: no box ends between it and y.
 record Last (boxes : List Placed) (lower y : ℤ) : Type 0 where
   at : ℤ
   is : (at ≡ lower) ⊎ Any (λ (p : Placed). p.rect.y2 ≡ at) boxes
@@ -207,7 +207,7 @@ last_end (p ∷ boxes) lower y from = with_rest (last_end boxes lower y from)
         later : (l : Last boxes lower y) → (l.at ≡ lower) ⊎ Any (λ (q : Placed). q.rect.y2 ≡ l.at) (p ∷ boxes)
         later l = elim l.is [ inl e ↦ inl e | inr e ↦ inr (any_later (λ (q : Placed). q.rect.y2 ≡ l.at) p boxes e) ]
 
--- what covers all of a span at the lower edge and at each end covers it at each y
+-- If all of a span is covered at the lower edge and at each end, it is covered at each y.
 at_each : (boxes : List Placed) (lower upper : ℤ) (s : Span) → AreUnder boxes lower s →
     ((m : ℕ) (d : Placed) → m < length boxes → (get_or boxes m d).rect.y2 <ℤ upper → AreUnder boxes (get_or boxes m d).rect.y2 s) →
     (y : ℤ) → lower ≤ℤ y → y <ℤ upper → AreUnder boxes y s
@@ -254,6 +254,6 @@ covers_end boxes lower upper last free covered k passed_all c = record {
   );
 }
 
--- what shares a point with an area ends above its lower edge
+-- A rectangle that shares a point with an area ends above its lower edge.
 pub below_of : (a r : Rect) → SharesPoint a r → a.y1 ≤ℤ r.y2
 below_of a r s = omega (arith, ints, s.in_first.bottom, s.in_second.top)

@@ -1,4 +1,4 @@
--- Segments by where they end.
+-- Segments by their right ends.
 use Rattle.std.proofs.Common.{◌≡◌, ◌⊎◌, inl, inr, ℕ, ℤ, ◌<◌, ◌≤◌, ◌≤ℤ◌, ◌<ℤ◌, List, length, get_or, sym, subst, arith, true, false, int_le}
 use Rattle.std.specs.Prelude.{AllPairs}
 use Rattle.std.specs.List.Sorted.{IsPartitionedBy, IsPartitionPoint}
@@ -14,7 +14,7 @@ of_most a b h = grind (arith, ints)
 not_most_of : (a b : ℤ) → int_le a b ≡ false → b <ℤ a
 not_most_of a b e = grind (arith, ints)
 
--- those that end at a limit or before it are the first ones
+-- The segments that end at a limit or left of it are the first ones.
 pub parted : (xs : List Segment) (limit : ℤ) → AllPairs (λ g h. g.span.hi ≤ℤ h.span.hi) xs → IsPartitionedBy (λ g. int_le g.span.hi limit) xs
 parted xs limit r i j d order within t = elim same_or [
   | inl h ↦ let At : ℕ → Type 0 = λ n. int_le (get_or xs n d).span.hi limit ≡ true in subst At (sym h) t

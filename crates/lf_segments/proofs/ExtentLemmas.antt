@@ -12,13 +12,13 @@ use Rattle.lf_floorplan.specs.declared.parts.Row.{Row}
 use Rattle.lf_floorplan.proofs.SizeBounds.{IsSmall}
 use Rattle.lf_segments.specs.Grounds.{IsInside, hull}
 
--- a rectangle that holds two others, and is as near the coordinates of DEF as they are
+-- A rectangle that holds two others, and is as near the coordinates of DEF as they are.
 pub record IsHull (a b new : Rect) : Type 0 where
   pub first : IsInside a new
   pub second : IsInside b new
   pub near : IsNearDefRect a → IsNearDefRect b → IsNearDefRect new
 
--- the hull of two rectangles
+-- The hull of two rectangles.
 pub hull_holds : (a b : Rect) → IsHull a b (hull a b)
 hull_holds a b = record {
   first = record {
@@ -56,11 +56,11 @@ hull_holds a b = record {
 abbrev rect_of : ℤ → ℤ → ℤ → ℤ → Rect
 rect_of x1 y1 x2 y2 = record { x1 = x1; y1 = y1; x2 = x2; y2 = y2 }
 
--- rectangles of the same edges
+-- Rectangles of the same edges.
 pub same_rect : (x1 y1 x2 y2 a b d e : ℤ) → x1 ≡ a → y1 ≡ b → x2 ≡ d → y2 ≡ e → rect_of x1 y1 x2 y2 ≡ rect_of a b d e
 same_rect x1 y1 x2 y2 a b d e p q r s = cc
 
--- what lies in one rectangle, and that in another
+-- Containment of rectangles is transitive.
 pub inside_through : (a b d : Rect) → IsInside a b → IsInside b d → IsInside a d
 inside_through a b d p q = record {
   left = omega (arith, ints, p.left, q.left);
@@ -69,7 +69,7 @@ inside_through a b d p q = record {
   upper = omega (arith, ints, p.upper, q.upper);
 }
 
--- a row of the frame begins at a coordinate of DEF, and ends near those
+-- A row of the frame begins at a coordinate of DEF, and ends near those.
 pub area_near : (pitch : Point) (r : Row) → IsSmall pitch → IsCoreRow pitch r → IsNearDefRect (row_area pitch r)
 area_near pitch r small h = record {
   across = record { from = h.x_in_def; to = omega (arith, ints, h.ends); in_order = wider pitch.x r.sites small.wide };
@@ -80,11 +80,11 @@ area_near pitch r small h = record {
     wider (pos m) n positive = let least : 0 ≤ n * m = omega arith in omega (arith, ints)
     wider (negsuc m) n positive = absurd (omega (arith, ints))
 
--- each of the first rows lies inside the rectangle
+-- Each of the first rows lies inside the rectangle.
 abbrev pub HoldsFirst : Point → List Row → ℕ → Rect → Type 0
 HoldsFirst pitch rows n extent = (k : ℕ) (r : Row) → k < n → slice_get rows k ≡ Some r → IsInside (row_area pitch r) extent
 
--- one more row
+-- One more row.
 pub one_more : (pitch : Point) (rows : List Row) (n : ℕ) (r : Row) (area old new : Rect) → slice_get rows n ≡ Some r → area ≡ row_area pitch r →
     IsHull old area new → HoldsFirst pitch rows n old → HoldsFirst pitch rows (n + 1) new
 one_more pitch rows n r area old new there is hull inside k s less here =
@@ -99,7 +99,7 @@ one_more pitch rows n r area old new there is hull inside k s less here =
     same_some : {a b : Row} → Some a ≡ Some b → a ≡ b
     same_some e = cc
 
--- all rows
+-- All rows.
 pub all_rows : (pitch : Point) (rows : List Row) (extent : Rect) → HoldsFirst pitch rows (length rows) extent →
     All (λ r. IsInside (row_area pitch r) extent) rows
 all_rows pitch rows extent holds k d within = holds k (get_or rows k d) within (slice_get-get_or rows k d within)

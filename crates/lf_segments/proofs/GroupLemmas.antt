@@ -1,4 +1,4 @@
--- The boxes of one number among those near a row, and what they say of its points.
+-- The boxes of one number among those near a row, and the points of the row that they determine.
 use Rattle.std.proofs.Common.{◌≡◌, ◌⊎◌, inl, inr, ℕ, ℤ, pos, ◌+◌, ◌-◌, ◌<◌, ◌≤◌, ◌≤ℤ◌, ◌<ℤ◌, List, [], length}
 use Rattle.std.proofs.Common.{map, get_or, slice_get, take, drop, Option, Some, None, refl, sym, ap, subst, ◌∙◌, arith}
 use Rattle.std.specs.Prelude.{◌↔◌, All, Any, Contains, IsPermutation}
@@ -23,7 +23,7 @@ use Rattle.lf_floorplan.proofs.GroundLemmas.{ground_one, ground_there}
 use Rattle.lf_segments.specs.Segments.{IsClearAt, IsOpen}
 use Rattle.lf_segments.specs.Boxes.{x_extent, IsMetAt, DetermineCover, AreBoxesOf, IsNextGroup, IsCoveredOver, AreClear, AreOpen}
 
--- ---- the next group of boxes that stand by their numbers
+-- ---- the next group of boxes in order of their numbers
 
 pub group_at : (xs ys : List Placed) (least f c : ℕ) (e : Placed) → f ≤ length xs → ys ≡ drop f xs → 0 < length ys → IsNonDecreasingBy (λ p. p.own) ys →
     ((k : ℕ) (d : Placed) → k < f → (get_or xs k d).own < least) → ((k : ℕ) (d : Placed) → f ≤ k → k < length xs → least ≤ (get_or xs k d).own) →
@@ -111,7 +111,7 @@ none_left xs least f group none all below = record {
   others = λ k d inside. inl (below k d (omega (arith, inside, all)));
 }
 
--- a point is met by boxes of the group's number iff a box of the group covers it
+-- A point lies in boxes of the group's number iff a box of the group covers it.
 pub group_met : (near group : List Placed) (least own : ℕ) → IsNextGroup near least group → All (λ p. p.own ≡ own) group → least ≤ own → (x y : ℤ) →
     IsMetAt near own x y ↔ Any (λ p. Covers p.rect x y) group
 group_met near group least own g number from x y = (forth, back)
@@ -135,7 +135,7 @@ group_met near group least own g number from x y = (forth, back)
         let found = All-contains (λ q. Contains near q × (least ≤ q.own)) group p g.among there in
         has_item (λ q. (q.own ≡ own) × Covers q.rect x y) near p found.0 (same, covers)
 
--- no box has a number that is not below the least and below the group's
+-- No box has a number that is not below the least and below the group's.
 pub none_met : (near group : List Placed) (least u : ℕ) → IsNextGroup near least group → All (λ p. u < p.own) group → least ≤ u → (x y : ℤ) →
     IsMetAt near u x y → ⊥
 none_met near group least u g above from x y (k, p, within, is, (same, covers)) =
@@ -148,14 +148,14 @@ none_met near group least u g above from x y (k, p, within, is, (same, covers)) 
           omega (arith, high, lower, same)
     ]
 
--- ---- what is free beside boxes
+-- ---- the range that boxes leave free
 
 unmapped : (P : Span → Type 0) (boxes : List Placed) → All P (map (λ p. x_extent p.rect) boxes) → All (λ p. P (x_extent p.rect)) boxes
 unmapped P boxes all k d within =
     let long = length-map boxes (λ p. x_extent p.rect) in
     subst P (get_or-map (λ (p : Placed). x_extent p.rect) boxes k d) (all k (x_extent d.rect) (omega (arith, long, within)))
 
--- x lies in the range of the area, and no box covers a point of the area there
+-- x lies in the range of the area, and no box covers a point of the area there.
 pub record IsBeside (area : Rect) (boxes : List Placed) (x : ℤ) : Type 0 where
   pub left : area.x1 ≤ℤ x
   pub right : x <ℤ area.x2
@@ -182,7 +182,7 @@ free_is_beside area boxes free near f s g = (
   ),
 )
 
--- ---- what the boxes near a row tell
+-- ---- the facts that the boxes near a row determine
 
 pub high_row : (f : Frame) (r : Row) (x : ℤ) → r.x ≤ℤ x → x <ℤ (row_area f.pitch r).x2 → Covers (row_area f.pitch r) x r.y
 high_row f r x left right = let up = f.pitch_whole.high in record { left = left; right = right; bottom = omega (arith, ints); top = omega (arith, ints, up) }
@@ -217,7 +217,7 @@ moved_boxes f obstacles r boxes sorted moved b = record {
     met xs ys turned own x y (k, p, within, is, e) = has_item (λ q. (q.own ≡ own) × Covers q.rect x y) ys p
         (Contains-permutation xs ys p turned (k, within, is)) e
 
--- the boxes of fences alone, which come first, are those of the row as if there were no obstacles
+-- The boxes of fences alone, which come first, are those of the row as if there were no obstacles.
 pub fences_alone : (f : Frame) (obstacles : List Rect) (r : Row) (near : List Placed) (n teams : ℕ) → teams ≡ length f.teams → n ≤ length near →
     ((k : ℕ) (d : Placed) → k < n → (get_or near k d).own < teams) → ((k : ℕ) (d : Placed) → n ≤ k → k < length near → teams ≤ (get_or near k d).own) →
     AreBoxesOf f obstacles r near → AreBoxesOf f [] r (take n near)
@@ -277,7 +277,7 @@ fences_alone f obstacles r near n teams many within fences rest b = record {
         side : (k < n) ⊎ (n ≤ k)
         side = grind arith
 
--- no obstacle covers a point of the row iff no box of the ground team's number does
+-- No obstacle covers a point of the row iff no box of the ground team's number does.
 none_of : {P : Rect → Type 0} (rects : List Rect) → (Any P rects → ⊥) → All (λ o. P o → ⊥) rects
 none_of {P} rects never k d within p = never (has_item P rects (get_or rects k d) (Contains-get_or rects k d within) p)
 
@@ -414,7 +414,7 @@ fence_spans_of f obstacles r near group least own area clear slice covered b g n
       ),
     )
 
--- a team of which no box lies near the row has no use of it
+-- A team with no box near the row may use nothing of it.
 pub not_open : (f : Frame) (obstacles : List Rect) (r : Row) (near group : List Placed) (least u : ℕ) → AreBoxesOf f obstacles r near → IsNextGroup near least group →
     All (λ p. u < p.own) group →
     least ≤ u → u < length f.teams → (x : ℤ) → IsOpen f obstacles r u x → ⊥
@@ -422,7 +422,7 @@ not_open f obstacles r near group least u b g above from fence x o =
     let covers = high_row f r x o.clear.left o.clear.right in
     none_met near group least u g above from x r.y (((b.tell x r.y covers).fence u fence).0 (o.ground r.y covers))
 
--- no box at all
+-- No box at all.
 abbrev pub no_box : Placed
 no_box = record { own = 0; rect = record { x1 = pos 0; y1 = pos 0; x2 = pos 0; y2 = pos 0 } }
 

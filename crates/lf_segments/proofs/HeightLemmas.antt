@@ -1,4 +1,5 @@
--- Rows in order of their y: the order that a sort gives, which entries there are, and runs found by bisection.
+-- Rows in order of their y: the order that a sort gives, the entries, and runs found by binary
+-- search.
 use Rattle.std.proofs.Common.{◌≡◌, ◌≢◌, ◌⊎◌, inl, inr, ℕ, ℤ, pos, ◌+◌, ◌-◌, ◌<◌, ◌≤◌, ◌≤ℤ◌, ◌<ℤ◌, zero, suc, true, false, refl, List, [], ◌∷◌, Some, slice_get, map}
 use Rattle.std.proofs.Common.{◌++◌, length, get_or, take, drop, sym, ap, subst, ◌∙◌, arith, int_le, int_lt, eqb, Ordering}
 use Rattle.std.specs.declared.cmp.Ordering.TheVariants.{Less, Equal, Greater}
@@ -20,7 +21,7 @@ use Rattle.lf_floorplan.specs.declared.parts.Row.{Row}
 use Rattle.lf_segments.specs.declared.rows_by_y.RowEntry.{RowEntry}
 use Rattle.lf_segments.specs.RowsByY.{entry, entries_from, IsEntryOf, IsRowsByY, IsRunBy, PrecedesByY}
 
--- what is not less by (y, x) comes no earlier
+-- An entry that is not less by (y, x) comes no earlier.
 not_less : (r s : Ordering) (a b : RowEntry) → MatchOrdering r (b.y <ℤ a.y) (b.y ≡ a.y) (a.y <ℤ b.y) → MatchOrdering s (b.x <ℤ a.x) (b.x ≡ a.x) (a.x <ℤ b.x) →
     is_lt (ordering_then r s) ≡ false → PrecedesByY a b
 not_less Less s a b m n e = absurd cc
@@ -39,7 +40,7 @@ precedes_of_sorted xs up i j d less within =
     (sorted_far (λ v w. is_lt (ordering_then (int_cmp v.y w.y) (int_cmp v.x w.x)))
     (ranks_by (then_total (on_total (λ (t : ℤ × ℤ). t.0) int_cmp_total) (on_total (λ (t : ℤ × ℤ). t.1) int_cmp_total)) key) xs up i j d (omega arith) within)
 
--- the entries of rows in their own order
+-- The entries of rows in their own order.
 pub length-entries : (rows : List Row) (n : ℕ) → length (entries_from n rows) ≡ length rows
 length-entries [] n = refl
 length-entries (r ∷ rows) n = ap (λ (k : ℕ). suc k) (length-entries rows (n + 1))
@@ -82,7 +83,7 @@ numbers_at rows k d within =
     let long = length-entries rows 0 in
     get_or-map number_of (entries_from 0 rows) k no_entry d (omega (arith, long, within)) ∙ number_at rows k no_entry within
 
--- no position is given twice, and sorting keeps it so
+-- No position occurs twice, and sorting preserves this.
 numbers_differ : (rows : List Row) → AllPairs (λ m n. m ≢ n) (map number_of (entries_from 0 rows))
 numbers_differ rows i j d less within same =
     let long = length-entries rows 0 in
@@ -119,7 +120,7 @@ row_there rows es n moved within =
     let there : Contains es e = Contains-permutation (entries_from 0 rows) es e moved first in
     (there.0, e, there.1, there.2, number_at rows n no_entry within)
 
--- the entries of a frame's rows, moved into order
+-- The entries of a frame's rows, sorted.
 pub rows_by_y : (f : Frame) (es : List RowEntry) → IsPermutation (entries_from 0 f.rows) es → AllPairs PrecedesByY es → IsRowsByY f es
 rows_by_y f es moved in_order = record {
   known = All-permutation (IsEntryOf f) (entries_from 0 f.rows) es moved (known_first f);
@@ -128,7 +129,7 @@ rows_by_y f es moved in_order = record {
   in_order = in_order;
 }
 
--- what a bisection by y says of what stands before it and after it
+-- The facts that a binary search by y gives about the entries in front of its result and after it.
 pub less_of : (a b : ℤ) → int_lt a b ≡ true → a <ℤ b
 less_of a b e = grind (arith, ints)
 
@@ -171,7 +172,7 @@ pub from_y : (xs : List RowEntry) (y : ℤ) (n : ℕ) → IsPartitionPoint (λ e
     (k : ℕ) (d : RowEntry) → n ≤ k → k < length xs → y ≤ℤ (get_or xs k d).y
 from_y xs y n point k d from within = not_less_of (get_or xs k d).y y (point.1 k d from within)
 
--- where one does not lie below y, none behind it does
+-- If an entry does not lie below y, no entry after it does.
 pub from_first : (xs : List RowEntry) (y : ℤ) → AllPairs PrecedesByY xs → (n : ℕ) (e : RowEntry) → n < length xs → y ≤ℤ (get_or xs n e).y →
     (k : ℕ) (d : RowEntry) → n ≤ k → k < length xs → y ≤ℤ (get_or xs k d).y
 from_first xs y pairs n e inside here k d from within =
@@ -179,7 +180,7 @@ from_first xs y pairs n e inside here k d from within =
     let later = heights_rise xs n k d pairs from within in
     omega (arith, ints, there, later)
 
--- where the last of them lies below y, all of them do
+-- If the last entry lies below y, all of them do.
 pub below_last : (xs : List RowEntry) (y : ℤ) → AllPairs PrecedesByY xs → (n : ℕ) (e : RowEntry) → n ≤ length xs → (0 < n → (get_or xs (n - 1) e).y <ℤ y) →
     (k : ℕ) (d : RowEntry) → k < n → (get_or xs k d).y <ℤ y
 below_last xs y pairs n e bound here k d less =
@@ -187,7 +188,7 @@ below_last xs y pairs n e bound here k d less =
     let later = heights_rise xs k (n - 1) d pairs (omega arith) (omega arith) in
     omega (arith, ints, there, later)
 
--- where one lies above y, all behind it do
+-- If an entry lies above y, all entries after it do.
 pub above_first : (xs : List RowEntry) (y : ℤ) → AllPairs PrecedesByY xs → (n : ℕ) (e : RowEntry) → n < length xs → y <ℤ (get_or xs n e).y →
     (k : ℕ) (d : RowEntry) → n ≤ k → k < length xs → y <ℤ (get_or xs k d).y
 above_first xs y pairs n e inside here k d from within =
@@ -195,7 +196,7 @@ above_first xs y pairs n e inside here k d from within =
     let later = heights_rise xs n k d pairs from within in
     omega (arith, ints, there, later)
 
--- two bisections cut out a run
+-- Two binary searches cut out a run.
 pub run_by : (Below Within Above : ℤ → Type 0) (xs ys : List RowEntry) (f c : ℕ) → f ≤ length xs → ys ≡ drop f xs →
     ((k : ℕ) (d : RowEntry) → k < f → Below (get_or xs k d).y) →
     ((k : ℕ) (d : RowEntry) → k < c → k < length ys → Within (get_or ys k d).y) →
@@ -217,7 +218,7 @@ run_by Below Within Above xs ys f c bound same low inside high = record {
       subst (λ (e : RowEntry). Above e.y) (sym (get_or-drop c ys k d)) (high (c + k) d (omega arith) (omega (arith, long, at)));
 }
 
--- what holds from a position on holds of the rest
+-- What holds from a position on holds for the rest.
 pub rest_holds : (P : ℤ → Type 0) (xs ys : List RowEntry) (f : ℕ) → ys ≡ drop f xs →
     ((k : ℕ) (d : RowEntry) → f ≤ k → k < length xs → P (get_or xs k d).y) → All (λ e. P e.y) ys
 rest_holds P xs ys f same from = subst (All (λ e. P e.y)) (sym same) rest
@@ -230,7 +231,7 @@ rest_holds P xs ys f same from = subst (All (λ e. P e.y)) (sym same) rest
 pub exactly : (a b : ℤ) → a ≤ℤ b → b ≤ℤ a → a ≡ b
 exactly a b first second = omega (arith, ints, first, second)
 
--- the entry that has a row's position has the row's y
+-- The entry that has a row's position has the row's y.
 height_of : (f : Frame) (es : List RowEntry) (e : RowEntry) (n : ℕ) (r : Row) → All (IsEntryOf f) es → Contains es e → e.row ≡ n → slice_get f.rows n ≡ Some r →
     e.y ≡ r.y
 height_of f es e n r known there number stands =
@@ -240,7 +241,7 @@ height_of f es e n r known there number stands =
     let rows : one.row ≡ r = sym same ∙ get_or_from_slice_get f.rows n r r stands in
     ap (λ (x : RowEntry). x.y) one.is ∙ ap (λ (q : Row). q.y) rows
 
--- what a run has is in its range, and what is in its range stands in it
+-- The entries of a run are in its range, and an entry in the range is in the run.
 pub run_in_range : (Below Within Above : ℤ → Type 0) (f : Frame) (es run : List RowEntry) (n : ℕ) (r : Row) → IsRowsByY f es →
     IsRunBy Below Within Above es run → slice_get f.rows n ≡ Some r → Any (λ e. e.row ≡ n) run → Within r.y
 run_in_range Below Within Above f es run n r rows part stands (k, e, inside, is, number) =

@@ -9,7 +9,7 @@ use Rattle.lf_segments.specs.declared.rows_by_y.RowEntry.{RowEntry}
 use Rattle.lf_segments.specs.RowsByY.{BeginsUpTo, IsUpToPoint, is_up_to_point, IsLastAt, PrecedesByY}
 use Rattle.lf_segments.proofs.HeightLemmas.{exactly, heights_rise, less_of, most_of, not_less_of, of_less, of_most}
 
--- a choice of three
+-- A choice of three.
 pub record IsThird (a b c : Bool) : Type 0 where
   pub first : a ≡ false
   pub second : b ≡ false
@@ -44,7 +44,7 @@ of_comes y x e (inr at) =
     let same = at.0 in
     of_third (int_lt e.y y) (int_lt y e.y) (int_le e.x x) (not_less y e.y (omega (arith, ints, same))) (of_most e.x x at.1)
 
--- what comes before one that comes by does too
+-- An entry in front of one that lies up to the point lies up to it too.
 earlier : (y x : ℤ) (a b : RowEntry) → PrecedesByY a b → IsUpToPoint y x b → IsUpToPoint y x a
 earlier y x a b (inl lower) (inl below) = inl (omega (arith, ints, lower, below))
 earlier y x a b (inl lower) (inr at) = let same = at.0 in inl (omega (arith, ints, lower, same))
@@ -74,7 +74,7 @@ rest_point xs y x n point k d from within comes =
     let no = point.1 k d from within in
     absurd cc
 
--- the last one that comes by, of a list in order
+-- The last entry that lies up to the point, in a list in order.
 pub none_level : (xs : List RowEntry) (y x : ℤ) (n : ℕ) (e : RowEntry) → AllPairs PrecedesByY xs → 0 < n → n ≤ length xs →
     ((k : ℕ) (d : RowEntry) → n ≤ k → k < length xs → IsUpToPoint y x (get_or xs k d) → ⊥) → (get_or xs (n - 1) e).y <ℤ y →
     (k : ℕ) (d : RowEntry) → k < length xs → BeginsUpTo y x (get_or xs k d) → ⊥

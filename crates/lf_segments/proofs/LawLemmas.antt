@@ -1,4 +1,4 @@
--- A box that stands on rows is legal iff it lies in segments.
+-- A box on rows is legal iff it lies in segments.
 use Rattle.std.proofs.Common.{◌≡◌, ◌⊎◌, inl, inr, ℕ, zero, suc, ℤ, pos, negsuc, ◌*◌, ◌<◌, ◌+ℤ◌, ◌*ℤ◌}
 use Rattle.std.proofs.Common.{◌≤ℤ◌, ◌<ℤ◌, List, Some, slice_get, sym, ap, subst, ◌∙◌, arith}
 use Rattle.std.specs.Prelude.{All, Contains}
@@ -18,12 +18,12 @@ use Rattle.lf_segments.specs.Segments.{IsOpen, IsCutBeside, LiesInSegment}
 use Rattle.lf_segments.specs.Boxes.{x_extent}
 use Rattle.lf_segments.specs.Laws.{LiesInSegments}
 
--- one height more
+-- One height more.
 one_more : (k : ℕ) (p : ℤ) → pos 0 <ℤ p → (pos (suc k) *ℤ p) ≡ ((pos k *ℤ p) +ℤ p)
 one_more k (pos n) high = ap (λ (m : ℕ). pos m) (suc-mul k n)
 one_more k (negsuc n) high = absurd (omega (arith, ints))
 
--- more heights are higher
+-- More heights are higher.
 rises : (p : ℤ) → pos 0 <ℤ p → (j k : ℕ) → j < k → ((pos j *ℤ p) +ℤ p) ≤ℤ (pos k *ℤ p)
 rises p high j zero less = absurd (omega arith)
 rises p high j (suc k) less = elim order [
@@ -41,7 +41,7 @@ above : (p : ℤ) → pos 0 <ℤ p → (j : ℕ) → pos 0 ≤ℤ (pos j *ℤ p)
 above (pos n) high j = omega (arith, ints)
 above (negsuc n) high j = absurd (omega (arith, ints))
 
--- of heights that stand on one another, one holds y
+-- One of several adjacent heights holds y.
 record Level (p low y : ℤ) (k : ℕ) : Type 0 where
   j : ℕ
   less : j < k
@@ -62,7 +62,7 @@ level_of p low y high (suc k) from below = elim order [
     order : (y <ℤ (low +ℤ (pos k *ℤ p))) ⊎ ((low +ℤ (pos k *ℤ p)) ≤ℤ y)
     order = grind (arith, ints)
 
--- the points of a row that carries the box, over the box's x range, are points of the box
+-- The points of a row that carries the box, over the box's x range, are points of the box.
 point_of_row : (f : Frame) (box : Rect) (k j : ℕ) (r : Row) (x y : ℤ) → IsSitesHigh f box k → j < k → IsRowOfBox f box j r → Holds (x_extent box) x →
     Covers (row_area f.pitch r) x y → Covers box x y
 point_of_row f box k j r x y high less at holds covers =
@@ -76,7 +76,7 @@ point_of_row f box k j r x y high less at holds covers =
     let under : y <ℤ (r.y +ℤ p) = covers.top in
     record { left = holds.low; right = holds.high; bottom = omega (arith, ints, low, level, bottom); top = omega (arith, ints, top, level, whole, under) }
 
--- the points of the box in a row that carries it are points of the row
+-- The points of the box in a row that carries it are points of the row.
 point_in_row : (f : Frame) (box : Rect) (j : ℕ) (r : Row) (x y : ℤ) → IsRowOfBox f box j r → Covers box x y → (box.y1 +ℤ (pos j *ℤ f.pitch.y)) ≤ℤ y →
     y <ℤ ((box.y1 +ℤ (pos j *ℤ f.pitch.y)) +ℤ f.pitch.y) → Covers (row_area f.pitch r) x y
 point_in_row f box j r x y at covers from below =
@@ -90,7 +90,7 @@ point_in_row f box j r x y at covers from below =
       top = omega (arith, ints, level, below);
     }
 
--- a row of core sites by its position
+-- A row of core sites by its position.
 row_at : (f : Frame) (s : Row) → Contains f.rows s → (n : ℕ) × (slice_get f.rows n ≡ Some s)
 row_at f s (n, within, is) = (n, slice_get-get_or f.rows n s within ∙ ap (λ (r : Row). Some r) is)
 
@@ -108,7 +108,7 @@ segments_hold f obstacles segments team box cut stands wide ground clear k botto
       ground = λ y covers. ground x y (point_of_row f box k j r x y high less carries.at_row holds covers);
     })
 
--- the point lies in a row of this number in which the box lies in a segment of the team
+-- The point lies in a row with this number in which the box lies in a segment of the team.
 pub record InSegment (f : Frame) (segments : List Segment) (team : ℕ) (box : Rect) (x y : ℤ) : Type 0 where
   pub number : ℕ
   pub row : Row
@@ -116,7 +116,7 @@ pub record InSegment (f : Frame) (segments : List Segment) (team : ℕ) (box : R
   pub lies : LiesInSegment segments number team (x_extent box)
   pub covers : Covers (row_area f.pitch row) x y
 
--- so does each point of a box that stands on rows and lies in segments
+-- This holds for each point of a box that rests on rows and lies in segments.
 pub in_segment : (f : Frame) (segments : List Segment) (team : ℕ) (box : Rect) → RestsOnRows f box → LiesInSegments f segments team box →
     (x y : ℤ) → Covers box x y → InSegment f segments team box x y
 in_segment f segments team box stands lies x y covers =
@@ -138,7 +138,7 @@ in_segment f segments team box stands lies x y covers =
       covers = point_in_row f box l.j row x y carries.at_row covers l.from l.below;
     }
 
--- each point of a box that lies in segments is where the team may use a row
+-- At each point of a box that lies in segments the team may use a row.
 record OpenPoint (f : Frame) (obstacles : List Rect) (team : ℕ) (x y : ℤ) : Type 0 where
   row : Row
   there : IsOpen f obstacles row team x

@@ -1,4 +1,4 @@
--- Which row lies at a point, and whether a box that stands on rows lies in segments of them.
+-- The row at a point, and whether a box on rows lies in segments.
 use Rattle.std.proofs.Common.{◌≡◌, ◌⊎◌, inl, inr, ℕ, ℤ, suc, pos, negsuc, ◌*◌, ◌<◌, ◌≤◌, ◌+ℤ◌, ◌*ℤ◌, ◌≤ℤ◌, ◌<ℤ◌, refl, List, [], Option, Some, None, length}
 use Rattle.std.proofs.Common.{get_or, slice_get, sym, ap, subst, ◌∙◌, arith}
 use Rattle.std.specs.Prelude.{All, AllPairs, Bool, Contains, IsTrue, ◌↔◌}
@@ -32,7 +32,7 @@ use Rattle.lf_segments.proofs.OneLemmas.{one_at}
 
 -- ---- the row at a point
 
--- the entry that has a row's position has the row's corner
+-- The entry that has a row's position has the row's corner.
 record IsCorner (e : RowEntry) (r : Row) : Type 0 where
   level : e.y ≡ r.y
   left : e.x ≡ r.x
@@ -48,7 +48,7 @@ corner f e r known stands =
       left = ap (λ (v : RowEntry). v.x) known.is ∙ ap (λ (q : Row). q.x) same;
     }
 
--- a row that extends over x has an entry that does not begin right of x
+-- A row that extends over x has an entry that does not begin right of x.
 record HasEntry (f : Frame) (es : List RowEntry) (y x : ℤ) (r : Row) : Type 0 where
   entry : RowEntry
   there : Contains es entry
@@ -79,7 +79,7 @@ some_sites sites (pos n) least wide =
     omega (arith, ints, more, wide)
 some_sites sites (negsuc n) least wide = absurd (omega (arith, ints, wide))
 
--- where the last row that does not begin right of x ends by x, no row extends over x
+-- If the last row that does not begin right of x ends by x, no row extends over x.
 pub ended_row : (f : Frame) (es : List RowEntry) (y x : ℤ) (e : RowEntry) (r : Row) → IsRowsByY f es → IsLastAt es y x e → slice_get f.rows e.row ≡ Some r →
     IsCoreRow f.pitch r → (row_area f.pitch r).x2 ≤ℤ x → All (λ r. ExtendsOver f y x r → ⊥) f.rows
 ended_row f es y x e r rows last stands heeded ended k d within over =
@@ -116,7 +116,7 @@ at_within xs row team n x at = elim order [
     order : (n < length xs) ⊎ (length xs ≤ n)
     order = grind arith
 
--- the segment at x is there
+-- The segment at x exists.
 record IsHere (xs : List Segment) (row team : ℕ) (x : ℤ) (g : Segment) : Type 0 where
   there : Contains xs g
   at : IsAt row team x g
@@ -181,7 +181,7 @@ no_row_lies f xs team box y none l =
 
 -- ---- all rows of the box
 
--- the lower edge of a box on rows is a coordinate of DEF
+-- The lower edge of a box on rows is a coordinate of DEF.
 pub starts_in_def : (f : Frame) (box : Rect) → RestsOnRows f box → IsDefNumber box.y1
 starts_in_def f box stands =
     let r : Row = stands.row.0 in
@@ -192,13 +192,13 @@ starts_in_def f box stands =
     let most = heeded.y_in_def.most in
     record { above = omega (arith, ints, level, above); most = omega (arith, ints, level, most) }
 
--- a row that carries a wide box extends over its left edge
+-- A row that carries a wide box extends over its left edge.
 extends_of : (f : Frame) (box : Rect) (j : ℕ) (r : Row) → box.x1 <ℤ box.x2 → IsRowOfBox f box j r → ExtendsOver f (box.y1 +ℤ (pos j *ℤ f.pitch.y)) box.x1 r
 extends_of f box j r wide at =
     let right = at.right in
     record { at_level = at.at_level; left = at.left; right = omega (arith, ints, wide, right) }
 
--- the box lies in one segment in each of the rows at these levels
+-- The box lies in one segment in each of the rows at these levels.
 abbrev pub LiesBelow : Frame → List Segment → ℕ → Rect → ℕ → Type 0
 LiesBelow f xs team box level = (j : ℕ) → j < level → LiesAt f xs team box (box.y1 +ℤ (pos j *ℤ f.pitch.y))
 
@@ -211,7 +211,7 @@ all_lie f xs team box level wide lies most k bottom j n r high at_bottom less st
     row_at_one f (box.y1 +ℤ (pos j *ℤ f.pitch.y)) box.x1 l.number n l.row r l.stands stands l.extends (extends_of f box j r wide carries.at_row) in
     subst (λ (m : ℕ). LiesInSegment xs m team (x_extent box)) same l.lies
 
--- a number of heights that is not higher is not more
+-- A number of heights that is not higher is not more.
 not_more : (p : ℤ) → pos 0 <ℤ p → (k n : ℕ) → (pos k *ℤ p) ≤ℤ (pos n *ℤ p) → k ≤ n
 not_more (pos p) high k n most = elim order [
   | inl done ↦ done
@@ -229,7 +229,8 @@ ends_by_level f box level ends k high =
     let whole = high.high in
     not_more f.pitch.y f.pitch_whole.high k level (omega (arith, ints, ends, whole))
 
--- where the row at a level below the box's height does not have it in a segment, the box does not lie in segments
+-- If the row at a level below the box's height does not have it in a segment, the box does not lie
+-- in segments.
 pub level_lies : (f : Frame) (xs : List Segment) (team : ℕ) (box : Rect) (level : ℕ) → box.x1 <ℤ box.x2 → RestsOnRows f box →
     (box.y1 +ℤ (pos level *ℤ f.pitch.y)) <ℤ box.y2 → LiesInSegments f xs team box → LiesAt f xs team box (box.y1 +ℤ (pos level *ℤ f.pitch.y))
 level_lies f xs team box level wide stands under lies = elim order [
@@ -274,7 +275,7 @@ level_lies f xs team box level wide stands under lies = elim order [
         let whole = high.high in
         omega (arith, ints, up, whole, under)
 
--- ---- what that says of ground and obstacles
+-- ---- the consequences for ground and obstacles
 
 pub ground_of : (f : Frame) (xs : List Segment) (team : ℕ) (box : Rect) (b : Bool) → SegmentsDecide → IsCutBeside f [] xs → RestsOnRows f box → box.x1 <ℤ box.x2 →
     (IsTrue b ↔ LiesInSegments f xs team box) → (IsTrue b ↔ StaysInGround f team box)

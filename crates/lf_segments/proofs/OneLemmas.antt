@@ -19,7 +19,7 @@ segment_at row team lo hi = record { row = row; team = team; span = record { lo 
 same_segment : (a b : Segment) → a.row ≡ b.row → a.team ≡ b.team → a.span.lo ≡ b.span.lo → a.span.hi ≡ b.span.hi → a ≡ b
 same_segment a b p q r s = let e : segment_at a.row a.team a.span.lo a.span.hi ≡ segment_at b.row b.team b.span.lo b.span.hi = cc in e
 
--- no segment comes before one that comes before it
+-- No segment comes before one that comes before it.
 never_both : (a b : Segment) → IsFilled a.span → IsFilled b.span → ComesBefore a b → ComesBefore b a → ⊥
 never_both a b f g (inl p) (inl q) = omega (arith, p, q)
 never_both a b f g (inl p) (inr q) = let same = q.0 in omega (arith, p, same)
@@ -29,13 +29,13 @@ never_both a b f g (inr (p, inl t)) (inr (q, inr u)) = let same = u.0 in omega (
 never_both a b f g (inr (p, inr t)) (inr (q, inl u)) = let same = t.0 in omega (arith, u, same)
 never_both a b f g (inr (p, inr t)) (inr (q, inr u)) = let first = t.1 in let second = u.1 in omega (arith, ints, f, g, first, second)
 
--- of one row and team, segments that come one before the other share no number
+-- Two ordered segments of the same row and team share no number.
 share_none : (a b : Segment) (x : ℤ) → ComesBefore a b → a.row ≡ b.row → a.team ≡ b.team → Holds a.span x → Holds b.span x → ⊥
 share_none a b x (inl p) row team h k = omega (arith, p, row)
 share_none a b x (inr (p, inl t)) row team h k = omega (arith, t, team)
 share_none a b x (inr (p, inr t)) row team h k = let apart = t.1 in let high = h.high in let low = k.low in omega (arith, ints, apart, high, low)
 
--- in a list in order, two segments of one row and team that share a number are one
+-- In an ordered list, two segments of the same row and team that share a number are the same.
 pub one_at : (xs : List Segment) (g h : Segment) (x : ℤ) → AllPairs ComesBefore xs → Contains xs g → Contains xs h → g.row ≡ h.row → g.team ≡ h.team →
     Holds g.span x → Holds h.span x → g ≡ h
 one_at xs g h x pairs (i, within_i, is_g) (j, within_j, is_h) row team in_g in_h = elim order [
@@ -64,7 +64,7 @@ row_there (r ∷ rows) (suc n) within = row_there rows n (omega (arith, within))
 itself : (xs : List Segment) (g : Segment) → Contains xs g → LiesInSegment xs g.row g.team g.span
 itself xs g (k, within, is) = (k, g, within, is, (record { in_row = refl; of_team = refl }, λ x h. h))
 
--- a segment of the one list is one of the other
+-- A segment of the first list is in the other.
 in_other : (f : Frame) (obstacles : List Rect) (a b : List Segment) → IsCutBeside f obstacles a → IsCutBeside f obstacles b → (g : Segment) → Contains a g → Contains b g
 in_other f obstacles a b first second g there =
     let known : IsSegment f g = All-contains (IsSegment f) a g first.known there in
@@ -91,7 +91,7 @@ in_other f obstacles a b first second g there =
     let whole : h ≡ g = same_segment h g same_row same_team (omega (arith, ints, less.low, more.low)) (omega (arith, ints, less.high, more.high)) in
     subst (Contains b) whole in_b
 
--- ---- lists in order with the same segments are one
+-- ---- ordered lists with the same segments are equal
 
 cases : (y x : Segment) (ys : List Segment) → Contains (y ∷ ys) x → (y ≡ x) ⊎ Contains ys x
 cases y x ys (zero, within, is) = inl is
@@ -109,7 +109,7 @@ tail_pairs y ys pairs i j d less within = pairs (suc i) (suc j) d (omega (arith,
 abbrev Filled : Segment → Type 0
 Filled g = IsFilled g.span
 
--- the tail of the one is among the tail of the other, where the first ones are the same
+-- The tail of the first list is in the tail of the other, if their first elements are the same.
 tail_there : (x y : Segment) (xs ys : List Segment) → x ≡ y → AllPairs ComesBefore (x ∷ xs) → All Filled (x ∷ xs) →
     ((g : Segment) → Contains (x ∷ xs) g → Contains (y ∷ ys) g) → (g : Segment) → Contains xs g → Contains ys g
 tail_there x y xs ys same pairs filled there g inside = elim (cases y g ys (there g (later x g xs inside))) [

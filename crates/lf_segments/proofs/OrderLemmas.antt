@@ -1,4 +1,5 @@
--- The strips of one row and team that overlap a range of x, and how they are found among all.
+-- The strips of one row and team that overlap a range of x, and the search for them among all
+-- strips.
 use Rattle.std.proofs.Common.{◌≡◌, ◌⊎◌, inl, inr, ℕ, ◌+◌, ◌<◌, ◌≤◌, ℤ, ◌≤ℤ◌, ◌<ℤ◌, Bool, true, false, cond, List, length, get_or, eqb, ltb, refl}
 use Rattle.std.proofs.Common.{sym, ap, subst, ◌∙◌, arith, int_le, int_lt}
 use Rattle.std.specs.Prelude.{All, AllPairs}
@@ -10,7 +11,7 @@ use Rattle.std.proofs.lemmas.List.{get_or_default}
 use Rattle.lf_segments.specs.declared.strip.Strip.{Strip}
 use Rattle.lf_segments.specs.Strips.{AreNear, LiesBefore, IsNear, is_earlier}
 
--- of an earlier row or team, or the answer for this one
+-- The strip is of an earlier row or team, or of this one and `left` is true.
 data Earlier (row team : ℕ) (left : Bool) (g : Strip) : Type 0 where
   by_row : g.row < row → Earlier row team left g
   by_team : g.row ≡ row → g.team < team → Earlier row team left g
@@ -45,7 +46,7 @@ of_earlier row team left g (by_x same both t) =
     let b : eqb g.team team ≡ true = grind (arith, nat_tests) in
     ap (λ t. cond t (cond (eqb g.team team) left (ltb g.team team)) (ltb g.row row)) a ∙ (ap (λ t. cond t left (ltb g.team team)) b ∙ t)
 
--- a strip of an earlier row is earlier, and one of a later row is not
+-- A strip of an earlier row is earlier, and one of a later row is not.
 pub earlier_row : (row team : ℕ) (left : Bool) (g : Strip) → g.row < row → is_earlier row team left g ≡ true
 earlier_row row team left g less = of_earlier row team left g (by_row less)
 
@@ -61,7 +62,7 @@ later_row row team left g more = from (is_earlier row team left g) refl
     from true is = absurd (never (earlier_of row team left g is))
     from false is = is
 
--- what comes before an earlier strip is earlier, where the answers fall so
+-- A strip in front of an earlier one is earlier, if the values for one row and team allow it.
 earlier_before : (row team : ℕ) (s t : Bool) (a b : Strip) → LiesBefore a b → (a.area.x2 ≤ℤ b.area.x1 → t ≡ true → s ≡ true) → Earlier row team t b →
     Earlier row team s a
 earlier_before row team s t a b (inl less) falls (by_row h) = by_row (omega (arith, less, h))
@@ -119,7 +120,7 @@ begun_parted row team x xs pairs wide = parted row team (λ g. int_lt g.area.x1 
     let l = lt_of (get_or xs j d).area.x1 x h in
     of_lt (get_or xs i d).area.x1 x (omega (arith, ints, w, l, apart)))
 
--- where one strip is not begun, none behind it is
+-- If one strip is not begun, no strip after it is.
 pub not_begun_after : (row team : ℕ) (x : ℤ) (xs : List Strip) → AllPairs LiesBefore xs → All (λ g. g.area.x1 <ℤ g.area.x2) xs → (n : ℕ) (e : Strip) →
     n < length xs → is_earlier row team (int_lt (get_or xs n e).area.x1 x) (get_or xs n e) ≡ false → (k : ℕ) (d : Strip) → n ≤ k → k < length xs →
     is_earlier row team (int_lt (get_or xs k d).area.x1 x) (get_or xs k d) ≡ false
@@ -133,7 +134,7 @@ not_begun_after row team x xs pairs wide n e inside here k d from within = of (i
     of false is = is
     of true is = absurd (false≢true (sym there ∙ begun_parted row team x xs pairs wide n k d from within is))
 
--- one more strip that is begun
+-- One more strip that is begun.
 pub begun_more : (row team : ℕ) (x : ℤ) (xs : List Strip) (first n : ℕ) (e : Strip) → n < length xs →
     ((k : ℕ) (d : Strip) → first ≤ k → k < n → is_earlier row team (int_lt (get_or xs k d).area.x1 x) (get_or xs k d) ≡ true) →
     is_earlier row team (int_lt (get_or xs n e).area.x1 x) (get_or xs n e) ≡ true → (k : ℕ) (d : Strip) → first ≤ k → k < n + 1 →
@@ -148,7 +149,7 @@ begun_more row team x xs first n e inside before here k d from less = elim two [
     two : (k < n) ⊎ (k ≡ n)
     two = grind arith
 
--- a strip is near where it is not ended and is begun
+-- A strip is near if it is not ended and is begun.
 near_of : (row team : ℕ) (lo hi : ℤ) (g : Strip) → is_earlier row team (int_le g.area.x2 lo) g ≡ false → is_earlier row team (int_lt g.area.x1 hi) g ≡ true →
     IsNear row team lo hi g
 near_of row team lo hi g first second = from (earlier_of row team (int_lt g.area.x1 hi) g second)

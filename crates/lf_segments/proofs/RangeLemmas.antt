@@ -1,4 +1,5 @@
--- The strips of one row, which are adjacent, and what a bisection among them shows of all.
+-- The strips of one row, which are adjacent, and the facts that a binary search among them gives
+-- about all strips.
 use Rattle.std.proofs.Common.{◌≡◌, ◌⊎◌, inl, inr, ℕ, ◌+◌, ◌-◌, ◌<◌, ◌≤◌, ℤ, Bool, true, false, List, length, get_or, take, drop, sym, ap, subst}
 use Rattle.std.proofs.Common.{◌∙◌, arith, int_le, int_lt}
 use Rattle.std.specs.Prelude.{All, AllPairs}
@@ -8,7 +9,7 @@ use Rattle.lf_segments.specs.declared.strip.Strip.{Strip}
 use Rattle.lf_segments.specs.Strips.{AreNear, is_earlier, rows_in}
 use Rattle.lf_segments.proofs.OrderLemmas.{are_near, earlier_row, later_row}
 
--- the strips from start on and below end
+-- The strips from start on and below end.
 abbrev pub part : List Strip → ℕ → ℕ → List Strip
 part xs start end = take (end - start) (drop start xs)
 
@@ -41,7 +42,7 @@ part_all P xs start end order within all k d inside =
     let long = part_long xs start end order within in
     subst P (sym (part_get xs start end k d (omega (arith, long, inside)))) (all (start + k) d (omega (arith, long, inside, order, within)))
 
--- what is earlier among the strips of a row, and what is not, decides it for all strips
+-- Whether strips of a row are earlier decides it for all strips.
 earlier_in_all : (left : Strip → Bool) (xs : List Strip) (row team start end n : ℕ) → IsRangeOf (rows_in xs) row start end →
     n ≤ end - start →
     ((k : ℕ) (d : Strip) → k < n → is_earlier row team (left (get_or (part xs start end) k d)) (get_or (part xs start end) k d) ≡ true) →
@@ -86,7 +87,7 @@ rest_in_all left xs row team start end n range rest k d least inside = elim two 
     two : (k < end) ⊎ (end ≤ k)
     two = grind arith
 
--- what is earlier of a run among the strips of a row is so among all strips
+-- A run that is earlier among the strips of a row is earlier among all strips.
 run_in_all : (left : Strip → Bool) (xs : List Strip) (row team start end n m : ℕ) → m ≤ end - start →
     ((k : ℕ) (d : Strip) → n ≤ k → k < m → is_earlier row team (left (get_or (part xs start end) k d)) (get_or (part xs start end) k d) ≡ true) →
     (k : ℕ) (d : Strip) → start + n ≤ k → k < start + m → is_earlier row team (left (get_or xs k d)) (get_or xs k d) ≡ true
@@ -97,7 +98,7 @@ run_in_all left xs row team start end n m some earlier k d least less =
     part_get xs start end (k - start) d (omega (arith, inner, some)) ∙ ap (λ m. get_or xs m d) here in
     subst (λ (g : Strip). is_earlier row team (left g) g ≡ true) is (earlier (k - start) d (omega (arith, least)) inner)
 
--- what is not ended among the strips of a row, and begun from there on, is near
+-- The strips of a row that are not ended, and begun from there on, are near.
 pub near_in_row : (xs : List Strip) (row team : ℕ) (lo hi : ℤ) (start end n m : ℕ) → IsRangeOf (rows_in xs) row start end →
     n ≤ length (part xs start end) → m ≤ length (part xs start end) →
     ((k : ℕ) (d : Strip) → k < n → is_earlier row team (int_le (get_or (part xs start end) k d).area.x2 lo) (get_or (part xs start end) k d) ≡ true) →

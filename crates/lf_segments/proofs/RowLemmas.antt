@@ -1,4 +1,4 @@
--- The segments of a row, a team after another, and of a frame, a row after another.
+-- The segments of a row, team by team, and of a frame, row by row.
 use Rattle.std.proofs.Common.{◌≡◌, ◌⊎◌, inl, inr, ℕ, ℤ, ◌+◌, ◌-◌, ◌<◌, ◌≤◌, List, [], ◌++◌}
 use Rattle.std.proofs.Common.{length, map, get_or, slice_get, Some, refl, sym, ap, subst, ◌∙◌, arith, append_assoc, append-nil}
 use Rattle.std.specs.Prelude.{◌↔◌, All, AllPairs}
@@ -17,7 +17,7 @@ use Rattle.lf_segments.specs.declared.segment.Segment.{Segment}
 use Rattle.lf_segments.specs.Segments.{IsOpen, IsOf, LiesInSegment, ComesFirst, ComesBefore, IsSegment, IsCutBeside}
 use Rattle.lf_segments.specs.Boxes.{segment_of, AreOpen, AddsRow}
 
--- pairs of two lists, one after the other
+-- Pairs of two concatenated lists.
 pairs_append : {X : Type 0} (R : X → X → Type 0) (xs ys : List X) → AllPairs R xs → AllPairs R ys →
     ((i j : ℕ) (d : X) → i < length xs → j < length ys → R (get_or xs i d) (get_or ys j d)) → AllPairs R (xs ++ ys)
 pairs_append {X} R xs ys first second across i j d less within = elim (side i) [
@@ -61,11 +61,11 @@ of_map number team spans row u s a =
 no_team : (xs : List Segment) (row u : ℕ) (s : Span) → All (λ g. IsOf row u g → ⊥) xs → LiesInSegment xs row u s → ⊥
 no_team xs row u s none a = none a.0 a.1 a.2 (subst (IsOf row u) (sym a.3) a.4.0)
 
--- where a team may use nothing, no span that holds a number is its
+-- If a team may use nothing, it has no filled span.
 nothing_open : (f : Frame) (obstacles : List Rect) (r : Row) (u : ℕ) (s : Span) → ((x : ℤ) → IsOpen f obstacles r u x → ⊥) → IsFilled s → ((x : ℤ) → Holds s x → IsOpen f obstacles r u x) → ⊥
 nothing_open f obstacles r u s none filled each = none s.lo (each s.lo record { low = omega (arith, ints); high = filled })
 
--- ---- a team after another
+-- ---- team by team
 
 pub row_start : (f : Frame) (obstacles : List Rect) (number : ℕ) (r : Row) (old : List Segment) → AddsRow f obstacles number r 0 old old
 row_start f obstacles number r old = record {
@@ -78,7 +78,7 @@ row_start f obstacles number r old = record {
   };
 }
 
--- teams that may use nothing of the row add nothing
+-- Teams that may use nothing of the row add nothing.
 pub row_skip : (f : Frame) (obstacles : List Rect) (number : ℕ) (r : Row) (limit more : ℕ) (old new : List Segment) → AddsRow f obstacles number r limit old new → limit ≤ more →
     ((u : ℕ) → limit ≤ u → u < more → (x : ℤ) → IsOpen f obstacles r u x → ⊥) → AddsRow f obstacles number r more old new
 row_skip f obstacles number r limit more old new a order none = record {
@@ -104,7 +104,7 @@ row_skip f obstacles number r limit more old new a order none = record {
     others : (u : ℕ) → limit ≤ u → All (λ g. IsOf number u g → ⊥) a.added
     others u from k d within of = let low = (a.cut.known k d within).1.0 in let same = of.of_team in omega (arith, low, same, from)
 
--- the next team
+-- The next team.
 pub row_more : (f : Frame) (obstacles : List Rect) (number : ℕ) (r : Row) (own : ℕ) (old new newer : List Segment) (spans : List Span) → AddsRow f obstacles number r own old new →
     AreOpen f obstacles r own spans →
     newer ≡ new ++ map (segment_of number own) spans → AddsRow f obstacles number r (own + 1) old newer
@@ -175,9 +175,9 @@ row_more f obstacles number r own old new newer spans a open_spans is = record {
         let low : (get_or a.added i d).team < own = (a.cut.known i d first).1.0 in
         subst (λ (g : Segment). ComesFirst (get_or a.added i d) g) (sym (at j d (in_spans j second))) (inl low)
 
--- ---- a row after another
+-- ---- row by row
 
--- the segments of the rows below a number
+-- The segments of the rows below a number.
 pub record IsCutTo (f : Frame) (obstacles : List Rect) (n : ℕ) (segments : List Segment) : Type 0 where
   pub known : All (λ g. (g.row < n) × ((g.team ≤ length f.teams) × IsFilled g.span)) segments
   pub in_order : AllPairs ComesBefore segments

@@ -1,4 +1,4 @@
--- Runs of a list, found by bisection.
+-- Runs of a list, found by binary search.
 use Rattle.std.proofs.Common.{◌≡◌, ◌⊎◌, inl, inr, ℕ, ℤ, ◌+◌, ◌<◌, ◌≤◌, ◌≤ℤ◌, ◌<ℤ◌, true, false, List}
 use Rattle.std.proofs.Common.{◌++◌, length, get_or, take, drop, sym, ap, subst, ◌∙◌, arith, append_assoc, ltb, leb}
 use Rattle.std.specs.Prelude.{All, AllPairs, Contains}
@@ -13,7 +13,8 @@ use Rattle.lf_spans.specs.Spans.{IsFilled}
 use Rattle.lf_segments.specs.declared.segment.Segment.{Segment}
 use Rattle.lf_segments.specs.Segments.{ComesBefore, IsAt, IsOf, IsRunFrom}
 
--- what a bisection by a number says of what stands before it and after it
+-- The facts that a binary search by a number gives about the elements in front of its result and
+-- after it.
 pub below_point : {X : Type 0} (n : X → ℕ) (xs : List X) (t f : ℕ) → IsPartitionPoint (λ x. ltb (n x) t ≡ true) (λ x. ltb (n x) t ≡ false) xs f →
     (k : ℕ) (d : X) → k < f → n (get_or xs k d) < t
 below_point n xs t f point k d less = let e = point.0 k d (omega arith) less in grind (arith, nat_tests, e)
@@ -30,7 +31,7 @@ pub beyond_point : {X : Type 0} (n : X → ℕ) (xs : List X) (t f : ℕ) → Is
     (k : ℕ) (d : X) → f ≤ k → k < length xs → t < n (get_or xs k d)
 beyond_point n xs t f point k d from within = let e = point.1 k d from within in grind (arith, nat_tests, e)
 
--- two bisections cut out a run
+-- Two binary searches cut out a run.
 pub run_at : (n : Segment → ℕ) (xs ys : List Segment) (t f c : ℕ) → f ≤ length xs → ys ≡ drop f xs →
     ((k : ℕ) (d : Segment) → k < f → n (get_or xs k d) < t) → ((k : ℕ) (d : Segment) → f ≤ k → k < length xs → t ≤ n (get_or xs k d)) →
     ((k : ℕ) (d : Segment) → k < c → n (get_or ys k d) ≤ t) → ((k : ℕ) (d : Segment) → c ≤ k → k < length ys → t < n (get_or ys k d)) →
@@ -70,7 +71,7 @@ run_at n xs ys t f c within same below from up_to beyond = record {
     at_least : All (λ g. t ≤ n g) ys
     at_least = subst (All (λ g. t ≤ n g)) (sym same) rest_at_least
 
--- a run of a run is a run
+-- A run of a run is a run.
 pub run_within : (P Q R : Segment → Type 0) (xs ys zs : List Segment) (m n : ℕ) → ((g : Segment) → P g → Q g → R g) → ((g : Segment) → R g → P g) →
     ((g : Segment) → R g → Q g) → IsRunFrom P xs m ys → IsRunFrom Q ys n zs → IsRunFrom R xs (m + n) zs
 run_within P Q R xs ys zs m n both first second a b = record {
@@ -96,7 +97,7 @@ run_within P Q R xs ys zs m n both first second a b = record {
       (All-weaker (λ g. P g → ⊥) (λ g. R g → ⊥) (λ g none r. none (first g r)) a.behind a.none_behind);
 }
 
--- an element of a run, by its place in the list
+-- An element of a run, by its position in the list.
 pub run_get : (P : Segment → Type 0) (xs ys : List Segment) (n : ℕ) → IsRunFrom P xs n ys → (k : ℕ) (d : Segment) → k < length ys →
     get_or xs (n + k) d ≡ get_or ys k d
 run_get P xs ys n a k d within =
@@ -113,7 +114,7 @@ run_long P xs ys n a =
     let begins = a.begins in
     omega (arith, whole, first, second, begins)
 
--- what holds of pairs and of elements of the list holds of a run's
+-- What holds for pairs and for elements of the list holds for those of a run.
 pub run_pairs : (R : Segment → Segment → Type 0) (P : Segment → Type 0) (xs ys : List Segment) (n : ℕ) → AllPairs R xs → IsRunFrom P xs n ys → AllPairs R ys
 run_pairs R P xs ys n pairs a i j d less within =
     let long = run_long P xs ys n a in
@@ -126,7 +127,7 @@ run_all Q P xs ys n all a k d within =
     let long = run_long P xs ys n a in
     subst Q (run_get P xs ys n a k d within) (all (n + k) d (omega (arith, within, long)))
 
--- what has the property stands in the run
+-- An element that has the property is in the run.
 pub in_run : (P : Segment → Type 0) (xs ys : List Segment) (n : ℕ) (g : Segment) → IsRunFrom P xs n ys → Contains xs g → P g → Contains ys g
 in_run P xs ys n g a there has =
     elim (Contains-append_cases a.before (ys ++ a.behind) g (subst (λ (vs : List Segment). Contains vs g) a.parts there)) [
@@ -169,7 +170,7 @@ x_up a b row team p q (inl less) = let e = p.in_row in let f = q.in_row in absur
 x_up a b row team p q (inr (at, inl less)) = let e = p.of_team in let f = q.of_team in absurd (omega (arith, less, e, f))
 x_up a b row team p q (inr (at, inr both)) = both.1
 
--- the segments of one row and team stand by x
+-- The segments of one row and team are in order of x.
 pub xs_rise : (xs : List Segment) (row team : ℕ) → AllPairs ComesBefore xs → All (IsOf row team) xs → AllPairs (λ a b. a.span.hi ≤ℤ b.span.lo) xs
 xs_rise xs row team pairs of i j d less within =
     x_up (get_or xs i d) (get_or xs j d) row team (of i d (omega (arith, less, within))) (of j d within) (pairs i j d less within)
@@ -180,7 +181,7 @@ ends_rise xs pairs filled i j d less within =
     let wide = filled j d within in
     omega (arith, ints, apart, wide)
 
--- no segment holds x where all end before it, or the first that does not begins after it
+-- No segment holds x if all end left of it, or the first that does not begins right of it.
 pub none_at : (run : List Segment) (row team k : ℕ) (x : ℤ) → ((m : ℕ) (d : Segment) → m < k → (get_or run m d).span.hi ≤ℤ x) → length run ≤ k →
     (g : Segment) → Contains run g → IsAt row team x g → ⊥
 none_at run row team k x ended all g (m, within, is) at =
@@ -218,7 +219,7 @@ none_between run row team k x e pairs filled ended inside before g (m, within, i
     order : (m < k) ⊎ ((m ≡ k) ⊎ (k < m))
     order = grind arith
 
--- none of a list where none of its run
+-- No segment of a list holds x if no segment of its run does.
 pub none_of_run : (xs run : List Segment) (row team n : ℕ) (x : ℤ) → IsRunFrom (IsOf row team) xs n run →
     ((g : Segment) → Contains run g → IsAt row team x g → ⊥) →
     All (λ g. IsAt row team x g → ⊥) xs

@@ -1,4 +1,4 @@
--- What soft blockages cover of strips; and lists of spans that stand one after the other in one list.
+-- Soft spans of strips; and lists of spans that are concatenated in one list.
 use Rattle.std.proofs.Common.{◌≡◌, ◌⊎◌, inl, inr, ℕ, zero, suc, ℤ, ◌+◌, ◌-◌, ◌<◌, ◌≤◌, List, [], ◌∷◌, ◌++◌, length, get_or, take, drop, map}
 use Rattle.std.proofs.Common.{refl, sym, ap, subst, ◌∙◌, arith}
 use Rattle.std.specs.Prelude.{All, Any, Contains, IsPermutation}
@@ -26,13 +26,13 @@ use Rattle.lf_segments.specs.Soft.{AreMetSpans, AreSoftIn, AreSoftOver, IsSoftAt
 use Rattle.lf_segments.specs.Strips.{strip_of}
 use Rattle.lf_segments.proofs.TreeLemmas.{map_there, of_map}
 
--- ---- lists that stand one after the other
+-- ---- concatenated lists
 
 pub length-pieces : (spans : List Span) (starts : List ℕ) → length (pieces spans starts) ≡ length starts
 length-pieces spans [] = refl
 length-pieces spans (a ∷ starts) = ap (λ (n : ℕ). suc n) (length-pieces spans starts)
 
--- the list of that number lies between its start and the next one
+-- The list with this number lies between its start and the next one.
 pub piece_at : (spans : List Span) (starts : List ℕ) (k d : ℕ) → k < length starts →
     get_or (pieces spans starts) k [] ≡ take (get_or starts (k + 1) (length spans) - get_or starts k d) (drop (get_or starts k d) spans)
 piece_at spans [] k d within = absurd (omega (arith, within))
@@ -51,7 +51,7 @@ piece_between spans starts k start end within first last =
     ap (λ (n : ℕ). take (n - start) (drop start spans)) last
     ∙ ap (λ (n : ℕ). take (get_or starts (k + 1) (length spans) - n) (drop n spans)) first ∙ sym (piece_at spans starts k start within)
 
--- where there are no spans, each list is empty
+-- If there are no spans, each list is empty.
 pub no_pieces : (spans : List Span) (starts : List ℕ) (k : ℕ) → length spans ≡ 0 → get_or (pieces spans starts) k [] ≡ []
 no_pieces (s ∷ spans) starts k none = absurd (omega (arith, none))
 no_pieces [] starts k none = bare starts k
@@ -68,7 +68,7 @@ no_pieces [] starts k none = bare starts k
     bare (a ∷ firsts) zero = none_of (get_or firsts 0 0 - a) a
     bare (a ∷ firsts) (suc i) = bare firsts i
 
--- one more list at the end
+-- One more list at the end.
 pub pieces_more : (spans more : List Span) (starts : List ℕ) → All (λ n. n ≤ length spans) starts →
     pieces (spans ++ more) (starts ++ length spans ∷ []) ≡ pieces spans starts ++ more ∷ []
 pieces_more spans more [] within = ap (λ (xs : List Span). xs ∷ []) last
@@ -109,7 +109,7 @@ pieces_more spans more (a ∷ rest) within =
         ap (λ (n : ℕ). take (n - a) (drop a (spans ++ more))) (same_end rest)
         ∙ ap (λ (xs : List Span). take (end - a) xs) (drop-append-le a spans more start_low) ∙ take-append-le (end - a) (drop a spans) more inside
 
--- ---- what soft blockages cover of a strip
+-- ---- the soft spans of a strip
 
 pub spans_met_of : (area : Rect) (boxes : List Placed) (joined met : List Span) → IsJoin (map (λ p. x_extent p.rect) boxes) joined →
     IsMeet (x_extent area ∷ []) joined met → AreMetSpans area boxes met
@@ -165,7 +165,7 @@ soft_of f area tree near spans moved n m = record {
         record { x = x; y = h.y; in_first = h.covers; in_second = covers } in
         has_item (λ p. Holds (x_extent p.rect) x) near (numbered 0 r) inside record { low = covers.left; high = covers.right }
 
--- one more strip
+-- One more strip.
 pub soft_more : (f : Frame) (strips : List Strip) (k : ℕ) (d : Strip) (old new : List (List Span)) (more : List Span) → k < length strips →
     AreSoftOver f (take k strips) old → AreSoftIn f (get_or strips k d).area more → new ≡ old ++ more ∷ [] → AreSoftOver f (take (k + 1) strips) new
 soft_more f strips k d old new more within a m is = subst (AreSoftOver f (take (k + 1) strips)) (sym is) record {
@@ -200,7 +200,7 @@ soft_more f strips k d old new more within a m is = subst (AreSoftOver f (take (
     side : (n : ℕ) → n < length (take (k + 1) strips) → (n < k) ⊎ (n ≡ k)
     side n inside = let longer = length-take (k + 1) strips in grind (arith, longer)
 
--- the soft spans of strips are those of their segments
+-- The soft spans of strips are those of their segments.
 pub soft_of_segments : (f : Frame) (segments : List Segment) (soft : List (List Span)) → AreSoftOver f (map (strip_of f) segments) soft → AreSoft f segments soft
 soft_of_segments f segments soft a = record {
   many = a.many ∙ length-map segments (strip_of f);

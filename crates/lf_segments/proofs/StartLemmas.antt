@@ -1,4 +1,4 @@
--- Where the segments of each row begin in the list of all.
+-- Where the segments of each row begin in the list of all segments.
 use Rattle.std.proofs.Common.{refl, ◌≡◌, ◌⊎◌, inl, inr, ℕ, ◌+◌, ◌-◌, ◌<◌, ◌≤◌, List, ◌++◌, [], ◌∷◌, length, get_or, take, drop, sym, ap, subst, arith}
 use Rattle.std.specs.Prelude.{All, pos}
 use Rattle.std.proofs.lemmas.List.{get_or-map, get_or-drop, get_or_append_left, get_or-append-add, length-append, length-drop, length-map}
@@ -32,7 +32,7 @@ start_of xs row n bound below from = record {
       omega (arith, is, high);
 }
 
--- one more row has its start
+-- One more row has its start.
 pub starts_more : (rows starts : List ℕ) (row n : ℕ) → length starts ≡ row → ((r d : ℕ) → r < row → IsStartOf rows r (get_or starts r d)) →
     IsStartOf rows row n →
     (length (starts ++ (n ∷ [])) ≡ row + 1) × ((r d : ℕ) → r < row + 1 → IsStartOf rows r (get_or (starts ++ (n ∷ [])) r d))
@@ -67,7 +67,7 @@ starts_all xs starts rows row many whole known each = record {
       omega (arith, is, low, many, whole);
 }
 
--- the segments of a range of one row are its run
+-- The segments of a range of one row are its run.
 pub range_is_run : (xs : List Segment) (row start end : ℕ) → IsRangeOf (rows_of xs) row start end →
     IsRunFrom (λ g. g.row ≡ row) xs start (take (end - start) (drop start xs))
 range_is_run xs row start end range =

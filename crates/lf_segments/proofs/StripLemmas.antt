@@ -85,7 +85,7 @@ strip_placed f segments rows height same cut by_y k d within = record {
         let there : row_y f found.1.row ≡ one.row.y = ap (λ r. option_map_or (λ (q : Row). q.y) r (pos 0)) one.stands in
         ap (λ (e : RowEntry). e.y) one.is ∙ sym there ∙ ap (λ (n : ℕ). row_y f n) found.4
 
--- the strips of a frame's segments over its rows in order of y
+-- The strips of a frame's segments over its rows in order of y.
 pub laid_out : (f : Frame) (segments : List Segment) (rows : List RowEntry) (height : ℤ) → height ≡ f.pitch.y → IsCut f segments → IsRowsByY f rows →
     AreStrips rows height (map (strip_of f) segments)
 laid_out f segments rows height same cut by_y = record {
@@ -96,19 +96,19 @@ laid_out f segments rows height same cut by_y = record {
   small = let h = f.pitch_whole.y_small in omega (arith, ints, same, h);
 }
 
--- the strips of a frame's segments have points
+-- The strips of a frame's segments have points.
 pub strips_wide : (f : Frame) (segments : List Segment) (strips lent : List Strip) → strips ≡ map (strip_of f) segments → lent ≡ strips → IsCut f segments →
     All (λ g. g.area.x1 <ℤ g.area.x2) lent
 strips_wide f segments strips lent is same cut =
     subst (All (λ (g : Strip). g.area.x1 <ℤ g.area.x2)) (sym (same ∙ is))
     (All-map (λ (g : Strip). g.area.x1 <ℤ g.area.x2) (strip_of f) segments (λ k d within. (cut.known k d within).filled))
 
--- a strip is of its segment's row
+-- A strip is of its segment's row.
 pub rows_alike : (f : Frame) (gs : List Segment) → rows_in (map (strip_of f) gs) ≡ rows_of gs
 rows_alike f [] = refl
 rows_alike f (g ∷ gs) = ap (λ (rows : List ℕ). g.row ∷ rows) (rows_alike f gs)
 
--- strips of the same edges
+-- Strips of the same edges.
 pub same_strip : (row team : ℕ) (a b c d e f g h : ℤ) → a ≡ e → b ≡ f → c ≡ g → d ≡ h →
     ◌≡◌ {A = Strip} (record { row = row; team = team; area = record { x1 = a; y1 = b; x2 = c; y2 = d } })
     (record { row = row; team = team; area = record { x1 = e; y1 = f; x2 = g; y2 = h } })

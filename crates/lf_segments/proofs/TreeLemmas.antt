@@ -1,4 +1,4 @@
--- The boxes of a frame that are found near a row say of the row's points.
+-- The facts about a row's points that the boxes found near it determine.
 use Rattle.std.proofs.Common.{◌≡◌, ◌⊎◌, inl, inr, ℕ, zero, suc, ℤ, ◌+◌, ◌<◌, ◌≤◌, List, [], ◌∷◌, length}
 use Rattle.std.proofs.Common.{map, get_or, slice_get, Option, Some, None, refl, sym, ap, subst, ◌∙◌, arith}
 use Rattle.std.specs.Prelude.{Any, Contains, IsPermutation}
@@ -20,7 +20,7 @@ use Rattle.lf_floorplan.specs.Rows.{row_area}
 use Rattle.lf_floorplan.specs.Ground.{InGround}
 use Rattle.lf_segments.specs.Boxes.{numbered, fence_boxes, frame_boxes, IsMetAt, AreBoxesOf}
 
--- ---- what a list of boxes holds
+-- ---- the points that a list of boxes holds
 
 later_there : {X : Type 0} (y x : X) (xs : List X) → Contains xs x → Contains (y ∷ xs) x
 later_there y x xs (k, within, is) = (suc k, omega (arith, within), is)
@@ -50,7 +50,7 @@ fence_there n (x ∷ teams) (suc t) team r is there =
     subst (λ (m : ℕ). Contains (fence_boxes n (x ∷ teams)) (numbered m r)) at
     (Contains-append_right (map (numbered n) x.rects) (fence_boxes (n + 1) teams) (numbered ((n + 1) + t) r) (fence_there (n + 1) teams t team r is there))
 
--- a box of a fence: the fence's place, the fence, and the rectangle among its own
+-- A box of a fence: the fence's position, the fence, and the rectangle among its own.
 pub record OfFence (n : ℕ) (teams : List Team) (p : Placed) : Type 0 where
   pub place : ℕ
   pub team : Team
@@ -74,7 +74,7 @@ of_fence n (x ∷ teams) p there = elim (Contains-append_cases (map (numbered n)
 
 -- ---- a frame's boxes
 
--- a box of a frame is a fence's rectangle, or an obstacle with the ground team's number
+-- A box of a frame is a fence's rectangle, or an obstacle with the ground team's number.
 of_frame : (f : Frame) (p : Placed) → Contains (frame_boxes f) p → OfFence 0 f.teams p ⊎ ((p.own ≡ length f.teams) × Contains f.obstacles p.rect)
 of_frame f p there = elim (Contains-append_cases (fence_boxes 0 f.teams) (map (numbered (length f.teams)) f.obstacles) p there) [
   | inl fence ↦ inl (of_fence 0 f.teams p fence)
@@ -133,7 +133,7 @@ obstacle_of_met f x y (k, p, within, at, (own, covers)) = elim (of_frame f p (k,
   | inr obstacle ↦ has_item (λ r. Covers r x y) f.obstacles p.rect obstacle.1 covers
 ]
 
--- ---- what is found near a row
+-- ---- the boxes found near a row
 
 pub boxes_near : (f : Frame) (r : Row) (boxes near : List Placed) (rect : Rect) → IsPermutation (frame_boxes f) boxes → rect ≡ row_area f.pitch r →
     AreNear boxes rect near → AreBoxesOf f f.obstacles r near
@@ -169,7 +169,7 @@ boxes_near f r boxes near rect moved same_rect found = record {
         (k, within, is)).0 in
         has_item (λ q. (q.own ≡ own) × Covers q.rect x y) (frame_boxes f) p (back p there) e
 
--- ---- teams that may use a row are teams
+-- ---- teams that may use a row exist
 
 pub row_of : (f : Frame) (n : ℕ) (d : Row) → n < length f.rows → slice_get f.rows n ≡ Some (get_or f.rows n d)
 row_of f n d within = slice_get-get_or f.rows n d within

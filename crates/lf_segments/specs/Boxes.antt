@@ -1,5 +1,5 @@
--- The boxes of a frame's fences and obstacles, with numbers: a fence's rectangle has the fence's number, an obstacle the ground
--- team's.
+-- The boxes of a frame's fences and obstacles, with numbers: a fence's rectangle has the fence's
+-- number, an obstacle the ground team's.
 use Rattle.std.specs.Prelude.{◌≡◌, ◌⊎◌, ◌↔◌, ℕ, ◌+◌, ◌<◌, ◌≤◌, ℤ, ◌≤ℤ◌, ◌<ℤ◌, List, [], ◌∷◌, ◌++◌, map, length, All, AllPairs, Any, Contains}
 use Rattle.std.specs.List.Sorted.{IsNonDecreasingBy}
 use Rattle.lf_units.specs.declared.geometry.Rect.{Rect}
@@ -15,87 +15,89 @@ use Rattle.lf_floorplan.specs.Ground.{InGround}
 use Rattle.lf_segments.specs.declared.segment.Segment.{Segment}
 use Rattle.lf_segments.specs.Segments.{IsClearAt, IsOpen, LiesInSegment, ComesFirst}
 
--- a rectangle that has a number
+-- A rectangle with a number.
 abbrev pub numbered : ℕ → Rect → Placed
 numbered own rect = record { own = own; rect = rect }
 
--- the rectangles of fences, each with its fence's number; the first fence has the number `own`
+-- The rectangles of fences, each with its fence's number; the first fence has the number `own`.
 abbrev pub fence_boxes : ℕ → List Team → List Placed
 fence_boxes own [] = []
 fence_boxes own (t ∷ teams) = map (numbered own) t.rects ++ fence_boxes (own + 1) teams
 
--- the rectangles of the fences, and then the obstacles
+-- The rectangles of the fences, and then the obstacles.
 abbrev pub frame_boxes : Frame → List Placed
 frame_boxes f = fence_boxes 0 f.teams ++ map (numbered (length f.teams)) f.obstacles
 
--- the point lies in a box of this number
+-- The point lies in a box of this number.
 abbrev pub IsMetAt : List Placed → ℕ → ℤ → ℤ → Type 0
 IsMetAt boxes own x y = Any (λ p. (p.own ≡ own) × Covers p.rect x y) boxes
 
--- the boxes determine which fences cover the point and whether one of the obstacles does
+-- The boxes determine which fences cover the point and whether one of the obstacles does.
 pub record DetermineCover (f : Frame) (obstacles : List Rect) (boxes : List Placed) (x y : ℤ) : Type 0 where
   pub fence : (team : ℕ) → team < length f.teams → (InGround f team x y ↔ IsMetAt boxes team x y)
   pub obstacle : Any (λ r. Covers r x y) obstacles ↔ IsMetAt boxes (length f.teams) x y
 
--- boxes that share a point with the row, and determine the fences and these obstacles at each of its points
+-- Boxes that share a point with the row, and determine the fences and these obstacles at each of
+-- its points.
 pub record AreBoxesOf (f : Frame) (obstacles : List Rect) (r : Row) (boxes : List Placed) : Type 0 where
   pub known : All (λ p. p.own ≤ length f.teams) boxes
   pub near : All (λ p. SharesPoint (row_area f.pitch r) p.rect) boxes
   pub tell : (x y : ℤ) → Covers (row_area f.pitch r) x y → DetermineCover f obstacles boxes x y
 
--- boxes in order of their numbers
+-- Boxes in order of their numbers.
 abbrev pub AreSorted : List Placed → Type 0
 AreSorted boxes = IsNonDecreasingBy (λ p. p.own) boxes
 
--- the boxes of the least number that is not below this one; none if all are below
+-- The boxes of the least number that is not below this one; empty if all are below.
 pub record IsNextGroup (boxes : List Placed) (least : ℕ) (group : List Placed) : Type 0 where
   pub among : All (λ p. Contains boxes p × (least ≤ p.own)) group
   pub one : All (λ p. All (λ q. q.own ≡ p.own) group) group
   pub others : All (λ p. (p.own < least) ⊎ (Contains group p ⊎ Any (λ q. q.own < p.own) group)) boxes
 
--- the x range of a rectangle
+-- The x range of a rectangle.
 abbrev pub x_extent : Rect → Span
 x_extent r = record { lo = r.x1; hi = r.x2 }
 
--- the spans hold exactly what the boxes cover at this y
+-- The spans hold exactly the x that the boxes cover at this y.
 abbrev pub AreSpansAt : List Placed → ℤ → List Span → Type 0
 AreSpansAt boxes y spans = (x : ℤ) → (HeldByOne spans x ↔ Any (λ p. Covers p.rect x y) boxes)
 
--- the boxes cover the whole span at this y
+-- The boxes cover the whole span at this y.
 abbrev pub AreUnder : List Placed → ℤ → Span → Type 0
 AreUnder boxes y s = (x : ℤ) → Holds s x → Any (λ p. Covers p.rect x y) boxes
 
--- the parts of the free spans that the boxes cover at this y
+-- The parts of the free spans that the boxes cover at this y.
 pub record IsCoveredAt (boxes : List Placed) (y : ℤ) (free covered : List Span) : Type 0 where
   pub rising : IsRising covered
   pub exact : (s : Span) → IsFilled s → (LiesInOneOf covered s ↔ (LiesInOneOf free s × AreUnder boxes y s))
 
--- the parts of the free spans that the boxes cover at each y from the lower one to the upper one
+-- The parts of the free spans that the boxes cover at each y from the lower one on and below the
+-- upper one.
 pub record IsCoveredOver (boxes : List Placed) (lower upper : ℤ) (free covered : List Span) : Type 0 where
   pub rising : IsRising covered
   pub exact : (s : Span) → IsFilled s → (LiesInOneOf covered s ↔ (LiesInOneOf free s × ((y : ℤ) → lower ≤ℤ y → y <ℤ upper → AreUnder boxes y s)))
 
--- a span as a segment of a row and a team
+-- A span as a segment of a row and a team.
 abbrev pub segment_of : ℕ → ℕ → Span → Segment
 segment_of row team s = record { row = row; team = team; span = s }
 
--- the row's segments of the teams below a number
+-- The row's segments of the teams below a number.
 pub record IsCutOfRow (f : Frame) (obstacles : List Rect) (number : ℕ) (r : Row) (limit : ℕ) (segments : List Segment) : Type 0 where
   pub known : All (λ g. (g.row ≡ number) × ((g.team < limit) × IsFilled g.span)) segments
   pub in_order : AllPairs ComesFirst segments
   pub exact : (team : ℕ) (s : Span) → team < limit → IsFilled s → (LiesInSegment segments number team s ↔ ((x : ℤ) → Holds s x → IsOpen f obstacles r team x))
 
--- the maximal spans of a row that are clear of obstacles
+-- The maximal spans of a row that are clear of obstacles.
 pub record AreClear (f : Frame) (obstacles : List Rect) (r : Row) (spans : List Span) : Type 0 where
   pub rising : IsRising spans
   pub exact : (s : Span) → IsFilled s → (LiesInOneOf spans s ↔ ((x : ℤ) → Holds s x → IsClearAt f obstacles r x))
 
--- the maximal spans of a row that the team may use
+-- The maximal spans of a row that the team may use.
 pub record AreOpen (f : Frame) (obstacles : List Rect) (r : Row) (team : ℕ) (spans : List Span) : Type 0 where
   pub rising : IsRising spans
   pub exact : (s : Span) → IsFilled s → (LiesInOneOf spans s ↔ ((x : ℤ) → Holds s x → IsOpen f obstacles r team x))
 
--- the row's segments of the teams below a number are appended
+-- The row's segments of the teams below a number are appended.
 pub record AddsRow (f : Frame) (obstacles : List Rect) (number : ℕ) (r : Row) (limit : ℕ) (old new : List Segment) : Type 0 where
   pub added : List Segment
   pub is : new ≡ old ++ added

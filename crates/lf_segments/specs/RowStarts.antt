@@ -2,22 +2,22 @@
 use Rattle.std.specs.Prelude.{◌≡◌, ℕ, ◌<◌, ◌≤◌, List, All, length, map, slice_index_or}
 use Rattle.lf_segments.specs.declared.segment.Segment.{Segment}
 
--- the rows of segments
+-- The rows of segments.
 abbrev pub rows_of : List Segment → List ℕ
 rows_of segments = map (λ g. g.row) segments
 
--- the first n of the rows are earlier than this one, and the rest are not
+-- The first n of the rows are earlier than this one, and the rest are not.
 pub record IsStartOf (rows : List ℕ) (row n : ℕ) : Type 0 where
   pub within : n ≤ length rows
   pub earlier : (k d : ℕ) → k < n → slice_index_or rows k d < row
   pub rest : (k d : ℕ) → n ≤ k → k < length rows → row ≤ slice_index_or rows k d
 
--- for each row the number of earlier ones; the last entry is for the row after the last
+-- For each row the number of earlier ones. Each row of the list has an entry.
 pub record AreRowStarts (rows starts : List ℕ) : Type 0 where
   pub each : (r d : ℕ) → r < length starts → IsStartOf rows r (slice_index_or starts r d)
   pub all : All (λ r. r < length starts) rows
 
--- the positions from start on and below end are exactly those of this row
+-- The positions from start on and below end are exactly those of this row.
 pub record IsRangeOf (rows : List ℕ) (row start end : ℕ) : Type 0 where
   pub order : start ≤ end
   pub within : end ≤ length rows

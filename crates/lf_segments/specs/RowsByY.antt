@@ -5,33 +5,35 @@ use Rattle.lf_floorplan.specs.declared.frame.Frame.{Frame}
 use Rattle.lf_floorplan.specs.declared.parts.Row.{Row}
 use Rattle.lf_segments.specs.declared.rows_by_y.RowEntry.{RowEntry}
 
--- the entry of a row: its corner, and its position in the frame
+-- The entry of a row: its corner, and its position in the frame.
 abbrev pub entry : ℕ → Row → RowEntry
 entry number r = record { y = r.y; x = r.x; row = number }
 
--- the entries of rows in their own order; the first has this position
+-- The entries of rows in their own order; the first has this position.
 abbrev pub entries_from : ℕ → List Row → List RowEntry
 entries_from number [] = []
 entries_from number (r ∷ rows) = entry number r ∷ entries_from (number + 1) rows
 
--- the entry is that of a row of the frame
+-- The entry is that of a row of the frame.
 pub record IsEntryOf (f : Frame) (e : RowEntry) : Type 0 where
   pub row : Row
   pub stands : slice_get f.rows e.row ≡ Some row
   pub is : e ≡ entry e.row row
 
--- the first lies lower, or the two have one y and the second does not lie further left
+-- The first lies lower, or both have the same y and the second does not lie further left.
 abbrev pub PrecedesByY : RowEntry → RowEntry → Type 0
 PrecedesByY a b = (a.y <ℤ b.y) ⊎ ((a.y ≡ b.y) × (a.x ≤ℤ b.x))
 
--- each row of the frame has one entry, and the entries are in order of y, those of one y in order of x
+-- Each row of the frame has one entry, and the entries are in order of y, those at the same y in
+-- order of x.
 pub record IsRowsByY (f : Frame) (entries : List RowEntry) : Type 0 where
   pub known : All (IsEntryOf f) entries
   pub each : (n : ℕ) → n < length f.rows → Any (λ e. e.row ≡ n) entries
   pub once : AllPairs (λ a b. a.row ≢ b.row) entries
   pub in_order : AllPairs PrecedesByY entries
 
--- the entries whose y is within a range, which are consecutive: those before them are below it, those after them above
+-- The entries whose y is within a range, which are consecutive: those in front of them are below
+-- it, those after them above.
 pub record IsRunBy (Below Within Above : ℤ → Type 0) (entries run : List RowEntry) : Type 0 where
   pub before : List RowEntry
   pub behind : List RowEntry
@@ -40,40 +42,40 @@ pub record IsRunBy (Below Within Above : ℤ → Type 0) (entries run : List Row
   pub within : All (λ e. Within e.y) run
   pub above : All (λ e. Above e.y) behind
 
--- the entries of this y
+-- The entries at this y.
 abbrev pub IsRunAt : List RowEntry → ℤ → List RowEntry → Type 0
 IsRunAt entries y run = IsRunBy (λ v. v <ℤ y) (λ v. v ≡ y) (λ v. y <ℤ v) entries run
 
--- the entries from one y on and below another; none if the second is not above the first
+-- The entries from one y on and below another; empty if the second is not above the first.
 abbrev pub IsRunBetween : List RowEntry → ℤ → ℤ → List RowEntry → Type 0
 IsRunBetween entries from to run = IsRunBy (λ v. v <ℤ from) (λ v. (from ≤ℤ v) × (v <ℤ to)) (λ v. to ≤ℤ v) entries run
 
--- the run at a y has exactly the rows of a frame at that y
+-- The run at a y has exactly the rows of a frame at that y.
 abbrev pub RunAtHasRows : Type 0
 RunAtHasRows =
     (f : Frame) (entries run : List RowEntry) (y : ℤ) (n : ℕ) (r : Row) → IsRowsByY f entries → IsRunAt entries y run → slice_get f.rows n ≡ Some r →
     (Any (λ e. e.row ≡ n) run ↔ (r.y ≡ y))
 
--- the run between two y has exactly the rows of a frame from the first on and below the second
+-- The run between two y has exactly the rows of a frame from the first on and below the second.
 abbrev pub RunBetweenHasRows : Type 0
 RunBetweenHasRows =
     (f : Frame) (entries run : List RowEntry) (from to : ℤ) (n : ℕ) (r : Row) → IsRowsByY f entries → IsRunBetween entries from to run →
     slice_get f.rows n ≡ Some r → (Any (λ e. e.row ≡ n) run ↔ ((from ≤ℤ r.y) × (r.y <ℤ to)))
 
--- the entry lies below y, or at y and not right of x
+-- The entry lies below y, or at y and not right of x.
 abbrev pub IsUpToPoint : ℤ → ℤ → RowEntry → Type 0
 IsUpToPoint y x e = (e.y <ℤ y) ⊎ ((e.y ≡ y) × (e.x ≤ℤ x))
 
--- whether it does
+-- True if the entry lies below y, or at y and not right of x.
 abbrev pub is_up_to_point : ℤ → ℤ → RowEntry → Bool
 is_up_to_point y x e = if int_lt e.y y then true else (if int_lt y e.y then false else int_le e.x x)
 
--- the entry is at this y, and not right of x
+-- The entry is at this y, and not right of x.
 pub record BeginsUpTo (y x : ℤ) (e : RowEntry) : Type 0 where
   pub at_level : e.y ≡ y
   pub left : e.x ≤ℤ x
 
--- of the entries at this y that are not right of x, the one farthest right
+-- The entry farthest right of those at this y that are not right of x.
 pub record IsLastAt (entries : List RowEntry) (y x : ℤ) (e : RowEntry) : Type 0 where
   pub there : Contains entries e
   pub begins : BeginsUpTo y x e

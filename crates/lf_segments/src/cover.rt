@@ -1,4 +1,4 @@
-//! What boxes leave free of a range, and what they cover over a height.
+//! The parts of a range that boxes leave free, and the parts that they cover over a height.
 
 ghost use Rattle.std.specs.Prelude.{◌≡◌, ◌⊎◌, ◌↔◌, ◌≤ℤ◌, ◌<ℤ◌, All, IfOk, IsFalse, IsPermutation, IsSomeAnd, IsTrue, map};
 ghost use Rattle.lf_units.specs.Area.{SharesPoint};
@@ -10,7 +10,7 @@ use lf_spans::{free_spans_in, spans_join, spans_meet};
 use lf_units::{Rect, Span};
 use std::alloc::{AllocError, Global};
 
-/// The x range of a rectangle.
+/// Returns the x range of a rectangle.
 pub(crate) fn span_of(rect: &Rect) -> Span
     ensures { result ≡ x_extent rect.now }
 {
@@ -20,7 +20,7 @@ pub(crate) fn span_of(rect: &Rect) -> Span
     }
 }
 
-/// The x ranges of boxes.
+/// Returns the x ranges of boxes. `Err` if an allocation fails.
 pub(crate) fn spans_of(alloc: Global, boxes: &[Placed]) -> Result<Vec<Span>, AllocError>
     ensures { IfOk result (λ spans. spans.items ≡ map (λ p. x_extent p.rect) boxes.now) }
 {
@@ -31,7 +31,7 @@ pub(crate) fn spans_of(alloc: Global, boxes: &[Placed]) -> Result<Vec<Span>, All
     Ok(spans)
 }
 
-/// The x ranges of boxes, in order of `lo`.
+/// Returns the x ranges of boxes, in order of `lo`. `Err` if an allocation fails.
 fn spans_in_order(alloc: Global, boxes: &[Placed]) -> Result<Vec<Span>, AllocError>
     ensures moved { IfOk result (λ spans. IsPermutation (map (λ p. x_extent p.rect) boxes.now) spans.items) }
     ensures order { IfOk result (λ spans. IsInOrder spans.items) }
@@ -41,7 +41,7 @@ fn spans_in_order(alloc: Global, boxes: &[Placed]) -> Result<Vec<Span>, AllocErr
     Ok(spans)
 }
 
-/// What the boxes leave free of the x range of an area.
+/// Returns the parts of an area's x range that the boxes leave free. `Err` if an allocation fails.
 pub(crate) fn free_beside(
     alloc: Global,
     area: &Rect,
@@ -53,14 +53,14 @@ pub(crate) fn free_beside(
     free_spans_in(alloc, &span_of(area), taken.as_slice())
 }
 
-/// Whether the rectangle covers this y.
+/// Returns whether the rectangle covers this y.
 fn reaches(rect: &Rect, y: &i64) -> bool
     ensures { IsTrue result ↔ ((rect.now.y1 ≤ℤ y.now) × (y.now <ℤ rect.now.y2)) }
 {
     rect.y1 <= *y && *y < rect.y2
 }
 
-/// The x ranges of the boxes that cover this y.
+/// Returns the x ranges of the boxes that cover this y. `Err` if an allocation fails.
 fn spans_at(alloc: Global, boxes: &[Placed], y: &i64) -> Result<Vec<Span>, AllocError>
     ensures { IfOk result (λ spans. AreSpansAt boxes.now y.now spans.items) }
 {
@@ -74,7 +74,8 @@ fn spans_at(alloc: Global, boxes: &[Placed], y: &i64) -> Result<Vec<Span>, Alloc
     Ok(spans)
 }
 
-/// The parts of the free spans that the boxes cover at this y.
+/// Returns the parts of the free spans that the boxes cover at this y. `Err` if an allocation
+/// fails.
 fn covered_at(
     alloc: Global,
     boxes: &[Placed],
@@ -88,7 +89,7 @@ fn covered_at(
     spans_meet(alloc, free, joined.as_slice())
 }
 
-/// Whether the box ends below the area's upper edge, and not where the last one ends.
+/// Returns whether the box ends below the area's upper edge, and at another y than the last one.
 fn ends_elsewhere(placed: &Placed, area: &Rect, last: &Option<Placed>) -> bool
     ensures ends { IsTrue result → placed.now.rect.y2 <ℤ area.now.y2 }
     ensures not { IsFalse result → (area.now.y2 ≤ℤ placed.now.rect.y2) ⊎ IsSomeAnd last.now (λ l. l.rect.y2 ≡ placed.now.rect.y2) }
@@ -101,9 +102,10 @@ fn ends_elsewhere(placed: &Placed, area: &Rect, last: &Option<Placed>) -> bool
     placed.rect.y2 < area.y2
 }
 
-/// The parts of the free spans that the boxes cover over the whole height of the area. The cover changes only where a
-/// box begins or ends, and only an end can reduce it. So it is computed at the area's lower edge and at each end within
-/// it, once for consecutive boxes with the same end.
+/// Returns the parts of the free spans that the boxes cover over the whole height of the area. The
+/// cover changes only where a box begins or ends, and only an end can reduce it. So it is computed
+/// at the area's lower edge and at each end within it, once for consecutive boxes with the same
+/// end. `Err` if an allocation fails.
 pub(crate) fn covered_over(
     alloc: Global,
     area: &Rect,

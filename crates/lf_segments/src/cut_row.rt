@@ -14,7 +14,7 @@ use lf_rtree::Placed;
 use lf_units::Span;
 use std::alloc::{AllocError, Global};
 
-/// Appends spans as segments of a row and a team.
+/// Appends spans as segments of a row and a team. `Err` if an allocation fails.
 fn push_spans(
     segments: &mut Vec<Segment>,
     row: usize,
@@ -33,7 +33,7 @@ fn push_spans(
     Ok(())
 }
 
-/// How many boxes have a lesser number. They are in order of their numbers.
+/// Returns the number of boxes with a lesser number. The boxes are in order of their numbers.
 fn count_below(boxes: &[Placed], own: u32) -> usize
     requires { AreSorted boxes.now }
     ensures within { result ≤ length boxes.now }
@@ -43,7 +43,8 @@ fn count_below(boxes: &[Placed], own: u32) -> usize
     boxes.partition_point(|placed| placed.own < own)
 }
 
-/// How many boxes have this number or a lesser one. They are in order of their numbers.
+/// Returns the number of boxes with this number or a lesser one. The boxes are in order of their
+/// numbers.
 fn count_up_to(boxes: &[Placed], own: u32) -> usize
     requires { AreSorted boxes.now }
     ensures within { result ≤ length boxes.now }
@@ -53,7 +54,7 @@ fn count_up_to(boxes: &[Placed], own: u32) -> usize
     boxes.partition_point(|placed| placed.own <= own)
 }
 
-/// The boxes of the least number that is not below this one; none if all are below.
+/// Returns the boxes of the least number that is not below this one; empty if all are below.
 fn next_group<'a>(boxes: &'a [Placed], least: u32) -> &'a [Placed]
     requires { AreSorted boxes.now }
     ensures { IsNextGroup boxes.now least result.now }
@@ -65,14 +66,15 @@ fn next_group<'a>(boxes: &'a [Placed], least: u32) -> &'a [Placed]
     &rest[..count_up_to(rest, rest[0].own)]
 }
 
-/// The number of the ground team.
+/// Returns the number of the ground team.
 fn ground_number(frame: &Frame) -> u32
     ensures { result ≡ length frame.now.teams }
 {
     frame.teams.len() as u32
 }
 
-/// The spans of the row that are clear of obstacles, found from the boxes near it.
+/// Returns the spans of the row that are clear of obstacles, given the boxes near it. `Err` if an
+/// allocation fails.
 fn clear_spans(
     alloc: Global,
     frame: &Frame,
@@ -89,7 +91,8 @@ fn clear_spans(
     free_beside(alloc, &row.area(&frame.pitch), obstacles)
 }
 
-/// The spans of the row that the ground team may use, found from the boxes near it.
+/// Returns the spans of the row that the ground team may use, given the boxes near it. `Err` if an
+/// allocation fails.
 fn ground_spans(
     alloc: Global,
     frame: &Frame,
@@ -104,7 +107,8 @@ fn ground_spans(
     free_beside(alloc, &row.area(&frame.pitch), near)
 }
 
-/// Appends the row's segments of the fences. Only fences with a box near the row are looked at.
+/// Appends the row's segments of the fences. Visits only fences with a box near the row. `Err` if
+/// an allocation fails.
 fn push_fences(
     alloc: Global,
     frame: &Frame,
@@ -139,8 +143,8 @@ fn push_fences(
     Ok(())
 }
 
-/// Appends the segments of the row, those of the fences and then those of the ground team. They are
-/// found from the boxes near it, which are in order of their numbers.
+/// Appends the segments of the row, first those of the fences and then those of the ground team.
+/// `near` has the boxes near the row, in order of their numbers. `Err` if an allocation fails.
 pub(crate) fn push_row(
     alloc: Global,
     frame: &Frame,
@@ -161,7 +165,7 @@ pub(crate) fn push_row(
     Ok(())
 }
 
-/// The boxes of fences, which come before those of obstacles.
+/// Returns the boxes of fences, which precede those of obstacles.
 fn without_obstacles<'a>(frame: &Frame, near: &'a [Placed]) -> &'a [Placed]
     requires { AreSorted near.now }
     ensures boxes { (row : Row) → AreBoxesOf frame.now frame.now.obstacles row near.now → AreBoxesOf frame.now [] row result.now }
@@ -170,8 +174,8 @@ fn without_obstacles<'a>(frame: &Frame, near: &'a [Placed]) -> &'a [Placed]
     &near[..count_below(near, ground_number(frame))]
 }
 
-/// Appends the segments of the row as if there were no obstacles, found from the boxes near it, which
-/// are in order of their numbers.
+/// Appends the land of the row, its segments as if there were no obstacles. `near` has the boxes
+/// near the row, in order of their numbers. `Err` if an allocation fails.
 pub(crate) fn push_land(
     alloc: Global,
     frame: &Frame,

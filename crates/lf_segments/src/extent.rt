@@ -1,4 +1,4 @@
-//! The rectangle that all rows of a frame lie in.
+//! The rectangle that holds all rows of a frame.
 
 ghost use Rattle.std.specs.Prelude.{◌≡◌};
 ghost use Rattle.std.specs.Int.{int_min, int_max};
@@ -7,21 +7,21 @@ ghost use Rattle.lf_segments.specs.Grounds.{IsExtentOf, hull as hull_of};
 use lf_floorplan::Frame;
 use lf_units::Rect;
 
-/// The lesser of the two.
+/// Returns the lesser of the two.
 fn lesser(a: &i64, b: &i64) -> i64
     ensures { result ≡ int_min a.now b.now }
 {
     if *b < *a { *b } else { *a }
 }
 
-/// The greater of the two.
+/// Returns the greater of the two.
 fn greater(a: &i64, b: &i64) -> i64
     ensures { result ≡ int_max a.now b.now }
 {
     if *b < *a { *a } else { *b }
 }
 
-/// The smallest rectangle that holds both.
+/// Returns the smallest rectangle that holds both.
 fn hull(a: &Rect, b: &Rect) -> Rect
     ensures { result ≡ hull_of a.now b.now }
 {
@@ -33,7 +33,7 @@ fn hull(a: &Rect, b: &Rect) -> Rect
     }
 }
 
-/// The smallest rectangle that holds all rows of the frame.
+/// Returns the smallest rectangle that holds all rows of the frame.
 pub(crate) fn extent_of(frame: &Frame) -> Rect
     ensures { IsExtentOf frame.now result }
 {

@@ -1,4 +1,4 @@
-//! What of a frame is looked up by where it lies, built once for a frame.
+//! The index of a frame by position, built once for a frame.
 
 ghost use Rattle.std.specs.Prelude.{◌≡◌, ℕ, IfOk, IsTrue, slice_index_or, []};
 ghost use Rattle.lf_segments.specs.Grounds.{IsIndexOf};
@@ -15,11 +15,11 @@ use lf_units::{Rect, Span};
 use std::alloc::{AllocError, Global};
 use std::marker::Model;
 
-/// What of a frame is looked up by where it lies: its rows, the segments of its teams and the strips of those, the segments as if
-/// there were no obstacles, and what soft blockages cover of the segments.
+/// The index of a frame by position: its rows, the segments of its teams, their strips, the land,
+/// and the soft spans of the segments.
 ///
-/// A contract sees these lists, a rectangle that holds all rows, and the height of a row. Only `build` allocates; each look-up
-/// is by bisection.
+/// A contract sees these lists, a rectangle that holds all rows, and the height of a row. Only
+/// `build` allocates; each lookup is a binary search.
 pub struct FrameIndex {
     rows: RowsByY,
     segments: Segments,
@@ -30,7 +30,8 @@ pub struct FrameIndex {
     height: i64,
 }
 
-/// (Written out: the proof of a function that lets one go does not take it apart.)
+/// Written by hand: with a derived `drop`, the proof of each function that drops a `FrameIndex`
+/// unfolds its fields.
 impl Drop for FrameIndex {
     fn drop(self) {
         let FrameIndex {
@@ -67,7 +68,7 @@ impl Model for FrameIndex {
 }
 
 impl FrameIndex {
-    /// The look-ups of the frame. `Err` if an allocation fails.
+    /// Returns the index of the frame. `Err` if an allocation fails.
     pub fn build(alloc: Global, frame: &Frame) -> Result<Self, AllocError>
         ensures { IfOk result (λ index. IsIndexOf frame.now index) }
     {
@@ -86,72 +87,75 @@ impl FrameIndex {
         })
     }
 
-    /// The segments.
+    /// Returns the segments.
     pub fn segments(&self) -> &Segments
         ensures { result.now ≡ self.now.segments }
     {
         &self.segments
     }
 
-    /// The segments as if there were no obstacles: the part of each row that is a team's ground.
+    /// Returns the land, the segments as if there were no obstacles: the part of each row that is a
+    /// team's ground.
     pub fn ground_segments(&self) -> &Segments
         ensures { result.now ≡ self.now.land }
     {
         &self.land
     }
 
-    /// The strips of the segments, in their order.
+    /// Returns the strips of the segments, in their order.
     pub fn strips(&self) -> &[Strip]
         ensures { result.now ≡ self.now.strips }
     {
         self.strips.as_slice()
     }
 
-    /// The rows in order of y.
+    /// Returns the rows in order of y.
     pub fn rows(&self) -> &RowsByY
         ensures { result.now ≡ self.now.rows }
     {
         &self.rows
     }
 
-    /// A rectangle that holds all rows, in database units.
+    /// Returns a rectangle that holds all rows, in database units.
     pub fn extent(&self) -> &Rect
         ensures { result.now ≡ self.now.extent }
     {
         &self.extent
     }
 
-    /// The spans of the segment of that number at which a point of its strip lies in a soft blockage, in database units, from left
-    /// to right; none if there is no such segment.
+    /// Returns the soft spans of the segment with this number: its spans at which a point of its
+    /// strip lies in a soft blockage. They are in database units, from left to right; empty if
+    /// there is no such segment.
     pub fn soft_of(&self, segment: usize) -> &[Span]
         ensures { result.now ≡ slice_index_or self.now.soft segment [] }
     {
         self.soft.of_segment(segment)
     }
 
-    /// Whether soft blockages cover nothing of any segment, so that none need be looked up.
+    /// Returns true only if no segment has soft spans, so no lookup of them is needed.
     pub fn has_no_soft(&self) -> bool
         ensures { IsTrue result → (k : ℕ) → slice_index_or self.now.soft k [] ≡ [] }
     {
         self.soft.is_empty()
     }
 
-    /// The numbers of the strips of a row and a team that overlap the range of x from `lo` on and below `hi`; they are
-    /// consecutive.
+    /// Returns the numbers of the strips of a row and a team that overlap the range of x from `lo`
+    /// on and below `hi`. They are consecutive.
     pub fn strips_overlapping(&self, row: usize, team: usize, lo: &i64, hi: &i64) -> StripRange
         ensures { AreNear self.now.strips row team lo.now hi.now result.start result.end }
     {
         near_strips(&self.strips, &self.segments, row, team, lo, hi)
     }
 
-    /// A run of the entries of the rows in order of y, with each row whose strips may share a point with the rectangle.
+    /// Returns a run of the entries of the rows in order of y. It has each row whose strips may
+    /// share a point with the rectangle.
     pub fn rows_near(&self, rect: &Rect) -> &[RowEntry]
         ensures { AreRowsNear self.now.rows self.now.height rect.now result.now }
     {
         rows_near(&self.rows, &self.height, rect)
     }
 
-    /// The strips are in order, and each lies on its row.
+    /// A law: the strips are in order, and each lies on its row.
     pub fn strips_are_placed(&self)
         ensures { AreStrips self.now.rows self.now.height self.now.strips }
     {

@@ -1,4 +1,4 @@
-//! A frame with what is looked up of it, lent as a pair.
+//! A frame together with its index, borrowed as a pair.
 
 ghost use Rattle.std.specs.Prelude.{◌≡◌, ◌↔◌, ◌<ℤ◌, IsTrue};
 ghost use Rattle.lf_floorplan.specs.Ground.{IsClear, StaysInGround};
@@ -14,9 +14,9 @@ use lf_floorplan::{Frame, FrameQuery};
 use lf_units::{Rect, Span};
 use std::marker::Model;
 
-/// A frame with its look-ups, both borrowed. A contract sees the frame.
+/// A frame and its index, both borrowed. A contract sees the frame.
 ///
-/// It answers what legality asks (`FrameQuery` of `lf_floorplan`) by bisection and without memory.
+/// It implements `FrameQuery` of `lf_floorplan` by binary search, without allocating.
 #[derive(Drop)]
 pub struct IndexedFrame<'a> {
     frame: &'a Frame,
@@ -34,7 +34,7 @@ impl<'a> Model for IndexedFrame<'a> {
     ghost invariant = { λ p. IsIndexOf p.frame.now p.index.now };
 }
 
-/// Whether every point of the box, which stands on rows, is ground of the team.
+/// Returns whether every point of the box is ground of the team. The box must rest on rows.
 fn keeps_ground(frame: &Frame, index: &FrameIndex, team: usize, rect: &Rect) -> bool
     requires index { IsIndexOf frame.now index.now }
     requires wide { rect.now.x1 <ℤ rect.now.x2 }
@@ -45,7 +45,8 @@ fn keeps_ground(frame: &Frame, index: &FrameIndex, team: usize, rect: &Rect) -> 
     lies_in(frame, index.rows(), index.ground_segments(), team, rect)
 }
 
-/// Whether no point of the box, which stands on rows in the team's ground, is in an obstacle.
+/// Returns whether no point of the box is in an obstacle. The box must rest on rows in the team's
+/// ground.
 fn keeps_clear(frame: &Frame, index: &FrameIndex, team: usize, rect: &Rect) -> bool
     requires index { IsIndexOf frame.now index.now }
     requires wide { rect.now.x1 <ℤ rect.now.x2 }
@@ -57,7 +58,7 @@ fn keeps_clear(frame: &Frame, index: &FrameIndex, team: usize, rect: &Rect) -> b
     lies_in(frame, index.rows(), index.segments(), team, rect)
 }
 
-/// The rows at y.
+/// Returns the rows at y.
 fn rows_at<'a>(frame: &Frame, index: &'a FrameIndex, y: &i64) -> &'a [RowEntry]
     requires { IsIndexOf frame.now index.now }
     ensures { AreRowsAt frame.now y.now result.now }
@@ -65,7 +66,7 @@ fn rows_at<'a>(frame: &Frame, index: &'a FrameIndex, y: &i64) -> &'a [RowEntry]
     index.rows().at(*y)
 }
 
-/// The rows from one y on and below another.
+/// Returns the rows from one y on and below another.
 fn rows_between<'a>(frame: &Frame, index: &'a FrameIndex, from: &i64, to: &i64) -> &'a [RowEntry]
     requires { IsIndexOf frame.now index.now }
     ensures { AreRowsBetween frame.now from.now to.now result.now }
@@ -73,7 +74,7 @@ fn rows_between<'a>(frame: &Frame, index: &'a FrameIndex, from: &i64, to: &i64) 
     index.rows().between(*from, *to)
 }
 
-/// The spans of a segment under soft blockages.
+/// Returns the soft spans of a segment.
 fn soft_of<'a>(frame: &Frame, index: &'a FrameIndex, segment: usize) -> &'a [Span]
     requires { IsIndexOf frame.now index.now }
     ensures { IsSoftOf frame.now segment result.now }
@@ -83,7 +84,7 @@ fn soft_of<'a>(frame: &Frame, index: &'a FrameIndex, segment: usize) -> &'a [Spa
 }
 
 impl<'a> IndexedFrame<'a> {
-    /// The pair of a frame and its look-ups, which must be those of this frame.
+    /// Returns the pair of a frame and its index. The index must be that of this frame.
     pub fn new(frame: &'a Frame, index: &'a FrameIndex) -> IndexedFrame<'a>
         requires { IsIndexOf frame.now index.now }
         ensures { result ≡ frame.now }
@@ -91,36 +92,38 @@ impl<'a> IndexedFrame<'a> {
         IndexedFrame { frame, index }
     }
 
-    /// The look-ups of the frame.
+    /// Returns the index of the frame.
     pub fn index(&self) -> &'a FrameIndex
         ensures { IsIndexOf self.now result.now }
     {
         self.index
     }
 
-    /// The rows at this y, in database units, in order of x. They are found by bisection.
+    /// Returns the rows at this y, in database units, in order of x. Found by binary search.
     pub fn rows_at(&self, y: i64) -> &'a [RowEntry]
         ensures { AreRowsAt self.now y result.now }
     {
         rows_at(self.frame, self.index, &y)
     }
 
-    /// The rows from one y on and below another, in database units, in order of y and then of x. They are found by bisection.
+    /// Returns the rows from one y on and below another, in database units, in order of y and then
+    /// of x. Found by binary search.
     pub fn rows_between(&self, from: i64, to: i64) -> &'a [RowEntry]
         ensures { AreRowsBetween self.now from to result.now }
     {
         rows_between(self.frame, self.index, &from, &to)
     }
 
-    /// A rectangle that holds all rows, in database units.
+    /// Returns a rectangle that holds all rows, in database units.
     pub fn extent(&self) -> &'a Rect
         ensures { IsExtentOf self.now result.now }
     {
         self.index.extent()
     }
 
-    /// The spans of the segment of that number that lie under soft blockages, in database units, from left to right; none if there
-    /// is no such segment. Segments are numbered as in `Segments::cut` of the frame.
+    /// Returns the spans of the segment with this number that lie under soft blockages, in database
+    /// units, from left to right; empty if there is no such segment. Segments are numbered as in
+    /// `Segments::cut` of the frame.
     pub fn soft_of(&self, segment: usize) -> &'a [Span]
         ensures { IsSoftOf self.now segment result.now }
     {

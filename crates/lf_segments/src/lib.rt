@@ -1,19 +1,50 @@
-//! Segments, the maximal spans of rows that a team may use, and all that is looked up of a frame.
+//! Segments, the maximal spans of rows that a team may use, and the index of a frame by position.
 //!
-//! A team may use a number of a row if the row is there the team's ground over its whole height and in no obstacle.
+//! A team may use a number of a row if the row there, over its whole height, is the team's ground
+//! and in no obstacle.
 //!
-//! - `Segments`: a list of row, team and x span, in the order of row, team and x. A contract sees the list.
-//! - *Land*: the segments as if there were no obstacles. *Strips*: the areas of the segments, one for each.
-//! - *Soft spans* of a segment: the maximal spans of its numbers at which a point of its strip lies in a soft blockage.
-//! - `RowStarts`, `RowsByY`: where each row's segments begin in the list; the rows in order of y, then x.
-//! - `FrameIndex` has all of these for one frame; a contract sees the lists. `IndexedFrame` is a frame together with its `FrameIndex`; a
-//!   contract sees the frame, of which it answers what legality asks (`Near` of `lf_floorplan`), by bisection and without
-//!   memory.
+//! - `Segments`: a list of row, team and x span, in the order of row, team and x. A contract sees
+//!   the list.
+//! - *Land*: the segments as if there were no obstacles.
+//! - *Strips*: the areas of the segments, one for each.
+//! - *Soft spans* of a segment: the maximal spans of its numbers at which a point of its strip lies
+//!   in a soft blockage.
+//! - `RowStarts`: where each row's segments begin in the list.
+//! - `RowsByY`: the rows in order of y, then x.
+//! - `FrameIndex`: all of the above for one frame. A contract sees the lists.
+//! - `IndexedFrame`: a frame together with its `FrameIndex`. A contract sees the frame. It
+//!   implements `FrameQuery` of `lf_floorplan` by binary search, without allocating.
+//!
+//! Used by most other crates.
+//!
+//! Modules, in reading order:
+//!
+//! - `segment`: a segment
+//! - `strip`: a strip
+//! - `extent`: the rectangle that holds all rows of a frame
+//! - `obstacle_boxes`: the fences and obstacles of a frame in a tree
+//! - `cover`: the parts of a range that boxes leave free, and those they cover over a height
+//! - `cut_row`: the segments of one row
+//! - `row_starts`: where each row's segments begin in the list
+//! - `segment_runs`: the segments of one row and team
+//! - `segments`: all segments of a frame
+//! - `rows_by_y`: the rows of a frame in order of y
+//! - `row_lookup`: the row at a point, and whether a box on rows lies in segments
+//! - `strips`: the strips of segments, and the search for them
+//! - `soft_spans`: the spans of segments under soft blockages
+//! - `frame_index`: the index of a frame
+//! - `indexed_frame`: a frame together with its index
+//! - `laws`: laws on segments and on rows in order of y
+//!
+//! From `crates/lf_tests_placement/src/segments.rt`:
 //!
 //! ```
-//! let ground = FrameIndex::build(Global, &frame)?;
-//! let plan = IndexedFrame::new(&frame, &ground);
-//! let rows = plan.rows_at(1400); // the rows at this y, in order of x
+//! let rows = RowsByY::build(alloc, frame)?;
+//! Ok(
+//!     are_rows(rows.at(8000), &[0, 3])
+//!         && are_rows(rows.between(2000, 4001), &[1, 2])
+//!         && rows.at(0).is_empty(),
+//! )
 //! ```
 #![tactic(auto)]
 

@@ -9,7 +9,7 @@ use lf_rtree::{Placed, RTree};
 use lf_units::Rect;
 use std::alloc::{AllocError, Global};
 
-/// Appends rectangles, each with this number.
+/// Appends rectangles, each with this number. `Err` if an allocation fails.
 pub(crate) fn push_rects(
     boxes: &mut Vec<Placed>,
     own: u32,
@@ -23,7 +23,8 @@ pub(crate) fn push_rects(
     Ok(())
 }
 
-/// The rectangles of the fences, each with its fence's number.
+/// Returns the rectangles of the fences, each with its fence's number. `Err` if an allocation
+/// fails.
 fn boxes_of_fences(alloc: Global, teams: &[Team]) -> Result<Vec<Placed>, AllocError>
     requires { length teams.now ≤ 1024 }
     ensures { IfOk result (λ boxes. boxes.items ≡ fence_boxes 0 teams.now) }
@@ -35,7 +36,8 @@ fn boxes_of_fences(alloc: Global, teams: &[Team]) -> Result<Vec<Placed>, AllocEr
     Ok(boxes)
 }
 
-/// The rectangles of the fences and the obstacles; an obstacle has the ground team's number.
+/// Returns the rectangles of the fences and the obstacles. An obstacle has the ground team's
+/// number. `Err` if an allocation fails.
 fn boxes_of_frame(alloc: Global, frame: &Frame) -> Result<Vec<Placed>, AllocError>
     ensures { IfOk result (λ boxes. boxes.items ≡ frame_boxes frame.now) }
 {
@@ -45,7 +47,8 @@ fn boxes_of_frame(alloc: Global, frame: &Frame) -> Result<Vec<Placed>, AllocErro
     Ok(boxes)
 }
 
-/// The rectangles of the fences and the obstacles, to be found by where they lie.
+/// Returns a tree of the rectangles of the fences and the obstacles, for searches by position.
+/// `Err` if an allocation fails.
 pub(crate) fn tree_of_frame(alloc: Global, frame: &Frame) -> Result<RTree, AllocError>
     ensures { IfOk result (λ tree. IsPermutation (frame_boxes frame.now) tree) }
 {
@@ -60,8 +63,8 @@ fn sort_boxes(boxes: &mut Vec<Placed>)
     boxes.sort_unstable_by_key(|placed| placed.own);
 }
 
-/// Replaces the contents of `strips_overlapping` by the boxes of the frame that share a point with the row, in order
-/// of their numbers.
+/// Replaces the contents of `near` by the boxes of the frame that share a point with the row, in
+/// order of their numbers. `Err` if an allocation fails.
 pub(crate) fn boxes_near(
     tree: &RTree,
     frame: &Frame,

@@ -1,4 +1,4 @@
-//! Which row lies at a point, and whether a box that stands on rows lies in segments of them. Each look-up is by bisection.
+//! The row at a point, and whether a box on rows lies in segments. Each lookup is a binary search.
 
 ghost use Rattle.std.specs.Prelude.{◌≡◌, ◌↔◌, ◌≤◌, ◌+ℤ◌, ◌*ℤ◌, ◌≤ℤ◌, ◌<ℤ◌, All, AllPairs, IsTrue, MatchOption, Some, pos, slice_get};
 ghost use Rattle.std.specs.Option.{IsSomeAnd};
@@ -16,7 +16,7 @@ use crate::segments::Segments;
 use lf_floorplan::{Frame, Row};
 use lf_units::{Point, Rect};
 
-/// The row of an entry.
+/// Returns the row of an entry.
 fn row_of<'a>(frame: &'a Frame, entry: &RowEntry) -> &'a Row
     requires { IsEntryOf frame.now entry.now }
     ensures row { slice_get frame.now.rows entry.now.row ≡ Some result.now }
@@ -25,7 +25,7 @@ fn row_of<'a>(frame: &'a Frame, entry: &RowEntry) -> &'a Row
     &frame.rows.as_slice()[entry.row]
 }
 
-/// Whether the row ends at x or left of it.
+/// Returns whether the row ends at x or left of it.
 fn ends_by(frame: &Frame, row: &Row, x: &i64) -> bool
     requires { IsCoreRow frame.now.pitch row.now }
     ensures { IsTrue result ↔ ((row_area frame.now.pitch row.now).x2 ≤ℤ x.now) }
@@ -33,7 +33,7 @@ fn ends_by(frame: &Frame, row: &Row, x: &i64) -> bool
     row.right_edge(&frame.pitch) <= *x
 }
 
-/// The position of the row at y that extends over x; none if there is none.
+/// Returns the position of the row at y that extends over x. `None` if there is no such row.
 pub(crate) fn row_at(frame: &Frame, rows: &RowsByY, y: &i64, x: &i64) -> Option<usize>
     requires { IsRowsByY frame.now rows.now }
     ensures { MatchOption result (All (λ r. ExtendsOver frame.now y.now x.now r → ⊥) frame.now.rows)
@@ -48,14 +48,15 @@ pub(crate) fn row_at(frame: &Frame, rows: &RowsByY, y: &i64, x: &i64) -> Option<
     Some(entry.row)
 }
 
-/// Whether the box ends where the segment ends or left of it.
+/// Returns whether the box ends where the segment ends or left of it.
 fn ends_in(rect: &Rect, segment: &Segment) -> bool
     ensures { IsTrue result ↔ (rect.now.x2 ≤ℤ segment.now.span.hi) }
 {
     rect.x2 <= segment.span.hi
 }
 
-/// Whether the box's x range lies in one segment of the row and the team. Segments are in order.
+/// Returns whether the box's x range lies in one segment of the row and the team. Segments are in
+/// order.
 fn lies_in_one(segments: &Segments, row: usize, team: usize, rect: &Rect) -> bool
     requires order { AllPairs ComesBefore segments.now }
     requires wide { rect.now.x1 <ℤ rect.now.x2 }
@@ -70,7 +71,8 @@ fn lies_in_one(segments: &Segments, row: usize, team: usize, rect: &Rect) -> boo
     }
 }
 
-/// Whether a row at this y carries the box's x range and has it in one segment of the team.
+/// Returns whether a row at this y extends over the box's left edge and has the box's x range in
+/// one segment of the team.
 fn lies_at(
     frame: &Frame,
     rows: &RowsByY,
@@ -90,7 +92,7 @@ fn lies_at(
     }
 }
 
-/// The y this many site heights above y.
+/// Returns the y that is `level` site heights above y.
 fn level_above(y: &i64, pitch: &Point, level: u32) -> i64
     requires from { IsDefNumber y.now }
     requires high { pos 0 <ℤ pitch.now.y }
@@ -101,8 +103,8 @@ fn level_above(y: &i64, pitch: &Point, level: u32) -> i64
     *y + i64::from(level) * pitch.y
 }
 
-/// Whether the box, which stands on rows, lies in one segment of the team in each row that carries it. It is at most 8 rows
-/// high.
+/// Returns whether the box lies in one segment of the team in each row that carries it. The box
+/// must rest on rows and is at most 8 rows high.
 pub(crate) fn lies_in(
     frame: &Frame,
     rows: &RowsByY,

@@ -16,8 +16,8 @@ pub struct RowRange {
     pub end: usize,
 }
 
-/// For each row the number of segments of earlier rows, so that a row's segments are found by one
-/// look-up. A contract sees the list of these numbers. Only `build` allocates.
+/// For each row the number of segments of earlier rows. One lookup finds a row's segments. A
+/// contract sees the list of the numbers. Only `build` allocates.
 #[derive(Drop)]
 pub struct RowStarts {
     starts: Vec<usize>,
@@ -31,7 +31,7 @@ impl Model for RowStarts {
     ghost view = { λ s. s.starts.items };
 }
 
-/// How many of the segments are of an earlier row. They are in order of rows.
+/// Returns the number of segments of an earlier row. The segments are in order of rows.
 fn count_earlier(segments: &[Segment], row: usize) -> usize
     requires { IsNonDecreasingBy (λ g. g.row) segments.now }
     ensures { IsStartOf (rows_of segments.now) row result }
@@ -39,7 +39,8 @@ fn count_earlier(segments: &[Segment], row: usize) -> usize
     segments.partition_point(|segment| segment.row < row)
 }
 
-/// For each of this many rows how many segments are of an earlier one.
+/// Returns for each of `rows` rows the number of segments of an earlier one. `Err` if an allocation
+/// fails.
 fn starts_of(alloc: Global, segments: &[Segment], rows: usize) -> Result<Vec<usize>, AllocError>
     requires order { IsNonDecreasingBy (λ g. g.row) segments.now }
     requires known { All (λ g. g.row < rows) segments.now }
@@ -53,8 +54,8 @@ fn starts_of(alloc: Global, segments: &[Segment], rows: usize) -> Result<Vec<usi
 }
 
 impl RowStarts {
-    /// The starts for segments of `rows` rows. The segments are in the order of their rows, and each row is below `rows`. `Err` if
-    /// an allocation fails.
+    /// Returns the starts for segments of `rows` rows. The segments are in the order of their rows,
+    /// and each row is below `rows`. `Err` if an allocation fails.
     pub fn build(alloc: Global, segments: &[Segment], rows: usize) -> Result<Self, AllocError>
         requires order { IsNonDecreasingBy (λ g. g.row) segments.now }
         requires known { All (λ g. g.row < rows) segments.now }
@@ -64,8 +65,8 @@ impl RowStarts {
         Ok(RowStarts { starts })
     }
 
-    /// The positions of the row's segments among `count` segments; an empty range at the end of the
-    /// list if the table has no such row. One look-up.
+    /// Returns the positions of the row's segments among `count` segments. The range is empty at
+    /// the end of the list if the table has no such row. Takes one lookup.
     pub fn of_row(&self, row: usize, count: usize) -> RowRange
         ensures { (rows : List ℕ) → AreRowStarts rows self.now → length rows ≡ count → IsRangeOf rows row result.start result.end }
     {

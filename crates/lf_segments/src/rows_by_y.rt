@@ -1,4 +1,4 @@
-//! The rows of a frame in order of y, found by bisection.
+//! The rows of a frame in order of y, found by binary search.
 
 ghost use Rattle.std.specs.Prelude.{◌≡◌, ◌<◌, ◌≤◌, ◌≤ℤ◌, ◌<ℤ◌, ℕ, All, AllPairs, IfOk, IsPermutation, IsTrue, MatchOption, length, slice_index_or};
 ghost use Rattle.lf_segments.specs.declared.rows_by_y.RowEntry.{RowEntry};
@@ -17,8 +17,8 @@ pub struct RowEntry {
     pub row: usize,
 }
 
-/// The rows of a frame in order of y, and those of one y in order of x. A contract sees the list of
-/// their entries, one for each row. Only `build` allocates.
+/// The rows of a frame in order of y, and those at the same y in order of x. A contract sees the
+/// list of their entries, one for each row. Only `build` allocates.
 #[derive(Drop)]
 pub struct RowsByY {
     entries: Vec<RowEntry>,
@@ -36,7 +36,7 @@ impl Model for RowsByY {
     ghost invariant = { λ s. AllPairs PrecedesByY s.entries.items };
 }
 
-/// The entry of a row, by its position.
+/// Returns the entry of a row, given its position.
 fn entry_of(number: usize, row: &Row) -> RowEntry
     ensures { result ≡ entry number row.now }
 {
@@ -47,7 +47,7 @@ fn entry_of(number: usize, row: &Row) -> RowEntry
     }
 }
 
-/// The entries of the rows, in the order of the rows.
+/// Returns the entries of the rows, in the order of the rows. `Err` if an allocation fails.
 fn entries_of(alloc: Global, rows: &[Row]) -> Result<Vec<RowEntry>, AllocError>
     ensures { IfOk result (λ entries. entries.items ≡ entries_from 0 rows.now) }
 {
@@ -58,7 +58,7 @@ fn entries_of(alloc: Global, rows: &[Row]) -> Result<Vec<RowEntry>, AllocError>
     Ok(entries)
 }
 
-/// Sorts the entries by y, and those of one y by x.
+/// Sorts the entries by y, and those at the same y by x.
 fn sort_by_y(entries: &mut Vec<RowEntry>)
     ensures moved { IsPermutation entries.old.items entries.new.items }
     ensures sorted { AllPairs PrecedesByY entries.new.items }
@@ -66,7 +66,7 @@ fn sort_by_y(entries: &mut Vec<RowEntry>)
     entries.sort_unstable_by_key(|entry| (entry.y, entry.x));
 }
 
-/// The entries of the frame's rows, in order of y.
+/// Returns the entries of the frame's rows, in order of y. `Err` if an allocation fails.
 fn rows_in_order(alloc: Global, frame: &Frame) -> Result<Vec<RowEntry>, AllocError>
     ensures { IfOk result (λ entries. IsRowsByY frame.now entries.items) }
 {
@@ -75,7 +75,7 @@ fn rows_in_order(alloc: Global, frame: &Frame) -> Result<Vec<RowEntry>, AllocErr
     Ok(entries)
 }
 
-/// Where an entry of this y would stand if the entries rose evenly: a guess.
+/// Estimates the position of an entry with this y, as if the entries rose evenly.
 fn even_place(entries: &[RowEntry], y: &i64) -> usize {
     let Some(first) = entries.first() else {
         return 0;
@@ -87,7 +87,8 @@ fn even_place(entries: &[RowEntry], y: &i64) -> usize {
     above.saturating_mul(steps).div_ceil(height) as usize
 }
 
-/// Whether there are so many entries, those before that position lie below y, and no others.
+/// Returns whether this position parts the entries: those in front of it lie below y, and the rest
+/// do not. False if there are fewer entries.
 fn parts_at(entries: &[RowEntry], y: &i64, at: usize) -> bool
     requires { AllPairs PrecedesByY entries.now }
     ensures within { IsTrue result → at ≤ length entries.now }
@@ -103,8 +104,8 @@ fn parts_at(entries: &[RowEntry], y: &i64, at: usize) -> bool
     at == entries.len() || *y <= entries[at].y
 }
 
-/// How many of the entries lie below y. They are found at one look where the rows rise evenly, and else by
-/// bisection.
+/// Returns the number of entries below y. If the rows rise evenly, one probe finds it; otherwise a
+/// binary search does.
 fn count_below(entries: &[RowEntry], y: &i64) -> usize
     requires { AllPairs PrecedesByY entries.now }
     ensures within { result ≤ length entries.now }
@@ -118,7 +119,7 @@ fn count_below(entries: &[RowEntry], y: &i64) -> usize
     entries.partition_point(|entry| entry.y < *y)
 }
 
-/// How many of the entries lie below y. They are looked at one after another, since few do.
+/// Returns the number of entries below y. Scans them one after another, since few are.
 fn count_low(entries: &[RowEntry], y: &i64) -> usize
     requires { AllPairs PrecedesByY entries.now }
     ensures within { result ≤ length entries.now }
@@ -133,7 +134,7 @@ fn count_low(entries: &[RowEntry], y: &i64) -> usize
     entries.len()
 }
 
-/// How many of the entries lie at y or below it. They are looked at one after another.
+/// Returns the number of entries at y or below it. Scans them one after another.
 fn count_up_to(entries: &[RowEntry], y: &i64) -> usize
     requires { AllPairs PrecedesByY entries.now }
     ensures within { result ≤ length entries.now }
@@ -148,7 +149,7 @@ fn count_up_to(entries: &[RowEntry], y: &i64) -> usize
     entries.len()
 }
 
-/// The entries of this y.
+/// Returns the entries at this y.
 fn run_at<'a>(entries: &'a [RowEntry], y: &i64) -> &'a [RowEntry]
     requires { AllPairs PrecedesByY entries.now }
     ensures { IsRunAt entries.now y.now result.now }
@@ -157,7 +158,7 @@ fn run_at<'a>(entries: &'a [RowEntry], y: &i64) -> &'a [RowEntry]
     &rest[..count_up_to(rest, y)]
 }
 
-/// The entries from one y on and below another.
+/// Returns the entries from one y on and below another.
 fn run_between<'a>(entries: &'a [RowEntry], from: &i64, to: &i64) -> &'a [RowEntry]
     requires { AllPairs PrecedesByY entries.now }
     ensures { IsRunBetween entries.now from.now to.now result.now }
@@ -166,7 +167,7 @@ fn run_between<'a>(entries: &'a [RowEntry], from: &i64, to: &i64) -> &'a [RowEnt
     &rest[..count_low(rest, to)]
 }
 
-/// Whether the row lies below y, or lies at y and does not begin right of x.
+/// Returns whether the row lies below y, or lies at y and does not begin right of x.
 fn comes_by(entry: &RowEntry, y: &i64, x: &i64) -> bool
     ensures { result ≡ is_up_to_point y.now x.now entry.now }
 {
@@ -179,7 +180,7 @@ fn comes_by(entry: &RowEntry, y: &i64, x: &i64) -> bool
     entry.x <= *x
 }
 
-/// How many of the rows lie below y, or lie at y and do not begin right of x.
+/// Returns the number of rows that lie below y, or lie at y and do not begin right of x.
 fn count_by(entries: &[RowEntry], y: &i64, x: &i64) -> usize
     requires { AllPairs PrecedesByY entries.now }
     ensures within { result ≤ length entries.now }
@@ -189,7 +190,7 @@ fn count_by(entries: &[RowEntry], y: &i64, x: &i64) -> usize
     entries.partition_point(|entry| comes_by(entry, y, x))
 }
 
-/// The last of the rows at y that do not begin right of x.
+/// Returns the last of the rows at y that do not begin right of x. `None` if there is no such row.
 fn last_at<'a>(entries: &'a [RowEntry], y: &i64, x: &i64) -> Option<&'a RowEntry>
     requires { AllPairs PrecedesByY entries.now }
     ensures { MatchOption result (All (λ e. BeginsUpTo y.now x.now e → ⊥) entries.now) (λ e. IsLastAt entries.now y.now x.now e.now) }
@@ -206,7 +207,7 @@ fn last_at<'a>(entries: &'a [RowEntry], y: &i64, x: &i64) -> Option<&'a RowEntry
 }
 
 impl RowsByY {
-    /// The table of the frame's rows. `Err` if an allocation fails.
+    /// Returns the table of the frame's rows. `Err` if an allocation fails.
     pub fn build(alloc: Global, frame: &Frame) -> Result<Self, AllocError>
         ensures { IfOk result (λ rows. IsRowsByY frame.now rows) }
     {
@@ -214,23 +215,24 @@ impl RowsByY {
         Ok(RowsByY { entries })
     }
 
-    /// The entries of the rows at this y, in order of x, a run of the list. They are found by bisection.
+    /// Returns the entries of the rows at this y, in order of x, a run of the list. Found by binary
+    /// search.
     pub fn at(&self, y: i64) -> &[RowEntry]
         ensures { IsRunAt self.now y result.now }
     {
         run_at(&self.entries, &y)
     }
 
-    /// The entries of the rows from one y on and below another, in order of y and then of x, a run of the list. They are found by
-    /// bisection.
+    /// Returns the entries of the rows from one y on and below another, a run of the list. They are
+    /// in order of y and then of x. Found by binary search.
     pub fn between(&self, from: i64, to: i64) -> &[RowEntry]
         ensures { IsRunBetween self.now from to result.now }
     {
         run_between(&self.entries, &from, &to)
     }
 
-    /// Of the rows at this y that do not begin right of x the one farthest right; none iff there is no such row. It is found by
-    /// bisection.
+    /// Returns, among the rows at this y that do not begin right of x, the one farthest right.
+    /// `None` iff there is no such row. Found by binary search.
     pub fn last_at(&self, y: &i64, x: &i64) -> Option<&RowEntry>
         ensures { MatchOption result (All (λ e. BeginsUpTo y.now x.now e → ⊥) self.now) (λ e. IsLastAt self.now y.now x.now e.now) }
     {

@@ -1,4 +1,5 @@
-//! The segments of one row and team: those of the row by a look-up, those of the team among them by bisection.
+//! The segments of one row and team. A lookup finds those of the row, and a binary search among
+//! them those of the team.
 
 ghost use Rattle.std.specs.Prelude.{◌≡◌, ◌↔◌, IsTrue, ◌<◌, ◌≤◌, ◌≤ℤ◌, ◌<ℤ◌, ℕ, All, AllPairs, MatchOption, length, slice_index_or};
 ghost use Rattle.std.specs.List.{HoldsAt};
@@ -18,7 +19,7 @@ pub(crate) struct Run<'a> {
     pub(crate) segments: &'a [Segment],
 }
 
-/// The positions of the segments of a row, by the starts of rows.
+/// Returns the positions of the segments of a row, by the starts of rows.
 pub(crate) fn range_in(segments: &[Segment], starts: &RowStarts, row: usize) -> RowRange
     requires { AreRowStarts (rows_of segments.now) starts.now }
     ensures { IsRangeOf (rows_of segments.now) row result.start result.end }
@@ -26,7 +27,7 @@ pub(crate) fn range_in(segments: &[Segment], starts: &RowStarts, row: usize) -> 
     starts.of_row(row, segments.len())
 }
 
-/// The segments of a row, by the starts of rows.
+/// Returns the segments of a row, by the starts of rows.
 fn run_of_row<'a>(segments: &'a [Segment], starts: &RowStarts, row: usize) -> Run<'a>
     requires { AreRowStarts (rows_of segments.now) starts.now }
     ensures { IsRunFrom (λ g. g.row ≡ row) segments.now result.start result.segments.now }
@@ -38,7 +39,7 @@ fn run_of_row<'a>(segments: &'a [Segment], starts: &RowStarts, row: usize) -> Ru
     }
 }
 
-/// The segments of a team, among those of a row, which are in order of teams.
+/// Returns the segments of a team, among those of a row, which are in order of teams.
 fn run_of_team(segments: &[Segment], team: usize) -> Run<'_>
     requires { IsNonDecreasingBy (λ g. g.team) segments.now }
     ensures { IsRunFrom (λ g. g.team ≡ team) segments.now result.start result.segments.now }
@@ -52,7 +53,7 @@ fn run_of_team(segments: &[Segment], team: usize) -> Run<'_>
     }
 }
 
-/// The segments of a row and a team.
+/// Returns the segments of a row and a team.
 pub(crate) fn run_of<'a>(
     segments: &'a [Segment],
     starts: &RowStarts,
@@ -71,7 +72,8 @@ pub(crate) fn run_of<'a>(
     }
 }
 
-/// How many of the segments of a row and a team end at x or before it. They are in order of x.
+/// Returns the number of segments of a row and a team that end at x or left of it. The segments are
+/// in order of x.
 fn count_ended(segments: &[Segment], x: &i64) -> usize
     requires { AllPairs (λ g h. g.span.hi ≤ℤ h.span.hi) segments.now }
     ensures within { result ≤ length segments.now }
@@ -81,14 +83,15 @@ fn count_ended(segments: &[Segment], x: &i64) -> usize
     segments.partition_point(|segment| segment.span.hi <= *x)
 }
 
-/// Whether the segment begins after x.
+/// Returns whether the segment begins right of x.
 fn begins_behind(segment: &Segment, x: &i64) -> bool
     ensures { IsTrue result ↔ (x.now <ℤ segment.now.span.lo) }
 {
     *x < segment.span.lo
 }
 
-/// The position of the segment of a row and a team that holds x; none if there is none.
+/// Returns the position of the segment of a row and a team that holds x. `None` if there is no such
+/// segment.
 pub(crate) fn place_in(
     segments: &[Segment],
     starts: &RowStarts,

@@ -14,8 +14,8 @@ use lf_floorplan::Frame;
 use std::alloc::{AllocError, Global};
 use std::marker::Model;
 
-/// The segments of a frame, in order of rows, then of teams, then from left to right. A contract sees their one list, of row,
-/// team and x span. Only `cut` allocates.
+/// The segments of a frame, in order of rows, then of teams, then from left to right. A contract
+/// sees one list of row, team and x span. Only `cut` allocates.
 #[derive(Drop)]
 pub struct Segments {
     list: Vec<Segment>,
@@ -36,7 +36,8 @@ impl Model for Segments {
     ghost invariant = { λ s. AllPairs ComesBefore s.list.items × (All (λ g. IsFilled g.span) s.list.items × AreRowStarts (rows_of s.list.items) s.starts) };
 }
 
-/// The segments of all rows. For each row only the boxes near it are looked at.
+/// Returns the segments of all rows. Visits for each row only the boxes near it. `Err` if an
+/// allocation fails.
 fn cut_rows(alloc: Global, frame: &Frame) -> Result<Vec<Segment>, AllocError>
     ensures { IfOk result (λ segments. IsCut frame.now segments.items) }
 {
@@ -50,15 +51,15 @@ fn cut_rows(alloc: Global, frame: &Frame) -> Result<Vec<Segment>, AllocError>
     Ok(segments)
 }
 
-/// The segments of a frame in one list, and those as if there were no obstacles.
+/// The segments of a frame in one list, and the land.
 #[derive(Drop)]
 struct Lists {
     segments: Vec<Segment>,
     land: Vec<Segment>,
 }
 
-/// The segments of all rows, and those as if there were no obstacles. For each row only the boxes near
-/// it are looked at, once for both.
+/// Returns the segments of all rows, and the land. Visits for each row only the boxes near it, once
+/// for both lists. `Err` if an allocation fails.
 fn cut_both(alloc: Global, frame: &Frame) -> Result<Lists, AllocError>
     ensures segments { IfOk result (λ lists. IsCut frame.now lists.segments.items) }
     ensures land { IfOk result (λ lists. IsCutBeside frame.now [] lists.land.items) }
@@ -76,7 +77,8 @@ fn cut_both(alloc: Global, frame: &Frame) -> Result<Lists, AllocError>
     Ok(Lists { segments, land })
 }
 
-/// A list of segments of the frame in order, with the starts of the frame's rows in it.
+/// Returns a list of segments of the frame in order, with the starts of the frame's rows in it.
+/// `Err` if an allocation fails.
 fn indexed(alloc: Global, frame: &Frame, list: Vec<Segment>) -> Result<Segments, AllocError>
     requires order { AllPairs ComesBefore list.items }
     requires known { All (IsSegment frame.now) list.items }
@@ -86,14 +88,14 @@ fn indexed(alloc: Global, frame: &Frame, list: Vec<Segment>) -> Result<Segments,
     Ok(Segments { list, starts })
 }
 
-/// The segments of a frame, and those as if there were no obstacles.
+/// The segments of a frame, and the land.
 #[derive(Drop)]
 pub(crate) struct Cuts {
     pub(crate) segments: Segments,
     pub(crate) land: Segments,
 }
 
-/// The segments of the frame, and those as if there were no obstacles.
+/// Returns the segments of the frame, and the land. `Err` if an allocation fails.
 pub(crate) fn cuts_of(alloc: Global, frame: &Frame) -> Result<Cuts, AllocError>
     ensures segments { IfOk result (λ cuts. IsCut frame.now cuts.segments) }
     ensures land { IfOk result (λ cuts. IsCutBeside frame.now [] cuts.land) }
@@ -105,9 +107,9 @@ pub(crate) fn cuts_of(alloc: Global, frame: &Frame) -> Result<Cuts, AllocError>
 }
 
 impl Segments {
-    /// The segments of the frame: of each row and team the maximal spans of the row that the team may use. A filled span lies in
-    /// a segment of a row and a team iff at each of its numbers the row is the team's ground and in no obstacle. `Err` if an
-    /// allocation fails.
+    /// Returns the segments of the frame: for each row and team, the maximal spans of the row that
+    /// the team may use. A filled span lies in one of them iff at each of its numbers the row is
+    /// the team's ground and in no obstacle. `Err` if an allocation fails.
     pub fn cut(alloc: Global, frame: &Frame) -> Result<Self, AllocError>
         ensures { IfOk result (λ segments. IsCut frame.now segments) }
     {
@@ -115,37 +117,38 @@ impl Segments {
         indexed(alloc, frame, list)
     }
 
-    /// The segments, borrowed.
+    /// Returns the segments, borrowed.
     pub fn as_slice(&self) -> &[Segment]
         ensures { result.now ≡ self.now }
     {
         self.list.as_slice()
     }
 
-    /// How many segments there are.
+    /// Returns the number of segments.
     pub fn len(&self) -> usize
         ensures { result ≡ length self.now }
     {
         self.list.len()
     }
 
-    /// The segments of the row and the team, from left to right, a run of the list; empty if there are none. They are found
-    /// by a look-up and bisection.
+    /// Returns the segments of the row and the team, from left to right, a run of the list; empty
+    /// if there are no such segments. Found by a lookup and a binary search.
     pub fn of_row(&self, row: usize, team: usize) -> &[Segment]
         ensures { IsRunOf self.now row team result.now }
     {
         run_of(&self.list, &self.starts, row, team).segments
     }
 
-    /// The positions in the list of the segments of the row; an empty range if there are none. One look-up.
+    /// Returns the positions in the list of the segments of the row; an empty range if there are no
+    /// such segments. Takes one lookup.
     pub(crate) fn range_of(&self, row: usize) -> RowRange
         ensures { IsRangeOf (rows_of self.now) row result.start result.end }
     {
         range_in(&self.list, &self.starts, row)
     }
 
-    /// The position in the list of the segment of the row and the team that holds x; none iff none does. It is found
-    /// by a look-up and bisection.
+    /// Returns the position in the list of the segment of the row and the team that holds x. `None`
+    /// iff no segment of them does. Found by a lookup and a binary search.
     pub fn segment_at(&self, row: usize, team: usize, x: i64) -> Option<usize>
         ensures { MatchOption result (All (λ g. IsAt row team x g → ⊥) self.now) (HoldsAt (IsAt row team x) self.now) }
     {

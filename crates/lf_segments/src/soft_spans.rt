@@ -1,4 +1,4 @@
-//! What soft blockages cover of segments.
+//! The spans of segments under soft blockages.
 
 ghost use Rattle.std.specs.Prelude.{◌≡◌, ◌∷◌, ◌++◌, ◌<ℤ◌, ℕ, All, IfOk, IsPermutation, IsTrue, OnOk, slice_index_or, []};
 ghost use Rattle.lf_units.specs.Area.{SharesPoint};
@@ -14,8 +14,8 @@ use lf_units::{Rect, Span};
 use std::alloc::{AllocError, Global};
 use std::marker::Model;
 
-/// For each segment the spans that soft blockages cover of it: one list of all spans, and where those
-/// of each segment begin. A contract sees a list of lists.
+/// For each segment its soft spans: one list of all spans, and where those of each segment begin. A
+/// contract sees a list of lists.
 #[derive(Drop)]
 pub(crate) struct SoftSpans {
     spans: Vec<Span>,
@@ -34,7 +34,7 @@ impl Model for SoftSpans {
     ghost invariant = { λ s. AreStarts s.spans.items s.starts.items };
 }
 
-/// The spans of the segment of that number; none if there is no such segment.
+/// Returns the spans of the segment with this number; empty if there is no such segment.
 fn piece<'a>(spans: &'a [Span], starts: &[usize], segment: usize) -> &'a [Span]
     requires { AreStarts spans.now starts.now }
     ensures { result.now ≡ slice_index_or (pieces spans.now starts.now) segment [] }
@@ -49,7 +49,8 @@ fn piece<'a>(spans: &'a [Span], starts: &[usize], segment: usize) -> &'a [Span]
     &spans[*start..end]
 }
 
-/// The soft blockages of the frame, to be found by where they lie.
+/// Returns a tree of the soft blockages of the frame, for searches by position. `Err` if an
+/// allocation fails.
 fn soft_tree(alloc: Global, frame: &Frame) -> Result<RTree, AllocError>
     ensures { IfOk result (λ tree. IsPermutation (soft_boxes frame.now) tree) }
 {
@@ -58,7 +59,8 @@ fn soft_tree(alloc: Global, frame: &Frame) -> Result<RTree, AllocError>
     RTree::build(alloc, boxes)
 }
 
-/// The maximal spans of an area's x range that the x ranges of the boxes cover.
+/// Returns the maximal spans of an area's x range that the x ranges of the boxes cover. `Err` if an
+/// allocation fails.
 fn spans_met(alloc: Global, area: &Rect, boxes: &[Placed]) -> Result<Vec<Span>, AllocError>
     requires { area.now.x1 <ℤ area.now.x2 }
     ensures { IfOk result (λ spans. AreMetSpans area.now boxes.now spans.items) }
@@ -67,8 +69,8 @@ fn spans_met(alloc: Global, area: &Rect, boxes: &[Placed]) -> Result<Vec<Span>, 
     spans_meet(alloc, &[span_of(area)], joined.as_slice())
 }
 
-/// The maximal spans of an area's x range at which a point of it lies in a soft blockage. The boxes near
-/// the area are found anew.
+/// Returns the maximal spans of an area's x range at which a point of it lies in a soft blockage.
+/// Replaces the contents of `near`. `Err` if an allocation fails.
 fn soft_in(
     alloc: Global,
     frame: &Frame,
@@ -84,7 +86,7 @@ fn soft_in(
     spans_met(alloc, area, near.as_slice())
 }
 
-/// Appends one more list of spans to those that stand one after the other.
+/// Appends one more list of spans to the concatenated lists. `Err` if an allocation fails.
 fn push_piece(
     spans: &mut Vec<Span>,
     starts: &mut Vec<usize>,
@@ -100,7 +102,8 @@ fn push_piece(
 }
 
 impl SoftSpans {
-    /// For each strip the spans at which a point of it lies in a soft blockage of the frame.
+    /// Returns for each strip the spans at which a point of it lies in a soft blockage of the
+    /// frame. `Err` if an allocation fails.
     pub(crate) fn build(alloc: Global, frame: &Frame, strips: &[Strip]) -> Result<Self, AllocError>
         requires { All (λ g. g.area.x1 <ℤ g.area.x2) strips.now }
         ensures { IfOk result (AreSoftOver frame.now strips.now) }
@@ -116,14 +119,14 @@ impl SoftSpans {
         Ok(SoftSpans { spans, starts })
     }
 
-    /// Whether there is no span of any segment, told from the spans alone.
+    /// Returns true only if no segment has a span. Examines only the list of spans.
     pub(crate) fn is_empty(&self) -> bool
         ensures { IsTrue result → (k : ℕ) → slice_index_or self.now k [] ≡ [] }
     {
         self.spans.is_empty()
     }
 
-    /// The spans of the segment of that number; none if there is no such segment.
+    /// Returns the spans of the segment with this number; empty if there is no such segment.
     pub(crate) fn of_segment(&self, segment: usize) -> &[Span]
         ensures { result.now ≡ slice_index_or self.now segment [] }
     {

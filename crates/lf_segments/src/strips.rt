@@ -1,4 +1,4 @@
-//! The strips of segments, and how they are found.
+//! The strips of segments, and the search for them.
 
 ghost use Rattle.std.specs.Prelude.{◌≡◌, ◌<◌, ◌≤◌, ◌<ℤ◌, ◌≤ℤ◌, ◌+ℤ◌, ℕ, ℤ, All, AllPairs, IfOk, int_lt, length, map, negsuc, pos, true, false};
 ghost use Rattle.lf_segments.specs.declared.strip.Strip.{Strip};
@@ -23,7 +23,7 @@ pub struct StripRange {
     pub end: usize,
 }
 
-/// The y of the row of that number.
+/// Returns the y of the row with this number.
 fn level(frame: &Frame, row: usize) -> i64
     requires { row < length frame.now.rows }
     ensures is { result ≡ row_y frame.now row }
@@ -33,7 +33,7 @@ fn level(frame: &Frame, row: usize) -> i64
     i64::from(frame.rows.as_slice()[row].y)
 }
 
-/// The strip of a segment.
+/// Returns the strip of a segment.
 fn strip_at(frame: &Frame, segment: &Segment) -> Strip
     requires { segment.now.row < length frame.now.rows }
     ensures { result ≡ strip_of frame.now segment.now }
@@ -51,7 +51,7 @@ fn strip_at(frame: &Frame, segment: &Segment) -> Strip
     }
 }
 
-/// The strips of segments, in their order.
+/// Returns the strips of segments, in their order. `Err` if an allocation fails.
 pub(crate) fn strips_of(
     alloc: Global,
     frame: &Frame,
@@ -67,7 +67,8 @@ pub(crate) fn strips_of(
     Ok(strips)
 }
 
-/// Whether the strip is of an earlier row or team; in the same row and team it is the given answer.
+/// Returns whether the strip is of an earlier row or team. For a strip of this row and team,
+/// returns `left`.
 fn is_before(strip: &Strip, row: usize, team: usize, left: bool) -> bool
     ensures { result ≡ is_earlier row team left strip.now }
 {
@@ -80,7 +81,8 @@ fn is_before(strip: &Strip, row: usize, team: usize, left: bool) -> bool
     left
 }
 
-/// How many strips are of an earlier row or team, or of this row and team and end at x or before it.
+/// Returns the number of strips of an earlier row or team, or of this row and team that end at x or
+/// left of it.
 fn count_ended(strips: &[Strip], row: usize, team: usize, x: &i64) -> usize
     requires order { AllPairs LiesBefore strips.now }
     requires wide { All (λ g. g.area.x1 <ℤ g.area.x2) strips.now }
@@ -91,15 +93,17 @@ fn count_ended(strips: &[Strip], row: usize, team: usize, x: &i64) -> usize
     strips.partition_point(|strip| is_before(strip, row, team, strip.area.x2 <= *x))
 }
 
-/// Whether the strip is of an earlier row or team, or of this row and team and begins before x.
+/// Returns whether the strip is of an earlier row or team, or of this row and team and begins left
+/// of x.
 fn begins_before(strip: &Strip, row: usize, team: usize, x: &i64) -> bool
     ensures { result ≡ is_earlier row team (int_lt strip.now.area.x1 x.now) strip.now }
 {
     is_before(strip, row, team, strip.area.x1 < *x)
 }
 
-/// The number of the first strip from a number on that is of a later row or team, or of this row and team and does not begin
-/// before x; the number of strips if there is none.
+/// Returns the number of the first strip, from `first` on, that is not begun. It is of a later row
+/// or team, or of this row and team and does not begin left of x. Returns the number of strips if
+/// there is no such strip.
 fn end_of_begun(strips: &[Strip], first: usize, row: usize, team: usize, x: &i64) -> usize
     requires order { AllPairs LiesBefore strips.now }
     requires wide { All (λ g. g.area.x1 <ℤ g.area.x2) strips.now }
@@ -116,9 +120,8 @@ fn end_of_begun(strips: &[Strip], first: usize, row: usize, team: usize, x: &i64
     strips.len()
 }
 
-/// The numbers of the strips of a row and a team that overlap a range of x. They are found by a
-/// look-up of the row among the segments of the strips, by bisection among the strips of the row for the first, and from there on
-/// to the last.
+/// Returns the numbers of the strips of a row and a team that overlap a range of x. A lookup finds
+/// the strips of the row, a binary search among them the first, and a scan from there the last.
 pub(crate) fn near_strips(
     strips: &[Strip],
     segments: &Segments,
@@ -142,7 +145,8 @@ pub(crate) fn near_strips(
     }
 }
 
-/// The lowest y at which the strip of a row of this height may share a point with the rectangle.
+/// Returns the lowest y at which the strip of a row of this height may share a point with the
+/// rectangle.
 fn lowest_near(height: &i64, rect: &Rect) -> i64
     requires high { pos 0 <ℤ height.now }
     requires small { height.now ≤ℤ pos 20000000000 }
@@ -151,8 +155,8 @@ fn lowest_near(height: &i64, rect: &Rect) -> i64
     rect.y1.max(LOWEST) - *height + 1
 }
 
-/// The entries of the rows of this height whose strips may share a point with the rectangle. They are
-/// found by bisection.
+/// Returns the entries of the rows of this height whose strips may share a point with the
+/// rectangle. Found by binary search.
 pub(crate) fn rows_near<'a>(rows: &'a RowsByY, height: &i64, rect: &Rect) -> &'a [RowEntry]
     requires high { pos 0 <ℤ height.now }
     requires small { height.now ≤ℤ pos 20000000000 }

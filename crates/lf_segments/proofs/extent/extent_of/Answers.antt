@@ -8,7 +8,7 @@ use Rattle.lf_floorplan.proofs.SizeBounds.{small_pitch}
 use Rattle.lf_segments.proofs.ExtentLemmas.{IsHull, hull_holds, area_near, one_more, all_rows}
 use Rattle.lf_segments.proofs.extent.extent_of.Goals as goal
 
--- the area of a row of a frame
+-- The area of a row of a frame.
 near_row : (f : Frame) (r : Row) → IsCoreRow f.pitch r → IsNearDefRect (row_area f.pitch r)
 near_row f r heeded = area_near f.pitch r (small_pitch f.header.units f.site.size f.pitch f.pitch_whole) heeded
 

@@ -2,7 +2,7 @@ use Rattle.lf_floorplan.specs.Bounds.{IsNearDefRect}
 use Rattle.lf_segments.proofs.ExtentLemmas.{HoldsFirst}
 use Rattle.lf_segments.proofs.extent.extent_of.Given as goal
 
--- the rectangle holds the first rows
+-- The rectangle holds the first rows.
 abbrev pub invariant-loop-row : goal.invariant-loop-row
 invariant-loop-row l = record {
   near : IsNearDefRect l.extent;

@@ -2,7 +2,7 @@ use Rattle.std.proofs.Common.{◌≡◌, ◌<◌, ℕ, get_or, length}
 use Rattle.lf_segments.specs.RowStarts.{IsStartOf, rows_of}
 use Rattle.lf_segments.proofs.row_starts.starts_of.Given as goal
 
--- the rows passed have their starts
+-- The rows so far have their starts.
 abbrev pub invariant-loop-row : goal.invariant-loop-row
 invariant-loop-row l = record {
   many : length l.starts.items ≡ l.row;

@@ -5,6 +5,6 @@ use Rattle.lf_segments.proofs.segments.cut_both.Given as goal
 abbrev pub ghost-push_row : goal.ghost-push_row
 ghost-push_row a = a.frame.now.obstacles
 
--- the segments of the rows passed, and those as if there were no obstacles
+-- The segments of the rows so far, and their land.
 abbrev pub invariant-loop-number : goal.invariant-loop-number
 invariant-loop-number l = IsCutTo l.frame l.frame.obstacles l.number l.segments.items × IsCutTo l.frame [] l.number l.land.items

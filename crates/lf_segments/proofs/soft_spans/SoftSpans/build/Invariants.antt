@@ -2,7 +2,7 @@ use Rattle.std.proofs.Common.{take}
 use Rattle.lf_segments.specs.Soft.{AreSoftOver, AreStarts, pieces}
 use Rattle.lf_segments.proofs.soft_spans.SoftSpans.build.Given as goal
 
--- the soft spans of the strips passed
+-- The soft spans of the strips so far.
 abbrev pub invariant-loop-strip : goal.invariant-loop-strip
 invariant-loop-strip l = record {
   starts : AreStarts l.spans.items l.starts.items;
