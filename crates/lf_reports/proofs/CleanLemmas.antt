@@ -1,4 +1,5 @@
--- A report is clean if and only if its cells make a fully legal design, and its names are those of cells.
+-- A report is clean if and only if its cells make a fully legal design, and its names are those of
+-- cells.
 use Rattle.std.proofs.Common.{◌≡◌, ◌⊎◌, ℕ, zero, suc, ◌+◌, ◌<◌, List, [], ◌∷◌, length, map, Option, Some, None, inl, inr, refl, sym, ◌∙◌, ap, subst, arith, slice_get, get_or}
 use Rattle.std.specs.Prelude.{All, AllPairs, IsSome, is_none, count_by, filter, filter_map, option_map, option_and_then, ◌↔◌}
 use Rattle.std.specs.List.{range_with_len, cons_option}
@@ -37,7 +38,7 @@ Cells = List (Listed (List ℕ))
 
 -- ---- lists
 
--- what holds of each element's image holds of all images
+-- What holds for each element's image holds for all images.
 each_hold : {X Y : Type 0} (h : X → Y) (P : Y → Type 0) (xs : List X) → ((i : ℕ) (x : X) → slice_get xs i ≡ Some x → P (h x)) → All P (map h xs)
 each_hold h P [] all = All-nil P
 each_hold h P (x ∷ xs) all = All-cons P (h x) (map h xs) (all 0 x refl) (each_hold h P xs (λ i y there. all (suc i) y there))
@@ -66,13 +67,13 @@ pairs_of h R xs all i j x y less here there =
     subst (λ b. R (h x) b) (get_or_from_slice_get (map h xs) j (h y) (h x) to)
     (subst (λ a. R a (get_or (map h xs) j (h x))) (get_or_from_slice_get (map h xs) i (h x) (h x) at) pair)
 
--- an element of the images is the image of one
+-- An element of the images is the image of an element.
 behind_image : {X Y : Type 0} (h : X → Y) (xs : List X) (i : ℕ) (y : Y) → slice_get (map h xs) i ≡ Some y → (x : X) × ((slice_get xs i ≡ Some x) × (h x ≡ y))
 behind_image h [] i y there = absurd cc
 behind_image h (x ∷ xs) zero y there = (x, (refl, cc))
 behind_image h (x ∷ xs) (suc i) y there = behind_image h xs i y there
 
--- ---- nothing is found, where nothing is found at each number
+-- ---- the result is empty if no number has a value
 
 none_at : {Y : Type 0} (g : ℕ → Option Y) (a n k : ℕ) → filter_map g (range_with_len a n) ≡ [] → k < n → g (a + k) ≡ None
 none_at {Y = Y} g a zero k e less = absurd (omega arith)
@@ -97,11 +98,11 @@ all_none g a (suc n) none =
 
 -- ---- one cell
 
--- the cell at this spot among the others that are listed
+-- The cell at this position among the other listed cells.
 abbrev lifted_among : Frame → ℕ → Cells → ℕ → Listed (List ℕ) → PlacementQuery
 lifted_among f padding cells own c = query_from f c.team padding (map member_of cells) own c.mac
 
--- wherever the cell stands it is legal
+-- The cell is placed and legal.
 abbrev IsFine : Frame → ℕ → Cells → ℕ → Listed (List ℕ) → Type 0
 IsFine f padding cells own c = (p : SpotPlace) → option_map spot_of c.place ≡ Some p → IsLegalAt (lifted_among f padding cells own c) p
 
@@ -140,7 +141,7 @@ listed_is : (f : Frame) (cells : Cells) → All (IsListed f) cells → (own : �
 listed_is f cells all own c there =
     subst (IsListed f) (get_or_from_slice_get cells own c c there) (all own c (slice_get_within cells own c there))
 
--- where there is no violation each cell is fine
+-- If there is no violation, each cell is fine.
 all_fine : (l : Legalizer) (f : Frame) (padding : ℕ) (cells : Cells) → All (IsListed f) cells → violations_in l f padding cells ≡ [] →
     (own : ℕ) (c : Listed (List ℕ)) → slice_get cells own ≡ Some c → IsFine f padding cells own c
 all_fine l f padding cells all none own c there =
@@ -148,7 +149,7 @@ all_fine l f padding cells all none own c there =
     let by : violation_by l f padding cells own c ≡ None = ap (option_and_then (violation_by l f padding cells own)) (sym there) ∙ at in
     fine_at l f padding cells own c (listed_is f cells all own c there) c.place (none_of_map (violation_of cells c) (broken_among l f padding cells own c) by)
 
--- and where each cell is fine there is no violation
+-- If each cell is fine, there is no violation.
 no_violation : (l : Legalizer) (f : Frame) (padding : ℕ) (cells : Cells) → All (IsListed f) cells →
     ((own : ℕ) (c : Listed (List ℕ)) → slice_get cells own ≡ Some c → IsFine f padding cells own c) → violations_in l f padding cells ≡ []
 no_violation l f padding cells all fine = all_none (violation_at l f padding cells) 0 (length cells) (λ k less. at (0 + k) (slice_get cells (0 + k)) refl)
@@ -159,9 +160,9 @@ no_violation l f padding cells all fine = all_none (violation_at l f padding cel
         ap (option_and_then (violation_by l f padding cells own)) there
         ∙ ap (option_map (violation_of cells c)) (unbroken_at l f padding cells own c (listed_is f cells all own c there) c.place (fine own c there))
 
--- ---- how many are unplaced
+-- ---- the number of unplaced cells
 
--- the unplaced ones among the cells
+-- The unplaced cells.
 abbrev unplaced_of : Cells → Cells
 unplaced_of cells = filter (λ c. is_none c.place) cells
 
@@ -211,7 +212,7 @@ to_legal l f cells all clean = record {
     fine : (own : ℕ) (c : Listed (List ℕ)) → slice_get cells own ≡ Some c → IsFine f 0 cells own c
     fine = all_fine l f 0 cells all clean.none_broken
 
--- a cell that keeps rules 1 to 7 and is clear of the others is legal
+-- A cell that keeps rules 1 to 7 and is clear of the others is legal.
 legal_of : (f : Frame) (cells : Cells) (own : ℕ) (c : Listed (List ℕ)) (p : SpotPlace) → KeepsRules f (design_cell_of c) p →
     Clear f (map member_of cells) own (box_in f c.mac p) → IsLegalAt (lifted_among f 0 cells own c) p
 legal_of f cells own c p kept clear =
@@ -222,7 +223,7 @@ legal_of f cells own c p kept clear =
           (beside_hold (λ rect. SharesPoint (box_in f c.mac p) rect → ⊥) f (map member_of cells) own clear),
     )
 
--- each cell of a fully legal design is clear of the others
+-- Each cell of a fully legal design is clear of the others.
 legal_clear : (f : Frame) (cells : Cells) → IsFullyLegal f (map design_cell_of cells) → (own : ℕ) (c : Listed (List ℕ)) (p : SpotPlace) → slice_get cells own ≡ Some c →
     option_map spot_of c.place ≡ Some p → Clear f (map member_of cells) own (box_in f c.mac p)
 legal_clear f cells legal own c p here is k m q differ there is_q meets = elim order [
@@ -310,7 +311,7 @@ all_listed f sized (c ∷ cells) [] all =
 all_listed f sized (c ∷ cells) (p ∷ places) all =
     All-cons (IsListed f) _ (listed_at cells places) (listed_cell f sized c p (All-head (IsCell f) c cells all)) (all_listed f sized cells places (All-tail (IsCell f) c cells all))
 
--- what each named cell is, the named cells are
+-- A property of each named cell holds for the list of named cells.
 pub all_named : (f : Frame) (cells : List (Listed (Bor (List ℕ)))) → All (λ c. IsListed f (named c)) cells → All (IsListed f) (map named cells)
 all_named f [] all = All-nil (IsListed f)
 all_named f (c ∷ cells) all =
@@ -326,7 +327,7 @@ length_listed [] places = refl
 length_listed (c ∷ cells) [] = ap suc (length_listed cells [])
 length_listed (c ∷ cells) (p ∷ places) = ap suc (length_listed cells places)
 
--- a report of these parts
+-- A report with these parts.
 abbrev pub report_with : ℕ → ℕ → List Violation → Report
 report_with cells unplaced violations = record { cells = cells; unplaced = unplaced; violations = violations }
 

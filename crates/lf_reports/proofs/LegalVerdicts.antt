@@ -1,4 +1,4 @@
--- The verdicts of a design's cells tell whether it is fully legal.
+-- The verdicts of a design's cells decide whether it is fully legal.
 use Rattle.std.proofs.Common.{◌≡◌, ◌∙◌, ℕ, zero, suc, ◌+◌, ◌<◌, List, [], ◌∷◌, length, cond, Option, Some, None, refl, sym, ap, subst, arith}
 use Rattle.std.specs.Prelude.{◌↔◌, All, count_by, filter, filter_map, is_none, is_some, option_map, option_and_then, slice_get}
 use Rattle.std.specs.List.{range_with_len, cons_option}
@@ -18,7 +18,7 @@ use Rattle.lf_rules.specs.Reports.{IsClean}
 use Rattle.lf_reports.specs.Reports.{AreVerdicts, IsFaultless, broken_among, listed_at, report_of, verdict_at, violation_at, violation_by, violation_of, violations_in}
 use Rattle.lf_reports.proofs.CleanLemmas.{all_listed, clean_is_legal, standing_listed}
 
--- ---- as many verdicts say that a rule is broken as there are violations
+-- ---- there are as many verdicts with a broken rule as violations
 
 counted : {Y V : Type 0} (g : ℕ → Option Y) (n : ℕ) (vs : List (Option V)) →
     ((k : ℕ) (v : Option V) → slice_get vs k ≡ Some v → is_some (g (n + k)) ≡ is_some v) →
@@ -60,9 +60,9 @@ illegal_are l f cells verdicts are =
         let there = there_is cells k (subst (λ (n : ℕ). k < n) are.count (slice_get_within verdicts k v at)) in
         subst (λ (n : ℕ). is_some (violation_at l f 0 cells n) ≡ is_some v) (omega arith) (here k v there.0 (get_or_from_slice_get verdicts k v None at) there.1)
 
--- ---- a design is fully legal if and only if nothing is found
+-- ---- a design is fully legal if and only if it has no fault
 
--- as many cells are listed as unplaced as there are places that are none
+-- There are as many unplaced cells as places that are `None`.
 pub unplaced_are : (cells : List Cell) (places : List (Option Place)) → length places ≡ length cells →
     count_by is_none places ≡ count_by (λ c. is_none c.place) (listed_at cells places)
 unplaced_are [] [] long = refl
@@ -73,7 +73,7 @@ unplaced_are (c ∷ cells) (p ∷ places) long =
     ∙ ap (λ (n : ℕ). cond (is_none p) 1 0 + n) (unplaced_are cells places (omega (arith, long)))
     ∙ sym (sum_by-cons (λ (x : Listed (List ℕ)). cond (is_none x.place) 1 0) (record { name = c.name; team = c.team; mac = c.mac; place = p }) (listed_at cells places))
 
--- the report of a design at these places is clean if and only if it is then fully legal
+-- The report of a design at these places is clean if and only if the design is then fully legal.
 pub clean_there : (l : Legalizer) (f : Frame) (cells : List Cell) (places : List (Option Place)) → CellIsSized → All (IsCell f) cells →
     IsClean (report_of l f 0 (listed_at cells places)) ↔ IsFullyLegal f (design_cells_at cells places)
 clean_there l f cells places sized known =
@@ -101,7 +101,7 @@ legal_by_verdicts l f cells places verdicts sized known long are =
       },
     )
 
--- the verdicts of cells are those of the same cells
+-- The verdicts of cells are those of equal cells.
 pub verdicts_moved : (l : Legalizer) (f : Frame) → {cells same : List (Listed (List ℕ))} → cells ≡ same → {verdicts items : List (Option Broken)} → verdicts ≡ items →
     AreVerdicts l f 0 same items → AreVerdicts l f 0 cells verdicts
 verdicts_moved l f {cells = cells} {same = same} one {verdicts = verdicts} two are =

@@ -1,4 +1,4 @@
--- The cells of a loaded design, taken one after the other.
+-- The cells of a loaded design, one after the other.
 use Rattle.std.proofs.Common.{◌≡◌, ◌⊎◌, inl, inr, ℕ, zero, suc, ◌+◌, ◌<◌, ◌≤◌, List, [], ◌∷◌, ◌++◌, length, map, drop, get_or, Option, None, Some, refl, ap, sym, ◌∙◌, arith}
 use Rattle.std.specs.Prelude.{IsSome, slice_get, option_map}
 use Rattle.std.specs.Borrow.{Bor}
@@ -12,7 +12,7 @@ use Rattle.lf_floorplan.specs.LoadedCells.{borrowed_cell}
 use Rattle.lf_rules.specs.declared.report_types.Listed.{Listed}
 use Rattle.lf_reports.specs.Reports.{listed_at, named}
 
--- a cell of the list is lent
+-- A cell of the list is borrowed.
 pub is_there : (cells : List Cell) (k : ℕ) (o : Option CellRef) → option_map borrowed_cell o ≡ slice_get cells k → k < length cells → IsSome o
 is_there cells k (Some v) e within = refl
 is_there cells k None e within = go (slice_get_cases cells k).1 where
@@ -29,18 +29,18 @@ from_here (c ∷ cells) (suc k) v e =
     let shift : suc k + 1 ≡ suc (k + 1) = omega arith in
     rw shift (from_here cells k v e)
 
--- and the cells from there on begin with it
+-- The cells from there on begin with it.
 pub cells_from : (cells : List Cell) (k : ℕ) (o : Option CellRef) (v : CellRef) → option_map borrowed_cell o ≡ slice_get cells k → o ≡ Some v →
     drop k cells ≡ borrowed_cell v ∷ drop (k + 1) cells
 cells_from cells k o v e is = from_here cells k v (ap (option_map borrowed_cell) (sym is) ∙ e)
 
--- one value more, behind those before it
+-- One value more, after the previous ones.
 pub one_more : {X : Type 0} (before : List X) (x : X) (rest whole here : List X) → here ≡ x ∷ rest → before ++ here ≡ whole → (before ++ x ∷ []) ++ rest ≡ whole
 one_more {X = X} before x rest whole here is e =
     let same : (before ++ x ∷ []) ++ rest ≡ before ++ x ∷ rest = grind (arith, common_steps) in
     same ∙ ap (λ (xs : List X). before ++ xs) (sym is) ∙ e
 
--- one cell more, at its place
+-- One cell more, at its place.
 pub one_listed : (cells : List Cell) (places : List (Option Place)) (k : ℕ) (v : CellRef) (p : Option Place) (items : List (Listed (Bor (List ℕ))))
     (all : List (Listed (List ℕ))) → drop k cells ≡ borrowed_cell v ∷ drop (k + 1) cells → k < length places → p ≡ get_or places k p →
     map named items ++ listed_at (drop k cells) (drop k places) ≡ all →

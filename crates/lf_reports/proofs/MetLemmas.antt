@@ -1,4 +1,5 @@
--- Where all rules but overlap hold, the least number that is met in a tree of the cells' boxes decides.
+-- If all rules except Overlap hold, the least number that overlaps in a tree of the cells' boxes
+-- decides.
 use Rattle.std.proofs.Common.{◌≡◌, ℕ, List, Option, Some, None, sym, subst}
 use Rattle.std.specs.Prelude.{All, IsPermutation, MatchOption}
 use Rattle.std.specs.Option.{option_map}
@@ -14,7 +15,8 @@ use Rattle.lf_rules.specs.Team.{Member, boxes_from, boxes_beside}
 use Rattle.lf_rules.proofs.LeastMet.{first_beside, none_beside}
 use Rattle.lf_rules.proofs.RuleLemmas.{ApartAt, met_verdict}
 
--- where all rules but overlap hold, the least number that is met in a tree of the cells' boxes decides
+-- If all rules except Overlap hold, the least number that overlaps in a tree of the cells' boxes
+-- decides.
 pub met_in_tree : (t : Candidate) (cells : List Member) (own : ℕ) (tree : List Placed) (box : Rect) (verdict : Option Rule) (met : Option ℕ) →
     t.others ≡ boxes_beside t.frame cells own → box ≡ padded_box t → verdict ≡ None → IsFrameRuleVerdict t verdict →
     IsPermutation (boxes_from t.frame 0 cells) tree →

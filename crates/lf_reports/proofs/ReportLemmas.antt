@@ -1,4 +1,4 @@
--- What the loops of a report gather.
+-- The values that the loops of a report collect.
 use Rattle.std.proofs.Common.{◌≡◌, ℕ, zero, suc, ◌+◌, List, [], ◌∷◌, ◌++◌, Option, Some, None, refl, ap, sym, ◌∙◌, arith}
 use Rattle.std.specs.Prelude.{slice_get, filter_map, option_map, option_and_then}
 use Rattle.std.specs.List.{range_with_len, cons_option}
@@ -9,13 +9,13 @@ use Rattle.lf_rules.specs.declared.report_types.Listed.{Listed}
 use Rattle.lf_rules.specs.Legalizer.{Legalizer, IsVerdict, VerdictIsUnique}
 use Rattle.lf_reports.specs.Reports.{IsListed, candidate_among, broken_among, violation_of, violation_by, violation_at}
 
--- a verdict on the cell's trial is what every legalizer says
+-- A verdict on the cell's candidate is that of every legalizer.
 pub broken_is : (l : Legalizer) (f : Frame) (padding : ℕ) (cells : List (Listed (List ℕ))) (own : ℕ) (c : Listed (List ℕ)) (place : Place) (found : Option Broken) →
     VerdictIsUnique → IsListed f c → IsVerdict (candidate_among f padding cells own c place) found → found ≡ l.first_broken (candidate_among f padding cells own c place)
 broken_is l f padding cells own c place found one listed verdict =
     one (candidate_among f padding cells own c place) found (l.first_broken (candidate_among f padding cells own c place)) verdict (l.finds_first_broken (candidate_among f padding cells own c place) listed.sized)
 
--- what a number more adds to the list of what is found at each
+-- The value that one more number adds to the list of values.
 found_more : {Y : Type 0} (g : ℕ → Option Y) (a n : ℕ) →
     filter_map g (range_with_len a (suc n)) ≡ filter_map g (range_with_len a n) ++ cons_option (g (a + n)) []
 found_more {Y = Y} g a zero = ap (λ (m : ℕ). cons_option (g m) []) (omega arith)
@@ -35,12 +35,12 @@ told_more {Y = Y} g n old new is found =
     is ∙ ap (λ (xs : List Y). xs ++ cons_option (g n) []) found
     ∙ sym (ap (λ (k : ℕ). filter_map g (range_with_len 0 k)) next ∙ found_more g 0 n ∙ ap (λ (m : ℕ). filter_map g (range_with_len 0 n) ++ cons_option (g m) []) at)
 
--- the cell of that number breaks this rule, or none
+-- The cell with this number breaks this rule, or no rule.
 pub told_at : (l : Legalizer) (f : Frame) (padding : ℕ) (cells : List (Listed (List ℕ))) (own : ℕ) (c : Listed (List ℕ)) (o : Option Broken) → slice_get cells own ≡ Some c →
     o ≡ broken_among l f padding cells own c → violation_at l f padding cells own ≡ option_map (violation_of cells c) o
 told_at l f padding cells own c o there is = ap (option_and_then (violation_by l f padding cells own)) there ∙ ap (option_map (violation_of cells c)) (sym is)
 
--- if nothing is reported nothing is added
+-- `None` adds nothing.
 pub told_none : {Y : Type 0} (xs : List Y) (o : Option Y) → o ≡ None → xs ≡ xs ++ cons_option o []
 told_none {Y = Y} [] o e = sym (ap (λ (p : Option Y). cons_option p []) e)
 told_none {Y = Y} (x ∷ xs) o e = ap (λ (ys : List Y). x ∷ ys) (told_none xs o e)

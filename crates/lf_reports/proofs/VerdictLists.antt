@@ -38,7 +38,7 @@ boxes_known f n (c ∷ cells) =
     with_known f n (n + length (c ∷ cells)) c.mac c.place (boxes_from f (n + 1) cells) (omega arith)
     (subst (λ (m : ℕ). All (λ p. p.own < m) (boxes_from f (n + 1) cells)) long (boxes_known f (n + 1) cells))
 
--- each number of a box is that of a cell
+-- Each number of a box is that of a cell.
 pub numbers_known : (f : Frame) (cells : List Member) (boxes : List Placed) → IsPermutation (boxes_from f 0 cells) boxes → All (λ p. p.own < length cells) boxes
 numbers_known f cells boxes same =
     let from : 0 + length cells ≡ length cells = omega arith in
@@ -64,7 +64,7 @@ box_there f n (c ∷ cells) (suc k) m p there at =
     subst (λ (i : ℕ). Contains (boxes_from f n (c ∷ cells)) (record { own = i; rect = box_in f m.mac p })) number
     (behind_box f n c.mac c.place (boxes_from f (n + 1) cells) (record { own = (n + 1) + k; rect = box_in f m.mac p }) (box_there f (n + 1) cells k m p there at))
 
--- ---- a verdict more
+-- ---- one verdict more
 
 differ_or_not : (a b : ℕ) → (a ≡ b) ⊎ (a ≢ b)
 differ_or_not a b =
@@ -100,7 +100,7 @@ puts l f padding cells own cell v old there is within some = record {
     keep other c at had (inl same) = here other c same at
     keep other c at had (inr differ) = get_or-set_other old own other v None differ ∙ had
 
--- the same where the verdict is only set if a rule is broken
+-- The same if the verdict is only set when a rule is broken.
 pub puts_or_keeps : (l : Legalizer) (f : Frame) (padding : ℕ) (cells : List (Listed (List ℕ))) (own : ℕ) (cell : Listed (List ℕ)) (v : Option Broken) (old new : List (Option Broken)) → slice_get cells own ≡ Some cell →
     v ≡ broken_among l f padding cells own cell → own < length old → AreSomeVerdicts l f padding cells old → IsVerdictSet own v old new → SetsVerdict l f padding cells own old new
 puts_or_keeps l f padding cells own cell v old new there is within some (inr set_now) =
@@ -122,7 +122,7 @@ puts_or_keeps l f padding cells own cell v old new there is within some (inl (no
 
 -- ---- the cells of the boxes
 
--- the cell that was fetched for a box is the one of the box's number
+-- The cell that was read for a box is the one with the box's number.
 pub fetched_at : (cells fetched : List (Listed (List ℕ))) (boxes : List Placed) (k : ℕ) (d : Placed) (c : Listed (List ℕ)) →
     map Some fetched ≡ map (λ p. slice_get cells p.own) boxes → k < length boxes →
     slice_get fetched k ≡ Some c → slice_get cells (get_or boxes k d).own ≡ Some c
@@ -136,7 +136,7 @@ fetched_at cells (x ∷ fetched) (p ∷ boxes) (suc k) d c same within at =
     let rest : map Some fetched ≡ map (λ p. slice_get cells p.own) boxes = cc in
     fetched_at cells fetched boxes k d c rest (omega (arith, within)) at
 
--- what is known of each listed cell is known of the one at a number
+-- A property of each listed cell holds for the one at a number.
 pub listed_there : (f : Frame) (cells : List (Listed (Bor (List ℕ)))) (own : ℕ) (c : Listed (List ℕ)) → All (λ x. IsListed f (named x)) cells →
     slice_get (map named cells) own ≡ Some c → IsListed f c
 listed_there f [] own c all at = absurd cc
@@ -145,7 +145,7 @@ listed_there f (x ∷ cells) zero c all at =
     subst (IsListed f) same (All-head (λ y. IsListed f (named y)) x cells all)
 listed_there f (x ∷ cells) (suc own) c all at = listed_there f cells own c (All-tail (λ y. IsListed f (named y)) x cells all) at
 
--- one more cell was fetched
+-- One more cell was read.
 pub fetched_more : (cells fetched : List (Listed (List ℕ))) (boxes : List Placed) (k : ℕ) (d : Placed) (c : Listed (List ℕ)) → k < length boxes →
     slice_get cells (get_or boxes k d).own ≡ Some c →
     map Some fetched ++ map (λ p. slice_get cells p.own) (drop k boxes) ≡ map (λ p. slice_get cells p.own) boxes →
@@ -162,7 +162,7 @@ fetched_more cells fetched boxes k d c within there so_far =
 
 -- ---- the verdicts of all boxes so far
 
--- a box more
+-- One box more.
 pub one_more : (l : Legalizer) (f : Frame) (padding : ℕ) (cells : List (Listed (List ℕ))) (boxes : List Placed) (p : Placed) (old new : List (Option Broken)) →
     HaveVerdicts l f padding cells boxes old → SetsVerdict l f padding cells p.own old new → HaveVerdicts l f padding cells (boxes ++ p ∷ []) new
 one_more l f padding cells boxes p old new have puts =
@@ -173,7 +173,7 @@ one_more l f padding cells boxes p old new have puts =
           (All-cons (Has new) p [] puts.put (All-nil (Has new)));
     }
 
--- behind boxes that are done, one more of those at hand
+-- One more of the present boxes, after the boxes that are done.
 pub next_done : (l : Legalizer) (f : Frame) (padding : ℕ) (cells : List (Listed (List ℕ))) (done boxes : List Placed) (k : ℕ) (d : Placed) (old new : List (Option Broken)) →
     k < length boxes → HaveVerdicts l f padding cells (done ++ take k boxes) old → SetsVerdict l f padding cells (get_or boxes k d).own old new →
     HaveVerdicts l f padding cells (done ++ take (k + 1) boxes) new
@@ -182,7 +182,7 @@ next_done l f padding cells done boxes k d old new within have puts =
     append_assoc done (take k boxes) (get_or boxes k d ∷ []) ∙ ap (λ (xs : List Placed). done ++ xs) (sym (take_more boxes k d within)) in
     subst (λ (xs : List Placed). HaveVerdicts l f padding cells xs new) parts (one_more l f padding cells (done ++ take k boxes) (get_or boxes k d) old new have puts)
 
--- where all boxes are done, each cell has its verdict: an unplaced one breaks no rule
+-- If all boxes are done, each cell has its verdict: an unplaced cell breaks no rule.
 pub all_done : (l : Legalizer) (f : Frame) (padding : ℕ) (cells : List (Listed (List ℕ))) (boxes : List Placed) (verdicts : List (Option Broken)) →
     IsPermutation (boxes_from f 0 (map member_of cells)) boxes → HaveVerdicts l f padding cells boxes verdicts → AreVerdicts l f padding cells verdicts
 all_done l f padding cells boxes verdicts same have = record { count = have.some.count; each = λ own c at. by own c at c.place refl }
@@ -206,7 +206,7 @@ all_done l f padding cells boxes verdicts same have = record { count = have.some
         let among : Contains boxes box = Contains-permutation (boxes_from f 0 (map member_of cells)) boxes box same listed in
         subst (λ (q : Placed). slice_get cells q.own ≡ Some c → verdict_at verdicts q.own ≡ broken_among l f padding cells q.own c) among.2 (have.done among.0 box among.1 c) at
 
--- none has a verdict before the first box
+-- No cell has a verdict prior to the first box.
 pub none_yet : (l : Legalizer) (f : Frame) (padding : ℕ) (cells : List (Listed (List ℕ))) (verdicts : List (Option Broken)) →
     length verdicts ≡ length cells → ((own : ℕ) → verdict_at verdicts own ≡ None) → HaveVerdicts l f padding cells [] verdicts
 none_yet l f padding cells verdicts count none = record {
@@ -214,13 +214,13 @@ none_yet l f padding cells verdicts count none = record {
   done = All-nil (λ p. (c : Listed (List ℕ)) → slice_get cells p.own ≡ Some c → verdict_at verdicts p.own ≡ broken_among l f padding cells p.own c);
 }
 
--- the cells of the tree's boxes before those that are left have their verdict
+-- The cells of the tree's boxes in front of the remaining ones have their verdict.
 pub record HaveBefore (l : Legalizer) (f : Frame) (padding : ℕ) (cells : List (Listed (List ℕ))) (tree rest : List Placed) (verdicts : List (Option Broken)) : Type 0 where
   pub passed : List Placed
   pub parts : passed ++ rest ≡ tree
   pub have : HaveVerdicts l f padding cells passed verdicts
 
--- some of those that are left are passed
+-- Some of the remaining boxes are done.
 pub pass_some : (l : Legalizer) (f : Frame) (padding : ℕ) (cells : List (Listed (List ℕ))) (tree rest front back : List Placed) (n : ℕ) (old new : List (Option Broken)) →
     front ≡ take n rest → back ≡ drop n rest →
     ((done : List Placed) → HaveVerdicts l f padding cells done old → HaveVerdicts l f padding cells (done ++ front) new) →
@@ -233,7 +233,7 @@ pass_some l f padding cells tree rest front back n old new is_front is_back put 
   have = put before.passed before.have;
 }
 
--- where none is left, each cell has its verdict
+-- If no box remains, each cell has its verdict.
 pub all_passed : (l : Legalizer) (f : Frame) (padding : ℕ) (cells : List (Listed (List ℕ))) (tree rest : List Placed) (verdicts : List (Option Broken)) →
     IsPermutation (boxes_from f 0 (map member_of cells)) tree → length rest ≡ 0 → HaveBefore l f padding cells tree rest verdicts → AreVerdicts l f padding cells verdicts
 all_passed l f padding cells tree [] verdicts same none before =
@@ -241,7 +241,7 @@ all_passed l f padding cells tree [] verdicts same none before =
     (subst (λ (xs : List Placed). HaveVerdicts l f padding cells xs verdicts) (sym (append-nil before.passed) ∙ before.parts) before.have)
 all_passed l f padding cells tree (p ∷ rest) verdicts same none before = absurd (omega (arith, none))
 
--- one more place without a verdict
+-- One more place without a verdict.
 pub none_more : (verdicts : List (Option Broken)) → ((own : ℕ) → verdict_at verdicts own ≡ None) → (own : ℕ) → verdict_at (verdicts ++ None ∷ []) own ≡ None
 none_more [] none zero = refl
 none_more [] none (suc own) = refl

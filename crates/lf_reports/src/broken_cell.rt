@@ -2,7 +2,7 @@
 
 use lf_rules::Broken;
 
-/// A cell that breaks a rule where it stands.
+/// A cell that breaks a rule at its place.
 #[derive(Clone, Copy, Debug, PartialEq, Eq)]
 pub struct BrokenCell {
     /// The cell's number: its position in the list.

@@ -2,8 +2,8 @@
 
 ghost use Rattle.lf_reports.specs.Reports.{CleanIsLegal};
 
-/// A report of a whole design's cells is clean, that is, finds none unplaced and no broken rule, iff they make a fully legal
-/// design.
+/// A report of a whole design's cells is clean iff the cells make a fully legal design. A clean
+/// report has no unplaced cell and no broken rule.
 pub fn clean_is_legal()
     ensures { CleanIsLegal }
 {}

@@ -1,4 +1,5 @@
-//! Reports: how many cells there are, how many of them are unplaced, and which break a rule where they stand.
+//! Reports: the number of cells, the number of unplaced cells, and the cells that break a rule at
+//! their places.
 
 ghost use Rattle.std.specs.Prelude.{◌≡◌, ◌↔◌, ◌<◌, ◌≤◌, ◌++◌, [], All, IfOk, OnOk, None, Some, ℕ, List, IsPermutation, is_none};
 ghost use Rattle.std.specs.Prelude.{slice_get, count_by, length, map, option_and_then};
@@ -23,7 +24,7 @@ use lf_segments::{FrameIndex, IndexedFrame};
 use lf_units::{Name, Sequence};
 use std::alloc::{AllocError, Global};
 
-/// The macro of a cell.
+/// Returns the macro of a cell.
 fn macro_in<'a>(frame: &'a Frame, cell: &Listed<&[u8]>) -> &'a Macro
     requires { IsListed frame.now (named cell.now) }
     ensures mac { result.now ≡ macro_of frame.now cell.now.mac }
@@ -32,7 +33,8 @@ fn macro_in<'a>(frame: &'a Frame, cell: &Listed<&[u8]>) -> &'a Macro
     &frame.macros.as_slice()[cell.mac]
 }
 
-/// Appends the box of the cell, if it is placed; `own` is the cell's number.
+/// Appends the box of the cell, if it is placed. `own` is the cell's number. `Err` if an allocation
+/// fails.
 fn push_box(
     others: &mut Vec<Placed>,
     frame: &Frame,
@@ -51,7 +53,8 @@ fn push_box(
     Ok(())
 }
 
-/// The first rule that the cell of that number breaks at the place, beside the boxes of other numbers than its own.
+/// Returns the first rule that the cell with this number breaks at the place, given the boxes of
+/// the other cells. `None` if it breaks no rule.
 fn broken_at(
     plan: &IndexedFrame<'_>,
     boxes: &RTree,
@@ -72,7 +75,8 @@ fn broken_at(
     overlap_of(boxes.least_overlapping(&padded_box(frame, mac, place, padding), own))
 }
 
-/// The first rule that the cell of that number breaks where it stands, beside the other placed cells.
+/// Returns the first rule that the cell with this number breaks at its place, given the other
+/// placed cells. `None` if it breaks no rule or is unplaced.
 fn broken_in(
     plan: &IndexedFrame<'_>,
     boxes: &RTree,
@@ -92,7 +96,8 @@ fn broken_in(
     broken_at(plan, boxes, own as u32, cell, &place, padding)
 }
 
-/// A copy of the name of the cell of that number.
+/// Returns a copy of the name of the cell with this number. `None` if there is no such cell. `Err`
+/// if an allocation fails.
 fn name_in(alloc: Global, cells: &[Listed<&[u8]>], own: u32) -> Result<Option<Name>, AllocError>
     ensures { IfOk result (λ name. name ≡ name_among (map named cells.now) own) }
 {
@@ -102,7 +107,8 @@ fn name_in(alloc: Global, cells: &[Listed<&[u8]>], own: u32) -> Result<Option<Na
     }
 }
 
-/// A copy of the name of the other cell, if there is another.
+/// Returns a copy of the name of the other cell. `None` if there is no other cell. `Err` if an
+/// allocation fails.
 fn other_name(
     alloc: Global,
     cells: &[Listed<&[u8]>],
@@ -116,7 +122,7 @@ fn other_name(
     }
 }
 
-/// The violation of a cell that breaks this rule first.
+/// Returns the violation of a cell that breaks this rule first. `Err` if an allocation fails.
 fn violation_of(
     alloc: Global,
     cells: &[Listed<&[u8]>],
@@ -133,7 +139,7 @@ fn violation_of(
     })
 }
 
-/// No verdict yet for each of this many cells.
+/// Returns a list of `count` verdicts, all of them `None`. `Err` if an allocation fails.
 fn no_verdicts(alloc: Global, count: usize) -> Result<Vec<Option<Broken>>, AllocError>
     ensures count { IfOk result (λ verdicts. length verdicts.items ≡ count) }
     ensures none { IfOk result (λ verdicts. (own : ℕ) → verdict_at verdicts.items own ≡ None) }
@@ -145,7 +151,7 @@ fn no_verdicts(alloc: Global, count: usize) -> Result<Vec<Option<Broken>>, Alloc
     Ok(verdicts)
 }
 
-/// Sets the verdict of that number, if it says that a rule is broken.
+/// Sets the verdict with this number, unless it is `None`.
 fn put(verdicts: &mut Vec<Option<Broken>>, own: usize, verdict: Option<Broken>)
     requires { own < length verdicts.old.items }
     ensures { IsVerdictSet own verdict verdicts.old.items verdicts.new.items }
@@ -156,7 +162,7 @@ fn put(verdicts: &mut Vec<Option<Broken>>, own: usize, verdict: Option<Broken>)
     }
 }
 
-/// Sets the verdict of the cell of that number.
+/// Sets the verdict of the cell with this number.
 fn put_verdict(
     plan: &IndexedFrame<'_>,
     boxes: &RTree,
@@ -180,8 +186,8 @@ fn put_verdict(
     put(verdicts, own, verdict);
 }
 
-/// The cells of these boxes, in the boxes' order. They are fetched in a pass of their own, so that the waits for
-/// memory overlap.
+/// Returns the cells of the given boxes, in the boxes' order. A separate pass reads them, so that
+/// the waits for memory overlap. `Err` if an allocation fails.
 fn fetch<'a>(
     alloc: Global,
     cells: &[Listed<&'a [u8]>],
@@ -197,7 +203,7 @@ fn fetch<'a>(
     Ok(fetched)
 }
 
-/// Sets the verdicts of the cells of these boxes.
+/// Sets the verdicts of the cells of the given boxes. `Err` if an allocation fails.
 fn put_verdicts(
     alloc: Global,
     plan: &IndexedFrame<'_>,
@@ -225,11 +231,11 @@ fn put_verdicts(
     Ok(())
 }
 
-/// How many cells are fetched at a time.
+/// The number of cells that are read at a time.
 const FETCHED: usize = 4096;
 
-/// The verdict of each cell, found in the order of the tree's boxes, those of the placed cells: cells that lie side
-/// by side are looked at one after another.
+/// Returns the verdict of each cell. Visits the cells in the order of the tree's boxes, those of
+/// the placed cells, so neighboring cells follow each other. `Err` if an allocation fails.
 fn verdicts_in(
     alloc: Global,
     plan: &IndexedFrame<'_>,
@@ -253,7 +259,8 @@ fn verdicts_in(
     Ok(verdicts)
 }
 
-/// Appends the violation of the cell of that number, if it breaks a rule.
+/// Appends the violation of the cell with this number, if it breaks a rule. `Err` if an allocation
+/// fails.
 fn push_violation(
     alloc: Global,
     cells: &[Listed<&[u8]>],
@@ -277,7 +284,7 @@ fn push_violation(
     }
 }
 
-/// The violations of the listed cells, in their order.
+/// Returns the violations of the listed cells, in their order. `Err` if an allocation fails.
 fn violations_in(
     alloc: Global,
     cells: &[Listed<&[u8]>],
@@ -294,16 +301,16 @@ fn violations_in(
     Ok(violations)
 }
 
-/// How many of the cells are unplaced.
+/// Returns the number of unplaced cells.
 fn unplaced_in(cells: &[Listed<&[u8]>]) -> usize
     ensures { result ≡ count_by (λ c. is_none c.place) (map named cells.now) }
 {
     cells.iter().filter(|cell| cell.place.is_none()).count()
 }
 
-/// The report of a list of cells, if these are their verdicts: for each cell the first rule that it breaks where it stands, or
-/// none. There are as many verdicts as cells. If the macros of the cells are a frame's, of whole size, and their names are names
-/// of a text, so are the names in the report.
+/// Returns the report of a list of cells, given their verdicts: for each cell the first rule that
+/// it breaks at its place, or `None`. There are as many verdicts as cells. If each cell has a macro
+/// of a frame, of whole size, and a name of a text, the report has only names of texts.
 ///
 /// `Err` if an allocation fails.
 pub fn report_from_verdicts(
@@ -326,7 +333,7 @@ pub fn report_from_verdicts(
     })
 }
 
-/// The boxes of the placed cells, by the cells' numbers.
+/// Returns the boxes of the placed cells, with the cells' numbers. `Err` if an allocation fails.
 fn boxes_in(
     alloc: Global,
     frame: &Frame,
@@ -343,12 +350,13 @@ fn boxes_in(
     Ok(boxes)
 }
 
-/// For each of these cells the first rule that it breaks where it stands, and for Overlap the first other cell that it
-/// meets; none if it breaks no rule, or is unplaced.
+/// Returns for each cell the first rule that it breaks at its place, and for Overlap the first
+/// other cell that overlaps. `None` if it breaks no rule, or is unplaced.
 ///
-/// Overlap is between any two cells of the list: those of a team with its padding, or of a whole design with none. The macros of
-/// the cells are the frame's, of whole size, their names are names of a text, and there are at most 4,000,000 cells. A cell is
-/// only compared with what lies near it. `Err` if an allocation fails.
+/// Overlap is between any two cells of the list: those of a team with its padding, or of a whole
+/// design with no padding. The macros of the cells are the frame's, of whole size, their names are
+/// names of a text, and there are at most 4,000,000 cells. A cell is compared only with nearby
+/// cells. `Err` if an allocation fails.
 pub fn verdicts_with_plan(
     alloc: Global,
     plan: &IndexedFrame<'_>,
@@ -365,7 +373,8 @@ pub fn verdicts_with_plan(
     verdicts_in(alloc, plan, &tree, cells, padding)
 }
 
-/// For each of these cells, with no padding, the first rule that it breaks where it stands, or none.
+/// Returns for each cell, with no padding, the first rule that it breaks at its place, or `None`.
+/// `Err` if an allocation fails.
 fn verdicts_over(
     alloc: Global,
     frame: &Frame,
@@ -385,7 +394,7 @@ fn verdicts_over(
     )
 }
 
-/// The cells of a design at these places.
+/// Returns the cells of a design at these places. `Err` if an allocation fails.
 fn listed_cells<'a>(
     alloc: Global,
     cells: &'a LoadedCells,
@@ -407,12 +416,13 @@ fn listed_cells<'a>(
     Ok(listed)
 }
 
-/// The verdicts of a design whose movable cells stand at these places, one for each cell in loading order: the first rule
-/// that the cell breaks there, and for Overlap the first other cell that it meets; none if it breaks no rule, or is unplaced.
-/// Overlap is between cells of any teams, and paddings play no part. The design at these places is fully legal iff no place is
-/// none and no verdict is that a rule is broken.
+/// Returns the verdicts of a design with its movable cells at these places, one for each cell in
+/// loading order. A verdict is the first rule that the cell breaks there, and for Overlap the first
+/// other cell that overlaps. It is `None` if the cell breaks no rule, or is unplaced. Overlap is
+/// between cells of any teams, and paddings are ignored. The design at these places is fully legal
+/// iff no place is `None` and every verdict is `None`.
 ///
-/// A cell is only compared with what lies near it. `Err` if an allocation fails.
+/// A cell is compared only with nearby cells. `Err` if an allocation fails.
 pub fn verdicts_of_all(
     alloc: Global,
     loaded: &Loaded,
@@ -429,11 +439,11 @@ pub fn verdicts_of_all(
     verdicts_over(alloc, &loaded.frame, &cells)
 }
 
-/// The report of a design whose movable cells stand at these places, one for each cell in loading order; overlap
-/// is between cells of any teams, and paddings play no part. It is clean iff the design at these places is fully legal, and the
-/// names in it are names of a text.
+/// Returns the report of a design with its movable cells at these places, one for each cell in
+/// loading order. Overlap is between cells of any teams, and paddings are ignored. The report is
+/// clean iff the design at these places is fully legal, and the names in it are names of a text.
 ///
-/// A cell is only compared with what lies near it. `Err` if an allocation fails.
+/// A cell is compared only with nearby cells. `Err` if an allocation fails.
 pub fn check_all(
     alloc: Global,
     loaded: &Loaded,

@@ -3,6 +3,6 @@ use Rattle.lf_reports.specs.Reports.{member_of, named}
 use Rattle.lf_rules.specs.Team.{boxes_from}
 use Rattle.lf_reports.proofs.verdicts.boxes_in.Given as goal
 
--- the boxes so far, followed by those of the cells that are left, are all
+-- The boxes so far, followed by those of the remaining cells, are all.
 abbrev pub invariant-loop-number : goal.invariant-loop-number
 invariant-loop-number l = l.boxes.items ++ boxes_from l.frame l.number (map member_of (map named (drop l.number l.cells))) ≡ boxes_from l.frame 0 (map member_of (map named l.cells))

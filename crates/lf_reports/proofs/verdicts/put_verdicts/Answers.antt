@@ -14,7 +14,7 @@ nowhere = record { own = 0; rect = record { x1 = pos 0; y1 = pos 0; x2 = pos 0; 
 pub put_verdict-requires-clause-within : goal.put_verdict-requires-clause-within
 put_verdict-requires-clause-within c = c.requires.known c.loop-number.number nowhere c.loop-number-test.true
 
--- the cell at the loop's number is the one of its box
+-- The cell at the loop's number is the one of its box.
 there : (c : goal.After-put_verdict-arg-1) →
     slice_get (map named c.args.cells.now) (get_or c.args.boxes.now c.loop-number.number nowhere).own ≡ Some (named c.index-cell.result.now)
 there c =

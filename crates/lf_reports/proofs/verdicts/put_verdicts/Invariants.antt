@@ -4,7 +4,7 @@ use Rattle.lf_rules.specs.Legalizer.{Legalizer}
 use Rattle.lf_reports.specs.Reports.{named, HaveVerdicts}
 use Rattle.lf_reports.proofs.verdicts.put_verdicts.Given as goal
 
--- the cells of the boxes so far have their verdict, and so have those that had it
+-- The cells of the boxes so far have their verdict, and so do those that already had it.
 abbrev pub invariant-loop-number : goal.invariant-loop-number
 invariant-loop-number l =
     (length l.verdicts.items ≡ length l.cells)

@@ -5,7 +5,7 @@ use Rattle.lf_reports.specs.Reports.{named}
 use Rattle.lf_reports.proofs.VerdictLists.{HaveBefore}
 use Rattle.lf_reports.proofs.verdicts.verdicts_in.Given as goal
 
--- the cells of the boxes so far have their verdict
+-- The cells of the boxes so far have their verdict.
 abbrev pub invariant-loop-rest : goal.invariant-loop-rest
 invariant-loop-rest l = record {
   count : length l.verdicts.items ≡ length l.cells;
