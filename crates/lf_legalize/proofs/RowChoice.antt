@@ -97,7 +97,7 @@ fit_in_def s own bottom window lists x there occupied levels fits =
 
 -- ---- the nearest
 
--- what is nearest to the stand-in for the target is nearest to the target
+-- what is nearest to the replacement for the target is nearest to the target
 pub nearest_to_target : (Fit : ℤ → Type 0) (target near : ℤ) (found : Option ℤ) → IsEquivalentTarget target near → ((x : ℤ) → Fit x → IsDefNumber x) →
     FindsNearest Fit near found → FindsNearest Fit target found
 nearest_to_target Fit target near None same def none = none

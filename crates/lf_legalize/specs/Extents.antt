@@ -11,8 +11,8 @@ use Rattle.lf_floorplan.specs.Standing.{IsBottomRow}
 use Rattle.lf_rules.specs.Choice.{SpotPlace, PlacementQuery, Precedes, distance}
 use Rattle.lf_rules.specs.Looking.{ScansPlaces, IsAsGood}
 
--- the value of a range that is nearest to another value: for each value of the range, its distance
--- from the other value is its distance from the nearest one plus that one's distance
+-- the value of a range that is nearest to another value: the distance of each value of the range
+-- from the other value is its distance from the nearest one plus that of the nearest one
 pub record IsNearestIn (lo hi value nearest : ℤ) : Type 0 where
   pub low : lo ≤ℤ nearest
   pub high : nearest ≤ℤ hi

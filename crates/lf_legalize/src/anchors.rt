@@ -33,8 +33,8 @@ fn first_origin(rows: &[Row]) -> Point
 }
 
 /// The anchor of a team, which is the target of its unplaced cells, in database units. For a fence
-/// it is the lower left corner of its first rectangle, for the ground team the origin of the first
-/// row. (0, 0) if there is no such rectangle or row.
+/// it is the lower left corner of its first rectangle. For the ground team it is the origin of the
+/// first row. (0, 0) if there is no such rectangle or row.
 pub fn anchor(frame: &Frame, team: usize) -> Point
     ensures { result ≡ anchor frame.now team }
 {

@@ -41,8 +41,8 @@ fn rank(orient: Orient) -> u32
 }
 
 /// Whether the first place has the lesser key for the target. The key is the distance |x - X| + |y
-/// - Y| from the target (X, Y), then y, then x, then the orientation in the order N, S, FN, FS. The
-/// target may be any point.
+/// - Y| from the target (X, Y), then y, then x. The last part of the key is the orientation in the
+/// order N, S, FN, FS. The target may be any point.
 pub fn has_lesser_key(target: &Point, first: &Place, second: &Place) -> bool
     ensures { IsTrue result ↔ Precedes target.now (spot_of first.now) (spot_of second.now) }
 {

@@ -72,8 +72,8 @@ fn grid_on(bottom: &Row, pitch: &Point) -> SiteGrid
     }
 }
 
-/// A stand-in for the target, near the coordinates of a DEF text: the coordinates nearest to one of
-/// the two are nearest to the other.
+/// A replacement for the target, near the coordinates of a DEF text: the coordinates nearest to one
+/// of the two are nearest to the other.
 fn stand_in(target: &i64) -> i64
     ensures { IsEquivalentTarget target.now result }
 {

@@ -52,8 +52,8 @@ fn padding_length(search: &RowSearch<'_>) -> i64
     search.padding.length(search.frame)
 }
 
-/// The spans of a row, within a window, that are free for the cell of the search, with the padding
-/// around the team's other cells, and off soft blockages.
+/// The spans of a row, within a window, that are free for the cell of the search. They keep the
+/// padding from the team's other cells, and are off soft blockages.
 pub(crate) fn open_in_row(
     alloc: Global,
     search: &RowSearch<'_>,

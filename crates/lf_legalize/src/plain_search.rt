@@ -102,15 +102,20 @@ fn with_row(search: &Search<'_>, best: Option<Place>, row: &Row) -> Option<Place
     best
 }
 
-/// The best place of a cell for a target: of all places that are legal for it with the team's other
-/// placed cells, and at which its box shares no point with a soft blockage, the one with the least
-/// key. `None` if there is no such place. `team` is a fence's position in the frame, or the number
-/// of fences for the ground team. `others` are the team's other placed cells. The key is that of
-/// `has_lesser_key`. No two legal places have the same key, so at most one place is best. The
-/// target may be any point. Does not allocate. `padding` is the team's, in core sites. It separates
-/// the cell from each of the team's other cells, wherever they are placed, across obstacles and
-/// segments. It does not apply to the ends of segments or to the cells of other teams. The macro
-/// has a whole size. The search tries each orientation on every site of every row. Its time grows
+/// The best place of a cell for a target: of all its allowed places, the one with the least key.
+/// `None` if there is no allowed place.
+///
+/// A place is allowed if it is legal with the team's other placed cells, and the cell's box shares
+/// no point with a soft blockage there. The key is that of `has_lesser_key`. No two legal places
+/// have the same key, so at most one place is best.
+///
+/// `team` is a fence's position in the frame, or the number of fences for the ground team. `others`
+/// are the team's other placed cells. The target may be any point. The macro has a whole size.
+/// `padding` is the team's, in core sites. It separates the cell from each of the team's other
+/// cells, wherever they are placed, across obstacles and segments. It does not apply to the ends of
+/// segments or to the cells of other teams.
+///
+/// Does not allocate. The search tries each orientation on every site of every row. Its time grows
 /// with the number of sites times that of the rows, obstacles, soft blockages and other cells.
 /// Faster searches are compared with it.
 pub fn best_place(

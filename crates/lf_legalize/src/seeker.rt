@@ -20,10 +20,14 @@ use std::alloc::{AllocError, Global};
 /// Finds best places. All seekers return the same places. They differ in what they visit and in the
 /// time they take.
 pub trait Seeker {
-    /// The best place of a cell for a target. The cell is regarded as unplaced. Of all places that
-    /// are team-legal with the team's other placed cells, and at which its box shares no point with
-    /// a soft blockage, it is the one with the least key. `None` only if there is no such place, or
-    /// no such cell. `Err` if an allocation fails. The target may be any point, in database units.
+    /// The best place of a cell for a target, as if the cell were unplaced: of all its allowed
+    /// places, the one with the least key. `None` only if there is no allowed place, or no such
+    /// cell. `Err` if an allocation fails.
+    ///
+    /// A place is allowed if it is team-legal with the team's other placed cells, and the cell's
+    /// box shares no point with a soft blockage there. The target may be any point, in database
+    /// units.
+    ///
     /// The occupancy is that of the frame and of the cells at their working places. The macros of
     /// the team's cells are the frame's, of whole size. `padding` is that of the cell's team, in
     /// core sites. It separates the cell from each of the team's other cells, wherever they are

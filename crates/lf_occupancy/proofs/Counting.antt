@@ -229,8 +229,8 @@ below_all k (own ∷ owns) low =
     let one : one_if (ltb own k) ≡ 1 = grind (arith, nat_tests) in
     omega (arith, rest, a, one)
 
--- a list that names each cell whose box shares a point with a strip once is as long as the number
--- of these cells
+-- a list that names each cell whose box shares a point with a strip once is as long as the count in
+-- the strip
 pub named_are_counted : (g : Strip) (boxes : List (Option Rect)) (owns : List ℕ) → AllPairs (λ a b. a ≢ b) owns →
     ((own : ℕ) → Contains owns own ↔ (meets g (cell_box boxes own) ≡ true)) → length owns ≡ count_in g boxes
 named_are_counted g boxes owns once exact = sym (below_all (length boxes) owns low) ∙ up_to (length boxes) (omega arith) ∙ ap (count_in g) (take_whole boxes)

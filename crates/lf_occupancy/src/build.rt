@@ -50,7 +50,7 @@ fn rank_of(x: i32, y: i32) -> u64
     above_least(y) / 32_768 * 2_147_483_648 + above_least(x) / 2
 }
 
-/// The rank of the cell's working place; 0 if it has none.
+/// The rank of the cell's working place. 0 if it is unplaced.
 fn rank_at_work(cells: &CellTable, id: &CellId) -> u64
     ensures { result < 281474976710656 }
 {

@@ -22,11 +22,14 @@ use lf_units::{Rect, Span};
 use std::alloc::{AllocError, Global};
 use std::marker::Model;
 
-/// The cells in the strips of a frame. It keeps the frame's index, the width of a core site in
-/// database units, and for each widened strip the boxes of its team that have a part in it, in the
-/// order of the parts' left edges. So a strip knows all cells that are near enough to it for some
-/// padding. The boxes follow from frame and cells, and `with_boxes` computes them when they are
-/// needed. A contract sees what is kept, and says which boxes the strips hold.
+/// The cells in the strips of a frame.
+///
+/// It keeps the frame's index and the width of a core site in database units. For each widened
+/// strip it keeps the boxes of its team that have a part in it, by the parts' left edges. So a
+/// strip knows all cells that are near enough to it for some padding.
+///
+/// The boxes follow from frame and cells, and `with_boxes` computes them when they are needed. A
+/// contract sees what is kept, and says which boxes the strips hold.
 pub struct Occupancy {
     pub(crate) index: FrameIndex,
     pub(crate) site: i64,
@@ -102,12 +105,17 @@ impl Occupancy {
         OccupancyView::new(self, Boxes::new(frame, cells))
     }
 
-    /// The free spans of the strip of segment number `segment`, in database units. They are the
-    /// parts that the cells of its team leave free with the padding around each, except the cell
-    /// `without`. If `without` is a cell of another team, all cells of the team count. The list is
-    /// empty if there is no such segment. The list rises. A span that holds a number lies in one of
-    /// its spans iff it lies in the strip, and no counted cell is over it or nearer to it than the
-    /// padding. The padding is a length from 0 to 16 core sites. `Err` if an allocation fails.
+    /// The free spans of the strip of segment number `segment`, in database units.
+    ///
+    /// They are the parts that the cells of its team leave free with the padding around each,
+    /// except the cell `without`. If `without` is a cell of another team, all cells of the team
+    /// count. The list is empty if there is no such segment.
+    ///
+    /// The list rises. A span that holds a number lies in one of its spans iff it lies in the strip
+    /// and keeps the padding from each cell that counts. The padding is a length from 0 to 16 core
+    /// sites.
+    ///
+    /// `Err` if an allocation fails.
     pub fn free_spans(
         &self,
         alloc: Global,
@@ -155,11 +163,14 @@ impl Occupancy {
         take_in(&mut self.lanes, &self.index, &self.site, &id, rect);
     }
 
-    /// Makes the room that `insert` needs if the moves are made in their order. Each move removes
-    /// the cell's box and inserts its new one, if it has one. Each strip of a cell's team that,
-    /// widened by 16 core sites, shares a point with its new box gets room for as many more boxes
-    /// as there are moves. The strips hold the same boxes, and no strip has less room. `Err` if an
-    /// allocation fails: then strips may have gained room, and nothing else is changed.
+    /// Makes the room that `insert` needs if the moves are made in their order.
+    ///
+    /// Each move removes the cell's box and inserts its new one, if it has one. A strip of the
+    /// cell's team gets room if it shares a point with the new box when widened by 16 core sites.
+    /// It gets room for as many more boxes as there are moves. The strips hold the same boxes, and
+    /// no strip has less room.
+    ///
+    /// `Err` if an allocation fails: then strips may have gained room, and nothing else is changed.
     pub fn reserve_for(&mut self, moves: &[(CellId, Option<Rect>)]) -> Result<(), AllocError>
         ensures ok { (boxes : List (List (Option Rect))) → MarksBoxes self.old boxes
             → OnOk result (All (λ m. IfSome m.1 (λ rect. HasRoomFor (with_boxes self.new boxes) m.0.team rect (length moves.now))) moves.now) }
@@ -183,11 +194,14 @@ impl Occupancy {
         Ok(StripCounts { counts })
     }
 
-    /// Counts the box `to` of the team in place of `from`. If the counts bound boxes of the team
-    /// and one of them is `from`, they then bound these boxes with `to` instead. Bounds for other
-    /// teams stay valid. Each strip gets room for what is counted. No strip has less room, and the
-    /// strips hold the same boxes. `Err` if an allocation fails: then the counts are unspecified,
-    /// and strips may have gained room.
+    /// Counts the box `to` of the team in place of `from`.
+    ///
+    /// If the counts bound boxes of the team and one of them is `from`, they then bound these boxes
+    /// with `to` instead. Bounds for other teams stay valid. Each strip gets room for what is
+    /// counted. No strip has less room, and the strips hold the same boxes.
+    ///
+    /// `Err` if an allocation fails: then the counts are unspecified, and strips may have gained
+    /// room.
     pub fn reserve_counted(
         &mut self,
         tally: &mut StripCounts,
@@ -227,8 +241,8 @@ impl Occupancy {
         )
     }
 
-    /// A law: the boxes that the strips hold fit. Each strip has room for all boxes of its team
-    /// that share a point with it, widened by 16 core sites on its left and right.
+    /// A law: the boxes that the strips hold fit. Each strip, widened by 16 core sites, has room
+    /// for all boxes of its team that share a point with it.
     pub fn boxes_fit(&self)
         ensures { (boxes : List (List (Option Rect))) → MarksBoxes self.now boxes → (team : ℕ) → FitIn (with_boxes self.now boxes) team (slice_index_or boxes team []) }
     {

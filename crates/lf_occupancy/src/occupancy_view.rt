@@ -14,8 +14,8 @@ use std::alloc::{AllocError, Global};
 use std::marker::Model;
 
 /// An occupancy together with the boxes that its strips hold. A contract sees the frame's index,
-/// the width of a core site, the boxes of each team's cells, and for each strip how many boxes it
-/// has room for.
+/// the width of a core site and the boxes of each team's cells. For each strip it sees how many
+/// boxes it has room for.
 #[derive(Drop)]
 pub struct OccupancyView<'a> {
     occupancy: &'a Occupancy,
@@ -58,12 +58,17 @@ impl<'a> OccupancyView<'a> {
     }
 
     /// The spans of a row within a window that are free for a cell, as if the cell itself were
-    /// unplaced. They are the parts of the strips of the row and the cell's team that the team's
-    /// other cells leave free, with the padding around each. All lengths are in database units. The
-    /// list rises. A span that holds a number lies in one of its spans iff it lies in the window
-    /// and in one of these strips, and no other placed cell of the team is over it or nearer to it
-    /// than the padding. The window begins at -2^62 or above. The padding is a length from 0 to 16
-    /// core sites. Only cells near the window are searched. `Err` if an allocation fails.
+    /// unplaced.
+    ///
+    /// They are the parts of the strips of the row and the cell's team that the other cells of the
+    /// team leave free. Each cell has the padding around it. All lengths are in database units.
+    ///
+    /// The list rises. A span that holds a number lies in one of its spans iff it lies in the
+    /// window and in one strip, and is free. It is free if it keeps the padding from each other
+    /// placed cell of the team.
+    ///
+    /// The window begins at -2^62 or above. The padding is a length from 0 to 16 core sites. Only
+    /// cells near the window are searched. `Err` if an allocation fails.
     pub fn free_in_row(
         &self,
         alloc: Global,
@@ -91,12 +96,17 @@ impl<'a> OccupancyView<'a> {
         )
     }
 
-    /// The free spans of the strip of segment number `segment`, in database units. They are the
-    /// parts that the cells of its team leave free with the padding around each, except the cell
-    /// `without`. If `without` is a cell of another team, all cells of the team count. The list is
-    /// empty if there is no such segment. The list rises. A span that holds a number lies in one of
-    /// its spans iff it lies in the strip, and no counted cell is over it or nearer to it than the
-    /// padding. The padding is a length from 0 to 16 core sites. `Err` if an allocation fails.
+    /// The free spans of the strip of segment number `segment`, in database units.
+    ///
+    /// They are the parts that the cells of its team leave free with the padding around each,
+    /// except the cell `without`. If `without` is a cell of another team, all cells of the team
+    /// count. The list is empty if there is no such segment.
+    ///
+    /// The list rises. A span that holds a number lies in one of its spans iff it lies in the strip
+    /// and keeps the padding from each cell that counts. The padding is a length from 0 to 16 core
+    /// sites.
+    ///
+    /// `Err` if an allocation fails.
     pub fn free_spans(
         &self,
         alloc: Global,
@@ -121,9 +131,9 @@ impl<'a> OccupancyView<'a> {
         )
     }
 
-    /// The least position of another cell of the cell's team whose box shares with the rectangle a
-    /// point of one of the team's strips, widened by 16 core sites on its left and right. `None` if
-    /// there is no such cell. Does not allocate.
+    /// The least position of another cell of the cell's team whose box overlaps the rectangle in
+    /// one of the team's strips. The strips are widened by 16 core sites on their left and right.
+    /// `None` if there is no such cell. Does not allocate.
     pub fn first_overlapping(&self, id: CellId, rect: &Rect) -> Option<u32>
         ensures { IsFirstMet self.now id rect.now result }
     {

@@ -13,9 +13,8 @@ use lf_segments::FrameIndex;
 use lf_units::{Rect, Span};
 use std::alloc::{AllocError, Global};
 
-/// The least position of another cell of the team with an entry, in a widened strip of the row and
-/// the team, that shares a point with the rectangle. Returns `so_far` if that is less or if there
-/// is no such cell.
+/// The least position of another cell of the team that has an entry in a widened strip of the row
+/// and overlaps the rectangle there. Returns `so_far` if that is less or if there is no such cell.
 fn least_in_row(
     index: &FrameIndex,
     site: &i64,

@@ -15,8 +15,8 @@ use lf_units::Rect;
 use std::alloc::{AllocError, Global};
 use std::marker::Model;
 
-/// For each strip of a frame a number of boxes: those placed in it, or those that would be if some
-/// cells were at other places. Contracts see the numbers.
+/// For each strip of a frame the number of boxes placed in it, or that would be in it if some cells
+/// were at other places. Contracts see the numbers.
 #[derive(Drop)]
 pub struct StripCounts {
     pub(crate) counts: Vec<usize>,

@@ -143,8 +143,8 @@ fn is_beyond(mark: &Mark, left: &i64) -> bool
     i64::from(mark.left) > *left
 }
 
-/// The number of marks whose left edge is below x. One comparison suffices if all are below x;
-/// otherwise they are found by binary search.
+/// The number of marks whose left edge is below x. One comparison suffices if all are below x.
+/// Otherwise they are found by binary search.
 pub(crate) fn count_before(marks: &[Mark], x: &i64) -> usize
     requires { AreRising marks.now }
     ensures within { result ≤ length marks.now }

@@ -42,7 +42,7 @@ places_of cells = map (λ c. c.working) cells
 abbrev pub committed_of : List Cell → Places
 committed_of cells = map (λ c. c.committed) cells
 
--- the boxes of these cells at these places
+-- the boxes of the cells at the given places
 abbrev pub boxes_at : Frame → List Cell → Places → List (Option Rect)
 boxes_at f [] places = []
 boxes_at f (c ∷ cs) [] = None ∷ boxes_at f cs []

@@ -72,7 +72,7 @@ pub record KeepsMarks (old new : Marked) : Type 0 where
   pub site : new.site ≡ old.site
   pub rooms : KeepsCapacities (capacities_in old.lanes) (capacities_in new.lanes)
 
--- the boxes of the team's cells are part of these, in a list of the same length
+-- the boxes of the team's cells are part of the given ones, in a list of the same length
 pub record IsPartly (team : ℕ) (boxes : List (Option Rect)) (o : Occupied) : Type 0 where
   pub many : length (boxes_of o team) ≡ length boxes
   pub part : ArePartOf (boxes_of o team) boxes
@@ -86,13 +86,13 @@ pub record RemovesFirst (team : ℕ) (named : List ℕ) (count : ℕ) (old new :
   pub each : (own : ℕ) → IsRemovedOrUnchanged named count (boxes_of old team) (boxes_of new team) own
   pub rest : KeepsStrips team old new
 
--- the team's boxes are part of these, which fit
+-- the team's boxes are part of the given ones, which fit
 pub record BoxesMayBeInserted (team : ℕ) (boxes : List (Option Rect)) (o : Occupied) : Type 0 where
   pub many : length (boxes_of o team) ≡ length boxes
   pub part : ArePartOf (boxes_of o team) boxes
   pub fits : FitIn o team boxes
 
--- the team's boxes are part of these, which fit, and the cell at this position has no box
+-- the team's boxes are part of the given ones, which fit, and the cell at this position has no box
 pub record CellMayBeInserted (team : ℕ) (boxes : List (Option Rect)) (own : ℕ) (o : Occupied) : Type 0 where
   pub may : BoxesMayBeInserted team boxes o
   pub out : cell_box (boxes_of o team) own ≡ None
@@ -103,7 +103,7 @@ pub record BoxMayBeInserted (id : CellId) (rect : Rect) (o : Occupied) : Type 0 
   pub at : IsAt o.boxes id rect
   pub room : HasRoomFor record { index = o.index; site = o.site; boxes = box_set o.boxes id.team id.own None; rooms = o.rooms } id.team rect 1
 
--- each cell of the team that is not named has its box in these
+-- each cell of the team that is not named has its given box
 abbrev pub AreInsertedExcept : ℕ → List (Option Rect) → List ℕ → Occupied → Type 0
 AreInsertedExcept team boxes named o = (own : ℕ) → DoNotMove named (length named) own → cell_box (boxes_of o team) own ≡ cell_box boxes own
 

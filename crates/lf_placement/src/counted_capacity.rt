@@ -60,8 +60,8 @@ fn boxes_of_change(
     (from, to)
 }
 
-/// Counts a cell at the new place of the change in place of the old one, and makes the room that is
-/// then lacking. `Err` if an allocation fails.
+/// Counts a cell at the new place of the change, and no longer at the old one. Makes the room that
+/// is then lacking. `Err` if an allocation fails.
 pub(crate) fn reserve_change(
     frame: &Frame,
     cells: &CellTable,

@@ -29,8 +29,8 @@ use lf_units::Point;
 use std::alloc::{AllocError, Global};
 use std::marker::Model;
 
-/// The cells of all teams of a loaded design on its frame, and the marks of each cell's box at its
-/// working place in the strips of the frame. No strip ever has less room, and each team's committed
+/// The cells of all teams of a loaded design on its frame. The strips of the frame have the marks
+/// of each cell's box at its working place. No strip ever has less room, and each team's committed
 /// places fit. So a team can return to earlier places without allocation. The macros of all cells
 /// are the frame's, of whole size, and no team has more than 4,000,000 cells. Contracts see the
 /// frame, the cells, and the strips with their boxes and capacities.
@@ -70,7 +70,7 @@ impl Placement {
         })
     }
 
-    /// The placement of these cells on the frame, at their working places, with room for their
+    /// The placement of the given cells on the frame, at their working places, with room for their
     /// committed places. The macros of the cells are the frame's, of whole size, and no team has
     /// more than 4,000,000. `Err` if an allocation fails; frame and cells are then dropped.
     pub fn of(alloc: Global, frame: Frame, cells: CellTable) -> Result<Placement, AllocError>
@@ -133,10 +133,10 @@ impl Placement {
         broken_frame_rule(&self.indexed_frame(), id.team as usize, mac, place)
     }
 
-    /// The position of the first of the team's other cells whose box shares a point with that of
-    /// the cell at the place, widened by the padding on its left and right. The cell breaks no
-    /// other rule there, so overlap with that cell is the first rule that it breaks. `None` iff the
-    /// place is team-legal for the cell, or there is no such cell. Does not allocate.
+    /// The position of the first of the team's other cells that overlaps the cell at the place,
+    /// with the padding on its left and right. The cell breaks no other rule there, so overlap with
+    /// that cell is the first rule that it breaks. `None` iff the place is team-legal for the cell,
+    /// or there is no such cell. Does not allocate.
     pub fn first_overlapping(&self, id: CellId, place: &Place, padding: Padding) -> Option<u32>
         requires { IsBrokenFrameRule self.now id place.now None }
         ensures { IsBrokenAt self.now padding.sites id place.now (option_map (λ own. record { rule = Overlap; other = Some own }) result) }
@@ -211,8 +211,8 @@ impl Placement {
         self.occupancy.strip_counts(alloc)
     }
 
-    /// Counts a cell of the team at the new place of the change in place of the old one, and makes
-    /// the room that is then lacking. `Err` if an allocation fails: then the counts are
+    /// Counts a cell of the team at the new place of the change, and no longer at the old one.
+    /// Makes the room that is then lacking. `Err` if an allocation fails: then the counts are
     /// unspecified.
     pub(crate) fn reserve_change(
         &mut self,
@@ -239,11 +239,14 @@ impl Placement {
     }
 
     /// Undoes moves of the team's cells on a list of places, the last one first, and makes room for
-    /// the resulting places. No cell is moved. The counts bound the given places, and afterwards
-    /// the resulting ones, which then fit. Bounds for other teams stay valid. If a team's undo
-    /// entries are passed one after the other, the newest first, the places that each of them
-    /// restores fit. `Err` if an allocation fails: then the counts are unspecified, and some room
-    /// may have been made.
+    /// the resulting places. No cell is moved.
+    ///
+    /// The counts bound the given places, and afterwards the resulting ones, which then fit. Bounds
+    /// for other teams stay valid. If a team's undo entries are passed one after the other, the
+    /// newest first, the places that each of them restores fit.
+    ///
+    /// `Err` if an allocation fails: then the counts are unspecified, and some room may have been
+    /// made.
     pub fn reserve_undo(
         &mut self,
         tally: &mut StripCounts,
@@ -266,10 +269,11 @@ impl Placement {
     }
 
     /// Makes the moves of the team's cells from index `from` on, in their order, and stores in each
-    /// the previous place of its cell. So afterwards the moves are what `undo_moves` needs. If the
-    /// moves in front of `from` have led here from some cells, all moves now lead here from the
-    /// same cells. The places after the moves fit. Other teams, the frame, the positions of
-    /// components and the capacities of the strips are unchanged. Does not allocate.
+    /// the previous place of its cell. So afterwards the moves are what `undo_moves` needs.
+    ///
+    /// If the moves in front of `from` have led here from some cells, all moves now lead here from
+    /// the same cells. The places after the moves must fit. Other teams, the frame, the positions
+    /// of components and the capacities of the strips are unchanged. Does not allocate.
     pub fn apply(&mut self, team: usize, moves: &mut Moves, from: usize)
         requires { Fits self.old team (places_of (moves_applied (drop from moves.old) (cells_of self.old.cells team))) }
         ensures own { cells_of self.new.cells team ≡ moves_applied (drop from moves.old) (cells_of self.old.cells team) }
@@ -288,10 +292,11 @@ impl Placement {
         );
     }
 
-    /// Undoes moves of the team's cells, the last one first. If the moves have led here from some
-    /// cells, the team has these cells again. The places after the undo fit. Other teams, the
-    /// frame, the positions of components and the capacities of the strips are unchanged. Does not
-    /// allocate.
+    /// Undoes moves of the team's cells, the last one first.
+    ///
+    /// If the moves have led here from some cells, the team has these cells again. The places after
+    /// the undo must fit. Other teams, the frame, the positions of components and the capacities of
+    /// the strips are unchanged. Does not allocate.
     pub fn undo_moves(&mut self, team: usize, moves: &Moves)
         requires { Fits self.old team (moves_taken_back moves.now (places_of (cells_of self.old.cells team))) }
         ensures own { (before : List Cell) → HaveMoved before moves.now (cells_of self.old.cells team) → cells_of self.new.cells team ≡ before }

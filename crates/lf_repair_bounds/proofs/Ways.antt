@@ -223,7 +223,7 @@ may_stay f c home none keeps = record {
 
 -- ---- what it means for any repair
 
--- with any other cells, a cell is allowed only where it is allowed alone
+-- a place that is allowed for a cell with any other cells is allowed for it alone
 alone_too : (f : Frame) (c : Cell) (padding : ℕ) (others : List Placed) (p : SpotPlace) → IsAllowedPlace (query_beside f c padding others) p → IsAllowedPlace (alone f c) p
 alone_too f c padding others p may = record { legal = legal; off_soft = may.off_soft } where
   t : Candidate

@@ -21,15 +21,15 @@ alone f c = query_beside f c 0 []
 abbrev pub corner : Place → Point
 corner p = record { x = p.x; y = p.y }
 
--- the distance from this point to the nearest allowed place of the cell is `way`
+-- the distance from this point to the nearest allowed place of the cell
 pub record IsNearestDisplacement (c : PlacementQuery) (from : Point) (way : ℕ) : Type 0 where
   pub place : SpotPlace
   pub may_go : IsAllowedPlace c place
   pub is : distance from place ≡ way
   pub nearest : (p : SpotPlace) → IsAllowedPlace c p → way ≤ distance from p
 
--- the cell has a place, and its least displacement is `way`: the distance to the nearest place
--- where it is allowed alone
+-- the cell has a place, and its least displacement is this one: the distance to the nearest place
+-- that is allowed for it alone
 abbrev pub IsMinDisplacement : Frame → Cell → ℕ → Type 0
 IsMinDisplacement f c way = MatchOption c.place ⊥ (λ home. IsNearestDisplacement (alone f c) (corner home) way)
 

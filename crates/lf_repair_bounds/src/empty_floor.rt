@@ -120,7 +120,7 @@ fn design_with(alloc: Global, frame: &Frame, cells: LoadedCells) -> Result<Loade
     Ok(Loaded { frame, cells })
 }
 
-/// The table of these cells on a copy of the frame.
+/// The table of the given cells on a copy of the frame.
 fn table_of(alloc: Global, frame: &Frame, cells: LoadedCells) -> Result<CellTable, AllocError>
     requires design { MakeDesign frame.now cells }
     requires unplaced { AreUnplaced cells }

@@ -1,9 +1,10 @@
 //! Computes how far the cells of a design must move at least, if each had the floor to itself.
 //!
-//! A cell's *least displacement* is the distance from its place to the nearest place where it is
-//! legal and off soft blockages if no other cell is on the floor. It is 0 if the cell's own place
-//! is one. Wherever the cells of a team move, one of them moves at least as far as the largest of
-//! their least displacements. So no legalizer has a smaller largest displacement.
+//! A cell's *least displacement* is the distance from its place to the nearest place that is
+//! allowed for it if no other cell is on the floor: it is legal there, and off soft blockages. The
+//! distance is 0 if the cell's own place is one. Wherever the cells of a team move, one of them
+//! moves at least as far as the largest of their least displacements. So no legalizer has a smaller
+//! largest displacement.
 //!
 //! The search runs on a floor without cells (`EmptyFloor`), with the search for best places. The
 //! crate also copies frames (`clone_frame`).
@@ -22,6 +23,7 @@
 //!
 //! ```
 //! let least = max_min_displacements(alloc, &loaded)?;
+//! let mut floor = start_floor(alloc, loaded)?;
 //! ```
 #![tactic(auto)]
 

@@ -11,7 +11,7 @@ pub record IsFrontEnd (cells : List Cell) (site : ℕ) : Type 0 where
   pub ends : All (λ c. c.at + c.width ≤ site) cells
   pub least : (limit : ℕ) → All (λ c. c.at + c.width ≤ limit) cells → site ≤ limit
 
--- the greatest site, within the room, at which none of the cells has begun
+-- the greatest site, within the room, with all of the cells at it or to its right
 pub record IsBackStart (room : ℕ) (cells : List Cell) (site : ℕ) : Type 0 where
   pub begins : All (λ c. site ≤ c.at) cells
   pub short : site ≤ room

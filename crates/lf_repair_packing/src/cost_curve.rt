@@ -12,8 +12,8 @@ struct Breakpoint {
     bend: i32,
 }
 
-/// A cost over the sites of a range, as a piecewise linear function: the value and the slope at the
-/// first site, and the breakpoints after it, in rising order. Sums saturate.
+/// A cost over the sites of a range, as a piecewise linear function. It has the value and the slope
+/// at the first site, and the breakpoints after it in rising order. Sums saturate.
 #[derive(Drop)]
 pub struct CostCurve {
     low: u32,

@@ -29,8 +29,8 @@ pub struct Insertion {
 }
 
 /// One side of a gap. `count` is the number of cells that can be pushed on it. `extent` is the
-/// distance from the site of the cell in the gap to the outer edge of the last of them, when they
-/// are packed next to it. `limit` is the last site that the cell can then reach on this side.
+/// distance from the site of the cell in the gap to the outer edge of the pushed cells, packed next
+/// to it. `limit` is the last site that the cell can then reach on this side.
 #[derive(Clone, Copy)]
 struct Side {
     count: usize,
@@ -116,7 +116,7 @@ fn add_right_side(curve: &mut CostCurve, cells: &[Cell], width: u32) -> Result<(
 }
 
 /// The place in a gap at which the displacements of a cell there and of the cells that it pushes
-/// grow least, within the limits of the search. `None` if it finds no room. `Err` if an allocation
+/// grow least. `None` if it finds no room within the limits of the search. `Err` if an allocation
 /// fails.
 pub(crate) fn try_gap(
     cells: &[Cell],

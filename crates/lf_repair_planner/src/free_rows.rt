@@ -35,7 +35,7 @@ impl RowKinds {
 }
 
 /// A free span of a row: the x of its first site and the distance of its sites, in database units,
-/// and the number of its sites.
+/// and their number.
 #[derive(Clone, Copy)]
 pub struct FreeSpan {
     pub first: i32,

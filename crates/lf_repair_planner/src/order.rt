@@ -1,5 +1,5 @@
-//! The order in which cells are placed. Wide cells come first, and cells near each other do not
-//! follow one another directly.
+//! The order in which cells are placed. Wide cells come first, and cells near each other are far
+//! apart in the order.
 
 ghost use Rattle.std.specs.Prelude.{◌<◌};
 

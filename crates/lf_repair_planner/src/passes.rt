@@ -115,8 +115,8 @@ pub(crate) fn place_all(
     Ok(())
 }
 
-/// Removes a cell and inserts it where that costs less than its present displacement. If there is
-/// no such gap, it is inserted where it was.
+/// Removes a cell and inserts it where that costs less than its present displacement. If no gap
+/// costs less, it is inserted at its old place.
 fn place_again(
     given: &PlannerInput,
     number: u32,

@@ -27,9 +27,9 @@ pub struct PlannedSite {
     pub at: u32,
 }
 
-/// The number of passes over all cells, the number of rounds over those with the longest
-/// displacements, and whether to try a second order of the cells. The second order is tried if the
-/// first leaves a cell without a place or moves one far.
+/// The number of passes over all cells, and of rounds over those with the longest displacements.
+/// `two_orders` allows a second order of the cells, which is tried if the first leaves a cell
+/// without a place or moves one far.
 #[derive(Clone, Copy)]
 pub struct PlanOptions {
     pub passes: usize,
@@ -64,9 +64,9 @@ fn is_open(spots: &[Option<PlannedSite>], own: usize) -> bool
     }
 }
 
-/// Records the spot of a cell of a span, which is right of the previous ones, and returns where it
-/// ends. A cell is skipped if it is not one of the plan, overlaps another, or reaches past the
-/// span's end.
+/// Records the spot of a cell of a span, which is right of the previous ones, and returns its end.
+/// A cell is skipped if it is not one of the plan, overlaps another, or reaches past the span's
+/// end.
 fn note_cell(
     spots: &mut Vec<Option<PlannedSite>>,
     given: &PlannerInput,
@@ -176,10 +176,10 @@ fn better(first: ScoredPlan, second: ScoredPlan) -> Vec<Option<PlannedSite>>
 }
 
 /// Plans a place for each cell: all in turn, then passes, then rounds over the cells with the
-/// longest displacements. If that leaves a cell without a place or moves one far, and `two_orders`
-/// is set, it plans again with the widest cells first, and returns the better plan. A cell without
-/// a spot found no room. Each cell that has one lies within its span there, and two cells of one
-/// span lie apart. `Err` if an allocation fails.
+/// longest displacements. That may leave a cell without a place or move one far. Then, if
+/// `two_orders` is set, it plans again with the widest cells first, and returns the better plan. A
+/// cell without a spot found no room. Each cell that has one lies within its span there, and two
+/// cells of one span lie apart. `Err` if an allocation fails.
 pub fn plan_cells(
     alloc: Global,
     land: &FreeRows,

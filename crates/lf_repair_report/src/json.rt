@@ -72,8 +72,8 @@ pub(crate) fn array_value(values: Vec<Value>) -> Value
     Value::Array(values)
 }
 
-/// The line of a team: its name, the names of the unrepaired cells, the gaps near them, the largest
-/// of the least displacements, and the statistics of its repair.
+/// The line of a team: its name, its unrepaired cells and the gaps near them, the largest of the
+/// least displacements, and the statistics.
 pub(crate) fn team_value(
     alloc: Global,
     name: Value,

@@ -23,7 +23,7 @@ pub struct RepairReport {
     /// The sums over the teams that have a line.
     pub sums: Totals,
     /// For each team of the frame, the ground team last, the largest of the least displacements of
-    /// its cells at the start of the repair, in database units.
+    /// its cells. It is from the start of the repair, in database units.
     pub least: Vec<u64>,
 }
 

@@ -48,10 +48,11 @@ fn committed_at(placement: &Placement, number: usize, own: u32) -> Option<(CellI
     Some((id, cells.committed(id)))
 }
 
-/// For each of these positions of the team's cells, the greatest width of a cell that fits into the
-/// widest free run of sites near that cell, in database units. Near are the rows at most 8 row
-/// heights from the cell's committed place, or from the nearest point of a box around the team's
-/// ground. 0 if there is no free site, no such cell or no such team. `Err` if an allocation fails.
+/// The greatest width of a cell that fits into the widest free run of sites near each of the given
+/// cells, in database units. The cells are given by their positions in the team. Near are the rows
+/// at most 8 row heights from the cell's committed place, moved into a box around the team's
+/// ground. For a cell without a committed place it is the team's anchor. A width is 0 if there is
+/// no free site, no such cell or no such team. `Err` if an allocation fails.
 pub fn free_widths(
     alloc: Global,
     placement: &Placement,

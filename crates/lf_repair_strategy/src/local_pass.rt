@@ -27,8 +27,8 @@ pub enum Neighborhood {
     All,
 }
 
-/// A local pass, the places of all cells at its start, and at that time the number of cells without
-/// a place and of problem cells.
+/// A local pass, with the places of all cells at its start. It has also the numbers of cells
+/// without a place and of problem cells at that time.
 #[derive(Drop)]
 pub struct LocalPass {
     pub go: Pass,
@@ -37,8 +37,8 @@ pub struct LocalPass {
     needy: usize,
 }
 
-/// The problem cells: the number of those without a place, the width of the widest, and the target
-/// of each cell that has no place or is far from it.
+/// The problem cells, which have no place or are far from their targets. `left` is the number of
+/// those without a place, `widest` the width of the widest, and `points` are the targets.
 #[derive(Drop)]
 struct ProblemCells {
     left: usize,
@@ -388,9 +388,9 @@ fn is_better(need: &ProblemCells, aim: &LocalPass) -> bool {
     need.left < aim.left || (need.left == aim.left && need.points.len() < aim.needy)
 }
 
-/// The edits that undo a local pass which has improved nothing: all cells that it moved are
-/// unplaced, and then placed where they were at its start. No edits if it has improved something.
-/// `Err` if an allocation fails.
+/// The edits that undo a local pass which has improved nothing. All cells that it moved are
+/// unplaced, and then placed at their old places. No edits if it has improved something. `Err` if
+/// an allocation fails.
 pub fn undo_edits(
     alloc: Global,
     placement: &Placement,
@@ -421,8 +421,8 @@ pub fn undo_edits(
     Ok(deeds)
 }
 
-/// Adds the edits that undo a cell's move: it is unplaced if it has a place, and placed where it
-/// was if it had a place.
+/// Adds the edits that undo a cell's move. It is unplaced if it has a place, and placed at its old
+/// place if it had one.
 fn push_undo(
     own: u32,
     now: Option<Place>,

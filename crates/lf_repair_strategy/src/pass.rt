@@ -31,7 +31,7 @@ pub struct Pass {
 }
 
 /// A team at the start of its repair: the cells that may move, whether each cell is legal, and the
-/// first pass, in which the target of each cell is its own place.
+/// first pass. The target of each cell in the first pass is its own place.
 #[derive(Drop)]
 pub struct RepairInput {
     pub how: MovePolicy,

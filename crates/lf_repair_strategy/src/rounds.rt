@@ -16,8 +16,8 @@ use lf_repair_planner::{
 use lf_units::Point;
 use std::alloc::{AllocError, Global};
 
-/// The options of a plan for `loose` cells of a team. It tries two orders if at least half of the
-/// team's cells are locked.
+/// The options of a plan for `loose` cells of a team. It tries two orders if these are at most half
+/// of the team's cells.
 fn steps_of(placement: &Placement, team: usize, loose: usize) -> PlanOptions {
     PlanOptions {
         passes: 1,
@@ -67,7 +67,7 @@ pub(crate) fn width_of(placement: &Placement, id: CellId) -> i64 {
     }
 }
 
-/// The cell as one that may move. `None` if it is locked.
+/// The cell as one that may move. `None` if it is locked, or there is no such cell.
 fn movable_cell<'a>(placement: &'a Placement, go: &Pass, id: CellId) -> Option<MovableCell<'a>> {
     let frame = placement.frame();
     if *go.marks.get(id.own as usize)? {
@@ -96,7 +96,7 @@ fn movable_count(go: &Pass) -> usize {
     count
 }
 
-/// The target of a cell: its target place, or the team's anchor if it has none.
+/// The target of a cell: its target place, or the team's anchor if it has no target place.
 fn target_of(frame: &Frame, cell: &MovableCell<'_>) -> Point {
     match cell.home {
         Some(place) => Point {
@@ -257,7 +257,7 @@ fn fits_on(frame: &Frame, mac: &Macro, orient: Orient, row: Orient) -> bool {
 }
 
 /// The orientation of a cell on a row of this orientation: its own if allowed, otherwise the first
-/// of N, S, FN and FS that is.
+/// allowed one of N, S, FN and FS.
 fn orient_on(frame: &Frame, mac: &Macro, home: Orient, row: Orient) -> Option<Orient> {
     if fits_on(frame, mac, home, row) {
         return Some(home);

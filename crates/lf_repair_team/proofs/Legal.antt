@@ -152,7 +152,7 @@ same_committed team old new (inr has) =
     ∙ ap (λ (cells : List Cell). Some (map (λ (c : Cell). c.committed) cells)) has.keeps.cells
     ∙ sym (ap (λ (o : Option TeamState). option_map committed_places o) has.was)
 
--- if all cells are committed, none is unrepaired
+-- if all cells are committed, no cell is unrepaired
 pub none_left : (l : Legalizer) (team : List ℕ) (floor : FloorState) (left : List ℕ) → All (λ own. IsIllegalIn floor team own) left → AllCommittedIn l floor team → left ≡ []
 none_left l team floor [] all committed = refl
 none_left l team floor (own ∷ others) all committed =

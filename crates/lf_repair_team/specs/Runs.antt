@@ -37,8 +37,8 @@ abbrev pub IsWrittenRun : Legalizer → List ℕ → FloorState → Option (List
 IsWrittenRun l team old before after new =
     (commands : List (Command (List ℕ) Place)) × IsRunBy commands l team old new × Appends before after (lines_of commands)
 
--- a prefix of these bytes has been written, as far as the writer's bytes are known: perhaps no
--- byte, perhaps all
+-- a prefix of the bytes has been written, as far as the writer's bytes are known: perhaps no byte,
+-- perhaps all
 abbrev pub AppendsFront : Option (List ℕ) → Option (List ℕ) → List ℕ → Type 0
 AppendsFront before after bytes = (count : ℕ) × Appends before after (take count bytes)
 

@@ -368,17 +368,22 @@ fn repair_in_session<S: Seeker + Drop, K: Sink>(
     )
 }
 
-/// Repairs a team: moves its cells that break a rule or have no place to legal places. With `All`
-/// other cells may move too, with `AsNeeded` only if a cell would otherwise have no place or a long
-/// displacement. Each command is sent to the floor, and its line is written exactly if the floor
-/// accepts it. If a line can contain the team's name, each line reads as its command. With `Keep`
-/// legal cells never move, whether or not the repair succeeds. All cells whose place changed are
-/// listed. The team is committed if and only if no cell is unrepaired. Otherwise its cells stay at
-/// their working places, the unrepaired ones are unplaced or illegal, and the committed places are
+/// Repairs a team: moves its cells that break a rule or have no place to legal places.
+///
+/// With `All` other cells may move too, with `AsNeeded` only if a cell would otherwise have no
+/// place or a long displacement. With `Keep` legal cells never move, whether or not the repair
+/// succeeds. All cells whose place changed are listed.
+///
+/// Each command is sent to the floor, and its line is written exactly if the floor accepts it. If a
+/// line can contain the team's name, each line reads as its command.
+///
+/// The team is committed if and only if no cell is unrepaired. Otherwise its cells stay at their
+/// working places, the unrepaired ones are unplaced or illegal, and the committed places are
 /// unchanged. No other team changes, and a fully legal committed design stays fully legal. The
-/// numbers in the result are exact. `Err` says why the repair stopped early. The floor is then as
-/// the accepted commands left it, and their lines are written; of the last line perhaps only a
-/// prefix.
+/// numbers in the result are exact.
+///
+/// `Err` says why the repair stopped early. The floor is then as the accepted commands left it, and
+/// their lines are written; of the last line perhaps only a prefix.
 pub fn repair_team<S: Seeker + Drop, K: Sink>(
     alloc: Global,
     floor: &mut Floor<S>,

@@ -152,7 +152,7 @@ one_more_stayed old mid new number frame stayed stay others = record {
   before : (team : List ℕ) (n : ℕ) → team_number old.frame team ≡ Some n → n ≢ number → n < number → KeepsLegalPlaces team old new
   before team n named differ less own legal = place_same mid new team own (apart team n named differ) ∙ stayed.done team n named less own legal
 
--- if they stay in each team, they stay in all
+-- if they stay in the first `count` teams, which are all, they stay in all
 pub all_stayed : (old new : FloorState) (count : ℕ) → HaveStayed old new count → KeepsAllLegalPlaces old new
 all_stayed old new count stayed team own legal = ⊎_elim (λ (less : legal.number < count). stayed.done team legal.number legal.named less own legal)
     (λ (more : count ≤ legal.number). place_same old new team own (stayed.rest team legal.number legal.named more)) (below legal.number count) where

@@ -112,8 +112,8 @@ fn lines_fault<'f>(path: &'f str, unwritten: WriteFailure) -> Fault<'f>
     }
 }
 
-/// Tests whether the lines can be written to the file at this path, if one is given, as far as this
-/// can be known in advance.
+/// Tests whether the lines can be written to the file at this path, as far as this can be known in
+/// advance. Does nothing if no path is given.
 pub(crate) fn check_lines_path<'a, E: OutputFiles>(
     path: Option<&'a str>,
     exports: &mut E,

@@ -343,7 +343,7 @@ fn put_all<'a, E: OutputFiles, W: Sink>(
     Ok(done.status)
 }
 
-/// What a repair needs besides the floor of a design, made when no team is repaired yet.
+/// What a repair needs besides the floor of a design. It is built first.
 #[derive(Drop)]
 struct RepairContext<'p, P> {
     original: SourceText,
@@ -429,13 +429,22 @@ fn repair_opened<'a, E: OutputFiles, W: Sink, P: Progress>(
     repair_on_floor(alloc, &mut floor, &mut before, asked, exports, writer)
 }
 
-/// Repairs the teams of the design of a DEF file and LEF files by the floor's own commands. It
-/// writes the results as JSON Lines and then the requested files. Returns the exit status: 0, or 4
-/// if the committed design is not fully legal. `Err` is the first fault of: the files, LEF before
-/// DEF; the design; a name that is not a team's; the paths of the requested files; memory; the
-/// writer; the requested files, the exported text before the command lines. No file is written if
-/// the fault is not that of the command lines. If the writer is at fault, a prefix of the report is
-/// written. If a file is at fault after the repair, all of the report is written.
+/// Repairs the teams of the design of a DEF file and LEF files by the floor's own commands.
+///
+/// Writes the results as JSON Lines and then the requested files. Returns the exit status: 0, or 4
+/// if the committed design is not fully legal. `Err` is the first fault in this order:
+///
+/// - the files, LEF and then DEF
+/// - the design
+/// - a name that is not a team's
+/// - the paths of the requested files
+/// - memory
+/// - the writer
+/// - the requested files, the exported text and then the command lines
+///
+/// No file is written unless the fault is that of the command lines. If the writer is at fault, a
+/// prefix of the report is written. If a file is at fault after the repair, all of the report is
+/// written.
 pub fn repair<'a, T: InputFiles, E: OutputFiles, W: Sink, P: Progress>(
     alloc: Global,
     texts: &T,

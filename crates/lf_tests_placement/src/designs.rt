@@ -59,8 +59,8 @@ fn is_built_in(frame: &Frame) -> bool {
         && frame.macros.len() == 2
 }
 
-/// The line of the blockage of the built-in design, between soft ones: rectangles that touch,
-/// overlap and have no area, and one that is PARTIAL too.
+/// The line of the blockage of the built-in design, between soft ones. These are rectangles that
+/// touch, overlap and have no area, and one that is PARTIAL too.
 const SOFT_LINES: &[u8] =
     b"- PLACEMENT + SOFT RECT ( 400 2000 ) ( 0 0 ) RECT ( 400 0 ) ( 600 2000 ) ;
 - PLACEMENT + SOFT + PARTIAL 0.5 RECT ( 0 0 ) ( 200 200 ) ;
@@ -178,8 +178,8 @@ fn boxes_beside(
     Ok(others)
 }
 
-/// The first rule that the cell with this number breaks at its place, found by a test against all
-/// of the frame and all other cells.
+/// The first rule that the cell with this number breaks at its place, found by a test against the
+/// whole frame and all other cells.
 fn broken_by_all(
     alloc: Global,
     design: &Loaded,

@@ -59,7 +59,7 @@ fn has_joined_segments(alloc: Global, frame: &Frame) -> Result<bool, AllocError>
     )
 }
 
-/// Whether the entries are of these rows, in this order.
+/// Whether the entries are of the given rows, in this order.
 fn are_rows(entries: &[RowEntry], wanted: &[usize]) -> bool {
     if entries.len() != wanted.len() {
         return false;

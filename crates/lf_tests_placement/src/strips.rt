@@ -92,7 +92,7 @@ fn is_left(
 }
 
 /// Whether the strips have the spans that a1 leaves free, also with a padding and for a cell of
-/// another team, and no spans if there is no such strip.
+/// another team. If there is no such strip, there are no spans.
 fn shows_what_is_free(
     alloc: Global,
     strips: &OccupancyView<'_>,

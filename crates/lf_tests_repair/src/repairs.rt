@@ -126,9 +126,9 @@ fn is_fault(told: &Told, fault: RepairFault, lines: &[u8]) -> bool {
     }
 }
 
-/// The expected result of a repair: how many cells broke a rule or had no place, and how many were
-/// kept, moved, placed and turned; the total displacement and the longest; and the positions of the
-/// changed and of the unrepaired cells.
+/// The expected result of a repair. `counts`: how many cells broke a rule or had no place, and how
+/// many were kept, moved, placed and turned. `ways`: the total displacement and the longest.
+/// `changed` and `left`: the positions of the changed and of the unrepaired cells.
 #[derive(Clone, Copy)]
 struct Comes {
     how: MovePolicy,
