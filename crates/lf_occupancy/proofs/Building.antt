@@ -88,7 +88,7 @@ no_box cells team own = ap (λ (bs : List (Option Rect)). cell_box bs own) (row_
 none_is_some : (r : Rect) → ◌≡◌ {A = Option Rect} None (Some r) → ⊥
 none_is_some r e = cc
 
--- if no cell has a box, the strips have no marks
+-- the marks of a strip without any are right if no cell has a box
 bare_lane : (cells : List (Option Rect)) (area : Rect) (l : StripMarks) → ((own : ℕ) → cell_box cells own ≡ None) → HasNoMark l → IsMarked cells area l
 bare_lane cells area l none b =
     let many : length (entries_in cells area l.marks.items) ≡ 0 = ap (λ ms. length (entries_in cells area ms)) b.marks in
@@ -113,7 +113,7 @@ bare_lane cells area l none b =
 none_before : (id : CellId) → IsBefore 0 0 id → ⊥
 none_before id before = elim before [ inl less ↦ omega (arith, less) | inr same ↦ let less = same.1 in omega (arith, less) ]
 
--- no cell is done if the strips have no marks
+-- the marks of strips without any are right if no cell is done
 pub lanes_bare : (f : Frame) (cells : Cells) (xs : List Strip) (lanes : List StripMarks) → HaveNoMarks (length xs) lanes →
     AreFilledIn f cells xs (IsBefore 0 0) lanes
 lanes_bare f cells xs lanes bare = record {

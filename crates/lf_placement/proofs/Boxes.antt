@@ -200,7 +200,7 @@ has_room id boxes o r may nowhere is = λ n g there of_team shares.
 pub nowhere_now : (id : CellId) (a b : Occupied) → b.boxes ≡ boxes_with a id None → box_at b id.team id.own ≡ None
 nowhere_now id a b is = rw (box_put id None a b is) (none_here (boxes_of a id.team) id.own)
 
--- so far these cells have their boxes, and those that the remaining moves do not name
+-- the cells that the remaining moves do not name have their boxes
 pub record AreStanding (f : Frame) (cells : Cells) (team : ℕ) (named : List ℕ) (n : ℕ) (o : Occupied) : Type 0 where
   pub may : BoxesMayBeInserted team (working_boxes f cells team) o
   pub rest : (own : ℕ) → ((k : ℕ) → n ≤ k → k < length named → get_or named k 0 ≢ own) → cell_box (boxes_of o team) own ≡ cell_box (working_boxes f cells team) own

@@ -59,7 +59,7 @@ BoundsAt p team places tally = Bounds p.held team (boxes_at p.frame (cells_of p.
 
 -- ---- moves
 
--- the cells after these moves, made in their order
+-- the cells after these moves, in their order
 abbrev pub moves_applied : List Move → List Cell → List Cell
 moves_applied [] cells = cells
 moves_applied (m ∷ ms) cells = moves_applied ms (moved cells m.own m.old)

@@ -54,7 +54,7 @@ pub struct TimedProgress<'a, T, W> {
 }
 
 impl<'a, T: Clock, W: Write> TimedProgress<'a, T, W> {
-    /// A report without lines. The time between two lines is `pause`.
+    /// A receiver that has written no line yet. The time between two lines is `pause`.
     pub fn new(alloc: Global, clock: &'a T, pause: Duration, writer: W) -> Self {
         TimedProgress {
             clock,
