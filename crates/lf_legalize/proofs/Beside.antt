@@ -12,7 +12,7 @@ use Rattle.lf_cells.specs.declared.cell.Cell.{Cell}
 use Rattle.lf_legalize.specs.Members.{member_of}
 use Rattle.lf_legalize.specs.Others.{beside_one}
 
--- the boxes of the cells from that position on, but for the cell `own`
+-- the boxes of the cells from this position on, except that of the cell `own`
 abbrev pub beside_from : Frame → ℕ → ℕ → List Cell → List Placed
 beside_from f own n cells = filter (λ p. not (eqb p.own own)) (boxes_from f n (map member_of cells))
 
@@ -29,7 +29,7 @@ with_rest f own n mac (Some p) rest = go (not (eqb n own)) where
   go true = refl
   go false = refl
 
--- the boxes from a cell on are its own and those behind it
+-- the boxes from a cell on are its own and those after it
 pub beside_step : (f : Frame) (own n : ℕ) (cells : List Cell) → n < length cells
     → beside_from f own n (drop n cells) ≡ beside_one f own n (slice_get cells n) ++ beside_from f own (n + 1) (drop (n + 1) cells)
 beside_step f own n cells within = go cells within (drop_more cells n)

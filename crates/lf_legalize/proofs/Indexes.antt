@@ -1,5 +1,5 @@
--- Legal places lie in the extent of a frame's rows; their distances from a target and from the extent's point nearest to it
--- differ by one number for all.
+-- Legal places lie in the extent of a frame's rows. Their distances from a target and from the
+-- extent's point nearest to it all differ by the same number.
 use Rattle.std.proofs.Common.{◌≡◌, inl, inr, ℕ, ℤ, pos, negsuc, ◌+◌, ◌≤◌, ◌+ℤ◌, ◌-ℤ◌, ◌≤ℤ◌, ◌<ℤ◌, arith, sym, ap, ◌∙◌, subst, Option, Some, None, get_or}
 use Rattle.std.specs.Prelude.{unsigned_abs}
 use Rattle.std.proofs.lemmas.Int.{ints}
@@ -50,14 +50,15 @@ lies_in cell extent p sized of legal =
     row_inside cell.frame (turned (size_of cell.frame cell.mac) p.orient) extent p held.0 small cell.frame.pitch_whole.high bottom
     (subst (λ (r : Row). IsInside (row_area cell.frame.pitch r) extent) bottom.heeded.2 inside)
 
--- how far apart two numbers of a range are
+-- the distance of two numbers of a range
 abs_under : (v w : ℤ) → (pos 0 -ℤ w) ≤ℤ v → v ≤ℤ w → unsigned_abs v ≤ unsigned_abs w
 abs_under (pos m) (pos n) a b = omega (arith, ints)
 abs_under (negsuc m) (pos n) a b = omega (arith, ints)
 abs_under (pos m) (negsuc n) a b = omega (arith, ints)
 abs_under (negsuc m) (negsuc n) a b = omega (arith, ints)
 
--- no legal place is farther from a point of the extent than its corners are apart
+-- no legal place is farther from a point of the extent than its opposite corners are from each
+-- other
 pub within_extent : (extent : Rect) (target near : Point) (p : SpotPlace) (farthest : ℕ) → IsNearestPoint extent target near →
     farthest ≡ unsigned_abs (extent.x2 -ℤ extent.x1) + unsigned_abs (extent.y2 -ℤ extent.y1) → LiesIn extent p → IsWithin near farthest p
 within_extent extent target near p farthest of is lies =
@@ -67,7 +68,7 @@ within_extent extent target near p farthest of is lies =
     abs_under (p.y -ℤ near.y) (extent.y2 -ℤ extent.y1) (omega (arith, ints, lies.lower, of.up.high)) (omega (arith, ints, lies.upper, of.up.low)) in
     omega (arith, x, y, is)
 
--- a distance in the extent is not too far to look
+-- a distance in the extent is within the bounds of the search
 pub farthest_small : (extent : Rect) (farthest : ℕ) → IsNearDefRect extent →
     farthest ≡ unsigned_abs (extent.x2 -ℤ extent.x1) + unsigned_abs (extent.y2 -ℤ extent.y1) → farthest ≤ 68719476736
 farthest_small extent farthest near is =
@@ -96,7 +97,7 @@ distance_splits extent target near p of lies =
     let y : unsigned_abs (p.y -ℤ target.y) ≡ unsigned_abs (p.y -ℤ near.y) + unsigned_abs (near.y -ℤ target.y) = of.up.apart p.y lies.lower lies.upper in
     omega (arith, x, y)
 
--- what precedes for the nearest point of the extent precedes for the target
+-- if a place precedes another for the nearest point of the extent, it does for the target
 same_order : (target near : Point) (p q : SpotPlace) (more : ℕ) → distance target p ≡ distance near p + more → distance target q ≡ distance near q + more →
     Precedes near p q → Precedes target p q
 same_order target near p q more d e (inl less) = inl (omega (arith, d, e, less))
@@ -115,7 +116,7 @@ choice_for cell extent target near (Some b) of all choice = record {
   ];
 }
 
--- where the macro is not from 1 to 8 core sites high no place is legal
+-- if the macro is not from 1 to 8 core sites high, no place is legal
 pub none_legal : (cell : PlacementQuery) (p : SpotPlace) → ((k : ℕ) → IsHeightOf cell.frame cell.mac k → ⊥) → IsLegalAt cell p → ⊥
 none_legal cell p none legal =
     let held : Holds (candidate_at cell p) Height = legal Height in

@@ -1,4 +1,4 @@
--- What is free on rows: where it lies, and what is free on more rows.
+-- The free spans on rows: where they lie, and those on more rows.
 use Rattle.std.proofs.Common.{◌≡◌, ◌⊎◌, inl, inr, ℕ, zero, suc, ℤ, pos, ◌+◌, ◌<◌, ◌-ℤ◌, ◌≤ℤ◌, List, [], ◌∷◌, ◌++◌, Some}
 use Rattle.std.proofs.Common.{length, get_or, map, slice_get, Vec, Global, refl, sym, ap, subst, ◌∙◌, arith}
 use Rattle.std.specs.Prelude.{◌↔◌, All, Any}
@@ -36,7 +36,7 @@ rising_cons x xs filled after rising = record {
   apart = AllPairs-cons (λ s t. s.hi ≤ℤ t.lo) x xs after rising.apart;
 }
 
--- spans that lie left of others, in front of them
+-- spans that lie left of others, placed in front of them
 rising_append : (xs ys : List Span) → IsRising xs → IsRising ys → All (λ x. All (λ y. x.hi ≤ℤ y.lo) ys) xs → IsRising (xs ++ ys)
 rising_append [] ys first second left = second
 rising_append (x ∷ xs) ys first second left =
@@ -48,7 +48,7 @@ pub any_right : {X : Type 0} (P : X → Type 0) (xs ys : List X) → Any P ys �
 any_right P [] ys a = a
 any_right P (x ∷ xs) ys a = any_tail P x (xs ++ ys) (any_right P xs ys a)
 
--- a span of a list lies in one of the list
+-- a span of a list lies in one of the list's spans
 pub own_one : (xs : List Span) (k : ℕ) (d : Span) → k < length xs → LiesInOneOf xs (get_or xs k d)
 own_one [] k d within = absurd (omega (arith, within))
 own_one (x ∷ xs) zero d within = any_head (λ t. LiesIn x t) x xs (λ y h. h)
@@ -185,7 +185,7 @@ free_row Rows o id window padding n xs this only free = record {
 pub same_row : (f : Frame) (n : ℕ) (a b : Row) → slice_get f.rows n ≡ Some a → slice_get f.rows n ≡ Some b → a ≡ b
 same_row f n a b p q = let same : Some a ≡ Some b = sym p ∙ q in cc
 
--- what is so of a row of this number is so of the row of this number
+-- what holds for a row of this number holds for the row of this number
 pub of_row : (f : Frame) (n : ℕ) (a b : Row) (P : Row → Type 0) → slice_get f.rows n ≡ Some a → slice_get f.rows n ≡ Some b → P a → P b
 of_row f n a b P p q so = subst P (same_row f n a b p q) so
 

@@ -14,7 +14,7 @@ use Rattle.lf_cells.specs.declared.cell.CellPlacement.{CellPlacement}
 use Rattle.lf_cells.specs.Cells.{placement_of}
 use Rattle.lf_legalize.specs.Members.{IsSizedCell, member_of, best_of}
 
--- the choice for a cell that stands so is its best place
+-- the choice for a cell with this macro and working place is its best place
 pub best_is : (l : Legalizer) (f : Frame) (team padding own : ℕ) (cells : List Cell) (target : Point) (s : CellPlacement) (found : Option SpotPlace) →
     All (IsSizedCell f) cells → option_map placement_of (slice_get cells own) ≡ Some s →
     IsChoice (query_from f team padding (map member_of cells) own s.mac) target found → found ≡ best_of l f team padding cells own target

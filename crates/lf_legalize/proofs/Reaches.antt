@@ -1,4 +1,4 @@
--- What is looked at on the rows around a target.
+-- The rows around a target, in a search.
 use Rattle.std.proofs.Common.{◌≡◌, ◌⊎◌, inl, inr, ℕ, ℤ, pos, negsuc, ◌-◌, ◌≤◌, ◌<◌, ◌+ℤ◌}
 use Rattle.std.proofs.Common.{◌-ℤ◌, ◌≤ℤ◌, arith, refl, sym, ap, ◌∙◌, subst, Option, Some, None, slice_get, List}
 use Rattle.std.specs.Prelude.{unsigned_abs, IfSome}
@@ -22,12 +22,12 @@ use Rattle.lf_legalize.specs.Extents.{IsWithin, IsOnRow, IsBetter, ScansPlacesWi
 use Rattle.lf_legalize.specs.RowSearches.{IsOnRowIn, IsBestAmong, IsChoiceAmong}
 use Rattle.lf_legalize.specs.declared.row_search.RowSearch.{RowSearch}
 
--- the size of a cell that is looked for
+-- the size of a cell that is searched for
 pub small_search : (s : RowSearch) → IsSmall s.size
 small_search s =
     subst (λ (size : Point). IsSmall size) (sym s.size_is) (small_pitch _ _ _ (sized_pitch s.frame.now (macro_of s.frame.now s.mac) s.sized))
 
--- a place that is farther off does not come first
+-- a place that is farther away does not come first
 far_is_worse : (target : Point) (p b : SpotPlace) → distance target b < distance target p → Precedes target p b → ⊥
 far_is_worse target p b far (inl a) = omega arith
 far_is_worse target p b far (inr a) = omega arith
@@ -49,11 +49,11 @@ same_row rows n r s a b = some_same (sym a ∙ b)
     some_same : {x y : Row} → Some x ≡ Some y → x ≡ y
     some_same e = cc
 
--- how far a place is from the target whose box stands on a row
+-- the y of a place whose box has this bottom row
 pub row_level : (f : Frame) (size : Point) (r : Row) (p : SpotPlace) → IsBottomRow f (box_at size p.x p.y) r → p.y ≡ r.y
 row_level f size r p bottom = let level = bottom.at_bottom.at_level in omega (arith, ints, level)
 
--- a row too far off along y is passed over
+-- a row too far away along y is skipped
 pub row_passed : (f : Frame) (size : Point) (cell : PlacementQuery) (target : Point) (reach : ℕ) (best : Option SpotPlace) (e : RowEntry) → IsEntryOf f e →
     limit target reach best < unsigned_abs (e.y -ℤ target.y) → ScansPlacesWithin (IsOnRow f size e.row) cell target reach best best
 row_passed f size cell target reach best e known far = record {
@@ -117,7 +117,7 @@ in_reach f size target lim rise y w r p at is less lo hi on =
     abs_within (pos m) n a b = omega (arith, ints)
     abs_within (negsuc m) n a b = omega (arith, ints)
 
--- the better of two is what is known after a look at the second
+-- the better of two places is the best one after comparison with the second
 pub better_looks : (cell : PlacementQuery) (target : Point) (best new : Option SpotPlace) (s : SpotPlace) → IsAllowedPlace cell s → IsBetter target best s new →
     ScansPlaces (λ p. p ≡ s) cell target best new
 better_looks cell target None new s may (inl take) = rw take.0 (taken_first cell target s may)
@@ -140,7 +140,7 @@ split_row f size target reach rise best e known w is less lo hi p within on =
       | inr far ↦ inr (beyond target reach best p within far)
     ]
 
--- a row was looked at, and nothing was found
+-- a row was searched, and nothing was found
 pub row_empty : (f : Frame) (size : Point) (cell : PlacementQuery) (target : Point) (reach rise : ℕ) (best : Option SpotPlace)
     (e : RowEntry) (known : IsEntryOf f e) (w : Span) →
     rise ≡ unsigned_abs (e.y -ℤ target.y) → rise ≤ limit target reach best →
@@ -155,7 +155,8 @@ row_empty f size cell target reach rise best e known w is less lo hi none = reco
   near = λ h. h;
 }
 
--- what a place precedes is no better than what that place is not better than
+-- if one place precedes another and is no better than the best so far, the other is no better
+-- either
 no_better : (target : Point) (new : Option SpotPlace) (s p : SpotPlace) → IsAsGood target new s → ((p ≡ s) ⊎ Precedes target s p) → IsAsGood target new p
 no_better target None s p good order = absurd good
 no_better target (Some b) s p good (inl same) = subst (λ (q : SpotPlace). Precedes target q b → ⊥) (sym same) good
@@ -166,7 +167,7 @@ better_near : (target : Point) (reach : ℕ) (best new : Option SpotPlace) (s : 
 better_near target reach best new s within (inl take) near = rw take.0 within
 better_near target reach best new s within (inr keep) near = rw keep.0 near
 
--- a row was looked at, and its best place was held against the best so far
+-- a row was searched, and its best place was compared with the best so far
 pub row_found : (f : Frame) (size : Point) (cell : PlacementQuery) (target : Point) (reach rise : ℕ) (best new : Option SpotPlace)
     (e : RowEntry) (known : IsEntryOf f e) (w : Span) (s : SpotPlace) →
     rise ≡ unsigned_abs (e.y -ℤ target.y) → rise ≤ limit target reach best →

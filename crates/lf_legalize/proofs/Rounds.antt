@@ -1,4 +1,4 @@
--- Looking at the rows of a run, and ever farther from the target.
+-- The search over the rows of a run, farther from the target in each round.
 use Rattle.std.proofs.Common.{◌≡◌, ◌⊎◌, inl, inr, ℕ, ℤ, pos, ◌+◌, ◌≤◌, ◌<◌, ◌+ℤ◌, ◌-ℤ◌, ◌≤ℤ◌, ◌<ℤ◌, arith}
 use Rattle.std.proofs.Common.{refl, sym, ap, ◌∙◌, subst, Option, Some, None, true, slice_get, length, List, ◌++◌, get_or, length-append}
 use Rattle.std.specs.Prelude.{unsigned_abs, All, Any}
@@ -35,7 +35,7 @@ pub record IsOnEntries (f : Frame) (size : Point) (run : List RowEntry) (count :
   pub there : slice_get run place ≡ Some entry
   pub on : IsOnRow f size entry.row p
 
--- nothing was looked at so far
+-- no entry was searched so far
 pub no_entry : (f : Frame) (size : Point) (run : List RowEntry) (cell : PlacementQuery) (target : Point) (reach : ℕ) →
     ScansPlacesWithin (IsOnEntries f size run 0) cell target reach None None
 no_entry f size run cell target reach = record {
@@ -68,7 +68,7 @@ next_entry f size run n e cell target reach a b c there first second = record {
               inr (s.0, subst (λ (x : RowEntry). IsOnRow f size x.row p) is s.1.on)
         ]
 
--- what holds of all entries holds of those of a run
+-- what holds for all entries holds for those of a run
 pub run_holds : (P : RowEntry → Type 0) (entries before run behind : List RowEntry) → entries ≡ before ++ (run ++ behind) → All P entries →
     (k : ℕ) (d : RowEntry) → k < length run → P (get_or run k d)
 run_holds P entries before run behind parts all k d less =
@@ -110,7 +110,7 @@ on_any f size run n p any on = record {
   on = subst (λ (k : ℕ). IsOnRow f size k p) (sym any.4) on;
 }
 
--- a legal place within the reach stands on a row of the run
+-- a legal place within the reach is on a row of the run
 pub all_seen : (s : RowSearch) (run : List RowEntry) (reach : ℕ) (from to : ℤ) → RunBetweenHasRows → IsRowsByY s.frame.now s.occupancy.now.index.rows →
     IsRunBetween s.occupancy.now.index.rows from to run → from ≤ℤ (s.target.now.y -ℤ pos reach) → (s.target.now.y +ℤ pos reach) <ℤ to →
     (p : SpotPlace) → IsLegalAt (query_of_search s) p → IsWithin s.target.now reach p → IsOnEntries s.frame.now s.size run (length run) p
@@ -125,7 +125,7 @@ all_seen s run reach from to law rows between low high p legal within =
     let any = both.1 (omega (arith, ints, level, above, below, low, high), omega (arith, ints, level, above, below, low, high)) in
     on_any s.frame.now s.size run stands.0 p any on
 
--- a look at all places within the reach where the cell may go finds the best of them
+-- a search over all allowed places within the reach finds the best of them
 pub chosen_near : (Seen : SpotPlace → Type 0) (cell : PlacementQuery) (target : Point) (reach : ℕ) (found : Option SpotPlace) →
     ((p : SpotPlace) → IsAllowedPlace cell p → IsWithin target reach p → Seen p) → ScansPlacesWithin Seen cell target reach None found →
     IsChoiceAmong (IsWithin target reach) cell target found
@@ -144,7 +144,7 @@ chosen_near Seen cell target reach (Some b) all looks =
 near_or_far : (m n : ℕ) → (m ≤ n) ⊎ (n < m)
 near_or_far m n = grind arith
 
--- the best of the places within a reach is the best of all: the others are farther off
+-- the best of the places within a reach is the best of all, because the others are farther away
 pub best_of_all : (cell : PlacementQuery) (target : Point) (reach : ℕ) (b : SpotPlace) → IsBestAmong (IsWithin target reach) cell target b → IsBest cell target b
 best_of_all cell target reach b best = record {
   may_go = best.may_go;
@@ -156,13 +156,13 @@ best_of_all cell target reach b best = record {
       ];
 }
 
--- where all places where the cell may go are within the reach, the choice of those within it is the choice
+-- if all allowed places are within the reach, the choice among those within it is the choice
 pub choice_of_all : (cell : PlacementQuery) (target : Point) (reach : ℕ) (found : Option SpotPlace) → ((p : SpotPlace) → IsAllowedPlace cell p → IsWithin target reach p) →
     IsChoiceAmong (IsWithin target reach) cell target found → IsChoice cell target found
 choice_of_all cell target reach None all choice = λ p may. choice p (all p may) may
 choice_of_all cell target reach (Some b) all choice = best_of_all cell target reach b choice
 
--- what was found within a reach is the choice
+-- a place found within a reach is the choice
 pub choice_if_some : (cell : PlacementQuery) (target : Point) (reach : ℕ) (found : Option Place) → is_some found ≡ true →
     IsChoiceAmong (IsWithin target reach) cell target (option_map spot_of found) → IsChoice cell target (option_map spot_of found)
 choice_if_some cell target reach None some choice = absurd cc

@@ -32,7 +32,7 @@ use Rattle.lf_legalize.proofs.RowFree.{bottom_left, bottom_right, free_may_go, f
 
 -- ---- bounds
 
--- the x at which the box is free at each of its levels
+-- the x is one at which the box is free at each of its levels
 abbrev pub IsFit : RowSearch → Row → List (List Span) → ℤ → Type 0
 IsFit s bottom lists x = FitsRows lists (grid_of bottom.x s.frame.now.pitch.x) s.size.x x
 
@@ -97,7 +97,7 @@ fit_in_def s own bottom window lists x there occupied levels fits =
 
 -- ---- the nearest
 
--- what is nearest to the number that stands in for the target is nearest to the target
+-- what is nearest to the replacement for the target is nearest to the target
 pub nearest_to_target : (Fit : ℤ → Type 0) (target near : ℤ) (found : Option ℤ) → IsEquivalentTarget target near → ((x : ℤ) → Fit x → IsDefNumber x) →
     FindsNearest Fit near found → FindsNearest Fit target found
 nearest_to_target Fit target near None same def none = none
@@ -116,7 +116,7 @@ on_grid_of : (s x o : ℤ) (site : ℕ) → pos 0 <ℤ s → x -ℤ o ≡ pos si
 on_grid_of (pos n) x o site rising is = let none : 0 * n ≡ 0 = omega arith in omega (arith, ints, is, none)
 on_grid_of (negsuc n) x o site rising is = absurd (omega (arith, ints, rising))
 
--- a place where the cell may go is among those that are looked at
+-- an allowed place is among those that are considered
 pub may_go_fits : (s : RowSearch) (own : ℕ) (bottom : Row) (window : Span) (lists : List (List Span)) (p : SpotPlace) → slice_get s.frame.now.rows own ≡ Some bottom →
     IsOccupancyOf s.frame.now s.cells.now s.occupancy.now → AreLevels s own bottom window s.height lists → IsOnRowIn s.frame.now s.size bottom window p →
     IsAllowedPlace (query_of_search s) p → IsFit s bottom lists p.x
@@ -144,7 +144,8 @@ pub none_bare : (s : RowSearch) (own : ℕ) (bottom : Row) (window : Span) (p : 
 none_bare s own bottom window p there occupied bare on may =
     any_nil (λ t. LiesIn (reach s p.x) t) (may_go_is_free s own bottom window p bare.level [] there occupied on may bare.within bare.bare)
 
--- of two places on one row the nearer one comes first, then the left one, then the one of lesser rank
+-- of two places on one row the nearer one comes first, then the left one, then the one with the
+-- lesser rank
 first_of : (target : Point) (a b : SpotPlace) → a.y ≡ b.y → IsNoFarther target.x a.x b.x → (rank a.orient ≡ rank b.orient → a.orient ≡ b.orient) →
     rank a.orient ≤ rank b.orient → (b ≡ a) ⊎ Precedes target a b
 first_of target a b level (inl near) tells less =

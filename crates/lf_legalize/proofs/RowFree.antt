@@ -1,4 +1,4 @@
--- Where a cell's box is free at each level over a bottom row, the cell may go.
+-- If a cell's box is free at each level over a bottom row, the place is allowed.
 use Rattle.std.proofs.Common.{◌≡◌, ◌⊎◌, inl, inr, ℕ, zero, suc, ℤ, pos, negsuc, ◌+◌, ◌-◌, ◌*◌, ◌<◌, ◌≤◌, ◌%◌, ◌+ℤ◌, ◌-ℤ◌, ◌*ℤ◌, ◌≤ℤ◌, ◌<ℤ◌}
 use Rattle.std.proofs.Common.{List, [], Some, length, get_or, map, slice_get, refl, sym, ap, subst, ◌∙◌, arith, IsTrue}
 use Rattle.std.specs.Prelude.{All, Any, Contains}
@@ -221,7 +221,8 @@ carried s own bottom window x o free k r high at j less =
     let same : r ≡ bottom = bottom_one f box r bottom (filled s x) at (bottom_row s own bottom window x o free) in
     subst (λ (b : Row). (t : Row) × Supports f box b j t) (sym same) (carries_at s own bottom window x o free j (omega (arith, less, tall)))
 
--- each point of the box, or beside it at one of its heights, lies at the height of the row of a level
+-- each point of the box, or left or right of it at one of its heights, lies at the height of the
+-- row of a level
 record IsPointOf (s : RowSearch) (own : ℕ) (bottom : Row) (window : Span) (x px py : ℤ) : Type 0 where
   j : ℕ
   held : IsHeldAt s own bottom window x j
@@ -265,7 +266,7 @@ is_clear s own bottom window x o free m d within shares =
     let at = open_point s own bottom window x shares.x shares.y free.occupied p record { low = shares.in_first.left; high = shares.in_first.right } in
     at.0.clear.clear shares.y at.1 m d within shares.in_second
 
--- the rectangle of another cell comes in no level nearer to the box than the padding
+-- the rectangle of another cell is at no level nearer to the box than the padding
 met_at : (s : RowSearch) (own : ℕ) (bottom : Row) (window : Span) (x px py : ℤ) (k : ℕ) (rect : Rect) → IsOccupancyOf s.frame.now s.cells.now s.occupancy.now →
     (p : IsPointOf s own bottom window x px py) → (x -ℤ padding_in s) ≤ℤ px → px <ℤ ((x +ℤ s.size.x) +ℤ padding_in s) →
     IsOther s.occupancy.now s.id k rect → Covers rect px py → ⊥
@@ -302,7 +303,7 @@ is_apart s own bottom window x o free =
     (point_at s own bottom window x shares.x shares.y free shares.in_first.bottom shares.in_first.top) shares.in_first.left shares.in_first.right
     (is_other s.frame.now s.cells.now s.occupancy.now s.id k m q free.occupied.boxes differ there placed) shares.in_second)
 
--- nor is a soft blockage
+-- no soft blockage is over the box
 soft_at : (s : RowSearch) (own : ℕ) (bottom : Row) (window : Span) (x px py : ℤ) → IsOccupancyOf s.frame.now s.cells.now s.occupancy.now →
     (p : IsPointOf s own bottom window x px py) → Holds (reach s x) px → Any (λ r. Covers r px py) s.frame.now.soft → ⊥
 soft_at s own bottom window x px py occupied p holds soft = by p.held.free.in_strip

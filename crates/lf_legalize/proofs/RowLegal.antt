@@ -1,4 +1,4 @@
--- Where a cell may go with a given bottom row, its box is free at each of its levels.
+-- If a place with a given bottom row is allowed, the cell's box is free at each of its levels.
 use Rattle.std.proofs.Common.{◌≡◌, ◌⊎◌, inl, inr, ℕ, zero, suc, ℤ, pos, negsuc, ◌*◌, ◌<◌, ◌+ℤ◌, ◌*ℤ◌, ◌≤ℤ◌, ◌<ℤ◌}
 use Rattle.std.proofs.Common.{List, [], Option, Some, None, get_or, map, slice_get, refl, sym, ap, subst, ◌∙◌, arith}
 use Rattle.std.specs.Prelude.{All, Any, Contains}
@@ -55,7 +55,7 @@ one_more : (k : ℕ) (p : ℤ) → pos 0 <ℤ p → (pos (suc k) *ℤ p) ≡ ((p
 one_more k (pos n) high = ap (λ (m : ℕ). pos m) (suc-mul k n)
 one_more k (negsuc n) high = absurd (omega (arith, ints, high))
 
--- more levels are higher
+-- a greater level is higher
 rises : (p : ℤ) → pos 0 <ℤ p → (j k : ℕ) → j < k → ((pos j *ℤ p) +ℤ p) ≤ℤ (pos k *ℤ p)
 rises p high j zero less = absurd (omega (arith, less))
 rises p high j (suc k) less = elim order [
@@ -77,7 +77,7 @@ pub none_high : (p : ℤ) → pos 0 <ℤ p → (pos 0 *ℤ p) ≡ pos 0
 none_high (pos n) high = let none : 0 * n ≡ 0 = omega arith in ap (λ (m : ℕ). pos m) none
 none_high (negsuc n) high = absurd (omega (arith, ints, high))
 
--- of levels that stand on one another, one holds y
+-- of adjacent levels from bottom to top, one holds y
 pub record IsAtLevel (p low y : ℤ) (k : ℕ) : Type 0 where
   pub j : ℕ
   pub less : j < k
@@ -96,11 +96,11 @@ level_of p low y high (suc k) from below = elim order [
 
 -- ---- the box of a place
 
--- the box of the cell at a place, where it stands upright
+-- the box of the cell at a place, in an upright orientation
 abbrev pub upright_box : RowSearch → SpotPlace → Rect
 upright_box s p = box_sized s.size p.x p.y
 
--- from where to where it reaches
+-- the x range of the box
 abbrev pub reach : RowSearch → ℤ → Span
 reach s x = record { lo = x; hi = x +ℤ s.size.x }
 
@@ -154,7 +154,7 @@ other_placed f table o id own box held other =
     placed_at f cells own box (slice_get cells own) refl
     (sym (ap (λ (b : Option (Option Rect)). option_and_then (λ c. c) b) boxes) ∙ other.stands)
 
--- the same from the rules' side: what is there is another cell of the occupancy
+-- the same from the rules' side: a member is another cell of the occupancy
 member_there : (f : Frame) (cells : List Cell) (k : ℕ) (m : Member) (p : SpotPlace) (found : Option Cell) → slice_get cells k ≡ found →
     option_map member_of found ≡ Some m → m.place ≡ Some p → option_and_then (λ b. b) (option_map (box_of f) found) ≡ Some (box_in f m.mac p)
 member_there f cells k m p None there is placed = absurd cc
@@ -186,7 +186,7 @@ is_other f table o id k m p held differ there placed =
 
 -- ---- from the rules to the levels
 
--- what is known of the box of a place where the cell may go
+-- what is known of the box of an allowed place
 record IsGoodBox (s : RowSearch) (box : Rect) : Type 0 where
   stands : RestsOnRows s.frame.now box
   ground : StaysInGround s.frame.now s.id.team box
@@ -204,7 +204,7 @@ good_box s p may =
 pub row_y_is : (f : Frame) (n : ℕ) (r : Row) → slice_get f.rows n ≡ Some r → row_y f n ≡ r.y
 row_y_is f n r there = rw there refl
 
--- a row that carries the box is free over its reach
+-- a row under the box is free over its reach
 free_on_carrier : (s : RowSearch) (bottom : Row) (window : Span) (p : SpotPlace) (j n : ℕ) (r : Row) → IsOccupancyOf s.frame.now s.cells.now s.occupancy.now →
     IsOnRowIn s.frame.now s.size bottom window p → IsGoodBox s (upright_box s p) → j < s.height → slice_get s.frame.now.rows n ≡ Some r →
     Supports s.frame.now (upright_box s p) bottom j r → IsFreeOnRow s.occupancy.now s.id window (padding_in s) n (reach s p.x)
@@ -249,7 +249,7 @@ free_on_carrier s bottom window p j n r held on legal less there carries = recor
     level_is : (row : ℕ) → row ≡ n → row_y f row ≡ r.y
     level_is row of = ap (row_y f) of ∙ row_y_is f n r there
 
-    -- what is made wider over a strip of the row lies in the box made wider
+    -- a strip of the row over the reach, widened, lies in the widened box
     point : (g : Segment) (by x y : ℤ) → g.row ≡ n → Covers (wider by (part_over (strip_of f g) (reach s p.x))) x y → Covers (wider by (upright_box s p)) x y
     point g by x y of covers =
         let at = level_is g.row of in
@@ -298,7 +298,7 @@ same_rail (Some r) = refl
 row_at : (f : Frame) (r : Row) → Contains f.rows r → (n : ℕ) × (slice_get f.rows n ≡ Some r)
 row_at f r (n, within, is) = (n, slice_get-get_or f.rows n r within ∙ ap (λ (t : Row). Some t) is)
 
--- at each level some row is free over the reach of a place where the cell may go
+-- at each level some row is free over the reach of an allowed place
 free_at_level : (s : RowSearch) (own : ℕ) (bottom : Row) (window : Span) (p : SpotPlace) (j : ℕ) (free : List Span) → slice_get s.frame.now.rows own ≡ Some bottom →
     IsOccupancyOf s.frame.now s.cells.now s.occupancy.now → IsOnRowIn s.frame.now s.size bottom window p → IsGoodBox s (upright_box s p) → j < s.height →
     IsLevel s own bottom window j free → LiesInOneOf free (reach s p.x)
@@ -337,7 +337,7 @@ legal_y s bottom window p on =
     let none = none_high s.frame.now.pitch.y s.frame.now.pitch_whole.high in
     omega (arith, ints, base, none)
 
--- its orientation is one in which the cell may stand on the row
+-- its orientation is one that the row allows the cell
 record IsFit (s : RowSearch) (bottom : Row) (o : Orient) (box : Rect) : Type 0 where
   fit : IsSitesHigh s.frame.now box s.height → IsBottomRow s.frame.now box bottom → FitsRow s bottom o
 

@@ -1,4 +1,4 @@
--- The rows of one level, from left to right, and what is free on the first of them.
+-- The rows of one level, from left to right, and the free spans on the first of them.
 use Rattle.std.proofs.Common.{◌≡◌, ◌≢◌, ◌⊎◌, inl, inr, ℕ, ℤ, pos, negsuc, ◌+◌, ◌*◌, ◌<◌, ◌≤◌, ◌+ℤ◌, ◌*ℤ◌, ◌≤ℤ◌, ◌<ℤ◌, List, [], ◌∷◌, ◌++◌, Some}
 use Rattle.std.proofs.Common.{length, get_or, take, slice_get, sym, ap, subst, ◌∙◌, arith}
 use Rattle.std.specs.Prelude.{◌↔◌, Any}
@@ -53,7 +53,7 @@ some_sites sites (pos n) least wide =
     omega (arith, ints, more, wide)
 some_sites sites (negsuc n) least wide = absurd (omega (arith, ints, wide))
 
--- of two rows of one y the one that begins further left ends before the other begins
+-- of two rows with the same y, the one that begins farther left ends no later than the other begins
 ends_before : (f : Frame) (m n : ℕ) (a b : Row) → m ≢ n → slice_get f.rows m ≡ Some a → slice_get f.rows n ≡ Some b → a.y ≡ b.y → a.x ≤ℤ b.x →
     (row_area f.pitch a).x2 ≤ℤ b.x
 ends_before f m n a b differ p q level left = elim order [ inl done ↦ done | inr over ↦ absurd (rows_differ f m n a b differ p q (shares over)) ]
@@ -105,7 +105,7 @@ goes_left : (a b : RowEntry) → PrecedesByY a b → a.y ≡ b.y → a.x ≤ℤ 
 goes_left a b (inl less) same = absurd (omega (arith, ints, less, same))
 goes_left a b (inr both) same = both.1
 
--- the row of an earlier entry of a run ends before that of a later one begins
+-- the row of an earlier entry of a run ends no later than that of a later one begins
 entries_apart : (f : Frame) (es run : List RowEntry) (y : ℤ) → IsRowsByY f es → IsRunAt es y run → (i j : ℕ) (d : RowEntry) → i < j → j < length run →
     (a b : Row) → slice_get f.rows (get_or run i d).row ≡ Some a → slice_get f.rows (get_or run j d).row ≡ Some b → (row_area f.pitch a).x2 ≤ℤ b.x
 entries_apart f es run y rows p i j d less within a b first second =
@@ -127,7 +127,7 @@ entries_apart f es run y rows p i j d less within a b first second =
     let y_b : g.y ≡ b.y = ap (λ (t : RowEntry). t.y) known_j in
     ends_before f e.row g.row a b differ first second (omega (arith, ints, y_a, y_b, y_i, y_j)) (omega (arith, ints, left, x_a, x_b))
 
--- ---- what is free on the first rows of a run
+-- ---- the free spans on the first rows of a run
 
 -- the number is that of one of the first rows, and its rail is the bottom row's, changed j times
 abbrev pub IsPassed : Frame → Row → ℕ → List RowEntry → ℕ → ℕ → Type 0

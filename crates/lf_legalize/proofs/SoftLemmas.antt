@@ -1,4 +1,4 @@
--- What soft blockages leave of the free spans of a row.
+-- The free spans of a row that soft blockages leave.
 use Rattle.std.proofs.Common.{◌≡◌, ◌⊎◌, inl, inr, ℕ, zero, suc, ℤ, pos, ◌+◌, ◌<◌, ◌≤◌, ◌+ℤ◌, List, [], ◌∷◌, Option, Some, None, length, get_or, slice_get, refl, sym, ap, subst, ◌∙◌, arith}
 use Rattle.std.specs.Prelude.{◌↔◌}
 use Rattle.std.specs.Option.{option_map}
@@ -51,7 +51,8 @@ each_rising (g ∷ gs) (x ∷ xs) (suc k) many h = each_rising gs xs k (omega (a
 pub soft_rising : (f : Frame) (index : FrameIndexView) → IsIndexOf f index → (k : ℕ) → IsRising (get_or index.soft k [])
 soft_rising f index is k = each_rising index.segments index.soft k is.soft.many (λ n g there. (is.soft.each n g there).rising)
 
--- a span that shares no number with the soft ones of its strip holds no number at which the strip is soft
+-- a span that shares no number with the soft ones of its strip holds no number at which the strip
+-- is soft
 pub point_soft : (f : Frame) (g : Strip) (spans : List Span) (s : Span) (x : ℤ) → AreSoftOver f g spans → Holds (x_extent g) x → IsApart spans s → Holds s x →
     IsSoftAt f g.area x → ⊥
 point_soft f g spans s x soft inside apart holds at = by ((soft.exact one filled).1 (in_strip, at_each))
@@ -79,7 +80,7 @@ point_soft f g spans s x soft inside apart holds at = by ((soft.exact one filled
         let away : AreApart s t = subst (AreApart s) is (apart i t below) in
         away x holds (lies x own)
 
--- ---- taking them away
+-- ---- removing them
 
 pub minus_none : (spans soft : List Span) → length soft ≡ 0 → IsRising spans → IsMinus spans soft spans
 minus_none spans [] none rising = record {
@@ -135,7 +136,8 @@ first_end soft start n end free left ended all = record {
   );
 }
 
--- what is free on the row without what is soft of the strips near the window is free off soft blockages
+-- the free spans of the row without the soft spans of the strips near the window are free off soft
+-- blockages
 pub open_row : (o : Occupied) (row : ℕ) (id : CellId) (window : Span) (padding : ℤ) (start end : ℕ) (free left : List Span) →
     AreNear o.index.strips row id.team window.lo window.hi start end → IsFreeInRow o row id window padding free → AreWithoutSoft o.index.soft start end free left →
     AreOpenInRow o row id window padding left
@@ -172,7 +174,7 @@ open_row o row id window padding start end free left near is without = record {
     within : (k : ℕ) → k < end → k < length o.index.strips
     within k below = let most = near.within in omega (arith, below, most)
 
--- where no strip has soft spans, what is free on the row is free off them
+-- if no strip has soft spans, the free spans of the row are free off them
 pub open_bare : (o : Occupied) (row : ℕ) (id : CellId) (window : Span) (padding : ℤ) (free : List Span) → ((k : ℕ) → get_or o.index.soft k [] ≡ []) →
     IsFreeInRow o row id window padding free → AreOpenInRow o row id window padding free
 open_bare o row id window padding free none is = record {

@@ -1,4 +1,4 @@
--- Places by how far they are from a target.
+-- Places by their distance from a target.
 use Rattle.std.specs.Prelude.{◌≡◌, ◌⊎◌, ℕ, ℤ, pos, negsuc, ◌≤◌, ◌≤ℤ◌, ◌+◌, ◌-ℤ◌, Option, Some, IfSome, slice_get, min}
 use Rattle.std.specs.Int.RustNames.{unsigned_abs}
 use Rattle.std.specs.Option.{option_map_or}
@@ -11,7 +11,8 @@ use Rattle.lf_floorplan.specs.Standing.{IsBottomRow}
 use Rattle.lf_rules.specs.Choice.{SpotPlace, PlacementQuery, Precedes, distance}
 use Rattle.lf_rules.specs.Looking.{ScansPlaces, IsAsGood}
 
--- the value of a range that is nearest to another value: each value of the range is farther from the other by the same, their distance
+-- the value of a range that is nearest to another value: the distance of each value of the range
+-- from the other value is its distance from the nearest one plus that of the nearest one
 pub record IsNearestIn (lo hi value nearest : ℤ) : Type 0 where
   pub low : lo ≤ℤ nearest
   pub high : nearest ≤ℤ hi
@@ -32,25 +33,28 @@ pub record IsNearDefPoint (p : Point) : Type 0 where
   pub across : IsNearDef p.x
   pub up : IsNearDef p.y
 
--- the place is not farther from the target than that
+-- the distance of the place from the target is at most `reach`
 abbrev pub IsWithin : Point → ℕ → SpotPlace → Type 0
 IsWithin target reach p = distance target p ≤ reach
 
--- how far from the target a place may be that is better than the best one so far, or as good
+-- the greatest distance from the target of a place that is as good as the best one so far, or
+-- better
 abbrev pub limit : Point → ℕ → Option SpotPlace → ℕ
 limit target reach best = option_map_or (λ b. min (distance target b) reach) best reach
 
--- at this place a box of that size has the row of the number as its bottom row
+-- at this place a box of this size has the row of this number as its bottom row
 pub record IsOnRow (f : Frame) (size : Point) (number : ℕ) (p : SpotPlace) : Type 0 where
   pub row : Row
   pub there : slice_get f.rows number ≡ Some row
   pub bottom : IsBottomRow f (box_at size p.x p.y) row
 
--- from the best place so far to the one after looking also at these, all of them no farther from the target than that
+-- from the best place so far to the one after comparison with the seen places within `reach`; if
+-- the old one is within `reach`, so is the new one
 pub record ScansPlacesWithin (Seen : SpotPlace → Type 0) (cell : PlacementQuery) (target : Point) (reach : ℕ) (old new : Option SpotPlace) : Type 0 where
   pub looked : ScansPlaces (λ p. IsWithin target reach p × Seen p) cell target old new
   pub near : IfSome old (IsWithin target reach) → IfSome new (IsWithin target reach)
 
--- the better of the best place so far and this one: this one if it precedes, or there is none so far
+-- the better of the best place so far and this one: this one if it precedes, or if there is no best
+-- place so far
 abbrev pub IsBetter : Point → Option SpotPlace → SpotPlace → Option SpotPlace → Type 0
 IsBetter target best p new = ((new ≡ Some p) × IfSome best (λ b. Precedes target p b)) ⊎ ((new ≡ best) × IsAsGood target best p)

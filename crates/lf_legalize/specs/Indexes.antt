@@ -1,4 +1,4 @@
--- The height of the cells that are looked for.
+-- The height of a cell whose best place is searched for.
 use Rattle.std.specs.Prelude.{◌≡◌, ℕ, pos, ◌≤◌, ◌*ℤ◌}
 use Rattle.lf_floorplan.specs.declared.frame.Frame.{Frame}
 use Rattle.lf_floorplan.specs.declared.macros.Macro.{Macro}

@@ -1,4 +1,5 @@
--- The rows that may carry a cell over a bottom row, level by level, and what is free on them; no public clause cites it.
+-- The rows that can support a cell over a bottom row, level by level, and what is free on them. No
+-- public clause cites this module.
 use Rattle.std.specs.Prelude.{◌≡◌, ◌↔◌, ℕ, zero, suc, ℤ, pos, ◌<◌, ◌≤◌, ◌%◌, ◌+ℤ◌, ◌*ℤ◌, List, [], ◌++◌, Any, IsTrue, Option, Some, MatchOption}
 use Rattle.std.specs.Prelude.{length, slice_get, slice_index_or}
 use Rattle.std.specs.Option.{option_map}
@@ -26,59 +27,63 @@ pub record IsRailed (f : Frame) (bottom : Row) (j n : ℕ) : Type 0 where
   pub stands : slice_get f.rows n ≡ Some row
   pub rail : rail_below row.orient ≡ option_map (changed j) (rail_below bottom.orient)
 
--- the row of this number lies j site heights above the bottom row, and its rail is the bottom row's, changed j times
+-- the row of this number lies j site heights above the bottom row, and its rail is the bottom
+-- row's, changed j times
 pub record IsLevelRow (f : Frame) (bottom : Row) (j n : ℕ) : Type 0 where
   pub row : Row
   pub stands : slice_get f.rows n ≡ Some row
   pub at_level : row.y ≡ bottom.y +ℤ (pos j *ℤ f.pitch.y)
   pub rail : rail_below row.orient ≡ option_map (changed j) (rail_below bottom.orient)
 
--- a row that may carry a cell at level j over the bottom row, which has the number `own`: at level 0 that row alone
+-- a row that can support a cell at level j over the bottom row, which has the number `own`: at
+-- level 0 only that row itself
 abbrev pub IsRowOfLevel : Frame → ℕ → Row → ℕ → ℕ → Type 0
 IsRowOfLevel f own bottom zero n = n ≡ own
 IsRowOfLevel f own bottom (suc j) n = IsLevelRow f bottom (suc j) n
 
--- the span lies in the window, is free for the cell and its padding in one strip of the row of this number, and shares no number with the soft spans
--- of the row's strips near the window
+-- the span lies in the window, is free for the cell and its padding in one strip of the row of this
+-- number, and shares no number with the soft spans of the row's strips near the window
 pub record IsFreeOnRow (o : Occupied) (id : CellId) (window : Span) (padding : ℤ) (n : ℕ) (s : Span) : Type 0 where
   pub within : LiesIn s window
   pub in_strip : Any (λ g. IsStripOf n id.team g × IsFreeOver o id padding g s) o.index.strips
   pub off_soft : (k : ℕ) (g : Strip) → slice_get o.index.strips k ≡ Some g → IsNear n id.team window.lo window.hi g → IsApart (slice_index_or o.index.soft k []) s
 
--- those spans of a row: a span that holds a number lies in one of them if and only if it is so free
+-- the spans of a row that are free in this sense: a span that holds a number lies in one of them if
+-- and only if it is free
 pub record AreOpenInRow (o : Occupied) (row : ℕ) (id : CellId) (window : Span) (padding : ℤ) (open_spans : List Span) : Type 0 where
   pub rising : IsRising open_spans
   pub exact : (s : Span) → IsFilled s → (LiesInOneOf open_spans s ↔ IsFreeOnRow o id window padding row s)
 
--- the free spans without the soft ones of the strips from start on and below end
+-- the free spans without the soft ones of the strips from `start` on and below `end`
 pub record AreWithoutSoft (soft : List (List Span)) (start end : ℕ) (free left : List Span) : Type 0 where
   pub rising : IsRising left
   pub exact : (s : Span) → IsFilled s →
       (LiesInOneOf left s ↔ (LiesInOneOf free s × ((k : ℕ) → start ≤ k → k < end → IsApart (slice_index_or soft k []) s)))
 
--- the span is so free on one of these rows
+-- the span is free, in the same sense, on one of the rows
 pub record IsFreeOnOne (Rows : ℕ → Type 0) (o : Occupied) (id : CellId) (window : Span) (padding : ℤ) (s : Span) : Type 0 where
   pub number : ℕ
   pub among : Rows number
   pub free : IsFreeOnRow o id window padding number s
 
--- the free spans in the window on one of these rows: a span that holds a number lies in one of them if and only if it is free on
--- such a row
+-- the free spans in the window on the rows: a span that holds a number lies in one of them if and
+-- only if it is free on one of the rows
 pub record AreFreeOn (Rows : ℕ → Type 0) (o : Occupied) (id : CellId) (window : Span) (padding : ℤ) (free : List Span) : Type 0 where
   pub rising : IsRising free
   pub exact : (s : Span) → IsFilled s → (LiesInOneOf free s ↔ IsFreeOnOne Rows o id window padding s)
 
--- what is free on the row of this number is appended to the other spans, if its rail is the bottom row's, changed j times
+-- the free spans of the row of this number are appended to the other spans, if its rail is the
+-- bottom row's, changed j times
 pub record AddsRow (s : RowSearch) (bottom : Row) (j n : ℕ) (window : Span) (old new : List Span) : Type 0 where
   pub added : List Span
   pub is : new ≡ old ++ added
   pub free : AreFreeOn (λ m. (m ≡ n) × IsRailed s.frame.now bottom j n) s.occupancy.now s.id window (padding_in s) added
 
--- what is free on the rows of level j
+-- the free spans on the rows of level j
 abbrev pub IsLevel : RowSearch → ℕ → Row → Span → ℕ → List Span → Type 0
 IsLevel s own bottom window j free = AreFreeOn (λ n. IsRowOfLevel s.frame.now own bottom j n) s.occupancy.now s.id window (padding_in s) free
 
--- what is free on the rows of each of the first levels
+-- the free spans on the rows of each of the first levels
 pub record AreLevels (s : RowSearch) (own : ℕ) (bottom : Row) (window : Span) (count : ℕ) (lists : List (List Span)) : Type 0 where
   pub number : length lists ≡ count
   pub each : (j : ℕ) → j < count → IsLevel s own bottom window j (slice_index_or lists j [])
@@ -89,22 +94,23 @@ pub record HasBareLevel (s : RowSearch) (own : ℕ) (bottom : Row) (window : Spa
   pub within : level < s.height
   pub bare : IsLevel s own bottom window level []
 
--- a cell of the search may have this orientation on this bottom row, as far as orientations and rails go
+-- orientations and rails allow a cell of the search this orientation on this bottom row
 pub record FitsRow (s : RowSearch) (bottom : Row) (o : Orient) : Type 0 where
   pub allowed : IsTrue (is_allowed (macro_of s.frame.now s.mac).symmetry o)
   pub equal : s.height % 2 ≡ 1 → EqualUnder s.frame.now.site.symmetry o bottom.orient
   pub rail : s.height % 2 ≡ 0 → rail_below bottom.orient ≡ Some (macro_of s.frame.now s.mac).rail
 
--- the orientation of least rank in which the cell may stand on this bottom row
+-- the orientation of least rank that this bottom row allows the cell
 pub record IsFirstOrient (s : RowSearch) (bottom : Row) (o : Orient) : Type 0 where
   pub may : FitsRow s bottom o
   pub least : (p : Orient) → FitsRow s bottom p → rank o ≤ rank p
 
--- that orientation, or nothing only if the cell may have none
+-- the found orientation is that one; None only if the row allows the cell no orientation
 abbrev pub FindsOrient : RowSearch → Row → Option Orient → Type 0
 FindsOrient s bottom found = MatchOption found ((o : Orient) → FitsRow s bottom o → ⊥) (λ o. IsFirstOrient s bottom o)
 
--- a number near the coordinates of a DEF text: of two such coordinates, the one no farther from it is no farther from the target
+-- a number near the coordinates of a DEF text: of two DEF coordinates, the one no farther from it
+-- is no farther from the target
 pub record IsEquivalentTarget (target near : ℤ) : Type 0 where
   pub bounded : IsBounded near
   pub same : (x y : ℤ) → IsDefNumber x → IsDefNumber y → IsNoFarther near x y → IsNoFarther target x y

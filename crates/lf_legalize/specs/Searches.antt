@@ -1,4 +1,4 @@
--- What a search for the best place knows so far; no public clause cites it.
+-- What a search for the best place knows so far. No public clause cites this module.
 use Rattle.std.specs.Prelude.{Option}
 use Rattle.std.specs.Option.{option_map}
 use Rattle.lf_floorplan.specs.declared.place.Place.{Place}
@@ -7,10 +7,10 @@ use Rattle.lf_rules.specs.Looking.{ScansPlaces as LooksAtSpots}
 use Rattle.lf_legalize.specs.Lifting.{query_without}
 use Rattle.lf_legalize.specs.declared.search.Search.{Search}
 
--- the cell whose best place is looked for
+-- the cell whose best place is searched for
 abbrev pub cell_of : Search → PlacementQuery
 cell_of s = query_without s.frame.now s.team s.padding.sites s.mac.now s.others.now
 
--- from the best place so far to the one after looking also at these places
+-- from the best place so far to the one after comparison with the seen places
 abbrev pub ScansPlaces : (SpotPlace → Type 0) → Search → Option Place → Option Place → Type 0
 ScansPlaces Seen s old new = LooksAtSpots Seen (cell_of s) s.target.now (option_map spot_of old) (option_map spot_of new)

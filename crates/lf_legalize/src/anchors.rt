@@ -6,7 +6,7 @@ ghost use Rattle.lf_rules.specs.Choice.{anchor, first_corner, first_origin};
 use lf_floorplan::{Frame, Row};
 use lf_units::{Point, Rect};
 
-/// The lower left corner of the first rectangle.
+/// The lower left corner of the first rectangle. (0, 0) if there is no rectangle.
 fn first_corner(rects: &[Rect]) -> Point
     ensures { result ≡ first_corner rects.now }
 {
@@ -19,7 +19,7 @@ fn first_corner(rects: &[Rect]) -> Point
     }
 }
 
-/// The origin of the first row.
+/// The origin of the first row. (0, 0) if there is no row.
 fn first_origin(rows: &[Row]) -> Point
     ensures { result ≡ first_origin rows.now }
 {
@@ -32,9 +32,9 @@ fn first_origin(rows: &[Row]) -> Point
     }
 }
 
-/// The anchor of a team, which is the target of its unplaced cells, in database units: the lower left
-/// corner of its first rectangle, and for the ground team the origin of the first row; (0, 0) if there is
-/// no such rectangle or row.
+/// The anchor of a team, which is the target of its unplaced cells, in database units. For a fence
+/// it is the lower left corner of its first rectangle. For the ground team it is the origin of the
+/// first row. (0, 0) if there is no such rectangle or row.
 pub fn anchor(frame: &Frame, team: usize) -> Point
     ensures { result ≡ anchor frame.now team }
 {

@@ -1,4 +1,4 @@
-//! What of a rectangle is nearest to a target, and how far its corners are apart.
+//! The point of a rectangle nearest to a target, and the distance of its corners.
 
 ghost use Rattle.std.specs.Prelude.{◌≡◌, ◌≤ℤ◌, ◌+◌, ◌-ℤ◌, unsigned_abs};
 ghost use Rattle.lf_floorplan.specs.Bounds.{IsNearDefRect};
@@ -31,7 +31,7 @@ pub(crate) fn nearest_point(extent: &Rect, target: &Point) -> Point
     Point { x, y }
 }
 
-/// The distance between two corners of the rectangle that lie across from each other.
+/// The distance between two opposite corners of the rectangle.
 pub(crate) fn farthest_in(extent: &Rect) -> u64
     requires { IsNearDefRect extent.now }
     ensures { result ≡ unsigned_abs (extent.now.x2 -ℤ extent.now.x1) + unsigned_abs (extent.now.y2 -ℤ extent.now.y1) }

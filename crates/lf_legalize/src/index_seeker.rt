@@ -22,13 +22,15 @@ use lf_rules::{Padding, box_with_points, height_in_sites};
 use lf_units::Point;
 use std::alloc::{AllocError, Global};
 
-/// Looks at the rows around the target, found by bisection, and there only as far as a better place
-/// may lie: at no single site, and at no cell that is far off.
+/// Visits the rows around the target, which it finds by binary search. On a row it considers only
+/// the spans where a better place is possible. It visits no single site, and no cell far from the
+/// target.
 #[derive(Clone, Copy, Debug)]
 pub struct IndexSeeker;
 
 impl IndexSeeker {
-    /// The seeker, the same for each frame: what it looks up is the occupancy's. It allocates nothing, and never fails.
+    /// The seeker, which is the same for each frame: all that it searches is in the occupancy. Does
+    /// not allocate, and never fails.
     pub fn build(_alloc: Global, _frame: &Frame) -> Result<Self, AllocError>
         ensures { IsOk result }
     {
@@ -44,7 +46,7 @@ fn size_of(frame: &Frame, mac: &Macro) -> Point
     size_in_units(&mac.size, frame.header.units)
 }
 
-/// How many core sites high the macro is, if that is a whole number from 1 to 8.
+/// The height of the macro in core sites, if that is a whole number from 1 to 8.
 fn height_of(frame: &Frame, mac: &Macro) -> Option<u32>
     requires { IsSized frame.now mac.now }
     ensures { MatchOption result ((k : ℕ) → IsHeightOf frame.now mac.now k → ⊥) (λ k. IsHeightOf frame.now mac.now k) }
@@ -53,7 +55,7 @@ fn height_of(frame: &Frame, mac: &Macro) -> Option<u32>
     height_in_sites(frame, &box_with_points(frame, mac, &origin))
 }
 
-/// The best place of the cell of this macro, under its team's padding.
+/// The best place of a cell of this macro, under its team's padding.
 fn best_for(
     alloc: Global,
     frame: &Frame,

@@ -1,4 +1,5 @@
-//! The key by which places are compared: the distance from the target, then y, x and the rank of the orientation.
+//! The key by which places are compared: the distance from the target, then y, x and the rank of
+//! the orientation.
 
 ghost use Rattle.std.specs.Prelude.{◌≡◌, ◌↔◌, ◌<◌, ◌≤◌, ◌^◌, ◌-ℤ◌, IsTrue, ℤ};
 ghost use Rattle.std.specs.Int.RustNames.{unsigned_abs};
@@ -25,7 +26,8 @@ pub(crate) fn distance(target: &Point, place: &Place) -> u128
     u128::from(across) + u128::from(along)
 }
 
-/// The rank of the orientation: of places that differ only in it, the one of lesser rank comes first.
+/// The rank of the orientation. Of places that differ only in it, the one with the lesser rank
+/// comes first.
 fn rank(orient: Orient) -> u32
     ensures { result ≡ rank_of orient }
 {
@@ -38,10 +40,9 @@ fn rank(orient: Orient) -> u32
     }
 }
 
-/// Whether the first place has the lesser key for the target.
-///
-/// The key is the distance |x - X| + |y - Y| from the target (X, Y), then y, then x, and last the
-/// orientation, in the order N, S, FN, FS. The target may be any point.
+/// Whether the first place has the lesser key for the target. The key is the distance |x - X| + |y
+/// - Y| from the target (X, Y), then y, then x. The last part of the key is the orientation in the
+/// order N, S, FN, FS. The target may be any point.
 pub fn has_lesser_key(target: &Point, first: &Place, second: &Place) -> bool
     ensures { IsTrue result ↔ Precedes target.now (spot_of first.now) (spot_of second.now) }
 {

@@ -1,4 +1,4 @@
-//! What is free for a cell over a bottom row, off soft blockages, level by level.
+//! The spans that are free for a cell over a bottom row, off soft blockages, level by level.
 
 ghost use Rattle.std.specs.Prelude.{◌≡◌, ◌↔◌, ◌<◌, ◌≤◌, ◌+ℤ◌, ◌*ℤ◌, ◌≤ℤ◌, ◌<ℤ◌, IfOk, IsTrue, MatchOption, OnOk, Some, length, map, negsuc, pos, slice_get};
 ghost use Rattle.std.specs.Option.{option_map};
@@ -18,17 +18,17 @@ use lf_segments::RowEntry;
 use lf_units::{Point, Span};
 use std::alloc::{AllocError, Global};
 
-/// A row that is looked at as the bottom row of a cell.
+/// A row that is considered as the bottom row of a cell.
 #[derive(Clone, Copy)]
 pub(crate) struct BottomRow<'a> {
     pub row: &'a Row,
     /// The position of the row in the frame.
     pub number: usize,
-    /// The x range over which the cell's box has to lie, in database units.
+    /// The x range that must contain the cell's box, in database units.
     pub window: &'a Span,
 }
 
-/// The rail of a row this many levels above the bottom row.
+/// The rail of a row `level` levels above the bottom row.
 fn rail_at(bottom: &Row, level: u32) -> Option<Rail>
     ensures { result ≡ option_map (changed level) (rail_below bottom.now.orient) }
 {
@@ -39,7 +39,7 @@ fn rail_at(bottom: &Row, level: u32) -> Option<Rail>
     rail
 }
 
-/// The y of the rows this many levels above the bottom row.
+/// The y of the rows `level` levels above the bottom row.
 fn y_at(bottom: &Row, pitch: &Point, level: u32) -> i64
     requires high { pos 0 <ℤ pitch.now.y }
     requires low { pitch.now.y ≤ℤ pos 20000000000 }
@@ -49,7 +49,7 @@ fn y_at(bottom: &Row, pitch: &Point, level: u32) -> i64
     i64::from(bottom.y) + i64::from(level) * pitch.y
 }
 
-/// The rows this many levels above the bottom row, in the order of their x.
+/// The rows `level` levels above the bottom row, in the order of their x.
 fn rows_above<'a>(search: &RowSearch<'a>, bottom: &Row, level: u32) -> &'a [RowEntry]
     requires { level ≤ 8 }
     ensures { IsRunAt search.now.occupancy.now.index.rows (bottom.now.y +ℤ (pos level *ℤ search.now.frame.now.pitch.y)) result.now }
@@ -57,15 +57,15 @@ fn rows_above<'a>(search: &RowSearch<'a>, bottom: &Row, level: u32) -> &'a [RowE
     rows_of(search).at(y_at(bottom, &search.frame.pitch, level))
 }
 
-/// Whether the row has the rail of a row this many levels above the bottom row.
+/// Whether the row has the rail of a row `level` levels above the bottom row.
 fn is_railed(bottom: &Row, level: u32, row: &Row) -> bool
     ensures { IsTrue result ↔ (rail_below row.now.orient ≡ option_map (changed level) (rail_below bottom.now.orient)) }
 {
     row_rail(row.orient) == rail_at(bottom, level)
 }
 
-/// Appends what is free on the row of that number, if its rail is that of a
-/// row this many levels above the bottom row.
+/// Appends the free spans of the row with this number, if it has the rail of a row `level` levels
+/// above the bottom row.
 fn push_row(
     alloc: Global,
     search: &RowSearch<'_>,
@@ -88,8 +88,8 @@ fn push_row(
     Ok(())
 }
 
-/// What is free in the window on the rows this many levels above the bottom row. No two rows share a
-/// point, so the spans of one row lie left of those of the next.
+/// The free spans in the window on the rows `level` levels above the bottom row. No two rows share
+/// a point, so the spans of one row are left of those of the next.
 fn free_above(
     alloc: Global,
     search: &RowSearch<'_>,
@@ -109,7 +109,7 @@ fn free_above(
     Ok(spans)
 }
 
-/// What is free in the window at one level: on the bottom row alone, or on the rows above it.
+/// The free spans in the window at one level: on the bottom row alone, or on the rows above it.
 fn free_at(
     alloc: Global,
     search: &RowSearch<'_>,
@@ -127,8 +127,8 @@ fn free_at(
     free_above(alloc, search, bottom, level)
 }
 
-/// What is free in the window at each level of the cell, from the bottom row on; none if nothing is
-/// free at one of them.
+/// The free spans in the window at each level of the cell, from the bottom row up. `None` if
+/// nothing is free at one level.
 pub(crate) fn free_by_level(
     alloc: Global,
     search: &RowSearch<'_>,

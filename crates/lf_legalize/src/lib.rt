@@ -1,16 +1,40 @@
-//! The best place of a cell: of all places that are legal for it and off soft blockages, the one of least key.
+//! Finds the best place of a cell: of all its allowed places, the one with the least key.
 //!
-//! A cell *may go* to a place if it is team-legal there, under its team's padding and beside the team's other placed cells, and
-//! its box there shares no point with a soft blockage (`MayGo`). The *key* of a place for a target (X, Y) is its distance
-//! |x - X| + |y - Y|, then y, then x, then its orientation in the order N, S, FN, FS. No two places to which a cell may go have the
-//! same key: so each search of the crate answers the same (`Legalizer`), whatever it looks at.
+//! A place is *allowed* for a cell if it is team-legal, under its team's padding and with the
+//! team's other placed cells, and the cell's box there shares no point with a soft blockage
+//! (`IsAllowedPlace`). The *key* of a place for a target (X, Y) is its distance |x - X| + |y - Y|,
+//! then y, then x, then its orientation in the order N, S, FN, FS. No two allowed places of a cell
+//! have the same key. So all searches of the crate return the same place (`Legalizer`), whatever
+//! they visit.
 //!
-//! `IndexSeeker` looks at the rows around the target, with what an occupancy knows of them; `PlainSeeker` and `best_place` try each
-//! orientation on each site of every row, and are what faster searches are compared with.
+//! `IndexSeeker` visits the rows around the target, with the free spans that an occupancy finds.
+//! `PlainSeeker` and `best_place` try each orientation on each site of every row. Faster searches
+//! are compared with them.
+//!
+//! Used by most other crates.
+//!
+//! Modules, in reading order:
+//!
+//! - `key`: the key of a place
+//! - `anchors`: the target of a team's unplaced cells
+//! - `neighbours`: the boxes of a team's other placed cells
+//! - `search`: the arguments of the plain search
+//! - `plain_search`: the search over every site of every row
+//! - `extent`: the point of a rectangle that is nearest to a target
+//! - `limits`: how far from the target a better place can be
+//! - `row_search`: the arguments of the search by rows
+//! - `open_spans`: free spans of a row off soft blockages
+//! - `levels`: free spans on the rows that a cell covers
+//! - `on_row`: the best place with a given bottom row
+//! - `nearest`: the best place on the rows around the target
+//! - `seeker`: the trait of searches, and the plain one
+//! - `index_seeker`: the search by rows as a seeker
+//!
+//! From `crates/lf_repair_bounds/src/nearest_place.rt`:
 //!
 //! ```
-//! let seeker = IndexSeeker::build(alloc, &frame)?;
-//! let found = seeker.seek(alloc, &frame, &cells, &filled, cell, &target, padding)?;
+//! let mac = mac_at(frame, cell.mac);
+//! Ok(best_place(frame, cell.team, mac, &[], target, Padding::none()))
 //! ```
 #![tactic(auto)]
 

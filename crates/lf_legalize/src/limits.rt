@@ -1,4 +1,4 @@
-//! How far from the target a better place may lie.
+//! How far from the target a better place can be.
 
 ghost use Rattle.std.specs.Prelude.{◌≡◌, ◌≤◌, ◌<◌, ◌+ℤ◌, ◌-ℤ◌, pos, min, option_map, ◌⊎◌};
 ghost use Rattle.lf_rules.specs.Choice.{spot_of};
@@ -20,7 +20,8 @@ fn lesser(far: u128, reach: u64) -> u64
     }
 }
 
-/// How far from the target a place may be that is better than the best one so far, or as good.
+/// The greatest distance from the target of a place that is as good as the best one so far, or
+/// better.
 pub(crate) fn limit(target: &Point, reach: u64, best: &Option<Place>) -> u64
     ensures { result ≡ limit_of target.now reach (option_map spot_of best.now) }
 {
@@ -30,7 +31,7 @@ pub(crate) fn limit(target: &Point, reach: u64, best: &Option<Place>) -> u64
     }
 }
 
-/// The x range for the box of a cell that is at most this far right or left of the target.
+/// The x range of the boxes of a cell whose x differs from the target's by at most `slack`.
 pub(crate) fn window(search: &RowSearch<'_>, slack: u64) -> Span
     requires near { IsNearDefPoint search.now.target.now }
     requires small { slack ≤ 68719476736 }

@@ -1,4 +1,4 @@
-//! The best place of a cell, looked for on the rows around the target, ever farther from it.
+//! The best place of a cell, searched on the rows around the target, farther away in each round.
 
 ghost use Rattle.std.specs.Prelude.{◌≡◌, ◌↔◌, ◌⊎◌, ◌≤◌, ◌<◌, ◌≤ℤ◌, ◌<ℤ◌, IfOk, IsTrue, Some, length, negsuc, option_map, pos, slice_get};
 ghost use Rattle.lf_floorplan.specs.declared.parts.Row.{Row};
@@ -27,7 +27,7 @@ fn is_beside(pitch: &Point, row: &Row, window: &Span) -> bool
     row.right_edge(pitch) <= window.lo || window.hi <= i64::from(row.x)
 }
 
-/// The best place on the row over the window. Of a row beside the window nothing is looked at.
+/// The best place on the row over the window. A row left or right of the window is skipped.
 fn best_in_window(
     alloc: Global,
     search: &RowSearch<'_>,
@@ -47,7 +47,7 @@ fn best_in_window(
     best_on_row(alloc, search, number, window)
 }
 
-/// The best place so far, after looking also at those of this row that are at most `reach` away.
+/// The best place so far, compared with the places of this row that are at most `reach` away.
 fn with_row(
     alloc: Global,
     search: &RowSearch<'_>,
@@ -75,8 +75,8 @@ fn with_row(
     }
 }
 
-/// The best of the places that are at most `reach` away from the target; none if the cell may go to none
-/// of them.
+/// The best of the places that are at most `reach` away from the target. `None` if the cell is
+/// allowed at no such place.
 fn best_within(
     alloc: Global,
     search: &RowSearch<'_>,
@@ -99,10 +99,10 @@ fn best_within(
     Ok(best)
 }
 
-/// The best place of the cell, if none where it may go is farther from the target than `farthest`.
-///
-/// It first looks at places less than a row's height away, which lie on the row of the target's y if there is one, and
-/// then at ones up to twice as far, until there is one.
+/// The best place of the cell, provided that no allowed place is farther from the target than
+/// `farthest`. The first round considers places less than a row's height away, which are on the row
+/// at the target's y if there is one. Each further round doubles the distance, until a place is
+/// found.
 pub(crate) fn nearest(
     alloc: Global,
     search: &RowSearch<'_>,

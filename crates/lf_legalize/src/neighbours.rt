@@ -1,4 +1,4 @@
-//! What a cell of a table must keep clear of: the boxes of its team's other placed cells.
+//! The boxes of a team's other placed cells, which a cell must not overlap.
 
 ghost use Rattle.std.specs.Prelude.{◌≡◌, ◌<◌, ◌++◌, [], All, IfOk, OnOk, length, map, option_map, slice_get};
 ghost use Rattle.lf_floorplan.specs.Boxes.{IsSized, macro_of};
@@ -13,7 +13,7 @@ use lf_floorplan::Frame;
 use lf_rules::{Placed, box_of};
 use std::alloc::{AllocError, Global};
 
-/// Appends the box of a cell, if it is placed; `own` is the cell's position.
+/// Appends the box of the cell at position `own`, if it is placed.
 fn push_box(
     others: &mut Vec<Placed>,
     frame: &Frame,
@@ -55,10 +55,8 @@ fn push_other(
     push_box(others, frame, &standing, other.own)
 }
 
-/// The boxes of the placed cells of the cell's team but the cell itself, in loading order. The macros of
-/// the team's cells are the frame's, of whole size.
-///
-/// `Err` if an allocation fails.
+/// The boxes of the placed cells of the cell's team, except the cell itself, in loading order. The
+/// macros of the team's cells are the frame's, of whole size. `Err` if an allocation fails.
 pub fn other_boxes(
     alloc: Global,
     frame: &Frame,

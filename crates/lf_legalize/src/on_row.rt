@@ -23,7 +23,7 @@ use lf_units::{Point, Span};
 use std::alloc::{AllocError, Global};
 use std::slice;
 
-/// The row of that number.
+/// The row with this number.
 fn row_at(frame: &Frame, number: usize) -> &Row
     requires { number < length frame.now.rows }
     ensures { slice_get frame.now.rows number ≡ Some result.now }
@@ -31,8 +31,7 @@ fn row_at(frame: &Frame, number: usize) -> &Row
     &frame.rows.as_slice()[number]
 }
 
-/// Whether the cell may have this orientation on the bottom row, as far as rails and
-/// orientations go.
+/// Whether rails and orientations allow the cell this orientation on the bottom row.
 fn fits_row(search: &RowSearch<'_>, bottom: &Row, orient: Orient) -> bool
     ensures { IsTrue result ↔ FitsRow search.now bottom.now orient }
 {
@@ -43,7 +42,8 @@ fn fits_row(search: &RowSearch<'_>, bottom: &Row, orient: Orient) -> bool
     is_oriented(search.frame, mac, orient, search.height, bottom)
 }
 
-/// The first of the orientations N, S, FN and FS in which the cell may stand on the bottom row.
+/// The first of the orientations N, S, FN and FS that the bottom row allows the cell. `None` if it
+/// allows no orientation.
 fn first_orient(search: &RowSearch<'_>, bottom: &Row) -> Option<Orient>
     ensures { FindsOrient search.now bottom.now result }
 {
@@ -72,8 +72,8 @@ fn grid_on(bottom: &Row, pitch: &Point) -> SiteGrid
     }
 }
 
-/// A number for the target that is near the coordinates of a DEF text: what is nearest to the one is
-/// nearest to the other.
+/// A replacement for the target, near the coordinates of a DEF text: the coordinates nearest to one
+/// of the two are nearest to the other.
 fn stand_in(target: &i64) -> i64
     ensures { IsEquivalentTarget target.now result }
 {
@@ -86,8 +86,8 @@ fn stand_in(target: &i64) -> i64
     *target
 }
 
-/// The number of the grid nearest to the target at which the width lies in one span of each list,
-/// the lesser of two.
+/// The number of the grid nearest to the target at which the width is in one span of each list. Of
+/// two nearest ones, the lesser.
 fn nearest_fit(
     alloc: Global,
     lists: &[Vec<Span>],
@@ -107,8 +107,8 @@ fn nearest_fit(
     best_in_row(alloc, lists, grid, *width, *target)
 }
 
-/// The x nearest to the target at which the cell's box is free at each of its levels over the bottom
-/// row, the lesser of two.
+/// The x nearest to the target at which the cell's box is free at each of its levels over the
+/// bottom row. Of two nearest ones, the lesser.
 fn nearest_x(
     alloc: Global,
     search: &RowSearch<'_>,
@@ -135,8 +135,8 @@ fn place_on(bottom: &Row, x: &i64, orient: Orient) -> Place
     Place::new(*x as i32, bottom.y, orient)
 }
 
-/// The best place in this orientation of the cell on the bottom row, given what is free at each of
-/// its levels.
+/// The best place in this orientation of the cell on the bottom row, given the free spans at each
+/// of its levels.
 fn best_at(
     alloc: Global,
     search: &RowSearch<'_>,
@@ -158,7 +158,7 @@ fn best_at(
     Ok(Some(place_on(bottom.row, &x, orient)))
 }
 
-/// The best place in this orientation of a cell of one row on this row, without a list of lists.
+/// The best place in this orientation of a cell of one row on this row. It needs no list of lists.
 fn best_of_one(
     alloc: Global,
     search: &RowSearch<'_>,
@@ -181,8 +181,8 @@ fn best_of_one(
     best_at(alloc, search, bottom, orient, slice::from_ref(&free))
 }
 
-/// The best place of the cell on this row as its bottom row, of the places at which its box lies over
-/// the window; none if the cell may go to none of them. `Err` if an allocation fails.
+/// The best place of the cell with this row as its bottom row and its box over the window. `None`
+/// if the cell is allowed at no such place. `Err` if an allocation fails.
 pub(crate) fn best_on_row(
     alloc: Global,
     search: &RowSearch<'_>,

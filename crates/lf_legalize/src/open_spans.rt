@@ -1,4 +1,4 @@
-//! What is free for a cell on a row, without what soft blockages cover.
+//! The free spans of a row without those that soft blockages cover.
 
 ghost use Rattle.std.specs.Prelude.{◌≡◌, ◌≤ℤ◌, ℕ, IfOk, [], negsuc, slice_index_or};
 ghost use Rattle.lf_spans.specs.Spans.{IsMinus, IsRising};
@@ -13,7 +13,7 @@ use lf_spans::spans_minus;
 use lf_units::Span;
 use std::alloc::{AllocError, Global};
 
-/// The spans without the soft ones, of which there are mostly none.
+/// The spans without the soft ones, which are empty for most strips.
 fn without(alloc: Global, spans: Vec<Span>, soft: &[Span]) -> Result<Vec<Span>, AllocError>
     requires spans { IsRising spans.items }
     requires soft { IsRising soft.now }
@@ -25,7 +25,7 @@ fn without(alloc: Global, spans: Vec<Span>, soft: &[Span]) -> Result<Vec<Span>, 
     spans_minus(alloc, spans.as_slice(), soft)
 }
 
-/// The free spans without what soft blockages cover of these strips.
+/// The free spans without those that soft blockages cover in these strips.
 fn without_soft(
     alloc: Global,
     index: &FrameIndex,
@@ -52,8 +52,8 @@ fn padding_length(search: &RowSearch<'_>) -> i64
     search.padding.length(search.frame)
 }
 
-/// Within a window, the spans of a row that are free for the cell of the search, with the padding
-/// around the team's other cells, and off soft blockages.
+/// The spans of a row, within a window, that are free for the cell of the search. They keep the
+/// padding from the team's other cells, and are off soft blockages.
 pub(crate) fn open_in_row(
     alloc: Global,
     search: &RowSearch<'_>,

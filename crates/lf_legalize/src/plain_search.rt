@@ -1,4 +1,4 @@
-//! The plain search for the best place, which looks at every site of every row.
+//! The plain search for the best place, which visits every site of every row.
 
 ghost use Rattle.std.specs.Prelude.{◌≡◌, ◌↔◌, ◌+ℤ◌, ◌*ℤ◌, ◌<ℤ◌, ◌≤ℤ◌, ◌<◌, pos, IsTrue};
 ghost use Rattle.std.specs.Option.{option_map};
@@ -32,7 +32,8 @@ fn is_legal(search: &Search<'_>, place: &Place) -> bool
     .is_none()
 }
 
-/// Whether the search may put the cell at the place: it is legal, and the cell's box there keeps clear of soft blockages.
+/// Whether the cell is allowed at the place: it is legal, and the cell's box there shares no point
+/// with a soft blockage.
 fn is_allowed(search: &Search<'_>, place: &Place) -> bool
     ensures { IsTrue result ↔ IsAllowedPlace (cell_of search.now) (spot_of place.now) }
 {
@@ -43,7 +44,7 @@ fn is_allowed(search: &Search<'_>, place: &Place) -> bool
     is_legal(search, place)
 }
 
-/// The best place so far, after looking also at this one.
+/// The best place so far, compared with this one.
 fn with_place(search: &Search<'_>, best: Option<Place>, place: Place) -> Option<Place>
     ensures { ScansPlaces (λ p. p ≡ spot_of place) search.now best result }
 {
@@ -53,7 +54,7 @@ fn with_place(search: &Search<'_>, best: Option<Place>, place: Place) -> Option<
     better(search.target, best, place)
 }
 
-/// How far the site lies from the row's left end.
+/// The distance of the site from the row's left end.
 fn offset(row: &Row, pitch: &Point, site: u32) -> i64
     requires heeded { IsCoreRow pitch.now row.now }
     requires wide { pos 0 <ℤ pitch.now.x }
@@ -76,7 +77,7 @@ fn place_at(row: &Row, pitch: &Point, site: u32, orient: Orient) -> Place
     Place::new(x as i32, row.y, orient)
 }
 
-/// The best place so far, after looking also at those on this site of the row.
+/// The best place so far, compared with those on this site of the row.
 fn with_site(search: &Search<'_>, best: Option<Place>, row: &Row, site: u32) -> Option<Place>
     requires heeded { IsCoreRow search.now.frame.now.pitch row.now }
     requires within { site < row.now.sites }
@@ -89,7 +90,7 @@ fn with_site(search: &Search<'_>, best: Option<Place>, row: &Row, site: u32) -> 
     with_place(search, mirrored, place_at(row, pitch, site, Orient::FS))
 }
 
-/// The best place so far, after looking also at those of this row.
+/// The best place so far, compared with those of this row.
 fn with_row(search: &Search<'_>, best: Option<Place>, row: &Row) -> Option<Place>
     requires { IsCoreRow search.now.frame.now.pitch row.now }
     ensures { ScansPlaces (IsOnSites search.now.frame.now.pitch row.now row.now.sites) search.now best result }
@@ -101,21 +102,22 @@ fn with_row(search: &Search<'_>, best: Option<Place>, row: &Row) -> Option<Place
     best
 }
 
-/// The best place of a cell for a target: of all places that are legal for it beside the team's other
-/// placed cells, and at which its box shares no point with a soft blockage, the one of least key; none if there is no such place.
+/// The best place of a cell for a target: of all its allowed places, the one with the least key.
+/// `None` if there is no allowed place.
+///
+/// A place is allowed if it is legal with the team's other placed cells, and the cell's box shares
+/// no point with a soft blockage there. The key is that of `has_lesser_key`. No two legal places
+/// have the same key, so at most one place is best.
 ///
 /// `team` is a fence's position in the frame, or the number of fences for the ground team. `others`
-/// are the team's other placed cells. The key is that of `has_lesser_key`; no two legal places have the same
-/// key, so there is one best place at most. The target may be any point. It allocates nothing.
+/// are the team's other placed cells. The target may be any point. The macro has a whole size.
+/// `padding` is the team's, in core sites. It separates the cell from each of the team's other
+/// cells, wherever they are placed, across obstacles and segments. It does not apply to the ends of
+/// segments or to the cells of other teams.
 ///
-/// `padding` is the team's, in core sites. It keeps the cell apart from each of the team's other cells,
-/// wherever that stands, across obstacles and from one segment to the next; not from the ends of
-/// segments, nor from the cells of other teams.
-///
-/// The macro has a whole size.
-///
-/// It tries each orientation on every site of every row: the time grows as the number of sites times
-/// that of the rows, obstacles, soft blockages and other cells. Faster searches are compared with it.
+/// Does not allocate. The search tries each orientation on every site of every row. Its time grows
+/// with the number of sites times that of the rows, obstacles, soft blockages and other cells.
+/// Faster searches are compared with it.
 pub fn best_place(
     frame: &Frame,
     team: usize,

@@ -1,4 +1,4 @@
-//! The search for the best place on rows.
+//! The arguments of the search for the best place by rows.
 
 ghost use Rattle.std.specs.Prelude.{◌≡◌, ◌<◌, ◌≤◌, ◌*ℤ◌, length, pos};
 ghost use Rattle.lf_floorplan.specs.Boxes.{IsSized, macro_of, size_of};
@@ -10,7 +10,7 @@ use lf_rules::Padding;
 use lf_segments::RowsByY;
 use lf_units::Point;
 
-/// A cell taken from its place, the target for its best place, and its team's padding.
+/// A cell that is regarded as unplaced, the target for its best place, and its team's padding.
 #[derive(Clone, Copy)]
 pub(crate) struct RowSearch<'a> {
     pub frame: &'a Frame,

@@ -1,4 +1,4 @@
-//! The search for the best place.
+//! The arguments of the plain search for the best place.
 
 ghost use Rattle.lf_floorplan.specs.Boxes.{IsSized};
 
@@ -6,7 +6,7 @@ use lf_floorplan::{Frame, Macro};
 use lf_rules::{Padding, Placed};
 use lf_units::Point;
 
-/// A cell taken from its place, the target for its best place, and its team's padding.
+/// A cell that is regarded as unplaced, the target for its best place, and its team's padding.
 #[derive(Clone, Copy)]
 pub(crate) struct Search<'a> {
     pub frame: &'a Frame,

@@ -1,4 +1,4 @@
-//! The search for the best place of a cell of a table.
+//! The trait of searches for the best place of a cell of a table.
 
 ghost use Rattle.std.specs.Prelude.{◌≡◌, ◌≤◌, All, IfOk, length};
 ghost use Rattle.std.specs.Option.{option_map};
@@ -17,20 +17,22 @@ use lf_rules::Padding;
 use lf_units::Point;
 use std::alloc::{AllocError, Global};
 
-/// Finds best places. All seekers give the same answers: they differ in what they look at and in
-/// how long they take.
+/// Finds best places. All seekers return the same places. They differ in what they visit and in the
+/// time they take.
 pub trait Seeker {
-    /// The best place of a cell for a target: the cell is taken away from its place, and of all
-    /// places that are team-legal beside the team's other placed cells, and at which its box shares no point with a soft
-    /// blockage, it is the one of least key.
+    /// The best place of a cell for a target, as if the cell were unplaced: of all its allowed
+    /// places, the one with the least key. `None` only if there is no allowed place, or no such
+    /// cell. `Err` if an allocation fails.
     ///
-    /// None only if there is no such place, or no such cell. `Err` if an allocation fails.
-    /// The target may be any point, in database units. The occupancy is that of the frame and of the cells at their
-    /// working places; the macros of the team's cells are the frame's, of whole size.
+    /// A place is allowed if it is team-legal with the team's other placed cells, and the cell's
+    /// box shares no point with a soft blockage there. The target may be any point, in database
+    /// units.
     ///
-    /// `padding` is that of the cell's team, in core sites. It keeps the cell apart from each of the team's other
-    /// cells, wherever it stands, across obstacles and from one segment to the next; not from the ends of segments,
-    /// nor from the cells of other teams.
+    /// The occupancy is that of the frame and of the cells at their working places. The macros of
+    /// the team's cells are the frame's, of whole size. `padding` is that of the cell's team, in
+    /// core sites. It separates the cell from each of the team's other cells, wherever they are
+    /// placed, across obstacles and segments. It does not apply to the ends of segments or to the
+    /// cells of other teams.
     fn seek(
         &self,
         alloc: Global,
@@ -47,8 +49,8 @@ pub trait Seeker {
         ensures best { (l : Legalizer) → IfOk result (λ found. option_map spot_of found ≡ best_of l frame.now cell.team padding.sites (cells_of cells.now cell.team) cell.own target.now) };
 }
 
-/// Tries each orientation on every site of every row, as the definition of the best place has it;
-/// faster seekers are compared with it.
+/// Tries each orientation on every site of every row, as in the definition of the best place.
+/// Faster seekers are compared with it.
 #[derive(Clone, Copy, Debug)]
 pub struct PlainSeeker;
 

@@ -1,4 +1,4 @@
--- Strips felt around.
+-- Widened strips.
 use Rattle.std.proofs.Common.{◌≡◌, ℕ, ◌<◌, ℤ, pos, negsuc, ◌+ℤ◌, ◌-ℤ◌, ◌*ℤ◌, ◌≤ℤ◌, List, length, get_or, sym, subst, arith}
 use Rattle.std.specs.Prelude.{All, Any}
 use Rattle.std.specs.Int.{int_max, int_min}
@@ -15,14 +15,14 @@ use Rattle.lf_occupancy.specs.Lanes.{IsNearZero}
 use Rattle.lf_occupancy.specs.Occupied.{widened}
 use Rattle.lf_occupancy.specs.Strips.{IsSite, widened_strips}
 
--- the strip lies not far from 0, is as high as a row, and its row has an entry
+-- the strip lies near 0, is as high as a row, and its row has an entry
 pub record IsFelt (rows : List RowEntry) (height : ℤ) (g : Strip) : Type 0 where
   pub near : IsNearZero g.area
   pub y_low : negsuc 2147483647 ≤ℤ g.area.y1
   pub high : g.area.y2 ≡ g.area.y1 +ℤ height
   pub found : Any (λ e. (e.row ≡ g.row) × (e.y ≡ g.area.y1)) rows
 
--- the look-ups, with the strips felt around
+-- the frame's index, with the strips widened
 abbrev pub around : ℤ → FrameIndexView → FrameIndexView
 around site s = record {
   rows = s.rows;
@@ -53,7 +53,7 @@ near_zero by rows height g short placed =
     let w = placed.wide in
     record { low = omega (arith, ints, a, b, l); high = omega (arith, ints, a, b, h); begins = omega (arith, ints, b, w, h) }
 
--- strips that are placed are felt near 0
+-- strips that are placed lie near 0 when widened
 pub strips_felt : (site : ℤ) (s : FrameIndexView) → IsSite site → AreStrips s.rows s.height s.strips → All (IsFelt s.rows s.height) (widened_strips site s.strips)
 strips_felt site s is strips = All-map (IsFelt s.rows s.height) (widened (pos 16 *ℤ site)) s.strips each
   where
@@ -93,7 +93,7 @@ near_back by rows height row team lo hi low high g short placed from to near =
       left = omega (arith, ints, clamps, to, l, a, b, q, w);
     }
 
--- the strips near a range that is wider by the reach are those that, felt around, are near the range
+-- the strips near a range that is wider by the reach are those that, widened, are near the range
 pub near_is_felt : (site : ℤ) (s : FrameIndexView) (row team : ℕ) (lo hi low high : ℤ) (start end : ℕ) → IsSite site → AreStrips s.rows s.height s.strips →
     low ≡ int_max lo (negsuc 1099511627775) -ℤ (pos 16 *ℤ site) → high ≡ int_min hi (pos 1099511627776) +ℤ (pos 16 *ℤ site) →
     AreNear s.strips row team low high start end → AreNear (widened_strips site s.strips) row team lo hi start end

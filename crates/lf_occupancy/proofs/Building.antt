@@ -1,4 +1,4 @@
--- How an occupancy is made: the boxes of all cells.
+-- How an occupancy is built: the boxes of all cells.
 use Rattle.std.proofs.Common.{◌≡◌, ◌≢◌, ◌⊎◌, inl, inr, ℕ, zero, suc, ◌+◌, ◌%◌, ◌<◌, ◌≤◌, List, [], ◌∷◌, ◌++◌, Option, Some, None}
 use Rattle.std.proofs.Common.{length, get_or, set, take, map, eqb, slice_get, refl, sym, ap, subst, ◌∙◌, arith}
 use Rattle.std.specs.Prelude.{AllPairs, Contains, option_and_then, IsPermutation, ◌↔◌, option_map}
@@ -25,7 +25,7 @@ use Rattle.lf_occupancy.specs.Lanes.{IsMarked, entries_in}
 use Rattle.lf_occupancy.specs.Strips.{ShowAllBoxes, HasCell, HasNoBox}
 use Rattle.lf_occupancy.proofs.Laning.{box_other, box_same}
 
--- what is made of each team's cells
+-- the images of each team's cells
 pub row_made : (g : Cell → Option Rect) (rows : List (List Cell)) (team : ℕ) → get_or (map (λ own. map g own) rows) team [] ≡ map g (get_or rows team [])
 row_made g [] team = refl
 row_made g (r ∷ rows) zero = refl
@@ -88,7 +88,7 @@ no_box cells team own = ap (λ (bs : List (Option Rect)). cell_box bs own) (row_
 none_is_some : (r : Rect) → ◌≡◌ {A = Option Rect} None (Some r) → ⊥
 none_is_some r e = cc
 
--- if no cell has a box, the lanes are bare
+-- the marks of a strip without any are right if no cell has a box
 bare_lane : (cells : List (Option Rect)) (area : Rect) (l : StripMarks) → ((own : ℕ) → cell_box cells own ≡ None) → HasNoMark l → IsMarked cells area l
 bare_lane cells area l none b =
     let many : length (entries_in cells area l.marks.items) ≡ 0 = ap (λ ms. length (entries_in cells area ms)) b.marks in
@@ -113,7 +113,7 @@ bare_lane cells area l none b =
 none_before : (id : CellId) → IsBefore 0 0 id → ⊥
 none_before id before = elim before [ inl less ↦ omega (arith, less) | inr same ↦ let less = same.1 in omega (arith, less) ]
 
--- no cell is done where the lanes are bare
+-- the marks of strips without any are right if no cell is done
 pub lanes_bare : (f : Frame) (cells : Cells) (xs : List Strip) (lanes : List StripMarks) → HaveNoMarks (length xs) lanes →
     AreFilledIn f cells xs (IsBefore 0 0) lanes
 lanes_bare f cells xs lanes bare = record {
@@ -131,7 +131,7 @@ lanes_bare f cells xs lanes bare = record {
   };
 }
 
--- the cells of the first so many ids, by their positions
+-- the first `n + 1` ids, by their positions
 pub waiting_further : (ids : List CellId) (n : ℕ) (list new : List ℕ) (w : ℕ) → n < length ids → w % 65536 ≡ n → new ≡ list ++ w ∷ [] →
     map (id_at ids) list ≡ take n ids → map (id_at ids) new ≡ take (n + 1) ids
 waiting_further ids n list new w inside same is was =
@@ -175,14 +175,14 @@ ids_apart ids order rise moved i j d less within same =
         let up = rise i j none less (omega (arith, long, within)) in
         omega (arith, a, b, up, same)
 
--- the next cell is none of those before
+-- the next cell is not among the first ones
 pub fresh_id : (ids : List CellId) (i : ℕ) (id : CellId) → AllPairs (λ a b. a ≢ b) ids → i < length ids → id ≡ get_or ids i id → Contains (take i ids) id → ⊥
 fresh_id ids i id apart within is (k, below, at) =
     let long = length-take i ids in
     let less : k < i = omega (arith, below, long, within) in
     apart k i id less within (sym (get_or-take i ids k id less) ∙ at ∙ is)
 
--- a cell of the table has a box, and another one may be put there
+-- a cell of the table is among the boxes
 pub has_cell : (f : Frame) (cells : Cells) (Done : CellId → Type 0) (id : CellId) (boxes : List (List (Option Rect))) (c : Cell) →
     AreFilled f cells Done boxes → cell_at cells id ≡ Some c → HasCell boxes id
 has_cell f cells Done id boxes c filled there = record { team = has_team reach; own = has_own }
@@ -200,7 +200,7 @@ has_cell f cells Done id boxes c filled there = record { team = has_team reach; 
         let w = has_own in
         absurd (omega (arith, long, w))
 
--- the ids that are passed once one more is
+-- the ids visited after one more
 passed : (ids : List CellId) (i : ℕ) (id other : CellId) → i < length ids → id ≡ get_or ids i id → Contains (take (i + 1) ids) other →
     Contains (take i ids) other ⊎ (id ≡ other)
 passed ids i id other within is there =
@@ -221,11 +221,11 @@ passed_now ids i id within is =
     let longer = length-take (i + 1) ids in
     (i, omega (arith, longer, within), get_or-take (i + 1) ids i id (omega arith) ∙ sym is)
 
--- those done before, and this cell
+-- the cells done so far, and this cell
 abbrev pub IsOneMore : (CellId → Type 0) → CellId → (CellId → Type 0) → Type 0
 IsOneMore Done id More = (other : CellId) → More other ↔ (Done other ⊎ (id ≡ other))
 
--- one more id is passed
+-- one more id is visited
 pub one_passed : (Before : CellId → Type 0) (ids : List CellId) (i : ℕ) (id : CellId) → i < length ids → id ≡ get_or ids i id →
     IsOneMore (λ other. Before other ⊎ Contains (take i ids) other) id (λ other. Before other ⊎ Contains (take (i + 1) ids) other)
 one_passed Before ids i id within is other = (
@@ -309,7 +309,7 @@ row_same (r ∷ rows) zero own none = ap (λ (z : List (Option Rect)). z ∷ row
     set_none (b ∷ bs) (suc n) is = ap (λ (xs : List (Option Rect)). b ∷ xs) (set_none bs n is)
 row_same (r ∷ rows) (suc k) own none = ap (λ (rs : List (List (Option Rect))). r ∷ rs) (row_same rows k own none)
 
--- a cell without a box stays so
+-- a cell without a box is still without one
 pub none_set : (xs : List Strip) (boxes : List (List (Option Rect))) (id : CellId) (lanes : List StripMarks) → HasNoBox boxes id → ShowAllBoxes xs boxes lanes →
     ShowAllBoxes xs (set boxes id.team (set (get_or boxes id.team []) id.own None)) lanes
 none_set xs boxes id lanes nowhere are = subst (λ (bs : List (List (Option Rect))). ShowAllBoxes xs bs lanes) (sym (row_same boxes id.team id.own nowhere.at)) are
@@ -329,7 +329,7 @@ one_filled f cells xs Done More id c old new there fresh more was marks =
       marked = marks (record { known = has; at = was.filled.rest id c there fresh }) was.marked;
     }
 
--- what is said of the same cells of the table
+-- the same holds if the same cells of the table are done
 pub filled_same : (f : Frame) (cells : Cells) (xs : List Strip) (Done Other : CellId → Type 0) (lanes : List StripMarks) →
     ((id : CellId) (c : Cell) → cell_at cells id ≡ Some c → Done id ↔ Other id) → AreFilledIn f cells xs Done lanes → AreFilledIn f cells xs Other lanes
 filled_same f cells xs Done Other lanes same are = record {
@@ -342,7 +342,7 @@ filled_same f cells xs Done Other lanes same are = record {
   marked = are.marked;
 }
 
--- the box of a cell of the list is the element there
+-- the box of a cell of the list is the element at its position
 cell_box_at : (cells : List (Option Rect)) (k : ℕ) (d : Option Rect) → k < length cells → cell_box cells k ≡ get_or cells k d
 cell_box_at [] k d within = absurd (omega (arith, within))
 cell_box_at (c ∷ cells) zero d within = refl
@@ -374,7 +374,7 @@ all_filled f cells Done boxes all filled team = same_lists (get_or boxes team []
         sym (cell_box_at (get_or boxes team []) k d within) ∙ filled.done id c at (all id c at) ∙ sym (get_or-map (box_of f) own_cells k
         (some_cell own_cells k inner) d inner)
 
--- lanes of the same boxes
+-- the marks of the same boxes
 pub lanes_of_same : (xs : List Strip) (boxes other : List (List (Option Rect))) (lanes : List StripMarks) →
     ((team : ℕ) → get_or boxes team [] ≡ get_or other team []) → ShowAllBoxes xs boxes lanes → ShowAllBoxes xs other lanes
 lanes_of_same xs boxes other lanes same are = record {

@@ -1,4 +1,4 @@
--- Lanes that are changed one after another.
+-- Marks of strips that are changed one strip after another.
 use Rattle.std.proofs.Common.{◌≡◌, ◌≢◌, ◌⊎◌, inl, inr, ℕ, ◌+◌, ◌<◌, ◌≤◌, List, [], ◌∷◌, length, get_or, set, take, refl, sym, ap, subst, ◌∙◌, arith}
 use Rattle.std.specs.Prelude.{AllPairs}
 use Rattle.std.proofs.lemmas.Bool.Decides.{eqb_tells}
@@ -13,7 +13,7 @@ use Rattle.lf_occupancy.specs.Strips.{AreChanged, AreKept, IsReached, IsReachedI
 use Rattle.lf_occupancy.proofs.Lists.{any_more, any_less}
 use Rattle.lf_occupancy.proofs.Finds.{no_strip}
 
--- a lane of the list
+-- the marks of one strip of the list
 pub some_lane : (lanes : List StripMarks) (k : ℕ) → k < length lanes → StripMarks
 some_lane [] k within = absurd (omega (arith, within))
 some_lane (l ∷ lanes) k within = l
@@ -38,7 +38,7 @@ changed_alike P Q Change old new f g a = record {
   others = λ n e within never. a.others n e within (λ p. never (f n within p));
 }
 
--- one more lane is changed
+-- the marks of one more strip are changed
 pub changed_further : {X : Type 0} (Change : ℕ → X → X → Type 0) (start k end : ℕ) (old mid : List X) (lane new : X) → start ≤ k → k < end → k < length mid →
     lane ≡ get_or mid k lane → Change k lane new → AreChanged (IsBetween start k end) Change old mid →
     AreChanged (IsBetween start (k + 1) end) Change old (set mid k new)
@@ -67,7 +67,8 @@ changed_further {X} Change start k end old mid lane new from until within is cha
     order : (n : ℕ) → n < k + 1 → (n < k) ⊎ (n ≡ k)
     order n less = grind arith
 
--- what lies between the two bisections is what the rectangle reaches in the row
+-- the strips between the two positions found by binary search are those that the rectangle reaches
+-- in the row
 pub between_is_reached : {X : Type 0} (xs : List Strip) (row team start k end : ℕ) (rect : Rect) (Change : ℕ → X → X → Type 0) (old new : List X) →
     AreNear xs row team rect.x1 rect.x2 start end → end ≤ k → AreChanged (IsBetween start k end) Change old new →
     AreChanged (IsReachedIn xs row team rect) Change old new
@@ -83,7 +84,7 @@ between_is_reached xs row team start k end rect Change old new near past a = cha
     record { from = both.0; below = omega (arith, until, past); until = until })
     a
 
--- a row that is passed is not the next one
+-- a row that was visited is not the next one
 pub other_row : (xs : List Strip) (rows : List RowEntry) (i : ℕ) (r : RowEntry) (team : ℕ) (rect : Rect) (n : ℕ) → AllPairs (λ a b. a.row ≢ b.row) rows →
     i < length rows →
     r ≡ get_or rows i r → IsReached xs (take i rows) team rect n → IsReachedIn xs r.row team rect n → ⊥
@@ -124,7 +125,7 @@ rows_further {X} Change xs rows i r team rect old mid new once within is first s
     inside : (n : ℕ) → n < length old → n < length mid
     inside n inner = let m = first.many in omega (arith, m, inner)
 
--- a lane that holds what it held
+-- a list of strips keeps its own marks
 pub kept_same : (lanes : List StripMarks) → AreKept lanes lanes
 kept_same lanes = record { many = refl; each = λ n e within. record { marks = refl; widest = refl; many = refl; room = omega arith } }
 
@@ -160,7 +161,7 @@ kept_set lanes k lane new within is kept = record {
     order : (n : ℕ) → (n ≡ k) ⊎ (n ≢ k)
     order n = elim (eqb_tells n k) [ inl h ↦ inl h.1 | inr h ↦ inr h.1 ]
 
--- lanes that are kept keep their room
+-- strips that keep their marks keep their room
 pub room_kept : (more : ℕ) (old new : StripMarks) → IsKept old new → HasRoomOf more old → HasRoomOf more new
 room_kept more old new kept room = let m = kept.many in let r = kept.room in omega (arith, m, r, room)
 

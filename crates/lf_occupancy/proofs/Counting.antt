@@ -26,7 +26,7 @@ less_of a b e = grind (arith, ints)
 pub of_less : (a b : ℤ) → a <ℤ b → int_lt a b ≡ true
 of_less a b h = grind (arith, ints)
 
--- a box meets a strip by its edges where they share a point
+-- a box overlaps a strip by its edges if they share a point
 pub meets_shares : (g : Strip) (r : Rect) → meets g (Some r) ≡ true → SharesPoint g.area r
 meets_shares g r e = record {
   x = int_max g.area.x1 r.x1;
@@ -88,7 +88,7 @@ no_more_of g b c either = elim either [
   | inr same ↦ subst (λ (x : Option Rect). one_if (meets g x) ≤ one_if (meets g c)) (sym same) (omega arith)
 ]
 
--- no more of them meet a strip
+-- no more of them share a point with a strip
 pub part_is_no_more : (g : Strip) (part whole : List (Option Rect)) → ArePartOf part whole → count_in g part ≤ count_in g whole
 part_is_no_more g [] whole p = omega arith
 part_is_no_more g (b ∷ bs) [] p =
@@ -103,7 +103,7 @@ part_is_no_more g (b ∷ bs) (c ∷ cs) p =
     let after = one_more g c cs in
     omega (arith, rest, first, before, after)
 
--- and where a box that meets it is lacking, there is room for that one
+-- if a box that shares a point with the strip is missing, there is room for it
 pub part_leaves_room : (g : Strip) (part whole : List (Option Rect)) (own : ℕ) (r : Rect) → ArePartOf part whole → cell_box part own ≡ None →
     cell_box whole own ≡ Some r → SharesPoint g.area r → count_in g part + 1 ≤ count_in g whole
 part_leaves_room g part [] own r p none is shares = absurd cc
@@ -129,7 +129,7 @@ part_leaves_room g (b ∷ bs) (c ∷ cs) (suc own) r p none is shares =
     let after = one_more g c cs in
     omega (arith, rest, first, before, after)
 
--- what fits still does where no room is less
+-- boxes that fit still fit if no strip has less room
 pub fits_still : (old new : Occupied) (team : ℕ) (boxes : List (Option Rect)) → new.index.strips ≡ old.index.strips → new.site ≡ old.site →
     KeepsCapacities old.rooms new.rooms → FitIn old team boxes → FitIn new team boxes
 fits_still old new team boxes strips site rooms fits n g at of_team =
@@ -138,7 +138,7 @@ fits_still old new team boxes strips site rooms fits n g at of_team =
     let no_less = rooms.each n in
     omega (arith, same, most, no_less)
 
--- another box of one cell makes it one more at most
+-- another box for one cell increases the count by at most one
 pub set_is_one_more : (g : Strip) (boxes : List (Option Rect)) (own : ℕ) (box : Option Rect) → count_in g (set boxes own box) ≤ count_in g boxes + 1
 set_is_one_more g [] own box = omega arith
 set_is_one_more g (b ∷ bs) zero box =
@@ -229,7 +229,8 @@ below_all k (own ∷ owns) low =
     let one : one_if (ltb own k) ≡ 1 = grind (arith, nat_tests) in
     omega (arith, rest, a, one)
 
--- a list that names the cells whose boxes meet a strip, each once, is as long as they are many
+-- a list that names each cell whose box shares a point with a strip once is as long as the count in
+-- the strip
 pub named_are_counted : (g : Strip) (boxes : List (Option Rect)) (owns : List ℕ) → AllPairs (λ a b. a ≢ b) owns →
     ((own : ℕ) → Contains owns own ↔ (meets g (cell_box boxes own) ≡ true)) → length owns ≡ count_in g boxes
 named_are_counted g boxes owns once exact = sym (below_all (length boxes) owns low) ∙ up_to (length boxes) (omega arith) ∙ ap (count_in g) (take_whole boxes)

@@ -63,7 +63,7 @@ module _ (f : Frame) (o : Occupied) (team : ℕ) (box : Rect) (plan : IsIndexOf 
       (any_made Found (strip_of f) o.index.segments
       (any_weaker (λ g. IsOf in_one.number team g × LiesIn (x_extent box) g.span) (λ g. Found (strip_of f g)) made o.index.segments in_one.lies))
 
--- each point of such a box made wider lies in a strip that is felt around
+-- each point of a legal box, widened, lies in a widened strip
 pub strips_feel_all : (f : Frame) (o : Occupied) (team : ℕ) (box : Rect) (by : ℤ) → IsIndexOf f o.index → RestsOnRows f box → StaysInGround f team box →
     IsClear f box → box.x1 <ℤ box.x2 → pos 0 ≤ℤ by → by ≤ℤ reach o → (x y : ℤ) → Covers (wider by box) x y →
     Any (λ g. (g.team ≡ team) × Covers (wider (reach o) g.area) x y) o.index.strips

@@ -1,4 +1,4 @@
--- What is met in the strips of a row, and in those of all rows.
+-- Overlaps in the strips of a row, and in those of all rows.
 use Rattle.std.proofs.Common.{◌≡◌, ◌⊎◌, inl, inr, ℕ, ◌+◌, ◌<◌, ◌≤◌, pos, ◌≤ℤ◌, ◌<ℤ◌, List, [], ◌∷◌, ◌++◌, Option, length, get_or, sym, ap, subst, ◌∙◌, arith}
 use Rattle.std.specs.Prelude.{All, Any, Contains}
 use Rattle.std.proofs.lemmas.Int.{ints}
@@ -14,7 +14,7 @@ use Rattle.lf_occupancy.specs.Strips.{AreOrderly, MeetsAt, MeetsInOne, MeetsInRo
 use Rattle.lf_occupancy.proofs.Around.{IsFelt}
 use Rattle.lf_occupancy.proofs.Leasts.{least_alike, least_of_both}
 
--- a lane between two numbers has an entry that is met
+-- an entry of a strip between two positions overlaps the rectangle
 pub record MeetsBetween (lanes : List StripView) (start n end : ℕ) (rect : Rect) (but own : ℕ) : Type 0 where
   pub m : ℕ
   pub from : start ≤ m
@@ -25,7 +25,7 @@ pub record MeetsBetween (lanes : List StripView) (start n end : ℕ) (rect : Rec
 pub nothing_between : (lanes : List StripView) (start end : ℕ) (rect : Rect) (but own : ℕ) → MeetsBetween lanes start start end rect but own → ⊥
 nothing_between lanes start end rect but own m = let a = m.from in let b = m.below in omega (arith, a, b)
 
--- the least over the lanes passed, and over one more
+-- the least over the strips visited, and over one more
 pub least_further : (lanes : List StripView) (start n end : ℕ) (rect : Rect) (but : ℕ) (lane : StripView) (a b c : Option ℕ) → start ≤ n → n < end → n < length lanes →
     lane ≡ get_or lanes n lane → IsLeast (MeetsBetween lanes start n end rect but) a b → IsLeast (λ own. MeetsOne lane.entries rect but own) b c →
     IsLeast (MeetsBetween lanes start (n + 1) end rect but) a c
@@ -65,7 +65,7 @@ some_shown (l ∷ lanes) k within = l
 abbrev pub no_strip : Strip
 no_strip = record { row = 0; team = 0; area = record { x1 = pos 0; y1 = pos 0; x2 = pos 0; y2 = pos 0 } }
 
--- what is met between the two bisections is what is met in the row
+-- the overlaps between the two positions found by binary search are the overlaps in the row
 pub between_in_row : (xs : List Strip) (lanes : List StripView) (row team start n end : ℕ) (rect : Rect) (but own : ℕ) →
     AreNear xs row team rect.x1 rect.x2 start end →
     MeetsBetween lanes start n end rect but own → MeetsInRow xs lanes row team rect but own
@@ -82,7 +82,7 @@ between_in_row xs lanes row team start n end rect but own near m =
       },
     )
 
--- the x range of a strip overlaps that of the rectangle, where an entry of its lane is met
+-- if an entry of a strip overlaps the rectangle, so does the strip's x range
 pub met_overlaps : (xs : List Strip) (lanes : List StripView) (team : ℕ) (rect : Rect) (but own n : ℕ) (d : Strip) → AreOrderly xs lanes →
     (at : MeetsAt xs lanes team rect but own n) → (rect.x1 <ℤ (get_or xs n d).area.x2) × ((get_or xs n d).area.x1 <ℤ rect.x2)
 met_overlaps xs lanes team rect but own n d orderly at =
@@ -110,7 +110,7 @@ row_in_between xs lanes row team start n end rect but own near orderly past (m, 
     let until = both.1 in
     record { m = m; from = both.0; below = omega (arith, until, past); until = until; meets = at.meets }
 
--- the row of a strip in which an entry is met stands among the near ones
+-- the row of a strip with an overlapping entry is among the near ones
 pub row_is_near : (s : FrameIndexView) (lanes : List StripView) (team : ℕ) (rect : Rect) (but own n : ℕ) (run : List RowEntry) → All (IsFelt s.rows s.height) s.strips →
     AreOrderly s.strips lanes →
     AreRowsNear s.rows s.height rect run → MeetsAt s.strips lanes team rect but own n →

@@ -17,7 +17,8 @@ use Rattle.lf_occupancy.specs.Strips.{AreFreeTo, AreFreeSpansOfStrip, LiesFree}
 use Rattle.lf_occupancy.proofs.Lists.{pairs_append, any_right}
 use Rattle.lf_occupancy.proofs.Finds.{no_strip}
 
--- the span lies in the strip of that number between two, and shares no number with another cell's entry made wider by the padding
+-- the span lies in the strip of this number between two positions, and shares no number with
+-- another cell's entry widened by the padding
 pub record FreeBetween (xs : List Strip) (lanes : List StripView) (own : ℕ) (padding : ℤ) (start k end : ℕ) (s : Span) : Type 0 where
   pub m : ℕ
   pub from : start ≤ m
@@ -26,7 +27,7 @@ pub record FreeBetween (xs : List Strip) (lanes : List StripView) (own : ℕ) (p
   pub inside : (d : Strip) → LiesIn s (x_extent (get_or xs m d))
   pub apart : (d : StripView) → IsApart (spans_in (others_in (all_padded padding (get_or lanes m d).entries) own)) s
 
--- the free spans of the strips passed
+-- the free spans of the strips visited
 pub record AreFreeBetween (xs : List Strip) (lanes : List StripView) (own : ℕ) (padding : ℤ) (start k end : ℕ) (window : Span) (free : List Span) : Type 0 where
   pub rising : IsRising free
   pub ends : (m : ℕ) (d : Strip) → k ≤ m → m < end → All (λ t. t.hi ≤ℤ (get_or xs m d).area.x1) free
@@ -136,7 +137,8 @@ free_further xs lanes row team own padding start k end window lane g free part p
         order : (f.m < k) ⊎ (f.m ≡ k)
         order = let b = f.below in grind (arith, b)
 
--- what is free between the two bisections is what is free in the strips of the row and the team
+-- the free spans between the two positions found by binary search are the free spans in the strips
+-- of the row and the team
 pub free_of_row : (xs : List Strip) (lanes : List StripView) (row team own : ℕ) (padding : ℤ) (start k end : ℕ) (window : Span) (free : List Span) →
     AreNear xs row team window.lo window.hi start end →
     end ≤ k → AreFreeBetween xs lanes own padding start k end window free → AreFreeTo xs lanes row team own window padding (length xs) free
@@ -184,7 +186,7 @@ free_of_row xs lanes row team own padding start k end window free near past f = 
         let until = both.1 in
         (shown, record { m = n; from = both.0; below = omega (arith, until, past); until = until; inside = l.inside; apart = l.apart })
 
--- what is free in one strip of the cell's team is left by the others
+-- what is free in one strip of the cell's team is free of all other cells
 pub left_by_others : (xs : List Strip) (lanes : List StripView) (without : CellId) (padding : ℤ) (n : ℕ) (lane : StripView) (free : List Span) → n < length xs →
     ((d : Strip) → (get_or xs n d).team ≡ without.team) → ((e : StripView) → lane ≡ get_or lanes n e) →
     IsFreeIn (x_range (get_or xs n no_strip).area) (spans_in (others_in (all_padded padding lane.entries) without.own)) (x_range (get_or xs n no_strip).area) free →
@@ -211,7 +213,7 @@ left_by_others xs lanes without padding n lane free within of_team is f = record
   );
 }
 
--- what is free in one strip of another team is left by all
+-- what is free in one strip of another team is free of all its cells
 pub left_by_all : (xs : List Strip) (lanes : List StripView) (without : CellId) (padding : ℤ) (n : ℕ) (lane : StripView) (free : List Span) → n < length xs →
     ((d : Strip) → (get_or xs n d).team ≡ without.team → ⊥) → ((e : StripView) → lane ≡ get_or lanes n e) →
     IsFreeIn (x_range (get_or xs n no_strip).area) (spans_in (all_padded padding lane.entries)) (x_range (get_or xs n no_strip).area) free →

@@ -1,4 +1,4 @@
--- Cells that are known among boxes, where one of them has another box.
+-- Cells that have an element among the boxes, when one of them gets another box.
 use Rattle.std.proofs.Common.{◌≡◌, inl, inr, ℕ, ◌<◌, List, [], Option, None, length, get_or, set, sym, ap, subst, ◌∙◌, arith}
 use Rattle.std.proofs.lemmas.Bool.Decides.{eqb_tells}
 use Rattle.std.proofs.lemmas.List.{get_or-set_same, get_or-set_other, length-set}
@@ -8,7 +8,7 @@ use Rattle.lf_occupancy.specs.Occupied.{cell_box}
 use Rattle.lf_occupancy.specs.Strips.{HasCell}
 use Rattle.lf_occupancy.proofs.Laning.{box_same}
 
--- a cell that has another box leaves each cell known
+-- after a cell gets another box, each cell still has an element
 pub known_still : (boxes : List (List (Option Rect))) (id other : CellId) (box : Option Rect) → HasCell boxes id → HasCell boxes other →
     HasCell (set boxes id.team (set (get_or boxes id.team []) id.own box)) other
 known_still boxes id other box this known = record {
@@ -29,7 +29,7 @@ known_still boxes id other box this known = record {
     changed : List (Option Rect)
     changed = set (get_or boxes id.team []) id.own box
 
--- a cell that is taken away stands nowhere
+-- a cell whose box is removed has no box
 pub stands_nowhere : (boxes : List (List (Option Rect))) (id : CellId) → HasCell boxes id →
     cell_box (get_or (set boxes id.team (set (get_or boxes id.team []) id.own None)) id.team []) id.own ≡ None
 stands_nowhere boxes id known =

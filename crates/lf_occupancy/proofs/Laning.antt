@@ -1,4 +1,4 @@
--- How a lane follows the boxes of its team's cells.
+-- How the marks of a strip follow the boxes of its team's cells.
 use Rattle.std.proofs.Common.{◌≡◌, ◌≢◌, inl, inr, Bool, true, ℕ, zero, suc, ◌+◌, ◌<◌, ◌≤◌, ℤ, pos, ◌-ℤ◌, ◌≤ℤ◌, ◌<ℤ◌, List, [], ◌∷◌, Option}
 use Rattle.std.proofs.Common.{Some, None, length, get_or, set, take, drop, map, eqb, false, cond, refl, sym, ap, subst, ◌∙◌, arith}
 use Rattle.std.specs.Int.{int_max}
@@ -38,14 +38,14 @@ inner o = option_and_then (λ box. box) o
 abbrev AreOnce : List Entry → Type 0
 AreOnce entries = AllPairs (λ a b. a.own ≢ b.own) entries
 
--- the boxes where one cell has another box
+-- the boxes after one cell gets another box
 pub box_other : (cells : List (Option Rect)) (own k : ℕ) (box : Option Rect) → k ≢ own → cell_box (set cells own box) k ≡ cell_box cells k
 box_other cells own k box apart = ap inner (get_set_other cells own k box apart)
 
 pub box_same : (cells : List (Option Rect)) (own : ℕ) (box : Option Rect) → own < length cells → cell_box (set cells own box) own ≡ box
 box_same cells own box within = ap inner (get_set_same cells own box within)
 
--- the point lies in the box of another list too, where the cell has the same box there
+-- the point lies in the box of another list too, if the cell has the same box there
 in_box_of : (cells other : List (Option Rect)) (area : Rect) (own : ℕ) (x y : ℤ) → cell_box other own ≡ cell_box cells own → LiesInBox cells area own x y →
     LiesInBox other area own x y
 in_box_of cells other area own x y same l = record { box = l.box; is = same ∙ l.is; in_area = l.in_area; in_box = l.in_box }
@@ -72,7 +72,7 @@ other_test a b apart = grind (arith, nat_tests, apart)
 test_other : (a b : ℕ) → not (eqb a b) ≡ true → a ≡ b → ⊥
 test_other a b t same = grind (arith, nat_tests)
 
--- the entry is added to what a lane shows, at its place in the order
+-- the entry is added to those of a strip, at its place in the order
 record IsShownWith (e : Entry) (old new : StripView) : Type 0 where
   at : ℕ
   entries : new.entries ≡ insert old.entries at e
@@ -80,12 +80,12 @@ record IsShownWith (e : Entry) (old new : StripView) : Type 0 where
   behind : (k : ℕ) (d : Entry) → at ≤ k → k < length old.entries → e.area.x1 ≤ℤ (get_or old.entries k d).area.x1
   widest : new.widest ≡ int_max old.widest (e.area.x2 -ℤ e.area.x1)
 
--- what a lane shows without the cell's entries
+-- the entries of a strip without the cell's
 record IsShownWithout (own : ℕ) (old new : StripView) : Type 0 where
   entries : new.entries ≡ others_in old.entries own
   widest : new.widest ≡ old.widest
 
--- a lane without the cell's entries is that of the boxes with none for the cell
+-- the entries of a strip without the cell's are those of the boxes without the cell's
 lane_pruned : (cells : List (Option Rect)) (area : Rect) (own : ℕ) (old new : StripView) → own < length cells → ShowsBoxes cells area old → IsShownWithout own old new →
     ShowsBoxes (set cells own None) area new
 lane_pruned cells area own old new has lane pruned = record {
@@ -132,7 +132,7 @@ lane_pruned cells area own old new has lane pruned = record {
         in_box_of cells (set cells own None) area e.own x y (box_other cells own e.own None apart)
         (All-filter p (λ z. (x y : ℤ) → Covers z.area x y → LiesInBox cells area z.own x y) items lane.told k d within x y covers)
 
--- a lane where no point of the strip lies in the old box of the cell, nor in the new one
+-- the entries of a strip if no point of it lies in the old box of the cell or in the new one
 lane_beside : (cells : List (Option Rect)) (area : Rect) (own : ℕ) (box : Option Rect) (l : StripView) → own < length cells →
     ((x y : ℤ) → LiesInBox cells area own x y → ⊥) → ((r : Rect) (x y : ℤ) → box ≡ Some r → Covers area x y → Covers r x y → ⊥) → ShowsBoxes cells area l →
     ShowsBoxes (set cells own box) area l
@@ -213,7 +213,7 @@ order_insert xs i e order before behind =
         let high = after n z (omega (arith, inner)) in
         omega (arith, ints, first, low, high)
 
--- the entry of a cell that has none is put in
+-- the entry of a cell that has no entry is inserted
 once_insert : (xs : List Entry) (i : ℕ) (e : Entry) → AreOnce xs → All (λ z. z.own ≢ e.own) xs → AreOnce (insert xs i e)
 once_insert xs i e once fresh = pairs_append R (take i xs) (e ∷ drop i xs) cross front (pairs_cons R e (drop i xs) after rest)
   where
@@ -253,7 +253,7 @@ once_insert xs i e once fresh = pairs_append R (take i xs) (e ∷ drop i xs) cro
         (sym (taken m d within) ∙ same ∙ own_of _ _ (get_or-drop i xs n z)
         ∙ own_of _ _ (get_or_default xs (i + n) z d (omega (arith, wide, inner))))
 
--- the lane with the cell's part is that of the boxes where the cell stands there
+-- the entries with the cell's part are those of the boxes with the cell's new box
 lane_joined : (cells : List (Option Rect)) (area : Rect) (own : ℕ) (rect part : Rect) (old new : StripView) → own < length cells → cell_box cells own ≡ None →
     IsNearZero area → IsPart area rect part → HasPoints part →
     ShowsBoxes cells area old → IsShownWith record { own = own; area = part } old new → ShowsBoxes (set cells own (Some rect)) area new
@@ -345,9 +345,9 @@ lane_joined cells area own rect part old new has nowhere def is whole lane j = r
           (c.0, found.1, c.1, c.2, found.4)
     ]
 
--- ---- from marks to what they show
+-- ---- from marks to entries
 
--- the cell whose box differs is not marked
+-- the cell with the other box has no mark
 entry_other : (cells : List (Option Rect)) (area : Rect) (own : ℕ) (box : Option Rect) (m : Mark) → m.own ≢ own →
     entry_in (set cells own box) area m ≡ entry_in cells area m
 entry_other cells area own box m apart = ap (λ (b : Option Rect). entry_of_box area b m.own) (box_other cells own m.own box apart)
@@ -386,7 +386,7 @@ entry_there cells area ms k d e within = get_or-map (entry_in cells area) ms k e
 pub entries_many : (cells : List (Option Rect)) (area : Rect) (ms : List Mark) → length (entries_in cells area ms) ≡ length ms
 entries_many cells area ms = length-map ms (entry_in cells area)
 
--- what is marked is of a cell whose box has a point in the area
+-- the marks are of cells whose boxes have a point in the area
 pub none_marked : (cells : List (Option Rect)) (area : Rect) (own : ℕ) (l : StripMarks) → IsMarked cells area l → ((x y : ℤ) → LiesInBox cells area own x y → ⊥) →
     All (λ m. m.own ≢ own) l.marks.items
 none_marked cells area own l marked never k d within same =
@@ -421,7 +421,7 @@ marks_rise cells area l marked i j d less within =
 abbrev made : List Entry → ℤ → StripView
 made es w = record { entries = es; widest = w }
 
--- a lane with the same marks
+-- a strip with the same marks
 pub marked_kept : (cells : List (Option Rect)) (area : Rect) (old new : StripMarks) → IsMarked cells area old → IsKept old new → IsMarked cells area new
 marked_kept cells area old new marked kept = record {
   lane = subst (ShowsBoxes cells area) same marked.lane;
@@ -432,13 +432,13 @@ marked_kept cells area old new marked kept = record {
     same = ap (λ (ms : List Mark). made (entries_in cells area ms) old.widest) (sym kept.marks)
         ∙ ap (λ (w : ℤ). made (entries_in cells area new.marks.items) w) (sym kept.widest)
 
--- marks that are not the cell's tell of the same entries
+-- marks that are not the cell's have the same entries
 told_other : (cells : List (Option Rect)) (area : Rect) (own : ℕ) (box : Option Rect) (ms : List Mark) → All (λ m. m.own ≢ own) ms →
     MarksAreOf cells area ms → MarksAreOf (set cells own box) area ms
 told_other cells area own box ms apart told k d within =
     subst (λ (e : Entry). MarkIsOf e (get_or ms k d)) (sym (entry_other cells area own box (get_or ms k d) (apart k d within))) (told k d within)
 
--- a lane without the cell's marks is that of the boxes with none for the cell
+-- the marks of a strip without the cell's are those of the boxes without the cell's
 pub marked_pruned : (cells : List (Option Rect)) (area : Rect) (own : ℕ) (old new : StripMarks) → own < length cells → IsMarked cells area old →
     IsUnmarked own old new → IsMarked (set cells own None) area new
 marked_pruned cells area own old new has marked pruned = record {
@@ -460,7 +460,7 @@ marked_pruned cells area own old new has marked pruned = record {
     apart : All (λ m. m.own ≢ own) (marks_but items own)
     apart k d within = test_other (get_or (marks_but items own) k d).own own (filter_passes p items k d within)
 
--- a lane where no point of the strip lies in the old box of the cell, nor in the new one
+-- the marks of a strip if no point of it lies in the old box of the cell or in the new one
 pub marked_beside : (cells : List (Option Rect)) (area : Rect) (own : ℕ) (box : Option Rect) (l : StripMarks) → own < length cells →
     ((x y : ℤ) → LiesInBox cells area own x y → ⊥) → ((r : Rect) (x y : ℤ) → box ≡ Some r → Covers area x y → Covers r x y → ⊥) → IsMarked cells area l →
     IsMarked (set cells own box) area l
@@ -476,7 +476,7 @@ marked_beside cells area own box l has old new marked = record {
 mark_insert : (P : Mark → Type 0) (xs : List Mark) (i : ℕ) (m : Mark) → P m → All P xs → All P (insert xs i m)
 mark_insert P xs i m here all = All-append P (take i xs) (m ∷ drop i xs) (All-take P i xs all) (All-cons P m (drop i xs) here (All-drop P i xs all))
 
--- the lane with the cell's part marked is that of the boxes where the cell stands there
+-- the marks with the cell's part are those of the boxes with the cell's new box
 pub marked_put : (cells : List (Option Rect)) (area : Rect) (own : ℕ) (rect : Rect) (old new : StripMarks) → own < length cells → cell_box cells own ≡ None →
     IsNearZero area → IsMarked cells area old → IsPutIn own rect area old new → IsMarked (set cells own (Some rect)) area new
 marked_put cells area own rect old new has nowhere near marked put = elim put [

@@ -4,7 +4,7 @@ use Rattle.std.specs.Prelude.{Any, IfSome, IsSomeAnd, MatchOption}
 use Rattle.lf_occupancy.specs.Lanes.{IsUpTo, IsLeast}
 use Rattle.lf_occupancy.proofs.Lists.{any_more, any_less}
 
--- what is up to a number is up to a lesser one too
+-- a bound on a number is a bound for a lesser one too
 up_to_less : (a b : Option ℕ) (n : ℕ) → IsUpTo a n → IfSome a (IsUpTo b) → IsUpTo b n
 up_to_less None b n low less = absurd low
 up_to_less (Some x) None n low less = absurd less
@@ -34,7 +34,7 @@ least_alike P Q a b f g l = record {
 pub least_of_none : (P : ℕ → Type 0) (a : Option ℕ) → ((n : ℕ) → P n → ⊥) → IsLeast P a a
 least_of_none P a none = record { from = inl refl; no_greater = up_to_itself a; each = λ n p. absurd (none n p) }
 
--- the least of the first and then of the second
+-- the least over the first, and then over the second
 pub least_of_both : (P Q : ℕ → Type 0) (a b c : Option ℕ) → IsLeast P a b → IsLeast Q b c → IsLeast (λ n. P n ⊎ Q n) a c
 least_of_both P Q a b c first second = record {
   from = elim second.from [
@@ -48,14 +48,14 @@ least_of_both P Q a b c first second = record {
   each = λ n either. elim either [ inl p ↦ up_to_less b c n (first.each n p) second.no_greater | inr q ↦ second.each n q ];
 }
 
--- the least over the elements passed, and over one more
+-- the least over the elements visited, and over one more
 pub least_more : {X : Type 0} (P : ℕ → X → Type 0) (xs : List X) (i : ℕ) (x : X) (a b c : Option ℕ) → i < length xs → x ≡ get_or xs i x →
     IsLeast (λ n. Any (P n) (take i xs)) a b → IsLeast (λ n. P n x) b c → IsLeast (λ n. Any (P n) (take (i + 1) xs)) a c
 least_more P xs i x a b c within is first second =
     least_alike (λ n. Any (P n) (take i xs) ⊎ P n x) (λ n. Any (P n) (take (i + 1) xs)) a c (λ n either. any_more (P n) xs i x within is either)
     (λ n any. any_less (P n) xs i x within is any) (least_of_both (λ n. Any (P n) (take i xs)) (λ n. P n x) a b c first second)
 
--- from nothing the least number with the property, or none if there is none
+-- starting from None, the least number with the property, or None if there is no such number
 pub least_from_none : (P : ℕ → Type 0) (b : Option ℕ) → IsLeast P None b → MatchOption b ((n : ℕ) → P n → ⊥) (λ n. P n × ((m : ℕ) → P m → n ≤ m))
 least_from_none P None l = λ n p. l.each n p
 least_from_none P (Some n) l = elim l.from [ inl same ↦ absurd cc | inr met ↦ (met, λ m p. l.each m p) ]

@@ -1,4 +1,4 @@
--- A lane in which a cell has one mark at most.
+-- A strip in which a cell has at most one mark.
 use Rattle.std.proofs.Common.{◌≡◌, ◌≢◌, ◌⊎◌, inl, inr, ℕ, zero, suc, ◌<◌, ◌≤◌, ℤ, ◌<ℤ◌, Bool, cond, List, [], ◌∷◌, Option, Some, None, length}
 use Rattle.std.proofs.Common.{get_or, refl, sym, ap, subst, ◌∙◌, arith}
 use Rattle.std.specs.Prelude.{All, AllPairs, not, remove}
@@ -30,14 +30,14 @@ left_one e es own same = elim (eqb_tells e.own own) [
   | inr other ↦ absurd (other.1 same)
 ]
 
--- where no mark is the cell's, all are kept
+-- if no mark is the cell's, all are kept
 pub all_kept : (es : List Mark) (own : ℕ) → HasNoMarkFrom es own 0 → marks_but es own ≡ es
 all_kept [] own none = refl
 all_kept (e ∷ es) own none =
     kept_one e es own (none 0 e (omega arith) (omega arith))
     ∙ ap (λ (rest : List Mark). e ∷ rest) (all_kept es own (λ k d from within. none (suc k) d (omega arith) (omega (arith, within))))
 
--- where one mark is, the others are what is left without it
+-- if one mark is the cell's, the others remain without it
 pub one_left : (es : List Mark) (own n : ℕ) → AllPairs (λ a b. a.own ≢ b.own) es → IsMarkOfCell es own n → remove es n ≡ marks_but es own
 one_left [] own n once at = let within = at.within in absurd (omega (arith, within))
 one_left (e ∷ es) own zero once at =
@@ -50,7 +50,7 @@ one_left (e ∷ es) own (suc n) once at =
     record { within = omega (arith, within); is = λ d. at.is d })
     ∙ sym (kept_one e es own (λ same. once 0 (suc n) e (omega arith) within (same ∙ sym (at.is e))))
 
--- what begins before the cell's left edge is not the cell's
+-- a mark that begins to the left of the cell's left edge is not the cell's
 pub not_before : (l : StripMarks) (own : ℕ) (left : ℤ) (from : ℕ) → HasAtMostOne own left l → from ≤ length l.marks.items →
     ((k : ℕ) (d : Mark) → k < from → (get_or l.marks.items k d).left <ℤ left) → HasNoMarkFrom l.marks.items own from →
     HasNoMarkFrom l.marks.items own 0
@@ -62,7 +62,7 @@ not_before l own left from one bound below none k d least within same = elim two
     two : (k < from) ⊎ (from ≤ k)
     two = grind arith
 
--- where a mark lies farther right than the cell's, none from there on is the cell's
+-- if a mark lies farther right than the cell's, no mark from there on is the cell's
 pub none_farther : (ms : List Mark) (own n : ℕ) (left : ℤ) (m : Mark) → AreRising ms → All (λ e. e.own ≡ own → e.left ≡ left) ms → n < length ms →
     left <ℤ (get_or ms n m).left → (k : ℕ) (d : Mark) → n ≤ k → k < length ms → (get_or ms k d).own ≢ own
 none_farther ms own n left m rising begins inner far k d from within same = elim two [
@@ -81,7 +81,8 @@ none_farther ms own n left m rising begins inner far k d from within same = elim
     two : (n ≡ k) ⊎ (n < k)
     two = grind arith
 
--- a lane that marks its team's boxes has one mark of a cell at most, where the part of its box begins
+-- a strip with the marks of its team's boxes has at most one mark of a cell, at the left edge of
+-- the part of its box
 marked_has_one : (cells : List (Option Rect)) (own : ℕ) (rect : Rect) (area : Rect) (l : StripMarks) →
     (cell_box cells own ≡ None) ⊎ (cell_box cells own ≡ Some rect) → IsMarked cells area l → HasAtMostOne own (int_max area.x1 rect.x1) l
 marked_has_one cells own rect area l at marked = record { order = marks_rise cells area l marked; once = once; begins = begins }

@@ -1,4 +1,4 @@
--- Entries made wider by a padding.
+-- Entries widened by a padding.
 use Rattle.std.proofs.Common.{◌≡◌, ◌⊎◌, inl, inr, ℕ, ◌+◌, ◌<◌, ℤ, pos, ◌+ℤ◌, ◌-ℤ◌, ◌*ℤ◌, ◌≤ℤ◌, ◌<ℤ◌, Bool, true, false, cond, List, [], ◌∷◌, ◌++◌, Option}
 use Rattle.std.proofs.Common.{length, get_or, take, eqb, sym, ap, subst, ◌∙◌, arith}
 use Rattle.std.specs.Prelude.{All, Contains, not}
@@ -56,7 +56,7 @@ there_padded by es e (k, within, is) =
     same_at : (xs : List Entry) (i : ℕ) (d : Entry) → i < length xs → get_or xs i (get_or xs i d) ≡ get_or xs i d
     same_at xs i d inside = get_or_default xs i (get_or xs i d) d inside
 
--- what holds of each of the other cells' entries, where they are made wider
+-- what holds for each of the other cells' entries, after they are widened
 pub other_padded : (by : ℤ) (es : List Entry) (own : ℕ) (s : Span) → IsApart (spans_in (others_in (all_padded by es) own)) s → (e : Entry) → Contains es e →
     (e.own ≡ own → ⊥) → AreApart s (x_range (padded by e).area)
 other_padded by es own s apart e there other = apart_each (all_padded by es) own s apart (padded by e) (padded_there by es e there) other
@@ -83,7 +83,7 @@ each_padded by es s each =
     let At : Entry → Type 0 = λ x. AreApart s (x_range x.area) in
     subst At (sym found.1.1) (each found.0 found.1.0))
 
--- what holds of the lane's entries holds of those near a range
+-- what holds for the strip's entries holds for those near a range
 pub near_each : (P : Entry → Type 0) (es near : List Entry) (lo hi : ℤ) → IsNearRun es lo hi near → All P es → All P near
 near_each P es near lo hi run all k d within =
     All-contains P es (get_or near k d) all (near_in es near lo hi (get_or near k d) run (Contains-get_or near k d within))
@@ -136,7 +136,7 @@ other_further by es i e own within is apart =
     apart_test : (a b : ℕ) → (a ≡ b → ⊥) → not (eqb a b) ≡ true
     apart_test a b away = grind (arith, nat_tests, away)
 
--- and where the next entry is the cell's, none more
+-- if the next entry is the cell's, no entry is added
 pub other_no_further : (by : ℤ) (es : List Entry) (i : ℕ) (e : Entry) (own : ℕ) → i < length es → e ≡ get_or es i e → e.own ≡ own →
     others_in (all_padded by (take (i + 1) es)) own ≡ others_in (all_padded by (take i es)) own
 other_no_further by es i e own within is same =
@@ -153,7 +153,7 @@ no_entry = record { own = 0; area = record { x1 = pos 0; y1 = pos 0; x2 = pos 0;
 pub same_entry : (es : List Entry) (i : ℕ) → i < length es → get_or es i no_entry ≡ get_or es i (get_or es i no_entry)
 same_entry es i within = get_or_default es i no_entry (get_or es i no_entry) within
 
--- the x range of a marked entry is that of the entry there
+-- the x range of a mark's entry is that of the entry at its position
 pub range_there : (cells : List (Option Rect)) (area : Rect) (ms : List Mark) (i : ℕ) (m : Mark) (s : Span) → i < length ms →
     s ≡ x_range (entry_in cells area (get_or ms i m)).area → s ≡ x_range (get_or (entries_in cells area ms) i no_entry).area
 range_there cells area ms i m s within is = is ∙ ap (λ (z : Entry). x_range z.area) (sym (entry_there cells area ms i no_entry m within))

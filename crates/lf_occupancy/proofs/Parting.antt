@@ -1,4 +1,4 @@
--- The cells of a team, part by part.
+-- The cells of a team, batch by batch.
 use Rattle.std.proofs.Common.{◌≡◌, ◌≢◌, ◌⊎◌, inl, inr, ℕ, ◌+◌, ◌-◌, ◌<◌, ◌≤◌, List, Option, Some}
 use Rattle.std.proofs.Common.{length, get_or, map, take, drop, min, refl, ap, subst, sym, ◌∙◌, zero-add, arith}
 use Rattle.std.specs.Prelude.{All, AllPairs, Contains, IsPermutation, IsSome, ◌↔◌}
@@ -17,7 +17,7 @@ use Rattle.lf_occupancy.proofs.Building.{AreAllDone, fresh_id, ids_apart, some_c
 one_or_past : (own from : ℕ) → (own < from) ⊎ (from ≤ own)
 one_or_past own from = grind arith
 
--- a list from a position on, read no further than it is long
+-- a batch of a list from a position on, no longer than the rest of the list
 pub part_read : (most from start count : ℕ) (ids : List CellId) → start ≡ min from (length ids) →
     count ≡ min most (length (take (length ids - start) (drop start ids))) →
     take count (take (length ids - start) (drop start ids)) ≡ take most (drop from ids)
@@ -38,7 +38,7 @@ part_read most from start count ids begins many =
     dropped (inl less) = ap (λ (n : ℕ). drop n ids) (omega (arith, less, begins))
     dropped (inr past) = drop_of_length-le ids (omega (arith, past, begins)) ∙ sym (drop_of_length-le ids past)
 
--- the ids of the team's cells from that position on, no more than so many
+-- the ids of the team's cells from position `from` on, at most `most` of them
 abbrev pub part : ℕ → ℕ → ℕ → List Cell → List CellId
 part most from team cells = take most (drop from (ids_of team cells))
 
@@ -63,7 +63,7 @@ part_rises most from team cells i j d less within =
     let b = ap (λ (id : CellId). id.own) (part_item most from team cells j d within) in
     omega (arith, a, b, less)
 
--- the ids of a part, in any order
+-- the ids of a batch, in any order
 pub record IsPart (most from team : ℕ) (cells : List Cell) (order : List CellId) : Type 0 where
   pub moved : IsPermutation (part most from team cells) order
 
@@ -79,7 +79,7 @@ part_put most from team cells all ids list order whole is moved same =
 pub part_apart : (most from team : ℕ) (cells : List Cell) (order : List CellId) → IsPart most from team cells order → AllPairs (λ a b. a ≢ b) order
 part_apart most from team cells order are = ids_apart (part most from team cells) order (part_rises most from team cells) are.moved
 
--- whose they are
+-- the team and position of an id of the batch
 pub record IsWithin (most from number : ℕ) (cells : List Cell) (id : CellId) : Type 0 where
   pub team : id.team ≡ number
   pub least : from ≤ id.own
@@ -115,11 +115,11 @@ part_contains most from team cells order id are is =
     let there = part_item most from team cells k id inside ∙ ap (λ (o : ℕ). id_of team o) own ∙ ap (λ (t : ℕ). id_of t id.own) (sym is.team) in
     Contains-permutation (part most from team cells) order id are.moved (k, inside, there)
 
--- the cells before the part, and those of it that are passed
+-- the cells in front of the batch, and those of it that were visited
 abbrev pub IsPassed : ℕ → ℕ → List CellId → ℕ → CellId → Type 0
 IsPassed team from order i id = IsBefore team from id ⊎ Contains (take i order) id
 
--- the next of the part is none of these
+-- the next cell of the batch is not among the visited ones
 pub part_fresh : (most from team : ℕ) (cells : List Cell) (order : List CellId) (i : ℕ) (id : CellId) → IsPart most from team cells order → i < length order →
     id ≡ get_or order i id → IsPassed team from order i id → ⊥
 part_fresh most from team cells order i id are within is done =
@@ -131,7 +131,7 @@ part_fresh most from team cells order i id are within is done =
       | inr there ↦ fresh_id order i id (part_apart most from team cells order are) within is there
     ]
 
--- each has a cell
+-- each id has a cell
 pub part_cell : (most from team : ℕ) (cells : Cells) (order : List CellId) (id : CellId) → IsPart most from team (cells_of cells team) order →
     Contains order id → (c : Cell) × (cell_at cells id ≡ Some c)
 part_cell most from team cells order id are there =
@@ -143,7 +143,7 @@ part_cell most from team cells order id are there =
         let cs = cells_of cells id.team in
         (get_or cs id.own (some_cell cs id.own within), slice_get-get_or cs id.own (some_cell cs id.own within) within)
 
--- nothing of the part is passed
+-- no cell of the batch is visited
 pub none_passed : (team from : ℕ) (order : List CellId) (id : CellId) → IsBefore team from id ↔ IsPassed team from order 0 id
 none_passed team from order id = (
   λ before. inl before,
@@ -154,7 +154,7 @@ cell_within : (team : ℕ) (cells : Cells) (id : CellId) (c : Cell) → cell_at 
 cell_within team cells id c there same =
     subst (λ (t : ℕ). id.own < length (cells_of cells t)) same (slice_get_within (cells_of cells id.team) id.own c there)
 
--- all of the part is passed
+-- all of the batch is visited
 pub part_passed : (most from team : ℕ) (cells : Cells) (order : List CellId) (i : ℕ) → IsPart most from team (cells_of cells team) order → length order ≤ i →
     (id : CellId) (c : Cell) → cell_at cells id ≡ Some c → IsPassed team from order i id ↔ IsBefore team (from + most) id
 part_passed most from team cells order i are past id c there = (
@@ -179,7 +179,7 @@ part_passed most from team cells order i are past id c there = (
     whole : take i order ≡ order
     whole = take_all i order past
 
--- all of the team is passed
+-- all of the team is visited
 pub team_passed : (from team : ℕ) (cells : Cells) → length (cells_of cells team) ≤ from →
     (id : CellId) (c : Cell) → cell_at cells id ≡ Some c → IsBefore team from id ↔ IsBefore (team + 1) 0 id
 team_passed from team cells past id c there = (
@@ -199,7 +199,7 @@ team_passed from team cells past id c there = (
 some_is : (o : Option Cell) (c : Cell) → o ≡ Some c → IsSome o
 some_is o c is = subst IsSome (sym is) refl
 
--- the teams of all cells are passed
+-- the teams of all cells are visited
 pub all_passed : (cells : Cells) (ids : List CellId) (above teams : ℕ) → AreAllIds cells ids → All (λ id. id.team < above) ids → above ≤ teams →
     AreAllDone cells (IsBefore teams 0)
 all_passed cells ids above teams are below past id c there =

@@ -1,4 +1,4 @@
--- Which strips a rectangle reaches, and what becomes of the lanes when a cell's box changes.
+-- The strips that a rectangle reaches, and their marks after a cell's box changes.
 use Rattle.std.proofs.Common.{◌≡◌, ◌≢◌, ◌⊎◌, inl, inr, ℕ, ◌+◌, ◌<◌, ◌≤◌, ℤ, ◌≤ℤ◌, ◌<ℤ◌, List, [], ◌∷◌, ◌++◌, Option, Some, None, length, get_or}
 use Rattle.std.proofs.Common.{set, refl, sym, ap, subst, ◌∙◌, arith}
 use Rattle.std.specs.Prelude.{All, AllPairs, Any, Contains, IfSome, IsSomeAnd, map, not}
@@ -132,7 +132,7 @@ pub not_of_team : (xs : List Strip) (run : List RowEntry) (team : ℕ) (rect : R
     IsReached xs run team rect n → ⊥
 not_of_team xs run team rect n d other (within, (k, r, below, is, near)) = other (near d).of_team
 
--- where one team's boxes change, only the lanes of its strips do
+-- if one team's boxes change, only the marks of its strips do
 pub lanes_of_team : (xs : List Strip) (boxes : List (List (Option Rect))) (team : ℕ) (cells : List (Option Rect)) (lanes new : List StripMarks) →
     team < length boxes →
     length new ≡ length lanes → ShowAllBoxes xs boxes lanes →
@@ -158,7 +158,7 @@ lanes_of_team xs boxes team cells lanes new has many old own others = record {
       ];
 }
 
--- the lanes that are pruned where the old box reaches
+-- the marks after the cell's are removed from the strips that the old box reaches
 pub lanes_out : (s : FrameIndexView) (boxes : List (List (Option Rect))) (team own : ℕ) (rect : Rect) (run : List RowEntry) (lanes new : List StripMarks) → All (IsFelt s.rows s.height) s.strips →
     AreRowsNear s.rows s.height rect run → team < length boxes → own < length (get_or boxes team []) → (cell_box (get_or boxes team []) own ≡ None) ⊎ (cell_box (get_or boxes team []) own ≡ Some rect) →
     ShowAllBoxes s.strips boxes lanes → AreChanged (IsReached s.strips run team rect) (λ n. IsUnmarked own) lanes new →
@@ -195,7 +195,7 @@ lanes_out s boxes team own rect run lanes new strips rows has_team has at old ch
         nothing : (r : Rect) → ◌≡◌ {A = Option Rect} None (Some r) → ⊥
         nothing r same = cc
 
--- the lanes that take the parts of the new box where it reaches
+-- the marks after the parts of the new box are added in the strips that it reaches
 pub lanes_in : (s : FrameIndexView) (boxes : List (List (Option Rect))) (team own : ℕ) (rect : Rect) (run : List RowEntry) (lanes new : List StripMarks) → All (IsFelt s.rows s.height) s.strips →
     AreRowsNear s.rows s.height rect run → team < length boxes → own < length (get_or boxes team []) → cell_box (get_or boxes team []) own ≡ None →
     ShowAllBoxes s.strips boxes lanes → AreChanged (IsReached s.strips run team rect) (PutsIn s.strips own rect) lanes new →
@@ -231,7 +231,7 @@ lanes_in s boxes team own rect run lanes new strips rows has_team has is old cha
           lane)
     ]
 
--- lanes that hold what they held
+-- strips that keep their marks
 pub lanes_kept : (xs : List Strip) (boxes : List (List (Option Rect))) (old new : List StripMarks) → AreKept old new → ShowAllBoxes xs boxes old → ShowAllBoxes xs boxes new
 lanes_kept xs boxes old new kept lanes = record {
   many = kept.many ∙ lanes.many;
@@ -239,7 +239,7 @@ lanes_kept xs boxes old new kept lanes = record {
       marked_kept _ _ (get_or old n e) (get_or new n e) (lanes.each n d e within) (kept.each n e (let m = lanes.many in omega (arith, m, within)));
 }
 
--- lanes that show their strips' boxes are in order
+-- the entries of strips that show their boxes are in order
 pub lanes_orderly : (xs : List Strip) (boxes : List (List (Option Rect))) (lanes : List StripView) → AreShown xs boxes lanes → AreOrderly xs lanes
 lanes_orderly xs boxes lanes l = record {
   many = l.many;
@@ -247,7 +247,7 @@ lanes_orderly xs boxes lanes l = record {
   inside = λ n d e within. (l.each n d e within).inside;
 }
 
--- marks are in order in each lane
+-- the marks of each strip are in order
 pub lanes_rise : (xs : List Strip) (boxes : List (List (Option Rect))) (lanes : List StripMarks) → ShowAllBoxes xs boxes lanes → All (λ l. AreRising l.marks.items) lanes
 lanes_rise xs boxes lanes l n e within =
     let many = l.many in marks_rise _ _ (get_or lanes n e) (l.each n no_strip e (omega (arith, many, within)))
@@ -258,7 +258,7 @@ rising_kept old new kept rising n e within =
     let inner : n < length old = omega (arith, many, within) in
     subst AreRising (sym (kept.each n e inner).marks) (rising n e inner)
 
--- what differs in a list differs in its parts
+-- elements that differ in a list differ in its parts
 pub once_in_run : (s : FrameIndexView) (rect : Rect) (run : List RowEntry) → AllPairs (λ a b. a.row ≢ b.row) s.rows → AreRowsNear s.rows s.height rect run →
     AllPairs (λ a b. a.row ≢ b.row) run
 once_in_run s rect run once rows i j d less within =
@@ -272,7 +272,7 @@ once_in_run s rect run once rows i j d less within =
     λ same. whole (length front + i) (length front + j) d (omega (arith, less)) (omega (arith, long, longer, within))
     (ap (λ (r : RowEntry). r.row) a ∙ same ∙ sym (ap (λ (r : RowEntry). r.row) b))
 
--- lanes that are pruned or stay the same have the room that they had
+-- strips whose marks are removed or unchanged keep their capacity
 pub rooms_out : (xs : List Strip) (run : List RowEntry) (team own : ℕ) (rect : Rect) (lanes new : List StripMarks) → length lanes ≡ length xs →
     AreChanged (IsReached xs run team rect) (λ n. IsUnmarked own) lanes new → capacities_in new ≡ capacities_in lanes
 rooms_out xs run team own rect lanes new many changed = maps_alike (λ (l : StripMarks). vec_capacity l.marks) new lanes changed.many each
@@ -286,7 +286,7 @@ rooms_out xs run team own rect lanes new many changed = maps_alike (λ (l : Stri
 pub order_of : (n m : ℕ) → (n < m) ⊎ (m ≤ n)
 order_of n m = grind arith
 
--- lanes that take the parts of a box keep their room
+-- strips that get marks of a box keep their capacity
 pub rooms_put : (xs : List Strip) (run : List RowEntry) (team own : ℕ) (rect : Rect) (lanes new : List StripMarks) → length lanes ≡ length xs →
     AreChanged (IsReached xs run team rect) (PutsIn xs own rect) lanes new → capacities_in new ≡ capacities_in lanes
 rooms_put xs run team own rect lanes new many changed = maps_alike (λ (l : StripMarks). vec_capacity l.marks) new lanes changed.many each
@@ -300,7 +300,7 @@ rooms_put xs run team own rect lanes new many changed = maps_alike (λ (l : Stri
       | inr never ↦ ap (λ (l : StripMarks). vec_capacity l.marks) (changed.others n e within never)
     ]
 
--- a reached lane takes the part of the box where the strips that the box meets have room
+-- a reached strip takes the part of the box if the strips that share a point with the box have room
 pub takes_parts : (xs : List Strip) (team : ℕ) (rect : Rect) (run : List RowEntry) (lanes : List StripMarks) → length lanes ≡ length xs →
     All (λ l. AreRising l.marks.items) lanes → HaveRoom (MeetsStrip xs team rect) 1 lanes → CanTake xs rect (IsReached xs run team rect) lanes
 takes_parts xs team rect run lanes many rising room n d e (within, (k, r, below, at, near)) = record {
@@ -317,7 +317,7 @@ takes_parts xs team rect run lanes many rising room n d e (within, (k, r, below,
       omega (arith, h);
 }
 
--- the strips that the box meets have room where those that are reached have it
+-- the strips that share a point with the box have room if the reached strips have room
 pub room_of_met : (s : FrameIndexView) (team : ℕ) (rect : Rect) (run : List RowEntry) (more : ℕ) (lanes : List StripMarks) → All (IsFelt s.rows s.height) s.strips →
     AreRowsNear s.rows s.height rect run → HaveRoom (IsReached s.strips run team rect) more lanes →
     HaveRoom (MeetsStrip s.strips team rect) more lanes
@@ -330,7 +330,7 @@ room_of_met s team rect run more lanes strips rows room n e meets = elim (order_
       (slice_get_past s.strips n past) meets)
 ]
 
--- room that was made stays
+-- room that was reserved stays
 pub room_stays : (xs : List Strip) (team : ℕ) (rect : Rect) (more : ℕ) (old new : List StripMarks) → length old ≡ length xs → AreKept old new →
     HaveRoom (MeetsStrip xs team rect) more old → HaveRoom (MeetsStrip xs team rect) more new
 room_stays xs team rect more old new many kept room n e meets = elim (order_of n (length xs)) [
@@ -344,12 +344,12 @@ pub move_stays : (xs : List Strip) (team : ℕ) (to : Option Rect) (more : ℕ) 
 move_stays xs team None more old new many kept room = tt
 move_stays xs team (Some rect) more old new many kept room = room_stays xs team rect more old new many kept room
 
--- lanes of the same rooms are as many
+-- lists with the same capacities have the same length
 pub many_still : (old new : List StripMarks) → capacities_in new ≡ capacities_in old → length new ≡ length old
 many_still old new rooms =
     sym (length-map new (λ (l : StripMarks). vec_capacity l.marks)) ∙ ap (λ (ns : List ℕ). length ns) rooms ∙ length-map old (λ (l : StripMarks). vec_capacity l.marks)
 
--- lanes that hold what they held have no less room
+-- strips that keep their marks have no less room
 pub rooms_kept : (old new : List StripMarks) → AreKept old new → KeepsCapacities (capacities_in old) (capacities_in new)
 rooms_kept old new kept = record {
   many = length-map new (λ (l : StripMarks). vec_capacity l.marks) ∙ kept.many ∙ sym (length-map old (λ (l : StripMarks). vec_capacity l.marks));

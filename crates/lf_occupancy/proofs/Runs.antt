@@ -1,4 +1,4 @@
--- Entries near a range, found by bisection.
+-- Entries near a range, found by binary search.
 use Rattle.std.proofs.Common.{◌≡◌, ◌⊎◌, inl, inr, ℕ, ◌+◌, ◌-◌, ◌<◌, ◌≤◌, ℤ, ◌-ℤ◌, ◌≤ℤ◌, ◌<ℤ◌, true, false, List, ◌++◌, length, get_or, take}
 use Rattle.std.proofs.Common.{drop, map, eqb, sym, ap, subst, ◌∙◌, arith, int_lt}
 use Rattle.std.specs.Prelude.{All, AllPairs, Contains, not}
@@ -49,7 +49,7 @@ pub from_x : (xs : List Mark) (x : ℤ) (n : ℕ) → IsPartitionPoint (λ e. in
     (k : ℕ) (d : Mark) → n ≤ k → k < length xs → x ≤ℤ (get_or xs k d).left
 from_x xs x n point k d from within = not_less_of (get_or xs k d).left x (point.1 k d from within)
 
--- where the last mark is before x, all are
+-- if the last mark is below x, all are
 pub below_last : (xs : List Mark) (x : ℤ) → AreRising xs → (e : Mark) → 0 < length xs → (get_or xs (length xs - 1) e).left <ℤ x →
     (k : ℕ) (d : Mark) → k < length xs → (get_or xs k d).left <ℤ x
 below_last xs x pairs e some here k d less =
@@ -57,7 +57,7 @@ below_last xs x pairs e some here k d less =
     let later = rises xs k (length xs - 1) d pairs (omega arith) (omega arith) in
     omega (arith, ints, there, later)
 
--- two bisections cut out what lies near a range
+-- two binary searches find the entries near a range
 pub near_run : (xs ys : List Entry) (lo hi widest : ℤ) (f c : ℕ) → f ≤ length xs → ys ≡ drop f xs → All (λ e. (e.area.x2 -ℤ e.area.x1) ≤ℤ widest) xs →
     ((k : ℕ) (d : Entry) → k < f → (get_or xs k d).area.x1 <ℤ (lo -ℤ widest)) →
     ((k : ℕ) (d : Entry) → c ≤ k → k < length ys → hi ≤ℤ (get_or ys k d).area.x1) → IsNearRun xs lo hi (take c ys)
@@ -76,13 +76,13 @@ near_run xs ys lo hi widest f c bound same wide low high = record {
       subst (λ (e : Entry). hi ≤ℤ e.area.x1) (sym (get_or-drop c ys k d)) (high (c + k) d (omega arith) (omega (arith, long, at)));
 }
 
--- what stands near stands in the list
+-- an entry near the range is in the list
 pub near_in : (xs near : List Entry) (lo hi : ℤ) (e : Entry) → IsNearRun xs lo hi near → Contains near e → Contains xs e
 near_in xs near lo hi e run there =
     subst (λ (zs : List Entry). Contains zs e) (sym run.parts)
     (Contains-append_right run.before (near ++ run.behind) e (Contains-append_left near run.behind e there))
 
--- what does not end before the range, and begins before it ends, stands near
+-- an entry that does not end before the range begins, and begins before the range ends, is near
 pub in_near : (xs near : List Entry) (lo hi : ℤ) (e : Entry) → IsNearRun xs lo hi near → Contains xs e → lo <ℤ e.area.x2 → e.area.x1 <ℤ hi → Contains near e
 in_near xs near lo hi e run there right left =
     elim (Contains-append_cases run.before (near ++ run.behind) e (subst (λ (zs : List Entry). Contains zs e) run.parts there)) [
@@ -93,7 +93,7 @@ in_near xs near lo hi e run there right left =
       ]
     ]
 
--- an entry that meets a rectangle stands near it
+-- an entry that overlaps a rectangle is near it
 pub met_near : (xs near : List Entry) (lo left : ℤ) (rect : Rect) (but own : ℕ) → IsNearRun xs lo rect.x2 near → All (λ e. left ≤ℤ e.area.x1) xs →
     ((x : ℤ) → rect.x1 ≤ℤ x → left ≤ℤ x → lo ≤ℤ x) → MeetsOne xs rect but own → MeetsOne near rect but own
 met_near xs near lo left rect but own run inside most (k, e, within, is, meets) =
@@ -141,7 +141,7 @@ each_apart xs own s each =
     each (get_or (others_in xs own) k d) (All-filter p (Contains xs) xs (All-contains_itself xs) k d within)
     (test_other (get_or (others_in xs own) k d).own own (filter_passes p xs k d within)))
 
--- what a window shows of a strip rests on the entries near both alone
+-- what is free in a strip within a window depends only on the entries near both
 pub free_near : (xs near : List Entry) (own : ℕ) (strip window : Span) (lo hi : ℤ) (free : List Span) → IsNearRun xs lo hi near →
     ((x : ℤ) → Holds strip x → Holds window x → (lo ≤ℤ x) × (x <ℤ hi)) →
     IsFreeIn strip (spans_in (others_in near own)) window free → IsFreeIn strip (spans_in (others_in xs own)) window free
@@ -168,7 +168,7 @@ free_near xs near own strip window lo hi free run shown f = record {
         let at : Contains near e = in_near xs near lo hi e run there (omega (arith, ints, a, d)) (omega (arith, ints, b, c)) in
         apart_each near own s apart e at other x first second
 
--- the spans of the other cells' entries stand in order, and none is wider than the widest
+-- the spans of the other cells' entries are in order, and no span is wider than the widest
 pub others_in_order : (xs near : List Entry) (lo hi : ℤ) (own : ℕ) → IsNearRun xs lo hi near → AreInOrder xs →
     AllPairs (λ s t. s.lo ≤ℤ t.lo) (map (λ (e : Entry). x_range e.area) (others_in near own))
 others_in_order xs near lo hi own run order i j d less within =
@@ -206,7 +206,7 @@ others_in_order xs near lo hi own run order i j d less within =
             let up = r (length front + i) (length front + j) d (omega (arith, less)) (omega (arith, long, within)) in
             omega (arith, ints, first, second, up)
 
--- the spans of entries that stand in order do too, and none is wider than the widest
+-- the spans of entries in order are in order too, and no span is wider than the widest
 pub spans_in_order : (xs : List Entry) → AreInOrder xs → AllPairs (λ s t. s.lo ≤ℤ t.lo) (map (λ (e : Entry). x_range e.area) xs)
 spans_in_order xs order i j d less within =
     let long = length-map xs (λ (e : Entry). x_range e.area) in

@@ -1,4 +1,4 @@
--- Runs of strips, and cells that are settled in them.
+-- Ranges of strips, and cells that are marked in them.
 use Rattle.std.proofs.Common.{◌≡◌, ◌≢◌, ℕ, ◌+◌, ◌<◌, ◌≤◌, List, length, get_or, take, sym, subst, arith}
 use Rattle.std.specs.Prelude.{All, AllPairs, Err, Ok, OnErr, Result}
 use Rattle.std.proofs.lemmas.List.{take_all}
@@ -14,7 +14,7 @@ use Rattle.lf_occupancy.specs.Strips.{AreChanged, AreKept, CanTake, HaveRoom, Is
 use Rattle.lf_occupancy.proofs.Changes.{IsBetween, changed_alike, kept_along, other_row, rows_further}
 use Rattle.lf_occupancy.proofs.Finds.{no_strip}
 
--- each lane of the run is changed
+-- each strip of the range is changed
 pub changed_in_run : {X : Type 0} (near : StripRange) (k : ℕ) (Change : ℕ → X → X → Type 0) (old new : List X) → near.end ≤ k →
     AreChanged (IsBetween near.start k near.end) Change old new → AreChanged (IsOneOf near) Change old new
 changed_in_run near k Change old new past a = changed_alike (IsBetween near.start k near.end) (IsOneOf near) Change old new
@@ -22,7 +22,7 @@ changed_in_run near k Change old new past a = changed_alike (IsBetween near.star
     (λ n within one. let until = one.1 in record { from = one.0; below = omega (arith, until, past); until = until })
     a
 
--- the strips of the row that the rectangle reaches are those of the run
+-- the strips of the row that the rectangle reaches are those of the range
 pub reached_in_run : (xs : List Strip) (row team : ℕ) (rect : Rect) (near : StripRange) → AreNear xs row team rect.x1 rect.x2 near.start near.end →
     (n : ℕ) → IsReachedIn xs row team rect n → IsOneOf near n
 reached_in_run xs row team rect near are n r = (are.exact n no_strip r.0).1 (r.1 no_strip)
@@ -41,13 +41,14 @@ pub changed_in_row : {X : Type 0} (xs : List Strip) (row team : ℕ) (rect : Rec
 changed_in_row xs row team rect near Change old new are = changed_alike (IsOneOf near) (IsReachedIn xs row team rect) Change old new
     (λ n within one. run_is_reached xs row team rect near are n one) (λ n within r. reached_in_run xs row team rect near are n r)
 
--- lanes with room, whose marks are in order, take a part of the rectangle
+-- strips with room, whose marks are in order, take a part of the rectangle
 pub takes_room : (xs : List Strip) (rect : Rect) (Chosen : ℕ → Type 0) (lanes : List StripMarks) → ((n : ℕ) → Chosen n → n < length lanes) →
     All (λ l. AreRising l.marks.items) lanes → HaveRoom Chosen 1 lanes → CanTake xs rect Chosen lanes
 takes_room xs rect Chosen lanes inside rising room n d e chosen =
     record { order = rising n e (inside n chosen); room = λ whole. let h = room n e chosen in omega (arith, h) }
 
--- lanes of a row that had room still take a part of the rectangle after the cell is settled in the rows before
+-- strips of a row that had room still take a part of the rectangle after the cell is marked in the
+-- rows in front of it
 pub settled_takes : (xs : List Strip) (rows : List RowEntry) (i : ℕ) (r : RowEntry) (team own : ℕ) (rect : Rect) (near : StripRange) (mid new : List StripMarks) →
     AllPairs (λ a b. a.row ≢ b.row) rows → i < length rows → r ≡ get_or rows i r → AreNear xs r.row team rect.x1 rect.x2 near.start near.end →
     length mid ≡ length xs → All (λ l. AreRising l.marks.items) mid → HaveRoom (IsOneOf near) 1 mid →
@@ -64,7 +65,7 @@ settled_takes xs rows i r team own rect near mid new once inside is are many ris
       room = λ whole. let h = room n e one in let k = kept.many in let l = kept.room in omega (arith, h, k, l);
     }
 
--- and with its parts put into that row it is settled in one row more
+-- with its parts marked in this row, the cell is marked in one row more
 pub settled_further : (xs : List Strip) (rows : List RowEntry) (i : ℕ) (r : RowEntry) (team own : ℕ) (rect : Rect) (near : StripRange)
     (old mid settled new : List StripMarks) →
     AllPairs (λ a b. a.row ≢ b.row) rows → i + 1 ≡ length rows → r ≡ get_or rows i r → AreNear xs r.row team rect.x1 rect.x2 near.start near.end →
@@ -78,7 +79,7 @@ settled_further xs rows i r team own rect near old mid settled new once long is 
       (changed_in_row xs r.row team rect near (PutsIn xs own rect) settled new are put));
 }
 
--- what holds holds at an error
+-- a property that always holds also holds on an error
 pub on_err : {T E P : Type 0} (r : Result T E) → P → OnErr r P
 on_err (Ok x) p = tt
 on_err (Err e) p = p

@@ -1,4 +1,4 @@
--- What the lanes of strips show of the boxes that they mark.
+-- The entries of strips, given the boxes that they mark.
 use Rattle.std.proofs.Common.{◌≡◌, ℕ, zero, suc, ◌<◌, ◌≤◌, ℤ, pos, ◌-ℤ◌, ◌≤ℤ◌, ◌<ℤ◌, List, [], ◌∷◌, Option, length, get_or, map, take, drop}
 use Rattle.std.proofs.Common.{refl, sym, ap, subst, ◌∙◌, arith}
 use Rattle.std.specs.Prelude.{All}
@@ -42,7 +42,7 @@ lanes_shown xs boxes lanes are = record {
       (are.each n d l within).lane;
 }
 
--- one of the lanes
+-- one of the strips
 module _ (xs : List Strip) (boxes : List (List (Option Rect))) (lanes : List StripMarks) (n team : ℕ) (area : Rect) (lane : StripMarks) (are : ShowAllBoxes xs boxes lanes)
     (within : n < length xs) (of_team : (d : Strip) → (get_or xs n d).team ≡ team) (at : area ≡ (get_or xs n no_strip).area)
     (is : lane ≡ get_or lanes n lane) where
@@ -60,12 +60,12 @@ module _ (xs : List Strip) (boxes : List (List (Option Rect))) (lanes : List Str
       ∙ ap (λ (a : Rect). strip_view (get_or boxes team []) a (get_or lanes n lane)) (sym at)
       ∙ ap (λ (l : StripMarks). strip_view (get_or boxes team []) area l) (sym is))
 
--- a strip that is felt around is of the same team
+-- a widened strip is of the same team
 pub felt_team : (site : ℤ) (xs : List Strip) (n team : ℕ) → n < length xs → ((d : Strip) → (get_or xs n d).team ≡ team) →
     (d : Strip) → (get_or (widened_strips site xs) n d).team ≡ team
 felt_team site xs n team within is d = ap (λ (g : Strip). g.team) (felt_at site xs n d d within) ∙ is d
 
--- a lane of a strip that is felt around has room around its entries
+-- a widened strip has room around its entries
 pub roomy_lane : (cells : List (Option Rect)) (area : Rect) (l : StripView) → ShowsBoxes cells area l → IsNearZero area → All (λ e. HasRoomAround e.area) l.entries
 roomy_lane cells area l lane near k d within =
     let a = near.low in
@@ -89,13 +89,13 @@ map_drop f (suc n) (m ∷ ms) = map_drop f n ms
 pub entries_take : (cells : List (Option Rect)) (area : Rect) (n : ℕ) (ms : List Mark) → entries_in cells area (take n ms) ≡ take n (entries_in cells area ms)
 entries_take cells area n ms = map_take (entry_in cells area) n ms
 
--- marks that are cut out tell of their entries
+-- a part of the marks has the same entries
 pub rest_told : (cells : List (Option Rect)) (area : Rect) (l : StripMarks) (rest : List Mark) (f : ℕ) → IsMarked cells area l → rest ≡ drop f l.marks.items →
     MarksAreOf cells area rest
 rest_told cells area l rest f marked same =
     subst (MarksAreOf cells area) (sym same) (All-drop (λ m. MarkIsOf (entry_in cells area m) m) f l.marks.items marked.told)
 
--- the entries of the marks that two bisections cut out
+-- the entries of the marks that two binary searches find
 pub near_marked : (cells : List (Option Rect)) (area : Rect) (l : StripMarks) (rest : List Mark) (lo hi : ℤ) (f n : ℕ) → IsMarked cells area l →
     f ≤ length l.marks.items → rest ≡ drop f l.marks.items →
     ((k : ℕ) (d : Mark) → k < f → (get_or l.marks.items k d).left <ℤ (lo -ℤ l.widest)) →

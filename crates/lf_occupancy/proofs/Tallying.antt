@@ -1,4 +1,4 @@
--- How the counts of strips change where a cell's box is elsewhere.
+-- How the counts of strips change if a cell's box is at another place.
 use Rattle.std.proofs.Common.{◌≡◌, ◌≢◌, ◌⊎◌, inl, inr, ℕ, zero, suc, ◌+◌, ◌<◌, ◌≤◌, ℤ, Bool, true, false, List, [], ◌∷◌, Option, Some, None, length, get_or, set, map, refl, sym, ap, subst, ◌∙◌, arith}
 use Rattle.std.specs.Prelude.{All, slice_get}
 use Rattle.std.specs.Vec.{vec_capacity, vec_len}
@@ -27,7 +27,7 @@ use Rattle.lf_occupancy.proofs.Lists.{made_at}
 use Rattle.lf_occupancy.proofs.Reaching.{decide_reached, not_of_team, order_of, point_is_reached}
 use Rattle.lf_occupancy.proofs.Views.{felts}
 
--- one box in place of another: the new one is counted, and the other is not
+-- one box in place of another: the new one is counted, and the old one is not
 pub set_counts : (g : Strip) (boxes : List (Option Rect)) (own : ℕ) (to : Option Rect) →
     (count_in g (set boxes own to) + count_in g (cell_box boxes own ∷ [])) ≤ count_in g boxes + count_in g (to ∷ [])
 set_counts g [] own to =
@@ -62,7 +62,7 @@ not_whole g rect it_does_not whole = clash (meets g (Some rect)) (both_are _ _ (
     clash : (b : Bool) → b ≡ true → b ≡ false → ⊥
     clash b a_yes a_no = cc
 
--- one less is counted where the box was
+-- a strip counts one less if it overlaps the box
 less_counts : (g : Strip) (rect : Rect) (old new : ℕ) → IsLess g.area rect old new → old ≤ new + count_in g (Some rect ∷ [])
 less_counts g rect old new less = elim (yes_or_no (meets g (Some rect))) [
   | inl it_does ↦ let one = counted g (Some rect) it_does in let least = less.least in omega (arith, one, least)
@@ -122,7 +122,7 @@ higher_of_reached s rows team rect old new strips near many changed = record { m
         omega (arith, none, h)
   ]
 
--- where one box is counted in place of the other
+-- the count after one box is counted in place of the other
 shift_counts : (g : Strip) (shift : BoxChange) (old new : ℕ) → IsShifted g.area shift old new →
     (old + count_in g (Some shift.to ∷ [])) ≤ new + count_in g (Some shift.from ∷ [])
 shift_counts g shift old new s = elim (yes_or_no (meets g (Some shift.to))) [
@@ -155,7 +155,7 @@ shift_counts g shift old new s = elim (yes_or_no (meets g (Some shift.to))) [
         let u = b.top in
         record { wide = omega (arith, ints, clamps, l, m, n, o); high = omega (arith, ints, clamps, p, q, t, u) }
 
--- a rectangle of these edges holds both boxes, and no more than it must
+-- a rectangle with these edges is the least one that holds both boxes
 pub hull_same : (shift : BoxChange) (r : Rect) → r.x1 ≡ int_min shift.from.x1 shift.to.x1 → r.y1 ≡ int_min shift.from.y1 shift.to.y1 →
     r.x2 ≡ int_max shift.from.x2 shift.to.x2 → r.y2 ≡ int_max shift.from.y2 shift.to.y2 → r ≡ hull_in shift
 hull_same shift r a b c d =
@@ -167,7 +167,7 @@ hull_same shift r a b c d =
     rect_at : ℤ → ℤ → ℤ → ℤ → Rect
     rect_at x1 y1 x2 y2 = record { x1 = x1; y1 = y1; x2 = x2; y2 = y2 }
 
--- what the new box covers lies in the rectangle that holds both
+-- the points of the new box lie in the rectangle that holds both
 in_hull : (shift : BoxChange) (x y : ℤ) → Covers shift.to x y → Covers (hull_in shift) x y
 in_hull shift x y c =
     let l = c.left in
@@ -209,7 +209,7 @@ shifted_of_reached s rows team shift old new strips near many changed = record {
           ]
     ]
 
--- the counts of two strips side by side
+-- the counts of two strips next to each other
 no_less_set : (xs ys : List ℕ) (k x y : ℕ) → k < length xs → x ≤ y → KeepsCapacities xs ys → KeepsCapacities (set xs k x) (set ys k y)
 no_less_set xs ys k x y within less all = record {
   many = length-set ys k y ∙ all.many ∙ sym (length-set xs k x);
@@ -227,14 +227,14 @@ no_less_set xs ys k x y within less all = record {
   ];
 }
 
--- a strip counts more, and its lane has room for that
+-- a strip counts more, and has room for that
 pub room_for_more : (counts : List ℕ) (lanes : List StripMarks) (k count : ℕ) (lane : StripMarks) → k < length counts → count ≤ vec_capacity lane.marks →
     KeepsCapacities counts (capacities_in lanes) → KeepsCapacities (set counts k count) (capacities_in (set lanes k lane))
 room_for_more counts lanes k count lane within most room =
     subst (KeepsCapacities (set counts k count)) (sym (map-set (λ (l : StripMarks). vec_capacity l.marks) lanes k lane))
     (no_less_set counts (capacities_in lanes) k count (vec_capacity lane.marks) within most room)
 
--- a tally that is lowered by one box and raised by another bounds the boxes with this one
+-- counts that are lowered for one box and raised for another bound the boxes with the new one
 pub bounds_own : (o : Occupied) (team : ℕ) (boxes : List (Option Rect)) (own : ℕ) (from to : Option Rect) (old mid new : List ℕ) → cell_box boxes own ≡ from →
     IsLower (felts o) team from old mid → IsHigher (felts o) team to mid new → Bounds o team boxes old → Bounds o team (set boxes own to) new
 bounds_own o team boxes own from to old mid new is lower higher bounds = λ n g at of_team.
@@ -250,7 +250,7 @@ bounds_own o team boxes own from to old mid new is lower higher bounds = λ n g 
     let before = bounds n g at of_team in
     omega (arith, less, more, moved, before)
 
--- and what it bounds of another team it still does
+-- counts that bound another team's boxes still do
 pub bounds_other : (o : Occupied) (team other : ℕ) (boxes : List (Option Rect)) (from to : Option Rect) (old mid new : List ℕ) → other ≢ team →
     IsLower (felts o) team from old mid → IsHigher (felts o) team to mid new → Bounds o other boxes old → Bounds o other boxes new
 bounds_other o team other boxes from to old mid new differ lower higher bounds = λ n g at of_team.
@@ -263,7 +263,7 @@ bounds_other o team other boxes from to old mid new differ lower higher bounds =
     let before = bounds n g at of_team in
     omega (arith, same, more, before)
 
--- a tally where one box is counted in place of another bounds the boxes with the new one
+-- counts with one box in place of another bound the boxes with the new one
 pub bounds_shifted : (o : Occupied) (team : ℕ) (boxes : List (Option Rect)) (own : ℕ) (shift : BoxChange) (old new : List ℕ) → cell_box boxes own ≡ Some shift.from →
     AreShifted (felts o) team shift old new → Bounds o team boxes old → Bounds o team (set boxes own (Some shift.to)) new
 bounds_shifted o team boxes own shift old new is shifted bounds = λ n g at of_team.
@@ -278,7 +278,7 @@ bounds_shifted o team boxes own shift old new is shifted bounds = λ n g at of_t
     let before = bounds n g at of_team in
     omega (arith, more, moved, before)
 
--- and what it bounds of another team it still does
+-- counts that bound another team's boxes still do
 pub bounds_beside : (o : Occupied) (team other : ℕ) (boxes : List (Option Rect)) (shift : BoxChange) (old new : List ℕ) → other ≢ team →
     AreShifted (felts o) team shift old new → Bounds o other boxes old → Bounds o other boxes new
 bounds_beside o team other boxes shift old new differ shifted bounds = λ n g at of_team.
@@ -290,7 +290,7 @@ bounds_beside o team other boxes shift old new differ shifted bounds = λ n g at
     let before = bounds n g at of_team in
     omega (arith, same, before)
 
--- lanes have room for the marks that they have
+-- strips have room for the marks that they have
 pub marks_fit : (lanes : List StripMarks) → KeepsCapacities (map (λ l. vec_len l.marks) lanes) (capacities_in lanes)
 marks_fit lanes = record {
   many = length-map lanes (λ (l : StripMarks). vec_capacity l.marks) ∙ sym (length-map lanes (λ (l : StripMarks). vec_len l.marks));

@@ -1,4 +1,4 @@
--- What lanes tell of the boxes of teams' cells.
+-- What marks say about the boxes of teams' cells.
 use Rattle.std.proofs.Common.{refl, ◌≡◌, ◌⊎◌, inl, inr, ℕ, zero, suc, ◌<◌, ◌≤◌, ℤ, pos, ◌≤ℤ◌, ◌<ℤ◌, true, List, [], ◌∷◌, Option, Some, None, length, get_or, sym, ap, subst, ◌∙◌, arith}
 use Rattle.std.specs.Prelude.{Any, Contains, IfSome, IsSomeAnd, map, slice_get}
 use Rattle.std.specs.Vec.{vec_capacity, vec_len}
@@ -30,11 +30,11 @@ use Rattle.lf_occupancy.proofs.Around.{felt_at, felt_many}
 use Rattle.lf_occupancy.proofs.Lists.{any_made, any_unmade, made_at, unmade_at}
 use Rattle.lf_occupancy.proofs.Padded.{each_padded, nearest_in, one_padded, other_padded, others_padded}
 
--- the strips as far as their lanes reach
+-- the widened strips
 abbrev pub felts : Occupied → List Strip
 felts o = widened_strips o.site o.index.strips
 
--- the lane of a strip of the team
+-- the entries of a strip of the team
 team_lane : (o : Occupied) (lanes : List StripView) (team n : ℕ) (d : Strip) (e : StripView) → AreShown (felts o) o.boxes lanes → n < length (felts o) →
     (get_or (felts o) n d).team ≡ team → ShowsBoxes (get_or o.boxes team []) (get_or (felts o) n d).area (get_or lanes n e)
 team_lane o lanes team n d e are within of_team =
@@ -103,7 +103,7 @@ first_of_least o lanes id rect met are least =
     (least_alike (MeetsInOne (felts o) lanes id.team rect id.own) (MeetsInStrips o id rect) None met (λ own m. met_in_strips o lanes id rect own are m)
     (λ own m. met_in_lanes o lanes id rect own are m) least)
 
--- the lane of a strip, which is felt around
+-- the entries of a widened strip
 felt_lane : (o : Occupied) (lanes : List StripView) (n : ℕ) (d : Strip) (e : StripView) → AreShown (felts o) o.boxes lanes → n < length o.index.strips →
     ShowsBoxes (get_or o.boxes (get_or o.index.strips n d).team []) (wider (reach o) (get_or o.index.strips n d).area) (get_or lanes n e)
 felt_lane o lanes n d e are within =
@@ -111,8 +111,8 @@ felt_lane o lanes n d e are within =
     let At : Strip → Type 0 = λ g. ShowsBoxes (get_or o.boxes g.team []) g.area (get_or lanes n e) in
     subst At (felt_at o.site o.index.strips n d d within) (are.each n d e (omega (arith, within, many)))
 
--- a box that shares a point with what is made wider over a span of a strip has an entry in the strip's lane, and that made wider
--- shares a number with the span
+-- a box that shares a point with the widened part over a span of a strip has an entry in the strip,
+-- and the widened entry shares a number with the span
 record IsTooNear (padding : ℤ) (own : ℕ) (s : Span) (l : StripView) : Type 0 where
   e : Entry
   there : Contains l.entries e
@@ -154,7 +154,8 @@ too_near by padding cells g s l own box lane some most filled within is shares =
       };
     }
 
--- an entry that, made wider, holds a number of a span of a strip is of a box that shares a point with what is made wider over the span
+-- an entry that, widened, holds a number of a span of a strip is of a box that shares a point with
+-- the widened part over the span
 record HasNearBox (cells : List (Option Rect)) (padding : ℤ) (g : Strip) (s : Span) (own : ℕ) : Type 0 where
   box : Rect
   is : cell_box cells own ≡ Some box
@@ -265,7 +266,7 @@ free_of_strips o lanes row id window padding free short are f = record {
             first second) in
             free_over.clear e.own near.box record { other = other; stands = near.is } near.shares
 
--- what lies over the strip of that number, and no entry of the lane made wider shares a number with it
+-- a span of the strip of this number that shares no number with a widened entry is free there
 left_over : (o : Occupied) (lanes : List StripView) (id : CellId) (padding : ℤ) (n : ℕ) (s : Span) → IsPaddingOf o padding → IsFilled s →
     AreShown (felts o) o.boxes lanes → IsLeftFree o.index.strips lanes id padding n s → IsLeftOver o id padding (get_or o.index.strips n no_strip) s
 left_over o lanes id padding n s short filled are l = record { within = l.inside no_strip; clear = clear }
@@ -333,7 +334,7 @@ spans_of_strip o lanes id padding n free short are left = record {
       | inr past ↦ absurd (subst (λ (found : Option Strip). IsSomeAnd found (λ g. IsLeftOver o id padding g s)) (slice_get_past o.index.strips n past) some)
     ]
 
--- a lane has an entry for each of its team's boxes that meet the strip, and no other
+-- a strip has an entry for each of its team's boxes that share a point with it, and no other
 lane_is_counted : (g : Strip) (boxes : List (Option Rect)) (l : StripView) → ShowsBoxes boxes g.area l → length l.entries ≡ count_in g boxes
 lane_is_counted g boxes l lane = sym (length-map items (λ (e : Entry). e.own)) ∙ named_are_counted g boxes owns once (λ own. (to own, back own))
   where
@@ -387,7 +388,7 @@ lane_is_counted g boxes l lane = sym (length-map items (λ (e : Entry). e.own)) 
         let inner : found.0 < length owns = omega (arith, long, within) in
         (found.0, inner, get_or-map (λ (e : Entry). e.own) items found.0 found.1 own within ∙ ap (λ (e : Entry). e.own) found.3 ∙ found.4.is)
 
--- what the lane of a strip has, in numbers
+-- the marks of a strip, in numbers
 record InNumbers (g : Strip) (boxes : List (Option Rect)) (places : ℕ) (l : StripMarks) : Type 0 where
   count : vec_len l.marks ≡ count_in g boxes
   room : vec_capacity l.marks ≡ places
@@ -416,7 +417,7 @@ in_numbers xs boxes lanes n g team e are is of_team =
 lane_at : (xs : List Strip) (boxes : List (List (Option Rect))) (lanes : List StripMarks) (n : ℕ) (g : Strip) → ShowAllBoxes xs boxes lanes → slice_get xs n ≡ Some g → StripMarks
 lane_at xs boxes lanes n g are is = let within = (strip_is_within xs n g is).0 in let many = are.many in some_lane lanes n (omega (arith, many, within))
 
--- each strip has room for the boxes that meet it
+-- each strip has room for the boxes that share a point with it
 pub boxes_that_stand_fit : (o : Occupied) (lanes : List StripMarks) → o.rooms ≡ capacities_in lanes → ShowAllBoxes (felts o) o.boxes lanes → (team : ℕ) →
     FitIn o team (boxes_of o team)
 boxes_that_stand_fit o lanes rooms are team n g is of_team =
@@ -430,7 +431,7 @@ boxes_that_stand_fit o lanes rooms are team n g is of_team =
     let most = (get_or lanes n e).marks.ok.1 in
     omega (arith, a, b, c, most)
 
--- as many marks as each strip has are no fewer
+-- the number of marks of each strip bounds its boxes
 pub marks_bound : (o : Occupied) (lanes : List StripMarks) → ShowAllBoxes (felts o) o.boxes lanes → (team : ℕ) →
     Bounds o team (boxes_of o team) (map (λ l. vec_len l.marks) lanes)
 marks_bound o lanes are team n g is of_team =
@@ -443,7 +444,7 @@ marks_bound o lanes are team n g is of_team =
     let b = get_or-map (λ (l : StripMarks). vec_len l.marks) lanes n e 0 (omega (arith, many, within)) in
     omega (arith, a, b)
 
--- room in lanes is room in what a contract sees
+-- room in strips is room in what a contract sees
 pub room_is_seen : (o : Occupied) (lanes : List StripMarks) (team : ℕ) (rect : Rect) (more : ℕ) → o.rooms ≡ capacities_in lanes → ShowAllBoxes (felts o) o.boxes lanes →
     HaveRoom (MeetsStrip (felts o) team rect) more lanes → HasRoomFor o team rect more
 room_is_seen o lanes team rect more rooms are room n g is of_team shares =

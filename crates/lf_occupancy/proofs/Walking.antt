@@ -1,4 +1,5 @@
--- A walk along a range over the other cells' entries, made wider by a padding: what is free so far, and the rest of the range.
+-- A walk along a range over the other cells' entries, widened by a padding: the free spans so far,
+-- and the remaining range.
 use Rattle.std.proofs.Common.{◌≡◌, inr, ℕ, ◌+◌, ◌<◌, ◌≤◌, ℤ, List, [], ◌∷◌, ◌++◌, length, get_or, take, drop, eqb, refl, sym, ap, subst, ◌∙◌}
 use Rattle.std.proofs.Common.{append_assoc, arith}
 use Rattle.std.specs.Int.{int_max, int_min}
@@ -16,15 +17,15 @@ use Rattle.lf_occupancy.specs.declared.strip_marks.Entry.{Entry}
 use Rattle.lf_occupancy.specs.Lanes.{all_padded, others_in, padded, spans_in, wider_range, x_range}
 use Rattle.lf_occupancy.proofs.Padded.{other_further, other_no_further}
 
--- the other cells' entries made wider, as spans
+-- the other cells' entries, widened, as spans
 abbrev pub taken : ℤ → List Entry → ℕ → List Span
 taken by es own = spans_in (others_in (all_padded by es) own)
 
--- how many of the first entries are of other cells
+-- the number of other cells among the first entries
 abbrev pub passed : ℤ → List Entry → ℕ → ℕ → ℕ
 passed by es own i = length (others_in (all_padded by (take i es)) own)
 
--- before the first entry all of the range is left
+-- at the first entry all of the range remains
 pub walk_begins : (range : Span) (spans free : List Span) → free ≡ [] → Frees range spans free range 0
 walk_begins range spans free is = subst (λ (xs : List Span). Frees range spans xs range 0) (sym is) record {
   rising = rising_nil;
@@ -36,7 +37,7 @@ walk_begins range spans free is = subst (λ (xs : List Span). Frees range spans 
   passed = λ m d less filled. absurd (omega (arith, less));
 }
 
--- an entry of the cell itself is passed over
+-- an entry of the cell itself is skipped
 pub walk_skips : (by : ℤ) (es : List Entry) (i : ℕ) (e : Entry) (own : ℕ) (range : Span) (free : List Span) (rest : Span) → i < length es → e ≡ get_or es i e →
     e.own ≡ own → Frees range (taken by es own) free rest (passed by es own i) → Frees range (taken by es own) free rest (passed by es own (i + 1))
 walk_skips by es i e own range free rest within is same f =
@@ -86,7 +87,7 @@ walk_goes_on by es i e own range free new rest next z s within is apart wide fil
         ∙ get_or-map (λ (z : Entry). x_range z.area) (front ++ padded by e ∷ back) (length front) (padded by e) s inner
         ∙ ap (λ (z : Entry). x_range z.area) (get_or-append_seam front (padded by e) back (padded by e)) ∙ sym wide
 
--- behind the last entry the rest of the range is free
+-- after the last entry the remaining range is free
 pub walk_ends : (by : ℤ) (es : List Entry) (i own : ℕ) (range : Span) (free new : List Span) (rest : Span) → length es ≤ i →
     Frees range (taken by es own) free rest (passed by es own i) → AddsFilled rest free new → IsFree range (taken by es own) new
 walk_ends by es i own range free new rest all f adds =

@@ -1,4 +1,4 @@
--- The steps of making an occupancy.
+-- The steps of building an occupancy.
 use Rattle.std.specs.Prelude.{◌≡◌, ◌⊎◌, ◌<◌, ◌%◌, ℕ, pos, List, [], All, length, Option, None, Some, slice_index_or}
 use Rattle.lf_units.specs.declared.geometry.Rect.{Rect}
 use Rattle.lf_floorplan.specs.declared.frame.Frame.{Frame}
@@ -11,31 +11,32 @@ use Rattle.lf_occupancy.specs.Floorplans.{box_of}
 use Rattle.lf_occupancy.specs.Occupied.{cell_box}
 use Rattle.lf_occupancy.specs.Strips.{ShowAllBoxes}
 
--- the lane has no mark
+-- the strip has no mark
 pub record HasNoMark (l : StripMarks) : Type 0 where
   pub marks : l.marks.items ≡ []
   pub widest : l.widest ≡ pos 0
 
--- this many empty lanes
+-- a list of `count` strips without marks
 pub record HaveNoMarks (count : ℕ) (lanes : List StripMarks) : Type 0 where
   pub many : length lanes ≡ count
   pub each : All HasNoMark lanes
 
--- the id of a cell by its position among these, which the last 16 bits of the number tell
+-- the id of a cell by its position in the batch, which is in the last 16 bits of the number
 abbrev pub id_at : List CellId → ℕ → CellId
 id_at ids w = slice_index_or ids (w % 65536) record { team = 0; own = 0 }
 
--- the cell's team comes before that one, or it is that one and the cell's position among its cells is less
+-- the cell's team is less than `team`, or equal to it and the cell's position is less than `own`
 abbrev pub IsBefore : ℕ → ℕ → CellId → Type 0
 IsBefore team own id = (id.team < team) ⊎ ((id.team ≡ team) × (id.own < own))
 
--- each team has a box for each of its cells: those of the cells that are done are the cells' boxes, and all others None
+-- each team has a list with an element for each of its cells: the box of the cell if it is done,
+-- otherwise None
 pub record AreFilled (f : Frame) (cells : Cells) (Done : CellId → Type 0) (boxes : List (List (Option Rect))) : Type 0 where
   pub many : (team : ℕ) → length (slice_index_or boxes team []) ≡ length (cells_of cells team)
   pub done : (id : CellId) (c : Cell) → cell_at cells id ≡ Some c → Done id → cell_box (slice_index_or boxes id.team []) id.own ≡ box_of f c
   pub rest : (id : CellId) (c : Cell) → cell_at cells id ≡ Some c → (Done id → ⊥) → cell_box (slice_index_or boxes id.team []) id.own ≡ None
 
--- the lanes mark the boxes of the cells that are done
+-- the marks of the strips are those of the cells that are done
 pub record AreFilledIn (f : Frame) (cells : Cells) (strips : List Strip) (Done : CellId → Type 0) (lanes : List StripMarks) : Type 0 where
   pub boxes : List (List (Option Rect))
   pub filled : AreFilled f cells Done boxes

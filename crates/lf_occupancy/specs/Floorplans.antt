@@ -1,4 +1,4 @@
--- The boxes of a table's cells, and the strips that they stand in.
+-- The boxes of a table's cells, and the strips that contain them.
 use Rattle.std.specs.Prelude.{◌≡◌, ◌<◌, ◌≤ℤ◌, ◌<ℤ◌, pos, length, ℕ, ℤ, List, map, All, Any, Option}
 use Rattle.std.specs.Option.{option_map}
 use Rattle.lf_units.specs.declared.geometry.Rect.{Rect}
@@ -43,20 +43,21 @@ pub record IsOccupancyOf (f : Frame) (cells : Cells) (o : Occupied) : Type 0 whe
   pub site : o.site ≡ f.pitch.x
   pub boxes : HoldsCells f cells o
 
--- what is kept is of this frame, and marks the working places of this table's cells
+-- the marks are of this frame, and of the working places of this table's cells
 pub record IsMarkedBy (f : Frame) (cells : Cells) (m : Marked) : Type 0 where
   pub index : IsIndexOf f m.index
   pub site : m.site ≡ f.pitch.x
   pub holds : MarksBoxes m (boxes_in f cells)
 
--- each point of a box that stands on rows, stays in a team's ground and is clear of obstacles lies in one of the team's strips
+-- each point of a box that rests on rows, stays in a team's ground and is clear of obstacles lies
+-- in one of the team's strips
 abbrev pub StripsCover : Type 0
 StripsCover =
     (f : Frame) (o : Occupied) (team : ℕ) (box : Rect) → IsIndexOf f o.index → RestsOnRows f box → StaysInGround f team box → IsClear f box →
     (x y : ℤ) → Covers box x y → Any (λ g. (g.team ≡ team) × Covers g.area x y) o.index.strips
 
--- each point of such a box that has points, made wider by no more than the reach, lies in one of the team's strips felt as far
--- around as the reach
+-- each point of a box that also has points, widened by no more than the reach, lies in one of the
+-- team's strips widened by the reach
 abbrev pub WidenedStripsCover : Type 0
 WidenedStripsCover =
     (f : Frame) (o : Occupied) (team : ℕ) (box : Rect) (by : ℤ) → IsIndexOf f o.index → o.site ≡ f.pitch.x → RestsOnRows f box →

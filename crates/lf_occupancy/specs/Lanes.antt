@@ -1,5 +1,5 @@
--- The entries of one strip, which is felt around: one for the part of each cell's box that lies in it. A lane keeps a mark of each,
--- and shows them where the boxes of its team's cells are known.
+-- The entries of one widened strip: one for the part of each cell's box that lies in it. The strip
+-- keeps a mark of each. The entries follow from the marks and the boxes of its team's cells.
 use Rattle.std.specs.Prelude.{◌≡◌, ◌≢◌, ◌⊎◌, ◌↔◌, ◌==◌, ℕ, ◌+◌, ◌<◌, ◌≤◌, ℤ, pos, negsuc}
 use Rattle.std.specs.Prelude.{◌+ℤ◌, ◌-ℤ◌, ◌≤ℤ◌, ◌<ℤ◌, List, ◌++◌, map, filter, not, length, All, AllPairs, Any}
 use Rattle.std.specs.Prelude.{Option, None, Some, IfSome, insert, IsSomeAnd, slice_index_or}
@@ -29,11 +29,11 @@ pub record IsPart (a b part : Rect) : Type 0 where
   pub left : a.x1 ≤ℤ part.x1
   pub right : part.x2 ≤ℤ a.x2
 
--- that part by the edges
+-- the same part, by the edges
 abbrev pub part_in : Rect → Rect → Rect
 part_in a b = record { x1 = int_max a.x1 b.x1; y1 = int_max a.y1 b.y1; x2 = int_min a.x2 b.x2; y2 = int_min a.y2 b.y2 }
 
--- the box; a rectangle without points if there is none
+-- the box; if there is no box, a rectangle without points
 abbrev pub some_box : Option Rect → Rect
 some_box None = record { x1 = pos 0; y1 = pos 0; x2 = pos 0; y2 = pos 0 }
 some_box (Some box) = box
@@ -42,20 +42,20 @@ some_box (Some box) = box
 abbrev pub entry_of_box : Rect → Option Rect → ℕ → Entry
 entry_of_box area box own = record { own = own; area = part_in area (some_box box) }
 
--- the entry that is marked in the lane of a strip of that area
+-- the entry of a mark in a strip with this area
 abbrev pub entry_in : List (Option Rect) → Rect → Mark → Entry
 entry_in cells area m = entry_of_box area (cell_box cells m.own) m.own
 
--- each of the entries that are marked
+-- the entries of the marks
 abbrev pub entries_in : List (Option Rect) → Rect → List Mark → List Entry
 entries_in cells area marks = map (entry_in cells area) marks
 
--- entries, and a width that none exceeds
+-- entries, and a bound on their width
 pub record StripView : Type 0 where
   pub entries : List Entry
   pub widest : ℤ
 
--- what a lane of a strip of that area shows of the cells' boxes
+-- the entries of a strip with this area, given the cells' boxes
 abbrev pub strip_view : List (Option Rect) → Rect → StripMarks → StripView
 strip_view cells area l = record { entries = entries_in cells area l.marks.items; widest = l.widest }
 
@@ -79,7 +79,7 @@ AreInOrder entries = AllPairs (λ a b. a.area.x1 ≤ℤ b.area.x1) entries
 abbrev pub AreRising : List Mark → Type 0
 AreRising marks = AllPairs (λ a b. a.left ≤ℤ b.left) marks
 
--- the entries are in order, and none is wider than the widest
+-- the entries are in order, and no entry is wider than the widest
 pub record IsOrderly (l : StripView) : Type 0 where
   pub order : AreInOrder l.entries
   pub wide : All (λ e. (e.area.x2 -ℤ e.area.x1) ≤ℤ l.widest) l.entries
@@ -93,7 +93,8 @@ pub record IsInside (area : Rect) (e : Entry) : Type 0 where
   pub right : e.area.x2 ≤ℤ area.x2
   pub top : e.area.y2 ≤ℤ area.y2
 
--- each point of the area that lies in a cell's box is in an entry of the cell, entries hold no other point, and no cell has two
+-- each point of the area that lies in a cell's box is in an entry of the cell, entries hold no
+-- other point, and no cell has two entries
 pub record ShowsBoxes (cells : List (Option Rect)) (area : Rect) (l : StripView) : Type 0 where
   pub orderly : IsOrderly l
   pub whole : All (λ e. HasPoints e.area) l.entries
@@ -102,25 +103,26 @@ pub record ShowsBoxes (cells : List (Option Rect)) (area : Rect) (l : StripView)
   pub told : All (λ e. (x y : ℤ) → Covers e.area x y → LiesInBox cells area e.own x y) l.entries
   pub once : AllPairs (λ a b. a.own ≢ b.own) l.entries
 
--- what a mark keeps of a width: the width, or 2^32 - 1, which tells nothing
+-- what a mark keeps of a width: the width, or 2^32 - 1, which says nothing about the width
 abbrev pub IsKeptAs : ℤ → ℕ → Type 0
 IsKeptAs width kept = kept ≢ 4294967295 → width ≡ pos kept
 
--- the mark tells the entry's left edge, and what it keeps of its width
+-- the mark has the entry's left edge, and keeps its width
 pub record MarkIsOf (e : Entry) (m : Mark) : Type 0 where
   pub left : m.left ≡ e.area.x1
   pub width : IsKeptAs (e.area.x2 -ℤ e.area.x1) m.width
 
--- each of the marks tells of its entry
+-- each of the marks is that of its entry
 abbrev pub MarksAreOf : List (Option Rect) → Rect → List Mark → Type 0
 MarksAreOf cells area marks = All (λ m. MarkIsOf (entry_in cells area m) m) marks
 
--- the lane shows just that, and each of its marks tells of its entry
+-- the marks are exactly those of the cells' boxes in this area, and each is that of its entry
 pub record IsMarked (cells : List (Option Rect)) (area : Rect) (l : StripMarks) : Type 0 where
   pub lane : ShowsBoxes cells area (strip_view cells area l)
   pub told : MarksAreOf cells area l.marks.items
 
--- the run of entries near a range: the entries before the run end before the range, and those after it begin after the range
+-- the run of entries near a range: the entries in front of the run end no later than the range
+-- begins, and those after it begin no earlier than the range ends
 pub record IsNearRun (entries : List Entry) (lo hi : ℤ) (near : List Entry) : Type 0 where
   pub before : List Entry
   pub behind : List Entry
@@ -128,11 +130,11 @@ pub record IsNearRun (entries : List Entry) (lo hi : ℤ) (near : List Entry) : 
   pub left : All (λ e. e.area.x2 ≤ℤ lo) before
   pub right : All (λ e. hi ≤ℤ e.area.x1) behind
 
--- the entries of all cells but this one
+-- the entries of all other cells
 abbrev pub others_in : List Entry → ℕ → List Entry
 others_in entries own = filter (λ e. not (e.own == own)) entries
 
--- the marks of all cells but this one
+-- the marks of all other cells
 abbrev pub marks_but : List Mark → ℕ → List Mark
 marks_but marks own = filter (λ m. not (m.own == own)) marks
 
@@ -140,7 +142,7 @@ marks_but marks own = filter (λ m. not (m.own == own)) marks
 abbrev pub LiesBeside : Span → Rect → Type 0
 LiesBeside s r = (s.hi ≤ℤ r.x1) ⊎ (r.x2 ≤ℤ s.lo)
 
--- the range made wider by a length on its left and on its right
+-- the range widened by a length on its left and on its right
 abbrev pub wider_range : ℤ → Span → Span
 wider_range by s = record { lo = s.lo -ℤ by; hi = s.hi +ℤ by }
 
@@ -148,77 +150,78 @@ wider_range by s = record { lo = s.lo -ℤ by; hi = s.hi +ℤ by }
 abbrev pub spans_in : List Entry → List Span
 spans_in entries = map (λ e. x_range e.area) entries
 
--- the entry made wider by a length on its left and on its right
+-- the entry widened by a length on its left and on its right
 abbrev pub padded : ℤ → Entry → Entry
 padded by e = record { own = e.own; area = wider by e.area }
 
--- each of the entries made wider so
+-- the entries, each widened by this length
 abbrev pub all_padded : ℤ → List Entry → List Entry
 all_padded by entries = map (padded by) entries
 
--- the entry is the cell's, another one than `but`, and shares a point with the rectangle
+-- the entry is the cell's, the cell is not `but`, and the entry shares a point with the rectangle
 pub record MeetsEntry (rect : Rect) (but own : ℕ) (e : Entry) : Type 0 where
   pub is : e.own ≡ own
   pub other : own ≢ but
   pub meets : SharesPoint rect e.area
 
--- an entry of the list does
+-- an entry of the list is the cell's, which is not `but`, and shares a point with the rectangle
 abbrev pub MeetsOne : List Entry → Rect → ℕ → ℕ → Type 0
 MeetsOne entries rect but own = Any (MeetsEntry rect but own) entries
 
--- there is a least number, and it is no greater than this one
+-- the least number exists and is at most this one
 abbrev pub IsUpTo : Option ℕ → ℕ → Type 0
 IsUpTo least own = IsSomeAnd least (λ n. n ≤ own)
 
--- the least of the number so far and of those that have the property
+-- the least of the number so far and of the numbers with the property
 pub record IsLeast (P : ℕ → Type 0) (so_far least : Option ℕ) : Type 0 where
   pub from : (least ≡ so_far) ⊎ IsSomeAnd least P
   pub no_greater : IfSome so_far (IsUpTo least)
   pub each : (own : ℕ) → P own → IsUpTo least own
 
--- in the lane, whose marks are in order, the cell has one mark at most, and it is at `left`
+-- the marks are in order, the cell has at most one mark, and that is at `left`
 pub record HasAtMostOne (own : ℕ) (left : ℤ) (l : StripMarks) : Type 0 where
   pub order : AreRising l.marks.items
   pub once : AllPairs (λ a b. a.own ≢ b.own) l.marks.items
   pub begins : All (λ m. m.own ≡ own → m.left ≡ left) l.marks.items
 
--- the mark of that position is the cell's
+-- the mark at this position is the cell's
 pub record IsMarkOfCell (marks : List Mark) (own n : ℕ) : Type 0 where
   pub within : n < length marks
   pub is : (d : Mark) → (slice_index_or marks n d).own ≡ own
 
--- none of the marks from that position on is the cell's
+-- no mark from this position on is the cell's
 abbrev pub HasNoMarkFrom : List Mark → ℕ → ℕ → Type 0
 HasNoMarkFrom marks own from = (k : ℕ) (d : Mark) → from ≤ k → k < length marks → (slice_index_or marks k d).own ≢ own
 
--- the lane without the cell's marks
+-- the strip without the cell's marks
 pub record IsUnmarked (own : ℕ) (old new : StripMarks) : Type 0 where
   pub marks : new.marks.items ≡ marks_but old.marks.items own
   pub widest : new.widest ≡ old.widest
   pub fewer : vec_len new.marks ≤ vec_len old.marks
   pub room : vec_capacity new.marks ≡ vec_capacity old.marks
 
--- the lane holds what it held, and has no less room
+-- the strip keeps its marks, and has no less room
 pub record IsKept (old new : StripMarks) : Type 0 where
   pub marks : new.marks.items ≡ old.marks.items
   pub widest : new.widest ≡ old.widest
   pub many : vec_len new.marks ≡ vec_len old.marks
   pub room : vec_capacity old.marks ≤ vec_capacity new.marks
 
--- the lane has room for one more mark
+-- the strip has room for one more mark
 abbrev pub HasRoom : StripMarks → Type 0
 HasRoom l = vec_len l.marks < vec_capacity l.marks
 
--- the lane has room for this many more marks
+-- the strip has room for `more` marks
 abbrev pub HasRoomOf : ℕ → StripMarks → Type 0
 HasRoomOf more l = (vec_len l.marks + more) ≤ vec_capacity l.marks
 
--- the lane's marks are in order, and it has room for one of the part of the rectangle that lies in the area, if there is one
+-- the strip's marks are in order, and it has room for the part of the rectangle that lies in the
+-- area, if there is one
 pub record TakesPart (area rect : Rect) (l : StripMarks) : Type 0 where
   pub order : AreRising l.marks.items
   pub room : HasPoints (part_in area rect) → HasRoom l
 
--- the mark of an entry of this width is added to the lane, at its place in the order
+-- the mark of an entry with this width is added to the strip, at its place in the order
 pub record IsJoined (m : Mark) (width : ℤ) (old new : StripMarks) : Type 0 where
   pub at : ℕ
   pub bound : at ≤ length old.marks.items
@@ -229,33 +232,35 @@ pub record IsJoined (m : Mark) (width : ℤ) (old new : StripMarks) : Type 0 whe
   pub more : vec_len new.marks ≡ vec_len old.marks + 1
   pub room : vec_capacity new.marks ≡ vec_capacity old.marks
 
--- the mark is the cell's for that part of its strip
+-- the mark is the cell's for this part of its strip
 pub record IsMarkOf (own : ℕ) (part : Rect) (m : Mark) : Type 0 where
   pub is : m.own ≡ own
   pub left : m.left ≡ part.x1
   pub width : IsKeptAs (part.x2 -ℤ part.x1) m.width
 
--- a mark of the cell for that part is added to the lane
+-- a mark of the cell for this part is added to the strip
 pub record IsAdded (own : ℕ) (part : Rect) (old new : StripMarks) : Type 0 where
   pub mark : Mark
   pub of : IsMarkOf own part mark
   pub joined : IsJoined mark (part.x2 -ℤ part.x1) old new
 
--- the part is marked in the lane if it has a point; else the lane is the same
+-- the part is marked in the strip if it has a point; otherwise the strip is unchanged
 abbrev pub IsPutPart : ℕ → Rect → StripMarks → StripMarks → Type 0
 IsPutPart own part old new = (HasPoints part × IsAdded own part old new) ⊎ ((HasPoints part → ⊥) × (new ≡ old))
 
--- so is the part of the cell's box that lies in the area
+-- the part of the cell's box that lies in the area is marked if it has a point; otherwise the strip
+-- is unchanged
 abbrev pub IsPutIn : ℕ → Rect → Rect → StripMarks → StripMarks → Type 0
 IsPutIn own rect area old new = IsPutPart own (part_in area rect) old new
 
--- the rectangle lies no farther from 0 along x than a strip that is felt around, and begins at an x of a place or before
+-- the rectangle lies no farther from 0 along x than a widened strip does, and begins at the x of a
+-- place or to the left of it
 pub record IsNearZero (r : Rect) : Type 0 where
   pub low : negsuc 549755813887 ≤ℤ r.x1
   pub high : r.x2 ≤ℤ pos 549755813888
   pub begins : r.x1 ≤ℤ pos 2147483647
 
--- the number may be the x of a place
+-- the number is a possible x of a place
 pub record IsPlaceX (x : ℤ) : Type 0 where
   pub low : negsuc 2147483647 ≤ℤ x
   pub high : x ≤ℤ pos 2147483647

@@ -1,4 +1,4 @@
--- What stands in strips: the boxes of teams' cells, and what they leave free.
+-- The contents of strips: the boxes of teams' cells, and what they leave free.
 use Rattle.std.specs.Prelude.{◌≡◌, ◌≢◌, ◌⊎◌, ◌↔◌, ℕ, ◌+◌, ℤ, pos, ◌*ℤ◌, ◌≤ℤ◌, ◌≤◌, Bool, false, ◌&&◌, int_lt, length, List}
 use Rattle.std.specs.Prelude.{[], Option, None, Some, Any, IsSomeAnd, MatchOption, count_by, option_and_then, slice_get, slice_index_or, slice_set}
 use Rattle.std.specs.Int.{int_max, int_min}
@@ -11,8 +11,8 @@ use Rattle.lf_segments.specs.Grounds.{FrameIndexView}
 use Rattle.lf_rules.specs.Padding.{wider}
 use Rattle.lf_cells.specs.declared.cell.CellId.{CellId}
 
--- what of the frame is looked up, the width of a core site, for each team the boxes of its cells in loading order, and for each strip
--- how many boxes it has room for
+-- the frame's index, the width of a core site, for each team the boxes of its cells in loading
+-- order, and for each strip how many boxes it has room for
 pub record Occupied : Type 0 where
   pub index : FrameIndexView
   pub site : ℤ
@@ -28,15 +28,15 @@ pub record IsPaddingOf (o : Occupied) (padding : ℤ) : Type 0 where
   pub least : pos 0 ≤ℤ padding
   pub most : padding ≤ℤ reach o
 
--- the boxes of a team's cells; none if there is no such team
+-- the boxes of a team's cells; empty if there is no such team
 abbrev pub boxes_of : Occupied → ℕ → List (Option Rect)
 boxes_of o team = slice_index_or o.boxes team []
 
--- the box of that position; None where that is none, or there is no such position
+-- the box at this position; None if the cell has no box, or there is no such position
 abbrev pub cell_box : List (Option Rect) → ℕ → Option Rect
 cell_box boxes own = option_and_then (λ box. box) (slice_get boxes own)
 
--- the box of the team's cell of that position; None where it stands nowhere, or there is no such cell
+-- the box of the team's cell at this position; None if it is unplaced, or there is no such cell
 abbrev pub box_at : Occupied → ℕ → ℕ → Option Rect
 box_at o team own = cell_box (boxes_of o team) own
 
@@ -48,7 +48,7 @@ boxes_with o id box = slice_set o.boxes id.team (slice_set (boxes_of o id.team) 
 abbrev pub x_extent : Strip → Span
 x_extent g = record { lo = g.area.x1; hi = g.area.x2 }
 
--- the strip felt that far around: made wider by the length on its left and on its right
+-- the strip widened by the length on its left and on its right
 abbrev pub widened : ℤ → Strip → Strip
 widened by g = record { row = g.row; team = g.team; area = wider by g.area }
 
@@ -70,36 +70,41 @@ pub record IsStripOf (row team : ℕ) (g : Strip) : Type 0 where
   pub in_row : g.row ≡ row
   pub of_team : g.team ≡ team
 
--- the span lies in the strip, and no other cell of the team is over it or closer to it than the padding
+-- the span lies in the strip, and no other cell of the team is over it or nearer to it than the
+-- padding
 pub record IsFreeOver (o : Occupied) (id : CellId) (padding : ℤ) (g : Strip) (s : Span) : Type 0 where
   pub within : LiesIn s (x_extent g)
   pub clear : IsClearOfOthers o id (wider padding (part_over g s))
 
--- within a window, the spans of a row that are free for a cell, which is taken away first: a span that holds a number lies in one
--- of them if and only if it lies in the window and is free in one strip of the row and the cell's team
+-- the spans of a row, within a window, that are free for a cell, as if the cell itself were
+-- unplaced: a span that holds a number lies in one of them if and only if it lies in the window and
+-- is free in one strip of the row and the cell's team
 pub record IsFreeInRow (o : Occupied) (row : ℕ) (id : CellId) (window : Span) (padding : ℤ) (free : List Span) : Type 0 where
   pub rising : IsRising free
   pub exact : (s : Span) → IsFilled s →
       (LiesInOneOf free s ↔ (LiesIn s window × Any (λ g. IsStripOf row id.team g × IsFreeOver o id padding g s) o.index.strips))
 
--- the team's cell of that position, which is not the one that is left out, has this box
+-- the team's cell at this position, which is not `without`, has this box
 pub record HasBoxExcept (o : Occupied) (without : CellId) (team own : ℕ) (box : Rect) : Type 0 where
   pub other : team ≡ without.team → own ≢ without.own
   pub stands : box_at o team own ≡ Some box
 
--- the span lies in the strip, and no cell of the strip's team is over it or closer to it than the padding, but the one that is left out
+-- the span lies in the strip, and no cell of the strip's team except `without` is over it or nearer
+-- to it than the padding
 pub record IsLeftOver (o : Occupied) (without : CellId) (padding : ℤ) (g : Strip) (s : Span) : Type 0 where
   pub within : LiesIn s (x_extent g)
   pub clear : (own : ℕ) (box : Rect) → HasBoxExcept o without g.team own box → SharesPoint (wider padding (part_over g s)) box → ⊥
 
--- the free spans of one strip, a cell left out: a span that holds a number lies in one of them if and only if it lies in the
--- strip and no other cell of the strip's team is over it or closer to it than the padding; there are none if there is no such strip
+-- the free spans of one strip, without one cell: a span that holds a number lies in one of them if
+-- and only if it lies in the strip and no other cell of the strip's team is over it or nearer to it
+-- than the padding; there are no spans if there is no such strip
 pub record AreFreeSpans (o : Occupied) (segment : ℕ) (without : CellId) (padding : ℤ) (free : List Span) : Type 0 where
   pub rising : IsRising free
   pub exact : (s : Span) → IsFilled s →
       (LiesInOneOf free s ↔ IsSomeAnd (slice_get o.index.strips segment) (λ g. IsLeftOver o without padding g s))
 
--- another placed cell of the team shares with the rectangle a point of one of the team's strips, felt as far around as the reach
+-- another placed cell of the team shares with the rectangle a point of one of the team's strips,
+-- widened by the reach
 pub record MeetsInStrips (o : Occupied) (id : CellId) (rect : Rect) (own : ℕ) : Type 0 where
   pub box : Rect
   pub is : IsOther o id own box
@@ -109,13 +114,13 @@ pub record MeetsInStrips (o : Occupied) (id : CellId) (rect : Rect) (own : ℕ) 
   pub in_rect : Covers rect x y
   pub in_box : Covers box x y
 
--- the first of the cells that it meets so; None if it meets none
+-- the first of the cells that overlap in this sense; None if no cell does
 abbrev pub IsFirstMet : Occupied → CellId → Rect → Option ℕ → Type 0
 IsFirstMet o id rect met =
     MatchOption met ((own : ℕ) → MeetsInStrips o id rect own → ⊥)
     (λ own. MeetsInStrips o id rect own × ((other : ℕ) → MeetsInStrips o id rect other → own ≤ other))
 
--- whether the box is there and shares a point with the strip's area, by the edges
+-- whether the box exists and shares a point with the strip's area, by the edges
 abbrev pub meets : Strip → Option Rect → Bool
 meets g None = false
 meets g (Some r) =
@@ -125,30 +130,31 @@ meets g (Some r) =
 abbrev pub count_in : Strip → List (Option Rect) → ℕ
 count_in g boxes = count_by (meets g) boxes
 
--- these boxes of the team's cells fit: each strip of the team has room for as many as share a point with it, felt as far around
--- as the reach
+-- these boxes of the team's cells fit: each strip of the team has room for all of them that share a
+-- point with it, widened by the reach
 abbrev pub FitIn : Occupied → ℕ → List (Option Rect) → Type 0
 FitIn o team boxes =
     (n : ℕ) (g : Strip) → slice_get o.index.strips n ≡ Some g → g.team ≡ team → count_in (widened (reach o) g) boxes ≤ slice_index_or o.rooms n 0
 
--- the tally, a number for each strip, bounds these boxes of the team's cells: for no strip of the team is it less than how many share
--- a point with the strip, felt as far around as the reach
+-- the counts, a number for each strip, bound these boxes of the team's cells: for no strip of the
+-- team is the count less than the number of boxes that share a point with the strip, widened by the
+-- reach
 abbrev pub Bounds : Occupied → ℕ → List (Option Rect) → List ℕ → Type 0
 Bounds o team boxes tally =
     (n : ℕ) (g : Strip) → slice_get o.index.strips n ≡ Some g → g.team ≡ team → count_in (widened (reach o) g) boxes ≤ slice_index_or tally n 0
 
--- each strip of the team that shares a point with the rectangle, felt as far around as the reach, has room for its boxes and so
--- many more
+-- each strip of the team that, widened by the reach, shares a point with the rectangle has room for
+-- its boxes and `more` others
 abbrev pub HasRoomFor : Occupied → ℕ → Rect → ℕ → Type 0
 HasRoomFor o team rect more =
     (n : ℕ) (g : Strip) → slice_get o.index.strips n ≡ Some g → g.team ≡ team → SharesPoint (widened (reach o) g).area rect →
     (count_in (widened (reach o) g) (boxes_of o team) + more) ≤ slice_index_or o.rooms n 0
 
--- the first boxes are part of the others: each is none or the other list's
+-- the first boxes are part of the others: each is None or equal to the other list's box
 abbrev pub ArePartOf : List (Option Rect) → List (Option Rect) → Type 0
 ArePartOf part whole = (own : ℕ) → (cell_box part own ≡ None) ⊎ (cell_box part own ≡ cell_box whole own)
 
--- of two lists of the same length, no number of the new one is less
+-- the lists have the same length, and no number of the new one is less
 pub record KeepsCapacities (old new : List ℕ) : Type 0 where
   pub many : length new ≡ length old
   pub each : (n : ℕ) → slice_index_or old n 0 ≤ slice_index_or new n 0

@@ -1,4 +1,4 @@
--- What stands in strips: the lanes of each, and how they change.
+-- The marks of all strips, and how they change.
 use Rattle.std.specs.Prelude.{◌≡◌, ◌≢◌, ◌↔◌, ℕ, ◌<◌, ℤ, pos, ◌*ℤ◌, ◌≤ℤ◌, ◌<ℤ◌, List, length, All, Any, IfSome, IsSomeAnd, slice_get}
 use Rattle.std.specs.Prelude.{◌⊎◌, Option, None, Some, map, slice_index_or, slice_set, [], ◌∷◌}
 use Rattle.std.specs.Int.{int_max}
@@ -22,52 +22,52 @@ pub record IsSite (site : ℤ) : Type 0 where
   pub wide : pos 0 <ℤ site
   pub small : site ≤ℤ pos 20000000000
 
--- the strips felt 16 core sites of that width around
+-- the strips widened by 16 core sites of this width
 abbrev pub widened_strips : ℤ → List Strip → List Strip
 widened_strips site strips = map (widened (pos 16 *ℤ site)) strips
 
--- the strip of that number is of the team, and an entry of the cell in it is met
+-- the strip of this number is of the team, and an entry of the cell in it overlaps the rectangle
 pub record MeetsAt (strips : List Strip) (lanes : List StripView) (team : ℕ) (rect : Rect) (but own n : ℕ) : Type 0 where
   pub within : n < length strips
   pub of_team : (d : Strip) → (slice_index_or strips n d).team ≡ team
   pub meets : (d : StripView) → MeetsOne (slice_index_or lanes n d).entries rect but own
 
--- the cell is met in a strip of the row
+-- the cell overlaps the rectangle in a strip of the row
 abbrev pub MeetsInRow : List Strip → List StripView → ℕ → ℕ → Rect → ℕ → ℕ → Type 0
 MeetsInRow strips lanes row team rect but own =
     (n : ℕ) × ((d : Strip) → (slice_index_or strips n d).row ≡ row) × MeetsAt strips lanes team rect but own n
 
--- the cell is met in a strip
+-- the cell overlaps the rectangle in a strip
 abbrev pub MeetsInOne : List Strip → List StripView → ℕ → Rect → ℕ → ℕ → Type 0
 MeetsInOne strips lanes team rect but own = (n : ℕ) × MeetsAt strips lanes team rect but own n
 
--- each strip has a lane, whose entries are in order and lie in the strip
+-- the entries of each strip are in order and lie in the strip
 pub record AreOrderly (strips : List Strip) (lanes : List StripView) : Type 0 where
   pub many : length lanes ≡ length strips
   pub each : (n : ℕ) (e : StripView) → n < length strips → IsOrderly (slice_index_or lanes n e)
   pub inside : (n : ℕ) (d : Strip) (e : StripView) → n < length strips →
       All (IsInside (slice_index_or strips n d).area) (slice_index_or lanes n e).entries
 
--- each strip shows the lane of its team's boxes
+-- the entries of each strip are those of its team's boxes
 pub record AreShown (strips : List Strip) (boxes : List (List (Option Rect))) (lanes : List StripView) : Type 0 where
   pub many : length lanes ≡ length strips
   pub each : (n : ℕ) (d : Strip) (e : StripView) → n < length strips →
       ShowsBoxes (slice_index_or boxes (slice_index_or strips n d).team []) (slice_index_or strips n d).area (slice_index_or lanes n e)
 
--- what the lanes of strips show of the boxes of teams' cells
+-- the entries of all strips, given the boxes of teams' cells
 abbrev pub strip_views : List Strip → List (List (Option Rect)) → List StripMarks → List StripView
 strip_views [] boxes lanes = []
 strip_views (g ∷ strips) boxes [] = []
 strip_views (g ∷ strips) boxes (l ∷ lanes) = strip_view (slice_index_or boxes g.team []) g.area l ∷ strip_views strips boxes lanes
 
--- each strip has a lane, which marks its team's boxes
+-- the marks of each strip are those of its team's boxes
 pub record ShowAllBoxes (strips : List Strip) (boxes : List (List (Option Rect))) (lanes : List StripMarks) : Type 0 where
   pub many : length lanes ≡ length strips
   pub each : (n : ℕ) (d : Strip) (e : StripMarks) → n < length strips →
       IsMarked (slice_index_or boxes (slice_index_or strips n d).team []) (slice_index_or strips n d).area (slice_index_or lanes n e)
 
--- the span lies in the strip of that number, which is of the row and the team, and shares no number with another cell's entry made
--- wider by the padding
+-- the span lies in the strip of this number, which is of the row and the team, and shares no number
+-- with another cell's entry widened by the padding
 pub record LiesFree (strips : List Strip) (lanes : List StripView) (row team own : ℕ) (padding : ℤ) (s : Span) (n : ℕ) : Type 0 where
   pub within : n < length strips
   pub in_row : (d : Strip) → (slice_index_or strips n d).row ≡ row
@@ -75,37 +75,40 @@ pub record LiesFree (strips : List Strip) (lanes : List StripView) (row team own
   pub inside : (d : Strip) → LiesIn s (x_extent (slice_index_or strips n d))
   pub apart : (d : StripView) → IsApart (spans_in (others_in (all_padded padding (slice_index_or lanes n d).entries) own)) s
 
--- a span that holds a number lies in a free one if and only if it lies in the window and free in a strip numbered below the limit
+-- a span that holds a number lies in a free one if and only if it lies in the window and is free in
+-- a strip numbered below the limit
 pub record AreFreeTo (strips : List Strip) (lanes : List StripView) (row team own : ℕ) (window : Span) (padding : ℤ) (limit : ℕ)
     (free : List Span) : Type 0 where
   pub rising : IsRising free
   pub exact : (s : Span) → IsFilled s →
       (LiesInOneOf free s ↔ (LiesIn s window × ((n : ℕ) × ((n < limit) × LiesFree strips lanes row team own padding s n))))
 
--- the strip of that number is of one of the rows and the team, and its x range overlaps that of the rectangle
+-- the strip of this number is of one of the rows and the team, and its x range overlaps that of the
+-- rectangle
 abbrev pub IsReached : List Strip → List RowEntry → ℕ → Rect → ℕ → Type 0
 IsReached strips rows team rect n = (n < length strips) × Any (λ r. (d : Strip) → IsNear r.row team rect.x1 rect.x2 (slice_index_or strips n d)) rows
 
--- the strip of that number is of the row and the team, and its x range overlaps that of the rectangle
+-- the strip of this number is of the row and the team, and its x range overlaps that of the
+-- rectangle
 abbrev pub IsReachedIn : List Strip → ℕ → ℕ → Rect → ℕ → Type 0
 IsReachedIn strips row team rect n = (n < length strips) × ((d : Strip) → IsNear row team rect.x1 rect.x2 (slice_index_or strips n d))
 
--- of two lists, the elements of the chosen numbers are changed in this way, and the others are the same
+-- the elements at the chosen positions are changed as `Change` says, and the others are the same
 pub record AreChanged {X : Type 0} (Chosen : ℕ → Type 0) (Change : ℕ → X → X → Type 0) (old new : List X) : Type 0 where
   pub many : length new ≡ length old
   pub chosen : (n : ℕ) (e : X) → n < length old → Chosen n → Change n (slice_index_or old n e) (slice_index_or new n e)
   pub others : (n : ℕ) (e : X) → n < length old → (Chosen n → ⊥) → slice_index_or new n e ≡ slice_index_or old n e
 
--- each lane holds what it held, and has no less room
+-- each strip keeps its marks, and has no less room
 pub record AreKept (old new : List StripMarks) : Type 0 where
   pub many : length new ≡ length old
   pub each : (n : ℕ) (e : StripMarks) → n < length old → IsKept (slice_index_or old n e) (slice_index_or new n e)
 
--- the strip's part of the cell's box is marked in its lane
+-- the strip's part of the cell's box is marked
 abbrev pub PutsIn : List Strip → ℕ → Rect → ℕ → StripMarks → StripMarks → Type 0
 PutsIn strips own rect n old new = (d : Strip) → IsPutIn own rect (slice_index_or strips n d).area old new
 
--- there is a cell of that id
+-- a cell with this id exists
 pub record HasCell (boxes : List (List (Option Rect))) (id : CellId) : Type 0 where
   pub team : id.team < length boxes
   pub own : id.own < length (slice_index_or boxes id.team [])
@@ -114,81 +117,82 @@ pub record HasCell (boxes : List (List (Option Rect))) (id : CellId) : Type 0 wh
 abbrev pub boxes_set : List (List (Option Rect)) → CellId → Option Rect → List (List (Option Rect))
 boxes_set boxes id box = slice_set boxes id.team (slice_set (slice_index_or boxes id.team []) id.own box)
 
--- there is a cell of that id, which stands nowhere or has this box
+-- a cell with this id exists, and has no box or this box
 pub record IsAt (boxes : List (List (Option Rect))) (id : CellId) (rect : Rect) : Type 0 where
   pub known : HasCell boxes id
   pub at : (cell_box (slice_index_or boxes id.team []) id.own ≡ None) ⊎ (cell_box (slice_index_or boxes id.team []) id.own ≡ Some rect)
 
--- there is a cell of that id, which stands nowhere
+-- a cell with this id exists, and has no box
 pub record HasNoBox (boxes : List (List (Option Rect))) (id : CellId) : Type 0 where
   pub known : HasCell boxes id
   pub at : cell_box (slice_index_or boxes id.team []) id.own ≡ None
 
--- the strip of that number is of the team, and shares a point with the rectangle
+-- the strip of this number is of the team, and shares a point with the rectangle
 abbrev pub MeetsStrip : List Strip → ℕ → Rect → ℕ → Type 0
 MeetsStrip strips team rect n = IsSomeAnd (slice_get strips n) (λ g. (g.team ≡ team) × SharesPoint g.area rect)
 
--- the chosen lanes have room for so many more entries
+-- the chosen strips have room for `more` marks each
 abbrev pub HaveRoom : (ℕ → Type 0) → ℕ → List StripMarks → Type 0
 HaveRoom Chosen more lanes = (n : ℕ) (e : StripMarks) → Chosen n → HasRoomOf more (slice_index_or lanes n e)
 
--- the chosen lanes have room for the parts of the rectangle that lie in their strips
+-- the chosen strips have room for the parts of the rectangle that lie in them
 abbrev pub CanTake : List Strip → Rect → (ℕ → Type 0) → List StripMarks → Type 0
 CanTake strips rect Chosen lanes =
     (n : ℕ) (d : Strip) (e : StripMarks) → Chosen n → TakesPart (slice_index_or strips n d).area rect (slice_index_or lanes n e)
 
--- in each of the chosen lanes the cell has one entry at most, which begins where the part of the rectangle in the strip does
+-- in each of the chosen strips the cell has at most one mark, which begins at the left edge of the
+-- part of the rectangle in the strip
 abbrev pub HaveAtMostOne : List Strip → ℕ → Rect → (ℕ → Type 0) → List StripMarks → Type 0
 HaveAtMostOne strips own rect Chosen lanes =
     (n : ℕ) (d : Strip) (e : StripMarks) → Chosen n → HasAtMostOne own (int_max (slice_index_or strips n d).area.x1 rect.x1) (slice_index_or lanes n e)
 
--- the strip of that number is of the team
+-- the strip of this number is of the team
 pub record IsOfTeam (strips : List Strip) (team n : ℕ) : Type 0 where
   pub within : n < length strips
   pub of_team : (d : Strip) → (slice_index_or strips n d).team ≡ team
 
--- in each lane of its team's strips a cell of this box has one mark at most
+-- in each strip of its team a cell with this box has at most one mark
 abbrev pub HasOneMark : List Strip → CellId → Rect → List StripMarks → Type 0
 HasOneMark strips id rect lanes = HaveAtMostOne strips id.own rect (IsOfTeam strips id.team) lanes
 
--- in each lane of a row that the cell's box reaches, the cell has one entry at most
+-- in each strip of a row that the cell's box reaches, the cell has at most one mark
 abbrev pub HasOneMarkInRow : List Strip → ℕ → CellId → Rect → List StripMarks → Type 0
 HasOneMarkInRow strips row id rect lanes = HaveAtMostOne strips id.own rect (IsReachedIn strips row id.team rect) lanes
 
--- the same of all these rows
+-- in each strip of the given rows that the cell's box reaches, the cell has at most one mark
 abbrev pub HasOneMarkInRows : List Strip → List RowEntry → CellId → Rect → List StripMarks → Type 0
 HasOneMarkInRows strips rows id rect lanes = HaveAtMostOne strips id.own rect (IsReached strips rows id.team rect) lanes
 
--- the cell's entries are taken out of the lanes of a row that its box reaches
+-- the cell's marks are removed from the strips of a row that its box reaches
 abbrev pub PruneInRow : List Strip → ℕ → CellId → Rect → List StripMarks → List StripMarks → Type 0
 PruneInRow strips row id rect old new = AreChanged (IsReachedIn strips row id.team rect) (λ n. IsUnmarked id.own) old new
 
--- the same of all these rows
+-- the cell's marks are removed from the strips of the given rows that its box reaches
 abbrev pub PruneInRows : List Strip → List RowEntry → CellId → Rect → List StripMarks → List StripMarks → Type 0
 PruneInRows strips rows id rect old new = AreChanged (IsReached strips rows id.team rect) (λ n. IsUnmarked id.own) old new
 
--- the lanes of a row that the cell's box reaches have room for its parts
+-- the strips of a row that the cell's box reaches have room for its parts
 abbrev pub CanTakeInRow : List Strip → ℕ → CellId → Rect → List StripMarks → Type 0
 CanTakeInRow strips row id rect lanes = CanTake strips rect (IsReachedIn strips row id.team rect) lanes
 
--- the same of all these rows
+-- the strips of the given rows that the cell's box reaches have room for its parts
 abbrev pub CanTakeInRows : List Strip → List RowEntry → CellId → Rect → List StripMarks → Type 0
 CanTakeInRows strips rows id rect lanes = CanTake strips rect (IsReached strips rows id.team rect) lanes
 
--- the cell's parts are put into the lanes of a row that its box reaches
+-- the cell's parts are marked in the strips of a row that its box reaches
 abbrev pub PutInRow : List Strip → ℕ → CellId → Rect → List StripMarks → List StripMarks → Type 0
 PutInRow strips row id rect old new = AreChanged (IsReachedIn strips row id.team rect) (PutsIn strips id.own rect) old new
 
--- the same of all these rows
+-- the cell's parts are marked in the strips of the given rows that its box reaches
 abbrev pub PutInRows : List Strip → List RowEntry → CellId → Rect → List StripMarks → List StripMarks → Type 0
 PutInRows strips rows id rect old new = AreChanged (IsReached strips rows id.team rect) (PutsIn strips id.own rect) old new
 
--- for how many entries each lane has room
+-- the number of marks that each strip has room for
 abbrev pub capacities_in : List StripMarks → List ℕ
 capacities_in lanes = map (λ l. vec_capacity l.marks) lanes
 
--- the span lies in the strip of that number, and shares no number with an entry there made wider by the padding, leaving out a cell
--- of the strip's team
+-- the span lies in the strip of this number, and shares no number with an entry there widened by
+-- the padding, except those of the cell `without` if it is of the strip's team
 pub record IsLeftFree (strips : List Strip) (lanes : List StripView) (without : CellId) (padding : ℤ) (n : ℕ) (s : Span) : Type 0 where
   pub within : n < length strips
   pub inside : (d : Strip) → LiesIn s (x_extent (slice_index_or strips n d))
@@ -197,27 +201,30 @@ pub record IsLeftFree (strips : List Strip) (lanes : List StripView) (without : 
   pub foreign : (d : Strip) (e : StripView) → (slice_index_or strips n d).team ≢ without.team →
       IsApart (spans_in (all_padded padding (slice_index_or lanes n e).entries)) s
 
--- a span that holds a number lies in one of the free ones if and only if it lies so in the strip of that number
+-- a span that holds a number lies in one of the free ones if and only if it is free in the strip of
+-- this number
 pub record AreFreeSpansOfStrip (strips : List Strip) (lanes : List StripView) (without : CellId) (padding : ℤ) (n : ℕ) (free : List Span) : Type 0 where
   pub rising : IsRising free
   pub exact : (s : Span) → IsFilled s → (LiesInOneOf free s ↔ IsLeftFree strips lanes without padding n s)
 
--- for the box of each of the moves, the strips of the cell's team that it meets have room for so many more entries
+-- for the box of each of the moves, the strips of the cell's team that share a point with it have
+-- room for `more` marks each
 abbrev pub HaveRoomForAll : List Strip → List (CellId × Option Rect) → ℕ → List StripMarks → Type 0
 HaveRoomForAll strips moves more lanes = All (λ m. IfSome m.1 (λ rect. HaveRoom (MeetsStrip strips m.0.team rect) more lanes)) moves
 
--- what an occupancy keeps: what of the frame is looked up, the width of a core site, and the lane of each strip
+-- what an occupancy keeps: the frame's index, the width of a core site, and the marks of each strip
 pub record Marked : Type 0 where
   pub index : FrameIndexView
   pub site : ℤ
   pub lanes : List StripMarks
 
--- there is a lane for each strip
+-- there is a list of marks for each strip
 pub record HasLanes (m : Marked) : Type 0 where
   pub site : IsSite m.site
   pub many : length m.lanes ≡ length (widened_strips m.site m.index.strips)
 
--- the lanes mark these boxes of all teams' cells in the strips, felt 16 core sites around
+-- the marks are those of the given boxes of all teams' cells in the strips, widened by 16 core
+-- sites
 abbrev pub MarksBoxes : Marked → List (List (Option Rect)) → Type 0
 MarksBoxes m boxes = ShowAllBoxes (widened_strips m.site m.index.strips) boxes m.lanes
 
@@ -225,14 +232,14 @@ MarksBoxes m boxes = ShowAllBoxes (widened_strips m.site m.index.strips) boxes m
 abbrev pub with_boxes : Marked → List (List (Option Rect)) → Occupied
 with_boxes m boxes = record { index = m.index; site = m.site; boxes = boxes; rooms = capacities_in m.lanes }
 
--- there are boxes that the lanes mark, where the cell stands nowhere or has this box
+-- the marks are those of some boxes, in which the cell has no box or this box
 pub record CanLeave (m : Marked) (id : CellId) (rect : Rect) : Type 0 where
   pub boxes : List (List (Option Rect))
   pub holds : MarksBoxes m boxes
   pub is : IsAt boxes id rect
 
--- there are boxes that the lanes mark, where the cell stands nowhere, and each strip of its team that, felt around, shares a point with
--- the rectangle has room for one more
+-- the marks are those of some boxes, in which the cell has no box, and each strip of its team that,
+-- widened, shares a point with the rectangle has room for one more
 pub record CanEnter (m : Marked) (id : CellId) (rect : Rect) : Type 0 where
   pub boxes : List (List (Option Rect))
   pub holds : MarksBoxes m boxes

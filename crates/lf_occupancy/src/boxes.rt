@@ -12,8 +12,8 @@ use lf_rules::box_with_points;
 use lf_units::Rect;
 use std::marker::Model;
 
-/// The boxes of a table's cells at their working places, in database units; none for a cell that is
-/// unplaced. A contract sees for each team the list of them.
+/// The boxes of a table's cells at their working places, in database units. An unplaced cell has no
+/// box. A contract sees the list of boxes of each team.
 #[derive(Drop)]
 pub(crate) struct Boxes<'a> {
     frame: &'a Frame,
@@ -32,8 +32,8 @@ impl<'a> Model for Boxes<'a> {
     ghost invariant = { λ b. HaveSize b.frame.now b.cells.now };
 }
 
-/// The box of a cell of the table at its working place; none if it is unplaced, or there is no such
-/// cell.
+/// The box of a cell of the table at its working place. `None` if the cell is unplaced or not in
+/// the table.
 fn box_in_table(frame: &Frame, cells: &CellTable, id: CellId) -> Option<Rect>
     requires { All (HasSize frame.now) (cells_of cells.now id.team) }
     ensures is { result ≡ option_and_then (box_of frame.now) (cell_at cells.now id) }
@@ -45,7 +45,8 @@ fn box_in_table(frame: &Frame, cells: &CellTable, id: CellId) -> Option<Rect>
     Some(box_with_points(frame, mac, &place))
 }
 
-/// The same, as one of the boxes of all teams' cells.
+/// The box of a cell at its working place, as an element of the boxes of all teams. `None` if the
+/// cell is unplaced or not in the table.
 pub(crate) fn box_at_work(frame: &Frame, cells: &CellTable, id: &CellId) -> Option<Rect>
     requires { HaveSize frame.now cells.now }
     ensures is { result ≡ cell_box (slice_index_or (boxes_in frame.now cells.now) id.now.team []) id.now.own }
@@ -63,14 +64,15 @@ impl<'a> Boxes<'a> {
         Boxes { frame, cells }
     }
 
-    /// The box of the cell; none if it has none, or there is no such cell.
+    /// The box of the cell. `None` if the cell is unplaced or not in the table.
     pub(crate) fn get(&self, id: &CellId) -> Option<Rect>
         ensures { result ≡ cell_box (slice_index_or self.now id.now.team []) id.now.own }
     {
         box_at_work(self.frame, self.cells, id)
     }
 
-    /// The box of the team's cell of that position; none if it has none, or there is no such cell.
+    /// The box of the team's cell at position `own`. `None` if the cell is unplaced or not in the
+    /// table.
     pub(crate) fn get_in(&self, team: usize, own: u32) -> Option<Rect>
         ensures { result ≡ cell_box (slice_index_or self.now team []) own }
     {

@@ -1,4 +1,4 @@
-//! How an occupancy is built.
+//! Builds the marks of all strips.
 
 ghost use Rattle.std.specs.Prelude.{◌≡◌, ◌+◌, ◌%◌, ◌<◌, ◌≤◌, [], All, IfOk, IsPermutation, List, OnOk, Option, drop, length, map, slice_index_or, take};
 ghost use Rattle.lf_occupancy.specs.Building.{HaveNoMarks, AreFilledIn, IsBefore, id_at};
@@ -17,11 +17,11 @@ use lf_segments::FrameIndex;
 use lf_units::Rect;
 use std::alloc::{AllocError, Global};
 
-/// So many cells of a team are put in the order of their places at a time: the list of them stays small
-/// beside the cells, and the strips of a team of no more cells are filled from left to right.
+/// Cells are sorted by place in batches of this size. The list of a batch is small next to the cell
+/// table. A team of no more cells fills each strip from left to right.
 const PART: usize = 65_536;
 
-/// This many empty lanes.
+/// A list of `count` strips without marks.
 fn empty_marks(alloc: Global, count: usize) -> Result<Vec<StripMarks>, AllocError>
     ensures { IfOk result (λ lanes. HaveNoMarks count lanes.items) }
 {
@@ -35,22 +35,22 @@ fn empty_marks(alloc: Global, count: usize) -> Result<Vec<StripMarks>, AllocErro
     Ok(lanes)
 }
 
-/// How far the number is above the least one of 32 bits.
+/// The difference between the number and the least 32-bit number.
 fn above_least(number: i32) -> u64
     ensures { result < 4294967296 }
 {
     (i64::from(number) + 2_147_483_648) as u64
 }
 
-/// A number that rises with the places from band to band of 32,768 units of height, and in each band from
-/// left to right.
+/// A rank that orders places by bands of 32,768 units of height, and within a band from left to
+/// right.
 fn rank_of(x: i32, y: i32) -> u64
     ensures { result < 281474976710656 }
 {
     above_least(y) / 32_768 * 2_147_483_648 + above_least(x) / 2
 }
 
-/// The rank of the cell's working place; 0 if it has none.
+/// The rank of the cell's working place. 0 if it is unplaced.
 fn rank_at_work(cells: &CellTable, id: &CellId) -> u64
     ensures { result < 281474976710656 }
 {
@@ -60,8 +60,8 @@ fn rank_at_work(cells: &CellTable, id: &CellId) -> u64
     }
 }
 
-/// The rank of the cell's working place, and behind it in 16 bits this position among the cells that are
-/// put in order: one number, so that they are sorted quickly.
+/// The rank of the cell's working place, followed by 16 bits for its position in the batch. One
+/// number for both makes sorting fast.
 fn waiting_cell(cells: &CellTable, id: &CellId, at: usize) -> u64
     requires { at < 65536 }
     ensures { result % 65536 ≡ at }
@@ -69,7 +69,7 @@ fn waiting_cell(cells: &CellTable, id: &CellId, at: usize) -> u64
     rank_at_work(cells, id) * 65_536 + at as u64
 }
 
-/// The cells of these ids with the ranks of their working places.
+/// The cells with these ids, each with the rank of its working place.
 fn all_waiting(alloc: Global, cells: &CellTable, ids: &[CellId]) -> Result<Vec<u64>, AllocError>
     requires { length ids.now ≤ 65536 }
     ensures { IfOk result (λ list. map (id_at ids.now) list.items ≡ ids.now) }
@@ -88,8 +88,8 @@ fn sort_by_place(list: &mut Vec<u64>)
     list.sort_unstable();
 }
 
-/// The cells of these ids in the order of their working places, from band to band and from left to right: so
-/// a few strips at a time are filled, each from its left end on.
+/// The cells with these ids in the order of their working places, band by band and from left to
+/// right. This order fills a few strips at a time, each from its left end.
 fn by_place(alloc: Global, cells: &CellTable, ids: &[CellId]) -> Result<Vec<u64>, AllocError>
     requires { length ids.now ≤ 65536 }
     ensures { IfOk result (λ list. IsPermutation ids.now (map (id_at ids.now) list.items)) }
@@ -99,7 +99,8 @@ fn by_place(alloc: Global, cells: &CellTable, ids: &[CellId]) -> Result<Vec<u64>
     Ok(list)
 }
 
-/// The id of the cell that waits so; of no cell if there is none.
+/// The id of the cell that `waiting` refers to. If the position is past the end, the id with team 0
+/// and position 0.
 fn id_waiting(ids: &[CellId], waiting: u64) -> CellId
     ensures { result ≡ id_at ids.now waiting }
 {
@@ -109,7 +110,7 @@ fn id_waiting(ids: &[CellId], waiting: u64) -> CellId
     }
 }
 
-/// Marks a cell, which is not yet marked, at its working place, if it has one.
+/// Marks a cell that has no marks yet at its working place. An unplaced cell is skipped.
 fn mark_cell(
     lanes: &mut Vec<StripMarks>,
     index: &FrameIndex,
@@ -130,7 +131,7 @@ fn mark_cell(
     reserve_and_mark(lanes, index, &frame.pitch.x, id, &rect)
 }
 
-/// As many of these ids, from that position on, as are put in order at a time; fewer at their end.
+/// The ids of one batch, which begins at position `from`. The last batch may be shorter.
 fn part_of(ids: &[CellId], from: usize) -> &[CellId]
     ensures is { result.now ≡ take 65536 (drop from ids.now) }
     ensures few { length result.now ≤ 65536 }
@@ -139,8 +140,8 @@ fn part_of(ids: &[CellId], from: usize) -> &[CellId]
     &rest[..PART.min(rest.len())]
 }
 
-/// Marks as many cells of the team, from that position on, as are put in order at a time; those before are
-/// marked. The order matters for speed alone.
+/// Marks the cells of one batch of the team, which begins at position `from`. The cells in front of
+/// it are marked already. The order within a batch matters only for speed.
 fn fill_in(
     alloc: Global,
     lanes: &mut Vec<StripMarks>,
@@ -162,7 +163,7 @@ fn fill_in(
     Ok(())
 }
 
-/// Marks the cells of the team; those of the teams before are marked.
+/// Marks the cells of the team. The cells of the teams in front of it are marked already.
 fn fill_team(
     alloc: Global,
     lanes: &mut Vec<StripMarks>,
@@ -181,8 +182,8 @@ fn fill_team(
     Ok(())
 }
 
-/// A number above that of each of these cells' teams. It is asked of the cells, since no contract says how
-/// many teams a table has.
+/// A number greater than the team of each given cell. It is computed from the cells, because no
+/// contract says how many teams a table has.
 pub fn team_count(ids: &[CellId]) -> usize
     ensures { All (λ id. id.team < result) ids.now }
 {
@@ -193,7 +194,7 @@ pub fn team_count(ids: &[CellId]) -> usize
     teams
 }
 
-/// The lanes of the strips, felt around, which mark the cells at their working places.
+/// The marks of the widened strips, for the cells at their working places.
 pub(crate) fn marks_of_strips(
     alloc: Global,
     index: &FrameIndex,

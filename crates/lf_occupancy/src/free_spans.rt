@@ -1,4 +1,5 @@
-//! A walk along a range from one taken span to the next: what is free before it, and what is left of the range behind it.
+//! Walks along a range from one taken span to the next, and splits it into free parts and the
+//! remaining range.
 
 ghost use Rattle.std.specs.Prelude.{◌≡◌, OnOk};
 ghost use Rattle.std.specs.Int.{int_max, int_min};
@@ -18,7 +19,7 @@ pub(crate) fn common_range(first: &Span, second: &Span) -> Span
     }
 }
 
-/// The part of the rest before the span.
+/// The part of the remaining range in front of the span.
 pub(crate) fn part_before(rest: &Span, span: &Span) -> Span
     ensures { IsBefore rest.now span.now result }
 {
@@ -28,7 +29,7 @@ pub(crate) fn part_before(rest: &Span, span: &Span) -> Span
     }
 }
 
-/// The part of the rest behind the span.
+/// The part of the remaining range after the span.
 pub(crate) fn part_behind(rest: &Span, span: &Span) -> Span
     ensures { IsBehind rest.now span.now result }
 {

@@ -1,4 +1,4 @@
-//! How the marks in strips are changed. The strips are felt around here.
+//! Changes the marks of strips. All strips here are widened.
 
 ghost use Rattle.std.specs.Prelude.{All, AllPairs, IfSome, List, Option, ◌≡◌, ◌≢◌, ◌≤◌, None, OnErr, OnOk, Some, length};
 ghost use Rattle.lf_units.specs.declared.geometry.Rect.{Rect};
@@ -16,11 +16,11 @@ use lf_segments::{FrameIndex, RowEntry, StripRange};
 use lf_units::Rect;
 use std::alloc::AllocError;
 
-/// A cell is settled in so many rows by a call for each.
+/// The greatest number of rows in which a cell is marked by a recursive call for each row.
 const FEW: usize = 16;
 
-/// Makes room for this many more marks in the strips of a row and the cell's team that the rectangle
-/// reaches. Also on `Err` each strip holds what it held.
+/// Makes room for `more` marks in each strip of the row and the cell's team that the rectangle
+/// reaches. Also on `Err`, each strip keeps its marks.
 fn make_room_in_row(
     lanes: &mut Vec<StripMarks>,
     index: &FrameIndex,
@@ -42,7 +42,7 @@ fn make_room_in_row(
     Ok(())
 }
 
-/// The same for all these rows.
+/// Makes room as `make_room_in_row` does, in all these rows.
 fn make_room_in_rows(
     lanes: &mut Vec<StripMarks>,
     index: &FrameIndex,
@@ -63,7 +63,7 @@ fn make_room_in_rows(
     Ok(())
 }
 
-/// Takes the cell's marks out of the strips of a row and the cell's team that its box reaches.
+/// Removes the cell's marks from the strips of the row and the cell's team that its box reaches.
 fn prune_row(
     lanes: &mut Vec<StripMarks>,
     index: &FrameIndex,
@@ -87,7 +87,7 @@ fn prune_row(
     }
 }
 
-/// The same for all these rows.
+/// Removes the cell's marks as `prune_row` does, in all these rows.
 fn prune_rows(
     lanes: &mut Vec<StripMarks>,
     index: &FrameIndex,
@@ -107,7 +107,7 @@ fn prune_rows(
     }
 }
 
-/// Marks the parts of the cell's box in each strip of a run.
+/// Marks the parts of the cell's box in each strip of the range.
 fn put_in_run(
     lanes: &mut Vec<StripMarks>,
     index: &FrameIndex,
@@ -147,7 +147,7 @@ fn put_in_row(
     put_in_run(lanes, index, site, &near, id.own, rect);
 }
 
-/// The same for all these rows.
+/// Marks the parts of the cell's box in the strips of all these rows.
 fn put_in_rows(
     lanes: &mut Vec<StripMarks>,
     index: &FrameIndex,
@@ -168,8 +168,8 @@ fn put_in_rows(
     }
 }
 
-/// Takes a cell of this box out of all strips that the box reaches; a cell without a box stays so. Each
-/// strip keeps the room that it has.
+/// Removes the marks of a cell with this box from all strips that the box reaches. A cell without a
+/// box has no marks to remove. Each strip keeps its capacity.
 pub(crate) fn take_out(
     lanes: &mut Vec<StripMarks>,
     index: &FrameIndex,
@@ -188,7 +188,7 @@ pub(crate) fn take_out(
     prune_rows(lanes, index, site, index.rows_near(rect), id, rect);
 }
 
-/// Gives a cell without a box this one: its parts are marked in the strips. It allocates nothing.
+/// Marks this box for a cell that has no box. Does not allocate.
 pub(crate) fn take_in(
     lanes: &mut Vec<StripMarks>,
     index: &FrameIndex,
@@ -209,8 +209,8 @@ pub(crate) fn take_in(
     put_in_rows(lanes, index, site, index.rows_near(rect), id, rect);
 }
 
-/// Makes room for this many more marks in the strips of the cell's team that share a point with its
-/// box, if it has one. Also on `Err` each strip holds what it held.
+/// Makes room for `more` marks in each strip of the cell's team that shares a point with its box,
+/// if it has one. Also on `Err`, each strip keeps its marks.
 fn reserve_box(
     lanes: &mut Vec<StripMarks>,
     index: &FrameIndex,
@@ -231,7 +231,8 @@ fn reserve_box(
     Ok(())
 }
 
-/// The same for the box of each move, as many entries as there are moves.
+/// Makes room for the box of each move, for as many marks as there are moves. Also on `Err`, each
+/// strip keeps its marks.
 pub(crate) fn reserve_moves(
     lanes: &mut Vec<StripMarks>,
     index: &FrameIndex,
@@ -249,7 +250,8 @@ pub(crate) fn reserve_moves(
     Ok(())
 }
 
-/// Makes room for one more mark in each strip of a run. Also on `Err` each strip holds what it held.
+/// Makes room for one more mark in each strip of the range. Also on `Err`, each strip keeps its
+/// marks.
 fn make_room_in_run(lanes: &mut Vec<StripMarks>, near: &StripRange) -> Result<(), AllocError>
     requires within { near.now.end ≤ length lanes.old.items }
     ensures kept { AreKept lanes.old.items lanes.new.items }
@@ -261,9 +263,9 @@ fn make_room_in_run(lanes: &mut Vec<StripMarks>, near: &StripRange) -> Result<()
     Ok(())
 }
 
-/// Marks the parts of the cell's box in the strips of a few rows and the cell's team that it reaches, after
-/// room was made for them. Each row's strips are looked up once: room is made from the last row on, and the
-/// parts are marked from the first on. On `Err` each strip holds what it held.
+/// Makes room for the cell's box in a few rows, then marks its parts in the strips of the cell's
+/// team. Each row's strips are searched once. Room is made from the last row to the first, and
+/// marks are added from the first to the last. On `Err` each strip keeps its marks.
 fn settle_in_few(
     lanes: &mut Vec<StripMarks>,
     index: &FrameIndex,
@@ -292,7 +294,7 @@ fn settle_in_few(
     Ok(())
 }
 
-/// The same for all these rows.
+/// Makes room and marks the cell's box as `settle_in_few` does, in any number of rows.
 fn settle_in_rows(
     lanes: &mut Vec<StripMarks>,
     index: &FrameIndex,
@@ -318,7 +320,8 @@ fn settle_in_rows(
     Ok(())
 }
 
-/// Gives a cell without a box this one, after room was made for it. On `Err` each strip holds what it held.
+/// Makes room for this box of a cell that has no box, then marks it. On `Err` each strip keeps its
+/// marks.
 pub(crate) fn reserve_and_mark(
     lanes: &mut Vec<StripMarks>,
     index: &FrameIndex,

@@ -1,4 +1,4 @@
-//! The cells in the strips of a frame.
+//! The marks of all cells in the strips of a frame.
 
 ghost use Rattle.std.specs.Prelude.{◌≡◌, ◌≢◌, ◌≤ℤ◌, ◌*ℤ◌, [], All, IfOk, IfSome, List, None, OnOk, Option, Some, length, map, pos, slice_index_or, slice_set, ℕ};
 ghost use Rattle.std.specs.Vec.{vec_len};
@@ -22,20 +22,22 @@ use lf_units::{Rect, Span};
 use std::alloc::{AllocError, Global};
 use std::marker::Model;
 
-/// The cells in the strips of a frame: what of the frame is looked up, the width of a core site in
-/// database units, and for each strip, made wider by 16 core sites on its left and right, which of its
-/// team's boxes have a part in it, in the order of the parts' left edges. So what lies near enough to a
-/// strip for some padding is known there.
+/// The cells in the strips of a frame.
 ///
-/// The boxes follow from frame and cells, and are computed where they are asked for (`with_boxes`). A contract
-/// sees what is kept, and says which boxes the strips hold.
+/// It keeps the frame's index and the width of a core site in database units. For each widened
+/// strip it keeps the boxes of its team that have a part in it, by the parts' left edges. So a
+/// strip knows all cells that are near enough to it for some padding.
+///
+/// The boxes follow from frame and cells, and `with_boxes` computes them when they are needed. A
+/// contract sees what is kept, and says which boxes the strips hold.
 pub struct Occupancy {
     pub(crate) index: FrameIndex,
     pub(crate) site: i64,
     pub(crate) lanes: Vec<StripMarks>,
 }
 
-/// (Written out: the proof of a function that lets one go does not take it apart.)
+/// (Written by hand: with a derived `drop`, the proof of every function that drops an occupancy
+/// unfolds its lists.)
 impl Drop for Occupancy {
     fn drop(self) {
         let Occupancy {
@@ -57,9 +59,9 @@ impl Model for Occupancy {
 }
 
 impl Occupancy {
-    /// The occupancy of the frame's strips by the cells at their working places, with the frame's
-    /// look-ups; each cell's macro is one of the frame's and has a whole size. Each strip has room for its
-    /// cells, and little more. `Err` if an allocation fails.
+    /// Marks the cells at their working places in the frame's strips, given the frame's index. Each
+    /// cell's macro is one of the frame's and has a whole size. Each strip has room for its cells,
+    /// and little more. `Err` if an allocation fails.
     pub fn build(
         alloc: Global,
         frame: &Frame,
@@ -78,7 +80,7 @@ impl Occupancy {
         })
     }
 
-    /// What of the frame is looked up.
+    /// The frame's index.
     pub fn index(&self) -> &FrameIndex
         ensures { result.now ≡ self.now.index }
     {
@@ -93,8 +95,8 @@ impl Occupancy {
         16 * self.site
     }
 
-    /// The strips with the boxes of the table's cells at their working places, which are those that the
-    /// strips hold. The macros of the cells are the frame's, of whole size.
+    /// The strips with the boxes of the table's cells at their working places. The strips hold
+    /// exactly these boxes. The macros of the cells are the frame's, of whole size.
     pub fn with_boxes<'a>(&'a self, frame: &'a Frame, cells: &'a CellTable) -> OccupancyView<'a>
         requires sized { HaveSize frame.now cells.now }
         requires holds { MarksBoxes self.now (boxes_in frame.now cells.now) }
@@ -103,11 +105,16 @@ impl Occupancy {
         OccupancyView::new(self, Boxes::new(frame, cells))
     }
 
-    /// The free spans of one strip, that of the segment of that number, in database units: what the
-    /// cells of its team leave of it with the padding around each, one cell left out. A cell of another
-    /// team plays no part, so with such a cell none is left out. None if there is no such segment. The
-    /// list rises; a span that holds a number lies in one of its spans iff it lies in the strip, and none
-    /// of these cells is over it or nearer to it than the padding: a length, from 0 to 16 core sites.
+    /// The free spans of the strip of segment number `segment`, in database units.
+    ///
+    /// They are the parts that the cells of its team leave free with the padding around each,
+    /// except the cell `without`. If `without` is a cell of another team, all cells of the team
+    /// count. The list is empty if there is no such segment.
+    ///
+    /// The list rises. A span that holds a number lies in one of its spans iff it lies in the strip
+    /// and keeps the padding from each cell that counts. The padding is a length from 0 to 16 core
+    /// sites.
+    ///
     /// `Err` if an allocation fails.
     pub fn free_spans(
         &self,
@@ -127,9 +134,9 @@ impl Occupancy {
             .free_spans(alloc, segment, without, padding)
     }
 
-    /// Takes the cell, which has this box, out of the strips; if it has no box, nothing changes: whatever
-    /// boxes the strips held, they hold those with none for the cell. It allocates nothing, and each strip
-    /// keeps the room that it has.
+    /// Removes the marks of the cell, which has this box, from the strips. Nothing changes if it
+    /// has no box. Whatever boxes the strips held, they then hold these boxes without the cell's.
+    /// Does not allocate. Each strip keeps its capacity.
     pub fn remove(&mut self, id: CellId, rect: &Rect)
         requires { CanLeave self.old id rect.now }
         ensures holds { (boxes : List (List (Option Rect))) → IsAt boxes id rect.now → MarksBoxes self.old boxes → MarksBoxes self.new (boxes_set boxes id None) }
@@ -140,10 +147,10 @@ impl Occupancy {
         take_out(&mut self.lanes, &self.index, &self.site, &id, rect);
     }
 
-    /// Gives a cell without a box this one: whatever boxes the strips held, they hold those with this one
-    /// for the cell. The box's left edge is a 32-bit number, as that of a place is. It allocates nothing:
-    /// each strip of its team that, made wider by 16 core sites on its left and right, shares a point with
-    /// the box has room for one more. Each strip keeps the room that it has.
+    /// Marks this box for a cell that has no box. Whatever boxes the strips held, they then hold
+    /// these boxes with this one for the cell. The box's left edge is a 32-bit number, as the x of
+    /// a place is. Each strip of its team that, widened by 16 core sites, shares a point with the
+    /// box must have room for one more. Does not allocate. Each strip keeps its capacity.
     pub fn insert(&mut self, id: CellId, rect: &Rect)
         requires edge { IsPlaceX rect.now.x1 }
         requires enter { CanEnter self.old id rect.now }
@@ -156,11 +163,14 @@ impl Occupancy {
         take_in(&mut self.lanes, &self.index, &self.site, &id, rect);
     }
 
-    /// Makes the room that `insert` needs if the moves are made in their order, each by removing the
-    /// cell's box and inserting its new one, if it has one: for as many more boxes as there are moves, in
-    /// each strip of a cell's team that, made wider by 16 core sites on its left and right, shares a point
-    /// with its box. The strips hold the same boxes, and none has less room. `Err` if an allocation fails:
-    /// then strips may have gained room, and nothing else is changed.
+    /// Makes the room that `insert` needs if the moves are made in their order.
+    ///
+    /// Each move removes the cell's box and inserts its new one, if it has one. A strip of the
+    /// cell's team gets room if it shares a point with the new box when widened by 16 core sites.
+    /// It gets room for as many more boxes as there are moves. The strips hold the same boxes, and
+    /// no strip has less room.
+    ///
+    /// `Err` if an allocation fails: then strips may have gained room, and nothing else is changed.
     pub fn reserve_for(&mut self, moves: &[(CellId, Option<Rect>)]) -> Result<(), AllocError>
         ensures ok { (boxes : List (List (Option Rect))) → MarksBoxes self.old boxes
             → OnOk result (All (λ m. IfSome m.1 (λ rect. HasRoomFor (with_boxes self.new boxes) m.0.team rect (length moves.now))) moves.now) }
@@ -172,9 +182,8 @@ impl Occupancy {
         reserve_moves(&mut self.lanes, &self.index, &self.site, moves)
     }
 
-    /// How many boxes each strip holds. With `reserve_counted` the tally of the boxes that stand becomes that of others.
-    ///
-    /// `Err` if an allocation fails.
+    /// The number of boxes that each strip holds. `reserve_counted` then changes these counts for
+    /// boxes at other places. `Err` if an allocation fails.
     pub fn strip_counts(&self, alloc: Global) -> Result<StripCounts, AllocError>
         ensures is { IfOk result (λ tally. tally ≡ map (λ l. vec_len l.marks) self.now.lanes) }
         ensures room { IfOk result (λ tally. KeepsCapacities tally (capacities_in self.now.lanes)) }
@@ -185,11 +194,14 @@ impl Occupancy {
         Ok(StripCounts { counts })
     }
 
-    /// Counts a box of the team in place of another: if the tally bounds boxes of the team of which one is
-    /// `from`, it bounds those with `to` instead, and what it bounds of other teams it still does. Each strip
-    /// has then room for what is counted; none has less room, and the strips hold the same boxes.
+    /// Counts the box `to` of the team in place of `from`.
     ///
-    /// `Err` if an allocation fails: then the tally counts something else, and strips may have gained room.
+    /// If the counts bound boxes of the team and one of them is `from`, they then bound these boxes
+    /// with `to` instead. Bounds for other teams stay valid. Each strip gets room for what is
+    /// counted. No strip has less room, and the strips hold the same boxes.
+    ///
+    /// `Err` if an allocation fails: then the counts are unspecified, and strips may have gained
+    /// room.
     pub fn reserve_counted(
         &mut self,
         tally: &mut StripCounts,
@@ -229,8 +241,8 @@ impl Occupancy {
         )
     }
 
-    /// A law: the boxes that the strips hold fit, that is, each strip has room for as many of its team's
-    /// boxes as share a point with it, made wider by 16 core sites on its left and right.
+    /// A law: the boxes that the strips hold fit. Each strip, widened by 16 core sites, has room
+    /// for all boxes of its team that share a point with it.
     pub fn boxes_fit(&self)
         ensures { (boxes : List (List (Option Rect))) → MarksBoxes self.now boxes → (team : ℕ) → FitIn (with_boxes self.now boxes) team (slice_index_or boxes team []) }
     {

@@ -1,4 +1,4 @@
-//! The strips of a frame, filled with a table's cells.
+//! The strips of a frame together with the boxes of a table's cells.
 
 ghost use Rattle.std.specs.Prelude.{◌≡◌, ◌≤ℤ◌, IfOk, Option, negsuc, pos};
 ghost use Rattle.lf_occupancy.specs.Occupied.{reach, AreFreeSpans, IsFirstMet, IsFreeInRow, IsPaddingOf};
@@ -13,9 +13,9 @@ use lf_units::{Rect, Span};
 use std::alloc::{AllocError, Global};
 use std::marker::Model;
 
-/// An occupancy together with the boxes that its strips hold. A contract sees what of the frame is looked
-/// up, the width of a core site, for each team the boxes of its cells, and for each strip how many boxes
-/// it has room for.
+/// An occupancy together with the boxes that its strips hold. A contract sees the frame's index,
+/// the width of a core site and the boxes of each team's cells. For each strip it sees how many
+/// boxes it has room for.
 #[derive(Drop)]
 pub struct OccupancyView<'a> {
     occupancy: &'a Occupancy,
@@ -42,7 +42,7 @@ impl<'a> OccupancyView<'a> {
         OccupancyView { occupancy, boxes }
     }
 
-    /// What of the frame is looked up.
+    /// The frame's index.
     pub fn index(&self) -> &FrameIndex
         ensures { result.now ≡ self.now.index }
     {
@@ -57,14 +57,18 @@ impl<'a> OccupancyView<'a> {
         self.occupancy.max_padding()
     }
 
-    /// Within a window, the spans of a row that are free for a cell, which is taken away first:
-    /// of the strips of the row and the cell's team, what the team's other cells leave with the padding
-    /// around each. All lengths are in database units. The list rises; a span that holds a number lies in
-    /// one of its spans iff it lies in the window and in one of these strips, and no other cell of the
-    /// team, wherever it stands, is over it or nearer to it than the padding.
+    /// The spans of a row within a window that are free for a cell, as if the cell itself were
+    /// unplaced.
     ///
-    /// The window begins at -2^62 or above, and the padding, a length, is from 0 to 16 core sites. Only
-    /// what lies near the window is looked at. `Err` if an allocation fails.
+    /// They are the parts of the strips of the row and the cell's team that the other cells of the
+    /// team leave free. Each cell has the padding around it. All lengths are in database units.
+    ///
+    /// The list rises. A span that holds a number lies in one of its spans iff it lies in the
+    /// window and in one strip, and is free. It is free if it keeps the padding from each other
+    /// placed cell of the team.
+    ///
+    /// The window begins at -2^62 or above. The padding is a length from 0 to 16 core sites. Only
+    /// cells near the window are searched. `Err` if an allocation fails.
     pub fn free_in_row(
         &self,
         alloc: Global,
@@ -92,11 +96,16 @@ impl<'a> OccupancyView<'a> {
         )
     }
 
-    /// The free spans of one strip, that of the segment of that number, in database units: what the
-    /// cells of its team leave of it with the padding around each, one cell left out. A cell of another
-    /// team plays no part, so with such a cell none is left out. None if there is no such segment. The
-    /// list rises; a span that holds a number lies in one of its spans iff it lies in the strip, and none
-    /// of these cells is over it or nearer to it than the padding: a length, from 0 to 16 core sites.
+    /// The free spans of the strip of segment number `segment`, in database units.
+    ///
+    /// They are the parts that the cells of its team leave free with the padding around each,
+    /// except the cell `without`. If `without` is a cell of another team, all cells of the team
+    /// count. The list is empty if there is no such segment.
+    ///
+    /// The list rises. A span that holds a number lies in one of its spans iff it lies in the strip
+    /// and keeps the padding from each cell that counts. The padding is a length from 0 to 16 core
+    /// sites.
+    ///
     /// `Err` if an allocation fails.
     pub fn free_spans(
         &self,
@@ -122,9 +131,9 @@ impl<'a> OccupancyView<'a> {
         )
     }
 
-    /// The first of the other cells of the cell's team, by their positions, whose box shares with the
-    /// rectangle a point of one of the team's strips, made wider by 16 core sites on its left and right;
-    /// none if none does. It allocates nothing.
+    /// The least position of another cell of the cell's team whose box overlaps the rectangle in
+    /// one of the team's strips. The strips are widened by 16 core sites on their left and right.
+    /// `None` if there is no such cell. Does not allocate.
     pub fn first_overlapping(&self, id: CellId, rect: &Rect) -> Option<u32>
         ensures { IsFirstMet self.now id rect.now result }
     {

@@ -1,4 +1,4 @@
-//! What is met in strips, and what is free in them.
+//! Finds overlaps and free spans in strips.
 
 ghost use Rattle.std.specs.Prelude.{◌≡◌, ◌++◌, IfOk, None, negsuc, ◌≤ℤ◌, length};
 ghost use Rattle.lf_rules.specs.Padding.{IsShort};
@@ -13,9 +13,8 @@ use lf_segments::FrameIndex;
 use lf_units::{Rect, Span};
 use std::alloc::{AllocError, Global};
 
-/// The least number of a cell, other than this one, of which an entry in a strip of the row and the
-/// cell's team, felt around, shares a point with the rectangle; the number so far if that is less, or
-/// none is met.
+/// The least position of another cell of the team that has an entry in a widened strip of the row
+/// and overlaps the rectangle there. Returns `so_far` if that is less or if there is no such cell.
 fn least_in_row(
     index: &FrameIndex,
     site: &i64,
@@ -47,7 +46,8 @@ fn least_in_row(
     least
 }
 
-/// The same in the strips of all rows: none if none is met.
+/// The least position of an overlapping cell, in the same sense, in the strips of all rows. `None`
+/// if no cell overlaps.
 pub(crate) fn least_met(
     index: &FrameIndex,
     site: &i64,
@@ -69,7 +69,8 @@ pub(crate) fn least_met(
     least
 }
 
-/// The spans of the first list and then those of the second, which becomes the result where the first has none.
+/// The spans of the first list, then those of the second. If the first list is empty, returns the
+/// second one itself.
 fn joined(first: Vec<Span>, second: Vec<Span>) -> Result<Vec<Span>, AllocError>
     ensures { IfOk result (λ all. all.items ≡ first.items ++ second.items) }
 {
@@ -81,8 +82,8 @@ fn joined(first: Vec<Span>, second: Vec<Span>) -> Result<Vec<Span>, AllocError>
     Ok(all)
 }
 
-/// Within a window, the spans of a row's strips that are left free by the cells of the cell's team
-/// other than this one, with the padding around each.
+/// The spans of a row's strips, within a window, that the team's cells other than this one leave
+/// free, with the padding around each.
 pub(crate) fn free_in_strips(
     alloc: Global,
     index: &FrameIndex,
@@ -114,8 +115,8 @@ pub(crate) fn free_in_strips(
     Ok(free)
 }
 
-/// The spans of the strip of that number that the cells of its team leave free with the padding around
-/// each, but for one that is left out; none if there is no such strip.
+/// The spans of the strip with this number that the cells of its team leave free, with the padding
+/// around each, except the cell `without`. Empty if there is no such strip.
 pub(crate) fn free_in_one(
     alloc: Global,
     index: &FrameIndex,

@@ -1,4 +1,4 @@
-//! A count of boxes for each strip, were some cells elsewhere. The strips are felt around here.
+//! Counts boxes for each strip, as if some cells were at other places. All strips here are widened.
 
 ghost use Rattle.std.specs.Prelude.{◌≡◌, ◌+◌, ◌≢◌, ◌≤◌, AllPairs, IfOk, IfSome, OnOk, Some, length, map};
 ghost use Rattle.std.specs.Vec.{vec_capacity, vec_len};
@@ -15,7 +15,7 @@ use lf_units::Rect;
 use std::alloc::{AllocError, Global};
 use std::marker::Model;
 
-/// For each strip of a frame a number of boxes: as many as stand in it, or would stand in it if some cells
+/// For each strip of a frame the number of boxes placed in it, or that would be in it if some cells
 /// were at other places. Contracts see the numbers.
 #[derive(Drop)]
 pub struct StripCounts {
@@ -30,7 +30,7 @@ impl Model for StripCounts {
     ghost view = { λ t. t.counts.items };
 }
 
-/// How many marks each lane has.
+/// The number of marks of each strip.
 pub(crate) fn marks_of(alloc: Global, lanes: &[StripMarks]) -> Result<Vec<usize>, AllocError>
     ensures { IfOk result (λ counts. counts.items ≡ map (λ l. vec_len l.marks) lanes.now) }
 {
@@ -41,7 +41,7 @@ pub(crate) fn marks_of(alloc: Global, lanes: &[StripMarks]) -> Result<Vec<usize>
     Ok(counts)
 }
 
-/// Counts one less where the rectangle shares a point with the area of the strip.
+/// Decreases the count by one if the rectangle shares a point with the area of the strip.
 fn count_less(count: &mut usize, area: &Rect, rect: &Rect)
     ensures { IsLess area.now rect.now count.old count.new }
 {
@@ -50,7 +50,7 @@ fn count_less(count: &mut usize, area: &Rect, rect: &Rect)
     }
 }
 
-/// Counts one less in each strip of a run that shares a point with the rectangle.
+/// Decreases by one the count of each strip of the range that shares a point with the rectangle.
 fn lower_run(
     counts: &mut Vec<usize>,
     index: &FrameIndex,
@@ -68,7 +68,7 @@ fn lower_run(
     }
 }
 
-/// The same in the strips of the team in all these rows.
+/// Decreases counts as `lower_run` does, in the strips of the team in all these rows.
 fn lower_rows(
     counts: &mut Vec<usize>,
     index: &FrameIndex,
@@ -89,7 +89,8 @@ fn lower_rows(
     }
 }
 
-/// Counts one less in each strip of the team that shares a point with the box, if there is one.
+/// Decreases by one the count of each strip of the team that shares a point with the box, if there
+/// is one.
 pub(crate) fn lower(
     counts: &mut Vec<usize>,
     index: &FrameIndex,
@@ -107,9 +108,8 @@ pub(crate) fn lower(
     }
 }
 
-/// Counts one more in a strip, which has then room for what is counted.
-///
-/// `Err` if an allocation fails; the strip holds what it held.
+/// Increases the count of a strip by one, and makes room for what is counted. `Err` if an
+/// allocation fails: the strip then keeps its marks.
 fn count_more(lane: &mut StripMarks, count: &mut usize) -> Result<(), AllocError>
     ensures kept { IsKept lane.old lane.new }
     ensures more { OnOk result (count.new ≡ count.old + 1) }
@@ -125,7 +125,7 @@ fn count_more(lane: &mut StripMarks, count: &mut usize) -> Result<(), AllocError
     Ok(())
 }
 
-/// Counts one more in each strip of a run.
+/// Increases by one the count of each strip of the range.
 fn raise_run(
     lanes: &mut Vec<StripMarks>,
     counts: &mut Vec<usize>,
@@ -143,7 +143,7 @@ fn raise_run(
     Ok(())
 }
 
-/// Counts one more in each strip of the team that shares a point with the rectangle.
+/// Increases by one the count of each strip of the team that shares a point with the rectangle.
 fn raise_rows(
     lanes: &mut Vec<StripMarks>,
     counts: &mut Vec<usize>,
@@ -168,7 +168,7 @@ fn raise_rows(
     Ok(())
 }
 
-/// The same with the box, if there is one.
+/// Increases counts as `raise_rows` does for the box, if there is one.
 pub(crate) fn raise(
     lanes: &mut Vec<StripMarks>,
     counts: &mut Vec<usize>,
@@ -190,14 +190,14 @@ pub(crate) fn raise(
     }
 }
 
-/// A box of a cell, and the one in its place.
+/// An old box of a cell and its new box.
 #[derive(Clone, Copy)]
 pub(crate) struct BoxChange {
     from: Rect,
     to: Rect,
 }
 
-/// The boxes, if there are both and no row lies between them.
+/// The change of box, if both boxes exist and no row lies between them.
 pub(crate) fn near_shift(from: &Option<Rect>, to: &Option<Rect>) -> Option<BoxChange>
     ensures { IfSome result (λ shift. IsShiftOf from.now to.now shift) }
 {
@@ -224,9 +224,8 @@ fn hull_of(shift: &BoxChange) -> Rect
     }
 }
 
-/// Counts in a strip of that area one box in place of the other; it has then room for what is counted.
-///
-/// `Err` if an allocation fails; the strip holds what it held.
+/// Counts the new box in place of the old one in a strip with this area, and makes room for what is
+/// counted. `Err` if an allocation fails: the strip then keeps its marks.
 fn count_shift(
     lane: &mut StripMarks,
     count: &mut usize,
@@ -248,7 +247,7 @@ fn count_shift(
     Ok(())
 }
 
-/// The same in each strip of a run.
+/// Counts the new box in place of the old one in each strip of the range.
 fn shift_run(
     lanes: &mut Vec<StripMarks>,
     counts: &mut Vec<usize>,
@@ -273,8 +272,8 @@ fn shift_run(
     Ok(())
 }
 
-/// Counts one box in place of the other in the strips of the team. Each strip is looked up once, and most
-/// cells stay in theirs.
+/// Counts the new box in place of the old one in the strips of the team. Each strip is visited
+/// once, because most cells stay in their strips.
 pub(crate) fn shift_rows(
     lanes: &mut Vec<StripMarks>,
     counts: &mut Vec<usize>,

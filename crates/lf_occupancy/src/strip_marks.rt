@@ -1,4 +1,4 @@
-//! The entries of one strip.
+//! The marks of one strip, and the entries that they describe.
 
 ghost use Rattle.std.specs.Prelude.{[], All, List, Option, ◌≡◌, ◌↔◌, ◌<◌, ◌≤◌, ◌≤ℤ◌, ◌<ℤ◌, ◌+◌, ◌+ℤ◌, ◌-ℤ◌, ◌*ℤ◌, ℕ, IfOk, IsTrue, MatchOption, OnOk, insert, length, negsuc, pos, slice_index_or};
 ghost use Rattle.std.specs.Vec.{vec_capacity, vec_len};
@@ -18,8 +18,8 @@ use lf_spans::{Span, free_in};
 use lf_units::Rect;
 use std::alloc::{AllocError, Global};
 
-/// The part of a strip, felt around, where the box of a cell lies, in database units. A point lies in
-/// it.
+/// The part of a widened strip that the box of a cell covers, in database units. It has at least
+/// one point.
 #[derive(Clone, Copy, Debug, PartialEq, Eq)]
 pub(crate) struct Entry {
     /// The position of the cell among its team's cells.
@@ -27,9 +27,9 @@ pub(crate) struct Entry {
     pub(crate) area: Rect,
 }
 
-/// What is kept of an entry: the cell's position among its team's cells, and the entry's left edge and
-/// width, in database units; of a width of 2^32 - 1 or more that number. The rest of it follows from the
-/// cell's box.
+/// What is kept of an entry: the cell's position among its team's cells, and the entry's left edge
+/// and width in database units. A width of 2^32 - 1 or more is kept as 2^32 - 1. The remaining
+/// edges follow from the cell's box.
 #[derive(Clone, Copy, Debug, PartialEq, Eq)]
 pub(crate) struct Mark {
     pub(crate) own: u32,
@@ -37,8 +37,8 @@ pub(crate) struct Mark {
     pub(crate) width: u32,
 }
 
-/// The marks of the entries of one strip, felt around, in the order of their left edges, and a width
-/// that no entry exceeds, in database units.
+/// The marks of one widened strip in the order of their left edges, and a bound on the width of its
+/// entries, in database units.
 #[derive(Drop)]
 pub(crate) struct StripMarks {
     pub(crate) marks: Vec<Mark>,
@@ -77,7 +77,7 @@ pub(crate) fn has_points(rect: &Rect) -> bool
     rect.y1 < rect.y2
 }
 
-/// The box; a rectangle without points if there is none.
+/// The box. If there is no box, a rectangle without points.
 fn box_or_none(found: &Option<Rect>) -> Rect
     ensures { result ≡ some_box found.now }
 {
@@ -92,7 +92,7 @@ fn box_or_none(found: &Option<Rect>) -> Rect
     }
 }
 
-/// The entry of a cell of this box in a strip of that area.
+/// The entry of a cell with this box in a strip with this area.
 fn entry_of(area: &Rect, found: &Option<Rect>, own: u32) -> Entry
     ensures { result ≡ entry_of_box area.now found.now own }
 {
@@ -102,7 +102,7 @@ fn entry_of(area: &Rect, found: &Option<Rect>, own: u32) -> Entry
     }
 }
 
-/// The entry that is marked in a strip of the team, of that area.
+/// The entry of a mark, in a strip of the team with this area.
 fn entry_at(boxes: &Boxes<'_>, team: u32, area: &Rect, mark: &Mark) -> Entry
     ensures { result ≡ entry_in (slice_index_or boxes.now team []) area.now mark.now }
 {
@@ -113,15 +113,15 @@ fn entry_at(boxes: &Boxes<'_>, team: u32, area: &Rect, mark: &Mark) -> Entry
     entry_of(area, &boxes.get(&id), mark.own)
 }
 
-/// The same, of a team of that number.
+/// The entry of a mark, in a strip of the team of this number.
 fn entry_of_team(boxes: &Boxes<'_>, team: usize, area: &Rect, mark: &Mark) -> Entry
     ensures { result ≡ entry_in (slice_index_or boxes.now team []) area.now mark.now }
 {
     entry_of(area, &boxes.get_in(team, mark.own), mark.own)
 }
 
-/// The x range of the entry that is marked in a strip of the team, of that area. The cell is asked only
-/// where its mark does not tell the width.
+/// The x range of the entry of a mark, in a strip of the team with this area. It computes the
+/// cell's box only if the mark does not contain the width.
 fn range_at(boxes: &Boxes<'_>, team: usize, area: &Rect, mark: &Mark) -> Span
     requires { MarkIsOf (entry_in (slice_index_or boxes.now team []) area.now mark.now) mark.now }
     ensures { result ≡ x_range (entry_in (slice_index_or boxes.now team []) area.now mark.now).area }
@@ -136,14 +136,15 @@ fn range_at(boxes: &Boxes<'_>, team: usize, area: &Rect, mark: &Mark) -> Span
     }
 }
 
-/// Whether the mark lies farther right.
+/// Whether the mark begins to the right of `left`.
 fn is_beyond(mark: &Mark, left: &i64) -> bool
     ensures { IsTrue result ↔ (left.now <ℤ mark.now.left) }
 {
     i64::from(mark.left) > *left
 }
 
-/// How many of the marks are before x. They are found at one look where all are, and else by bisection.
+/// The number of marks whose left edge is below x. One comparison suffices if all are below x.
+/// Otherwise they are found by binary search.
 pub(crate) fn count_before(marks: &[Mark], x: &i64) -> usize
     requires { AreRising marks.now }
     ensures within { result ≤ length marks.now }
@@ -157,7 +158,7 @@ pub(crate) fn count_before(marks: &[Mark], x: &i64) -> usize
     marks.partition_point(|mark| i64::from(mark.left) < *x)
 }
 
-/// The marks of the entries that lie near a range of x. They are found by bisection.
+/// The marks of the entries near a range of x. They are found by binary search.
 pub(crate) fn near_marks<'a>(lane: &'a StripMarks, lo: &i64, hi: &i64) -> &'a [Mark]
     requires rising { AreRising lane.now.marks.items }
     requires some { pos 0 ≤ℤ lane.now.widest }
@@ -173,15 +174,15 @@ pub(crate) fn near_marks<'a>(lane: &'a StripMarks, lo: &i64, hi: &i64) -> &'a [M
     &rest[..count_before(rest, hi)]
 }
 
-/// Whether no number lies in the range and in the x range of the rectangle.
+/// Whether the range and the x range of the rectangle have no number in common.
 fn lies_beside(range: &Span, rect: &Rect) -> bool
     ensures { IsTrue result ↔ LiesBeside range.now rect.now }
 {
     range.hi <= rect.x1 || rect.x2 <= range.lo
 }
 
-/// The number of the cell if it is the lesser one, is not `but`, and its entry shares a point with
-/// the rectangle; else the number so far.
+/// The cell's position if it is less than `so_far`, is not `but`, and its entry shares a point with
+/// the rectangle. Otherwise `so_far`.
 fn lesser(
     boxes: &Boxes<'_>,
     team: u32,
@@ -211,7 +212,7 @@ fn lesser(
     }
 }
 
-/// The same over each of the marks, one after another.
+/// The least such position over all these marks.
 fn least_in(
     boxes: &Boxes<'_>,
     team: u32,
@@ -231,8 +232,8 @@ fn least_in(
     least
 }
 
-/// The same over the marks of the lane of a strip of that area. Only those near the rectangle are looked
-/// at.
+/// The least such position over the marks of a strip with this area. Only the marks near the
+/// rectangle are visited.
 pub(crate) fn least_in_lane(
     boxes: &Boxes<'_>,
     team: u32,
@@ -251,7 +252,7 @@ pub(crate) fn least_in_lane(
     least_in(boxes, team, area, near, rect, but, so_far)
 }
 
-/// The range made wider by the padding on its left and on its right.
+/// The range widened by the padding on its left and on its right.
 fn padded_range(range: &Span, padding: &i64) -> Span
     requires short { IsShort padding.now }
     requires low { negsuc 4611686018427387903 ≤ℤ range.now.lo }
@@ -264,8 +265,8 @@ fn padded_range(range: &Span, padding: &i64) -> Span
     }
 }
 
-/// The x ranges of the entries that are marked in a strip of the team, of that area, each made wider by
-/// the padding.
+/// The x ranges of the entries of the marks, each widened by the padding. The marks are in a strip
+/// of the team with this area.
 fn padded_of(
     alloc: Global,
     boxes: &Boxes<'_>,
@@ -287,8 +288,8 @@ fn padded_of(
     Ok(list)
 }
 
-/// The spans of a range that the entries of other cells than this one leave free, with the padding around each; they are marked in
-/// a strip of that area, from left to right.
+/// The spans of a range that the entries of all cells except this one leave free, with the padding
+/// around each. The marks are in a strip with this area, from left to right.
 fn free_beside(
     alloc: Global,
     boxes: &Boxes<'_>,
@@ -322,7 +323,7 @@ fn free_beside(
     Ok(free)
 }
 
-/// A width that no entry of the lane exceeds that is made wider by the padding.
+/// A bound on the width of the strip's entries, each widened by the padding.
 fn widest_padded(lane: &StripMarks, padding: &i64) -> i64
     requires some { pos 0 ≤ℤ lane.now.widest }
     requires most { lane.now.widest ≤ℤ pos 1099511627776 }
@@ -332,8 +333,9 @@ fn widest_padded(lane: &StripMarks, padding: &i64) -> i64
     lane.widest + 2 * *padding
 }
 
-/// Within a window, the spans of a strip that other cells of its team than this one leave free, with the
-/// padding around each; the strip has that area, felt around. Only marks near the window are looked at.
+/// The spans of a strip, within a window, that the team's cells other than this one leave free,
+/// with the padding around each. The widened strip has this area. Only the marks near the window
+/// are visited.
 pub(crate) fn free_in_lane(
     alloc: Global,
     boxes: &Boxes<'_>,
@@ -361,8 +363,8 @@ pub(crate) fn free_in_lane(
     free_beside(alloc, boxes, id, area, near, padding, &range)
 }
 
-/// The spans of a strip that its team's cells leave free, with the padding around each; the strip has
-/// that area, felt around.
+/// The spans of a strip that its team's cells leave free, with the padding around each. The widened
+/// strip has this area.
 pub(crate) fn free_of_all(
     alloc: Global,
     boxes: &Boxes<'_>,
@@ -389,8 +391,8 @@ pub(crate) fn free_of_all(
     )
 }
 
-/// The position of the cell's mark, which is at `left` if there is one, among those from a position on;
-/// none if it has none there. Marks farther right are not looked at.
+/// The position of the cell's mark among the marks from position `from` on. If present it is at
+/// `left`. `None` if the cell has no mark there. Marks farther right are not visited.
 fn place_from(marks: &[Mark], own: u32, from: usize, left: &i64) -> Option<usize>
     requires bound { from ≤ length marks.now }
     requires order { AreRising marks.now }
@@ -408,7 +410,7 @@ fn place_from(marks: &[Mark], own: u32, from: usize, left: &i64) -> Option<usize
     None
 }
 
-/// Takes the cell's mark out, which is at `left` if there is one. It is found by bisection.
+/// Removes the cell's mark. If present it is at `left`; found by binary search.
 pub(crate) fn unmark(lane: &mut StripMarks, own: u32, left: &i64)
     requires { HasAtMostOne own left.now lane.old }
     ensures { IsUnmarked own lane.old lane.new }
@@ -419,8 +421,8 @@ pub(crate) fn unmark(lane: &mut StripMarks, own: u32, left: &i64)
     }
 }
 
-/// Makes room for this many more marks, where there is none for a quarter more than there are, but for two
-/// at least: lanes are many, and doubling each would cost too much.
+/// Makes room for `more` marks. If there is not enough, it adds room for a quarter of the present
+/// marks, and for two at least. There are many strips, so doubling each would cost too much memory.
 pub(crate) fn make_room(lane: &mut StripMarks, more: usize) -> Result<(), AllocError>
     ensures kept { IsKept lane.old lane.new }
     ensures ok { OnOk result (HasRoomOf more lane.new) }
@@ -432,7 +434,7 @@ pub(crate) fn make_room(lane: &mut StripMarks, more: usize) -> Result<(), AllocE
     marks.reserve_exact(more.max(marks.len() / 4).max(2))
 }
 
-/// Inserts the mark at that position. It allocates nothing.
+/// Inserts the mark at position `at`. Does not allocate.
 fn insert_at(marks: &mut Vec<Mark>, at: usize, mark: &Mark)
     requires bound { at ≤ vec_len marks.old }
     requires room { vec_len marks.old < vec_capacity marks.old }
@@ -449,7 +451,7 @@ fn insert_at(marks: &mut Vec<Mark>, at: usize, mark: &Mark)
     }
 }
 
-/// Inserts the mark of an entry of that area at its place in the order. It allocates nothing.
+/// Inserts the mark of an entry with this area at its place in the order. Does not allocate.
 fn join(lane: &mut StripMarks, mark: &Mark, area: &Rect)
     requires order { AreRising lane.old.marks.items }
     requires left { negsuc 549755813887 ≤ℤ area.now.x1 }
@@ -463,7 +465,7 @@ fn join(lane: &mut StripMarks, mark: &Mark, area: &Rect)
     insert_at(&mut lane.marks, at, mark);
 }
 
-/// The width of the part as a mark keeps it: one of 2^32 - 1 or more as that number.
+/// The width of the part as a mark keeps it. A width of 2^32 - 1 or more is kept as 2^32 - 1.
 fn kept_width(part: &Rect) -> u32
     requires left { IsPlaceX part.now.x1 }
     requires right { part.now.x2 ≤ℤ pos 549755813888 }
@@ -492,8 +494,8 @@ fn mark_of(own: u32, part: &Rect) -> Mark
     }
 }
 
-/// Marks the part of the cell's box that lies in the strip's area, if there is one. It allocates
-/// nothing.
+/// Marks the part of the cell's box that lies in the strip's area, if there is one. Does not
+/// allocate.
 pub(crate) fn put_in(lane: &mut StripMarks, area: &Rect, own: u32, rect: &Rect)
     requires order { AreRising lane.old.marks.items }
     requires within { IsNearZero area.now }

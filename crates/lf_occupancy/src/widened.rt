@@ -1,4 +1,4 @@
-//! The strips of a frame felt 16 core sites around, which is as far as a padding reaches.
+//! The strips of a frame, widened by 16 core sites, the greatest padding.
 
 ghost use Rattle.std.specs.Prelude.{◌≡◌, ◌<◌, ◌*ℤ◌, length, pos, slice_index_or};
 ghost use Rattle.lf_segments.specs.declared.strip.Strip.{Strip};
@@ -11,7 +11,7 @@ use lf_rules::widen;
 use lf_segments::{FrameIndex, StripRange};
 use lf_units::Rect;
 
-/// Farther from 0 along x than any strip lies that is felt around.
+/// A bound: no widened strip lies farther from 0 along x.
 const FAR: i64 = 1_099_511_627_776;
 
 /// The greatest padding as a length, in database units: 16 core sites of this width.
@@ -23,8 +23,8 @@ pub(crate) fn reach_of(site: &i64) -> i64
     16 * *site
 }
 
-/// The numbers of the strips of a row and a team that, felt around, overlap the x range of the
-/// rectangle.
+/// The team's strips in this row which, widened by the greatest padding, overlap the rectangle in
+/// x.
 pub(crate) fn widened_strips(
     index: &FrameIndex,
     site: &i64,
@@ -42,7 +42,7 @@ pub(crate) fn widened_strips(
     index.strips_overlapping(row, team, &lo, &hi)
 }
 
-/// The area of the strip of that number, felt around.
+/// The area of the strip with this number, widened.
 pub(crate) fn widened_area(index: &FrameIndex, site: &i64, number: usize) -> Rect
     requires site { IsSite site.now }
     requires within { number < length (widened_strips site.now index.now.strips) }

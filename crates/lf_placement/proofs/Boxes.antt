@@ -1,4 +1,4 @@
--- Cells that are taken out of the strips and put back, by their boxes.
+-- Cells that are removed from the strips and inserted again, by their boxes.
 use Rattle.std.proofs.Common.{◌≡◌, ◌≢◌, ◌⊎◌, inl, inr, ⊎_elim, ◌<◌, ◌≤◌, ℕ, zero, suc, ◌+◌, List, [], ◌∷◌, map, length, set, get_or, Option, Some, None, refl, ap, sym, subst, ◌∙◌, arith, below_more}
 use Rattle.std.specs.Prelude.{slice_get, option_map}
 use Rattle.std.proofs.lemmas.Bool.{cases_eq}
@@ -44,7 +44,7 @@ there_still (b ∷ bs) zero (suc k) x differ = refl
 there_still (b ∷ bs) (suc own) zero x differ = refl
 there_still (b ∷ bs) (suc own) (suc k) x differ = there_still bs own k x (λ same. differ (ap suc same))
 
--- the box of one list, put into another of the same length
+-- the box of one list, written into another of the same length
 box_here : (bs whole : Boxes) (own : ℕ) → length bs ≡ length whole → cell_box (set bs own (cell_box whole own)) own ≡ cell_box whole own
 box_here [] [] own many = refl
 box_here [] (w ∷ whole) own many = absurd (omega (arith, many))
@@ -84,7 +84,7 @@ no_cell cells team own none = none_past cells own (go (slice_get cells own) none
 
 -- ---- one box of an occupancy
 
--- what is written to the list of one number stands there; a number past the end has no list
+-- a box written to the list of one team is in that list; a team past the end has no list
 set_here : (rows : List Boxes) (k own : ℕ) (x : Option Rect) → get_or (set rows k (set (get_or rows k []) own x)) k [] ≡ set (get_or rows k []) own x
 set_here [] zero own x = refl
 set_here [] (suc k) own x = refl
@@ -119,14 +119,14 @@ keeps_through team a b c first second = record {
   rooms = second.rooms ∙ first.rooms;
 }
 
--- there is no cell there
+-- there is no cell at this position
 pub none_put : (team own : ℕ) (cells : List Cell) (x : Option Rect) (o : Occupied) → length (boxes_of o team) ≡ length cells → id_in cells team own ≡ None
     → boxes_of o team ≡ set (boxes_of o team) own x
 none_put team own cells x o many none =
     let past = no_cell cells team own none in
     sym (set_past (boxes_of o team) own x (omega (arith, many, past)))
 
--- ---- cells are taken out, one after the other
+-- ---- cells removed one after the other
 
 pub out_next : (team : ℕ) (named : List ℕ) (n own : ℕ) (a b c : Occupied) → own ≡ get_or named n 0
     → boxes_of c team ≡ set (boxes_of b team) own None → KeepsStrips team b c → RemovesFirst team named n a b → RemovesFirst team named (n + 1) a c
@@ -150,14 +150,14 @@ out_next team named n own a b c is put kept out = record { each = each; rest = k
   each : (k : ℕ) → IsRemovedOrUnchanged named (n + 1) (boxes_of a team) (boxes_of c team) k
   each k = ⊎_elim (λ (same : k ≡ own). same_at k same) (λ (differ : k ≢ own). step k differ (out.each k)) (cases_eq k own)
 
--- ---- cells are put where they are to stand, one after the other
+-- ---- cells inserted one after the other
 
 pub fits_still : (team : ℕ) (boxes : Boxes) (a b : Occupied) → a.index ≡ b.index → a.site ≡ b.site → a.rooms ≡ b.rooms → FitIn b team boxes
     → FitIn a team boxes
 fits_still team boxes a b index site rooms fits =
     λ n g there of_team. rw (rooms, site) (fits n g (subst (λ (looked : FrameIndexView). slice_get looked.strips n ≡ Some g) index there) of_team)
 
--- a cell is out
+-- a cell is removed
 pub may_without : (team own : ℕ) (boxes : Boxes) (a b : Occupied) → boxes_of b team ≡ set (boxes_of a team) own None → KeepsStrips team a b
     → BoxesMayBeInserted team boxes a → BoxesMayBeInserted team boxes b
 may_without team own boxes a b put kept may = record {
@@ -167,7 +167,7 @@ may_without team own boxes a b put kept may = record {
   fits = fits_still team boxes b a kept.index kept.site kept.rooms may.fits;
 }
 
--- a cell stands
+-- a cell is inserted
 may_with : (team own : ℕ) (boxes : Boxes) (a b : Occupied) → boxes_of b team ≡ set (boxes_of a team) own (cell_box boxes own) → KeepsStrips team a b
     → BoxesMayBeInserted team boxes a → BoxesMayBeInserted team boxes b
 may_with team own boxes a b put kept may = record {
@@ -177,7 +177,7 @@ may_with team own boxes a b put kept may = record {
   fits = fits_still team boxes b a kept.index kept.site kept.rooms may.fits;
 }
 
--- the cell of this box is one of those of the occupancy
+-- the cell with this box is one of the cells of the occupancy
 pub has_cell : (id : CellId) (boxes : Boxes) (o : Occupied) (r : Rect) → length (boxes_of o id.team) ≡ length boxes → cell_box boxes id.own ≡ Some r → HasCell o.boxes id
 has_cell id boxes o r many is =
     let own = box_within boxes id.own r is in
@@ -189,7 +189,7 @@ has_cell id boxes o r many is =
     row_there (r ∷ rows) zero within = omega arith
     row_there (r ∷ rows) (suc k) within = let h = row_there rows k within in omega (arith, h)
 
--- and there is room for it
+-- there is room for it
 pub has_room : (id : CellId) (boxes : Boxes) (o : Occupied) (r : Rect) → BoxesMayBeInserted id.team boxes o → box_at o id.team id.own ≡ None
     → cell_box boxes id.own ≡ Some r → HasRoomFor o id.team r 1
 has_room id boxes o r may nowhere is = λ n g there of_team shares.
@@ -200,7 +200,7 @@ has_room id boxes o r may nowhere is = λ n g there of_team shares.
 pub nowhere_now : (id : CellId) (a b : Occupied) → b.boxes ≡ boxes_with a id None → box_at b id.team id.own ≡ None
 nowhere_now id a b is = rw (box_put id None a b is) (none_here (boxes_of a id.team) id.own)
 
--- so far these stand, and what the rest does not name
+-- the cells that the remaining moves do not name have their boxes
 pub record AreStanding (f : Frame) (cells : Cells) (team : ℕ) (named : List ℕ) (n : ℕ) (o : Occupied) : Type 0 where
   pub may : BoxesMayBeInserted team (working_boxes f cells team) o
   pub rest : (own : ℕ) → ((k : ℕ) → n ≤ k → k < length named → get_or named k 0 ≢ own) → cell_box (boxes_of o team) own ≡ cell_box (working_boxes f cells team) own

@@ -1,4 +1,5 @@
--- A change of a team: its cells are taken out, moved in the table, and put back.
+-- A change of a team: its cells are removed from the strips, moved in the table, and inserted
+-- again.
 use Rattle.std.proofs.Common.{◌≡◌, ◌≢◌, ◌⊎◌, inl, inr, ◌<◌, ℕ, zero, suc, List, [], ◌∷◌, map, length, get_or, drop, Option, None, refl, ap, sym, subst, ◌∙◌, arith}
 use Rattle.std.specs.Prelude.{All, slice_get, option_and_then}
 use Rattle.std.specs.Option.{option_map}
@@ -70,7 +71,7 @@ sized_made f moves old new is sized = sized_in f old new (rw is (macs_same old (
 pub sized_back : (f : Frame) (moves : List Move) (old new : List Cell) → new ≡ moves_reverted moves old → All (λ c. IsSizedCell f c) old → All (λ c. IsSizedCell f c) new
 sized_back f moves old new is sized = sized_in f old new (rw is (macs_same old (moves_reverted moves old) (same_back moves old))) sized
 
--- the boxes at places depend on macros alone
+-- the boxes at places depend only on macros
 pub boxes_alike_at : (f : Frame) (old new : List Cell) (places : Places) → macs new ≡ macs old → boxes_at f new places ≡ boxes_at f old places
 boxes_alike_at f [] [] places same = refl
 boxes_alike_at f [] (c ∷ cs) places same = absurd cc
@@ -115,7 +116,7 @@ box_at_number f [] k = refl
 box_at_number f (c ∷ cs) zero = refl
 box_at_number f (c ∷ cs) (suc k) = box_at_number f cs k
 
--- the cells that are not named stay
+-- the cells that are not named are unchanged
 abbrev pub OthersStay : List ℕ → List Cell → List Cell → Type 0
 OthersStay named old new = (k : ℕ) → DoNotMove named (length named) k → slice_get new k ≡ slice_get old k
 
@@ -125,7 +126,7 @@ others_made moves old new is = λ k never. rw is (made_other moves old k never)
 pub others_back : (moves : List Move) (old new : List Cell) → new ≡ moves_reverted moves old → OthersStay (moved_positions moves) old new
 others_back moves old new is = λ k never. rw is (back_other moves old k never)
 
--- ---- all are out
+-- ---- all are removed
 
 module _ (f : Frame) (team : ℕ) (named : List ℕ) (count : ℕ) (old new : List Cell) (a b : Occupied) (whole : count ≡ length named)
     (held : boxes_of a team ≡ map (box_of f) old) (stay : OthersStay named old new) (out : RemovesFirst team named count a b) where
@@ -157,7 +158,7 @@ module _ (f : Frame) (team : ℕ) (named : List ℕ) (count : ℕ) (old new : Li
   pub stand_but : AreInsertedExcept team (map (box_of f) new) named b
   stand_but = λ k never. rest k (subst (λ (n : ℕ). DoNotMove named n k) (sym whole) never) (out.each k)
 
--- what was taken out stands nowhere
+-- a removed cell has no box
 pub all_out : (team : ℕ) (named : List ℕ) (count : ℕ) (a b : Occupied) → count ≡ length named → RemovesFirst team named count a b → AreRemoved team named b
 all_out team named count a b whole out = λ k less. gone k less (out.each (get_or named k 0))
   where
@@ -166,7 +167,7 @@ all_out team named count a b whole out = λ k less. gone k less (out.each (get_o
     gone k less (inl (was, none)) = none
     gone k less (inr (never, as_before)) = absurd (never k (omega (arith, less, whole)) refl)
 
--- ---- of the moves from one on
+-- ---- the moves from one on
 
 pub owns_count : (moves : List Move) → length moves ≡ length (moved_positions moves)
 owns_count moves = sym (length-map moves (λ (m : Move). m.own))

@@ -1,4 +1,4 @@
--- Room that is made for the boxes of moves is room for the cells at the moves' places.
+-- Room for the boxes of moves is room for the cells at the moves' places.
 use Rattle.std.proofs.Common.{◌≡◌, ◌⊎◌, inl, inr, ◌<◌, ◌≤◌, ℕ, zero, suc, ◌+◌, List, [], ◌∷◌, map, length, set, get_or, Bool, true, false, cond, Option, Some, None, refl, ap, sym, subst, ◌∙◌, arith}
 use Rattle.std.specs.Prelude.{All, Contains, IfSome, slice_get, option_map, unwrap_or}
 use Rattle.std.proofs.lemmas.List.{length-map}
@@ -20,7 +20,7 @@ use Rattle.lf_placement.specs.Steps.{requested_box, box_moved}
 one_more : (g : Strip) (b : Option Rect) (bs : List (Option Rect)) → count_in g (b ∷ bs) ≡ cond (meets g b) 1 0 + count_in g bs
 one_more g b bs = sum_by-cons (λ c. cond (meets g c) 1 0) b bs
 
--- a box that does not meet the strip counts no more than the one that it replaces
+-- a box that does not share a point with the strip counts no more than the one that it replaces
 set_no_more : (g : Strip) (bs : List (Option Rect)) (own : ℕ) (b : Option Rect) → meets g b ≡ false → count_in g (set bs own b) ≤ count_in g bs
 set_no_more g [] own b apart = omega arith
 set_no_more g (x ∷ bs) zero b apart =
@@ -40,7 +40,7 @@ boxes_moved f [] own place = refl
 boxes_moved f (c ∷ cs) zero place = refl
 boxes_moved f (c ∷ cs) (suc own) place = ap (λ (r : List (Option Rect)). box_of f c ∷ r) (boxes_moved f cs own place)
 
--- a cell has the same box at a place, whatever cell moved before
+-- a cell has the same box at a place, whatever cell moved earlier
 box_still : (f : Frame) (cells : List Cell) (own k : ℕ) (place to : Option Place)
     → box_moved f (slice_get (moved cells own place) k) to ≡ box_moved f (slice_get cells k) to
 box_still f [] own k place to = refl
@@ -49,7 +49,7 @@ box_still f (c ∷ cs) zero (suc k) place to = refl
 box_still f (c ∷ cs) (suc own) zero place to = refl
 box_still f (c ∷ cs) (suc own) (suc k) place to = box_still f cs own k place to
 
--- each move makes it one more at most
+-- each move increases the count by at most one
 count_made : (g : Strip) (f : Frame) (moves : List Move) (cells : List Cell)
     → count_in g (map (box_of f) (moves_applied moves cells)) ≤ count_in g (map (box_of f) cells) + length moves
 count_made g f [] cells = omega arith
@@ -59,13 +59,13 @@ count_made g f (m ∷ ms) cells =
     let one = set_is_one_more g (map (box_of f) cells) m.own (box_moved f (slice_get cells m.own) m.old) in
     omega (arith, rest, is, one)
 
--- one of the moves has a box that meets the strip
+-- one of the moves has a box that shares a point with the strip
 record Meets (g : Strip) (f : Frame) (moves : List Move) (cells : List Cell) : Type 0 where
   move : Move
   among : Contains moves move
   yes : meets g (box_moved f (slice_get cells move.own) move.old) ≡ true
 
--- else it is no more
+-- otherwise the count does not increase
 meets_or_not : (g : Strip) (f : Frame) (moves : List Move) (cells : List Cell)
     → Meets g f moves cells ⊎ (count_in g (map (box_of f) (moves_applied moves cells)) ≤ count_in g (map (box_of f) cells))
 meets_or_not g f [] cells = inr (omega arith)
@@ -97,7 +97,7 @@ map_at f (x ∷ xs) (suc i) d e within = map_at f xs i d e (omega (arith, within
 abbrev no_id : CellId
 no_id = record { team = 0; own = 0 }
 
--- the room that was made for a box that meets the strip
+-- the room made for a box that shares a point with the strip
 room_there : (g : Strip) (f : Frame) (team own more n : ℕ) (o : Occupied) (c : Option Cell) (place : Option Place) → slice_get o.index.strips n ≡ Some g
     → g.team ≡ team → meets (widened (reach o) g) (box_moved f c place) ≡ true
     → IfSome (box_moved f c place) (λ r. HasRoomFor o (unwrap_or (option_map (λ (x : Cell). id_of team own) c) no_id).team r more)

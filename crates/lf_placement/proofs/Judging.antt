@@ -1,4 +1,4 @@
--- What the tests of a cell at a place say of it.
+-- What the tests of a cell at a place say about it.
 use Rattle.std.proofs.Common.{◌≡◌, ◌≤◌, ℕ, zero, suc, [], ◌∷◌, List, get_or, map, Option, Some, None, refl, ap, subst, ◌∙◌}
 use Rattle.std.specs.Prelude.{All, MatchOption, slice_get}
 use Rattle.std.specs.Option.{option_map}
@@ -40,7 +40,7 @@ no_rule = None
 abbrev no_broken : Option Broken
 no_broken = None
 
--- a rule but overlap that is broken alone is the first that is broken
+-- a broken rule except overlap is the first that is broken
 alone_is_first : (p : Placing) (padding : ℕ) (id : CellId) (place : Place) (rule : Rule) (o : Option Cell)
     → MatchOption o (Some rule ≡ no_rule)
     (λ c. (sites : ℕ) (others : List Placed) → IsFrameRuleVerdict (candidate_of p.frame id.team sites (macro_of p.frame c.mac) place others) (Some rule))
@@ -73,7 +73,7 @@ macro_sized f cells own c sized there =
     subst (λ (d : Cell). IsSizedCell f d) (get_or_from_slice_get cells own c c there) (sized own c (slice_get_within cells own c there)) in
     whole.sized
 
--- where they hold, the cell that is met in the strips decides
+-- if the rules hold, the overlapping cell found in the strips decides
 pub met_at : (p : Placing) (padding : ℕ) (id : CellId) (place : Place) (standing : CellPlacement) (mac : Macro) (rect : Rect) (met : Option ℕ)
     → All (λ d. IsSizedCell p.frame d) (cells_of p.cells id.team) → IsOccupancyOf p.frame p.cells p.held → WidenedStripsCover → padding ≤ 16
     → Some standing ≡ option_map placement_of (cell_at p.cells id) → mac ≡ get_or p.frame.macros standing.mac mac
@@ -97,7 +97,7 @@ met_at p padding id place standing mac rect met sized follows feel few stands is
         (macro_sized p.frame (cells_of p.cells id.team) id.own c sized there) refl refl
         (subst (λ (m : Macro). rect ≡ padded_box (candidate_of p.frame id.team padding m place others)) same box) (those padding others) first
 
--- ---- what lasts while cells keep their macros
+-- ---- what stays true while cells keep their macros
 
 mac_still : (old new : List Cell) (own : ℕ) → SameMacros old new
     → option_map (λ (c : Cell). c.mac) (slice_get new own) ≡ option_map (λ (c : Cell). c.mac) (slice_get old own)

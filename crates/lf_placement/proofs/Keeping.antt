@@ -1,4 +1,4 @@
--- What a placement keeps, through each change.
+-- The guarantees of a placement, through each change.
 use Rattle.std.proofs.Common.{◌≡◌, ◌≢◌, ⊎_elim, ◌<◌, ◌≤◌, ℕ, zero, suc, List, [], ◌∷◌, map, filter, length, eqb, get_or, Bool, true, false, cond, Option, Some, refl, ap, sym, subst, ◌∙◌, arith}
 use Rattle.std.specs.Prelude.{All, slice_get, unwrap_or}
 use Rattle.std.proofs.lemmas.Bool.{cases_eq}
@@ -64,7 +64,7 @@ committed_same (d ∷ ds) [] same = absurd cc
 committed_same (d ∷ ds) (c ∷ cs) same =
     ap (λ (x : Cell). x.committed ∷ committed_of cs) (first_same same) ∙ ap (λ (r : Places). d.committed ∷ r) (committed_same ds cs (rest_same same))
 
--- what holds of the team's cells and of those of others holds of each team's cells
+-- what holds for the team's cells and for those of other teams holds for each team's cells
 each_team : (P : ℕ → List Cell → Type 0) (team : ℕ) (old new : Cells) → OtherCellsStay team old new → P team (cells_of new team)
     → ((other : ℕ) → P other (cells_of old other)) → (other : ℕ) → P other (cells_of new other)
 each_team P team old new others here each other =
@@ -96,7 +96,7 @@ placing_moved p team cells held is others same follows index site rooms = record
     macros : SameMacros (cells_of p.cells team) (cells_of cells team)
     macros = macs_same (cells_of p.cells team) (cells_of cells team) same
 
--- ---- where a team is committed
+-- ---- after a team is committed
 
 boxes_committed : (f : Frame) (cells : List Cell) → map (box_of f) (map as_committed cells) ≡ map (box_of f) cells
 boxes_committed f [] = refl
@@ -106,7 +106,7 @@ committed_now : (cells : List Cell) → committed_of (map as_committed cells) �
 committed_now [] = refl
 committed_now (c ∷ cs) = ap (λ (r : Places). c.working ∷ r) (committed_now cs)
 
--- committing leaves the cells' boxes
+-- committing leaves the cells' boxes unchanged
 pub boxes_still_committed : (f : Frame) (team : ℕ) (old new : Cells) → OtherCellsStay team old new → cells_of new team ≡ map as_committed (cells_of old team)
     → (other : ℕ) → get_or (boxes_in f old) other [] ≡ get_or (boxes_in f new) other []
 boxes_still_committed f team old new others own other =
@@ -139,7 +139,7 @@ placing_committed p team cells held is others own fits follows index site rooms 
 
 -- ---- the design as it is loaded
 
--- what holds of no cells and of the cells of each number holds of each team's cells
+-- what holds for no cells and for the cells of each team number holds for each team's cells
 rows_hold : (P : List Cell → Type 0) (row : ℕ → List Cell) → P [] → ((n : ℕ) → P (row n)) → (ns : List ℕ) (team : ℕ) → P (get_or (map row ns) team [])
 rows_hold P row none each [] zero = none
 rows_hold P row none each [] (suc team) = none
@@ -179,7 +179,7 @@ own_few design number =
     let few : length own ≤ length design.cells = length-filter-le (λ (c : LoadedCell). eqb c.team number) design.cells in
     rw (length-map own initial_cell) (omega (arith, few, design.few_cells))
 
--- where cells are committed where they stand
+-- the committed places of cells are their working places
 AreCommitted : List Cell → Type 0
 AreCommitted cells = committed_of cells ≡ places_of cells
 
@@ -233,7 +233,7 @@ last old new team places frame index site rooms same fits = λ n g there of_team
     let before = fits n g (subst (λ (looked : FrameIndexView). slice_get looked.strips n ≡ Some g) index there) of_team in
     rw (frame, site, boxes_alike_at old.frame (cells_of old.cells team) (cells_of new.cells team) places same) (omega (arith, before, less))
 
--- where strips have gained room
+-- after strips have gained room
 pub placing_grown : (f : Frame) (cells : Cells) (m n : Marked) → IsPlacing (placing_of f cells m) → n.index ≡ m.index → n.site ≡ m.site
     → KeepsCapacities (capacities_in m.lanes) (capacities_in n.lanes) → IsPlacing (placing_of f cells n)
 placing_grown f cells m n is index site rooms = record {

@@ -1,4 +1,4 @@
--- What the strips hold while cells are taken out and put back.
+-- The boxes that the strips hold while cells are removed and inserted.
 use Rattle.std.proofs.Common.{◌≡◌, ◌≢◌, ◌⊎◌, inl, inr, ⊎_elim, ◌<◌, ◌≤◌, ℕ, zero, suc, ◌+◌, List, [], ◌∷◌, map, length, set, get_or, Option, Some, None, refl, ap, sym, subst, ◌∙◌, arith}
 use Rattle.std.specs.Prelude.{slice_get}
 use Rattle.std.proofs.lemmas.Bool.{cases_eq}
@@ -22,7 +22,7 @@ use Rattle.lf_placement.proofs.Boxes.{set_none, standing_next, team_is}
 abbrev AllBoxes : Type 0
 AllBoxes = List (List (Option Rect))
 
--- what is kept of a table's cells is an occupancy of them
+-- marks of a table's cells are an occupancy of them
 pub of_marked : (f : Frame) (cells : Cells) (m : Marked) → IsMarkedBy f cells m → IsOccupancyOf f cells (with_boxes m (boxes_in f cells))
 of_marked f cells m is = record { index = is.index; site = is.site; boxes = boxes_there f cells }
 
@@ -46,7 +46,7 @@ rooms_through a b c first second = record {
   rooms = second.rooms ∙ first.rooms;
 }
 
--- ---- where nothing changes
+-- ---- if nothing changes
 
 row_same : (rows : AllBoxes) (k own : ℕ) (x : Option Rect) → set (get_or rows k []) own x ≡ get_or rows k [] → set rows k (set (get_or rows k []) own x) ≡ rows
 row_same [] zero own x same = refl
@@ -116,7 +116,7 @@ module _ (f : Frame) (cells : Cells) (team own : ℕ) (id : CellId) (is : Some i
           (may_without id.team id.own (working_boxes f cells id.team) o out (box_put id None o out refl) (keeps_put id None o out refl refl refl refl) own_may)
           (nowhere_now id o out refl) (sym at)
 
-  -- it has this box, and stands nowhere as yet
+  -- the cell has this box at its working place, and is not marked yet
   pub is_nowhere : (rect : Rect) (o : Occupied) → Some rect ≡ cell_box (working_boxes f cells id.team) id.own →
       IsPartly team (working_boxes f cells team) o → cell_box (boxes_of o team) own ≡ None → HasNoBox o.boxes id
   is_nowhere rect o at part out = record {
@@ -142,7 +142,7 @@ module _ (f : Frame) (cells : Cells) (team own : ℕ) (id : CellId) (is : Some i
       own_may : BoxesMayBeInserted id.team (working_boxes f cells id.team) o
       own_may = subst (λ (i : CellId). BoxesMayBeInserted i.team (working_boxes f cells i.team) o) (sym same) can.is.may
 
-  -- what holds of the cell's box holds of the box at that position
+  -- what holds for the cell's box holds for the box at its position
   pub at_place : (m : Marked) (boxes : AllBoxes) (x : Option Rect) → MarksBoxes m (box_set boxes id.team id.own x) → MarksBoxes m (box_set boxes team own x)
   at_place m boxes x holds = subst (λ (i : CellId). MarksBoxes m (box_set boxes i.team i.own x)) same holds
 
@@ -151,7 +151,7 @@ module _ (f : Frame) (cells : Cells) (team own : ℕ) (id : CellId) (is : Some i
   at_work rect m boxes at holds =
       subst (λ (x : Option Rect). MarksBoxes m (box_set boxes team own x)) (sym (here (Some rect) at)) (at_place m boxes (Some rect) holds)
 
--- ---- a cell is taken out and put in
+-- ---- a cell is removed and inserted
 
 pub can_leave : (m : Marked) (id : CellId) (rect : Rect) → MarksSome (BoxMayBeInserted id rect) m → CanLeave m id rect
 can_leave m id rect may = record { boxes = may.boxes; holds = may.holds; is = may.is.at }
@@ -174,7 +174,7 @@ can_enter old mid id rect kept may holds = record {
       (with_boxes mid (box_set may.boxes id.team id.own None)) id.team rect 1 kept.index kept.site kept.rooms refl may.is.room;
 }
 
--- boxes changed twice are changed once
+-- boxes that are changed twice are those changed by the second change
 pub set_twice : (boxes : AllBoxes) (id : CellId) (a b : Option Rect) → id.team < length boxes →
     box_set (box_set boxes id.team id.own a) id.team id.own b ≡ box_set boxes id.team id.own b
 set_twice boxes id a b has =
@@ -186,7 +186,7 @@ set_twice boxes id a b has =
 
 -- ---- one after the other
 
--- what is out of what stood is part of it
+-- boxes without the removed ones are part of all
 pub partly_out : (f : Frame) (cells : Cells) (team : ℕ) (named : List ℕ) (n : ℕ) (old : Marked) (o : Occupied) →
     RemovesFirst team named n (with_boxes old (boxes_in f cells)) o → IsPartly team (working_boxes f cells team) o
 partly_out f cells team named n old o out = record {
@@ -267,7 +267,7 @@ all_hold f cells team named n m past was = lanes_of_same (widened_strips m.site 
         (λ (is : other ≡ team). rw is (all_stand f cells team named n (with_boxes m was.boxes) past was.is ∙ sym (boxes_there f cells team)))
         (λ (differ : other ≢ team). was.is.others other differ ∙ sym (boxes_there f cells other)) (cases_eq other team)
 
--- the one cell that is named is put in
+-- the one cell that is named is inserted
 pub one_enters : (f : Frame) (cells : Cells) (team : ℕ) (named : List ℕ) (own : ℕ) (old new : Marked) → length named ≡ 1 → own ≡ get_or named 0 0 →
     KeepsRooms old new → (can : MarksSome (MovedMayBeInserted f cells team named) old) →
     MarksBoxes new (box_set can.boxes team own (cell_box (working_boxes f cells team) own)) → MarksBoxes new (boxes_in f cells)
@@ -276,7 +276,7 @@ one_enters f cells team named own old new one is kept can holds =
     record { boxes = can.boxes; holds = can.holds; is = standing_so_far f cells team named (with_boxes old can.boxes) can.is } in
     all_hold f cells team named 1 new (omega (arith, one)) (one_stands f cells team named 0 own old new is kept begun holds)
 
--- the cells that are lifted can stand where they are moved
+-- the cells that are removed can be inserted at their new places
 pub can_stand : (f : Frame) (old new : Cells) (team : ℕ) (named named_then : List ℕ) (count : ℕ) (before after : Marked) → OtherCellsStay team old new →
     (out : MarksSome (RemovesFirst team named count (with_boxes before (boxes_in f old))) after) →
     BoxesMayBeInserted team (working_boxes f new team) (with_boxes after out.boxes) → AreInsertedExcept team (working_boxes f new team) named_then (with_boxes after out.boxes) →

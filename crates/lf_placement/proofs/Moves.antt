@@ -1,4 +1,4 @@
--- Moves of cells in a table, and what they are when they are taken back.
+-- Moves of cells in a table, and how they are undone.
 use Rattle.std.proofs.Common.{◌≡◌, ◌<◌, ℕ, zero, suc, ◌+◌, List, [], ◌∷◌, ◌++◌, length, set, take, drop, get_or, Option, Some, None, refl, ap, sym, ◌∙◌, arith}
 use Rattle.std.specs.Prelude.{slice_get, option_and_then, option_map}
 use Rattle.std.proofs.lemmas.List.{length-map, take_more}
@@ -17,14 +17,14 @@ past_moved [] own place none = refl
 past_moved (c ∷ cs) zero place none = absurd cc
 past_moved (c ∷ cs) (suc own) place none = ap (λ (r : List Cell). c ∷ r) (past_moved cs own place none)
 
--- there is no cell there to move
+-- there is no cell at the position to move
 pub none_moved : (cells : List Cell) (number own : ℕ) (place : Option Place) → id_in cells number own ≡ None → moved cells own place ≡ cells
 none_moved cells number own place none = past_moved cells own place (go (slice_get cells own) none) where
   go : (o : Option Cell) → option_map (λ (c : Cell). id_of number own) o ≡ None → o ≡ None
   go None e = refl
   go (Some c) e = absurd cc
 
--- nor does it stand anywhere
+-- there is no cell, and no working place
 pub none_works : (cells : List Cell) (number own : ℕ) → id_in cells number own ≡ None → working_at cells own ≡ None
 none_works cells number own none = go (slice_get cells own) none where
   go : (o : Option Cell) → option_map (λ (c : Cell). id_of number own) o ≡ None → option_and_then (λ (c : Cell). c.working) o ≡ None
@@ -37,7 +37,7 @@ id_there cells number own id is = go (slice_get cells own) is where
   go None e = absurd cc
   go (Some c) e = cc
 
--- ---- what stays
+-- ---- what is unchanged
 
 pub cells_stay : (number : ℕ) (cells : Cells) → OtherCellsStay number cells cells
 cells_stay number cells = record { cells = λ other differ. refl; components = refl }
@@ -46,7 +46,7 @@ pub cells_through : (number : ℕ) (a b c : Cells) → OtherCellsStay number a b
 cells_through number a b c first second =
     record { cells = λ other differ. second.cells other differ ∙ first.cells other differ; components = second.components ∙ first.components }
 
--- ---- cells that differ in their working places alone
+-- ---- cells that differ only in their working places
 
 pub same_moved : (cells : List Cell) (own : ℕ) (place : Option Place) → SameButPlaces cells (moved cells own place)
 same_moved [] own place = refl
@@ -80,7 +80,7 @@ back_with : (c : Cell) → with_place (without_place c) c.working ≡ c
 unfolding with_place
 back_with c = refl
 
--- cells of the same places that differ in nothing else are the same
+-- cells with the same places that differ in nothing else are the same
 pub same_places : (old new : List Cell) → SameButPlaces old new → places_of new ≡ places_of old → new ≡ old
 same_places [] [] same places = refl
 same_places [] (c ∷ cs) same places = absurd cc
@@ -109,7 +109,7 @@ place_there [] own = refl
 place_there (c ∷ cs) zero = refl
 place_there (c ∷ cs) (suc own) = place_there cs own
 
--- one more cell moves, and its place is noted
+-- one more cell moves, and its place is stored
 one_more : (before now : List Cell) (moves : List Move) (own : ℕ) (place old : Option Place) → old ≡ working_at now own → HaveMoved before moves now
     → HaveMoved before (moves ++ record { own = own; old = old } ∷ []) (moved now own place)
 one_more before now moves own place old was have = record {
@@ -120,14 +120,14 @@ one_more before now moves own place old was have = record {
   same = same_moved now own place ∙ have.same;
 }
 
--- moves that are taken back give the cells before
+-- undone moves give the earlier cells
 pub have_back : (before now : List Cell) (moves : List Move) → HaveMoved before moves now → moves_reverted moves now ≡ before
 have_back before now moves have =
     same_places before (moves_reverted moves now) (same_back moves now ∙ have.same) (places_back moves now ∙ have.places)
 
 -- ---- the loop that makes moves
 
--- the move of this position gives place to its note: those before it, and the others
+-- the move at this position gets the old place: the moves in front of it, and then the new one
 take_replaced : (moves : List Move) (at : ℕ) (old : Option Place) (next : Move) → at < length moves → next ≡ get_or moves at next
     → take (at + 1) (replaced moves at old) ≡ take at moves ++ record { own = next.own; old = old } ∷ []
 take_replaced [] at old next within is = absurd (omega (arith, within))
@@ -151,7 +151,8 @@ drop_here [] at next within is = absurd (omega (arith, within))
 drop_here (m ∷ ms) zero next within is = ap (λ (x : Move). x ∷ ms) (sym is)
 drop_here (m ∷ ms) (suc at) next within is = let more : suc at + 1 ≡ suc (at + 1) = omega arith in rw more (drop_here ms at next (omega (arith, within)) is)
 
--- so far: from these cells the moves from here on lead to those cells, and the notes so far have led to these
+-- so far: the moves from here on lead from the current cells to the final ones, and the stored
+-- places have led from the first cells to the current ones
 pub record IsMakingAt (start to now : List Cell) (given moves : List Move) (from at : ℕ) : Type 0 where
   pub rest : moves_applied (drop at moves) now ≡ to
   pub notes : (before : List Cell) → HaveMoved before (take from given) start → HaveMoved before (take at moves) now
@@ -169,13 +170,13 @@ making_next start to now given moves from at next was within is noted making = r
   owns = owns_replaced moves at was ∙ making.owns;
 }
 
--- ---- the loop that takes moves back
+-- ---- the loop that undoes moves
 
 made_back-append : (first second : List Move) (cells : List Cell) → moves_reverted (first ++ second) cells ≡ moves_reverted first (moves_reverted second cells)
 made_back-append [] second cells = refl
 made_back-append (m ∷ first) second cells = ap (λ (cs : List Cell). moved cs m.own m.old) (made_back-append first second cells)
 
--- the last of the moves that are left is taken back
+-- the last of the remaining moves is undone
 pub one_less : (now : List Cell) (moves : List Move) (n : ℕ) (m : Move) → n < length moves → m ≡ get_or moves n m
     → moves_reverted (take n moves) (moved now m.own m.old) ≡ moves_reverted (take (n + 1) moves) now
 one_less now moves n m within read =

@@ -1,4 +1,5 @@
--- The first cell that is met in the strips is the first other cell of the team that the box meets.
+-- The first overlapping cell found in the strips is the first other cell of the team that the box
+-- overlaps.
 use Rattle.std.proofs.Common.{◌≡◌, ◌≢◌, pos, ◌+ℤ◌, ◌<ℤ◌, ◌≤ℤ◌, ℕ, ℤ, zero, suc, ◌+◌, ◌≤◌, List, [], ◌∷◌, map, Option, Some, None, refl, ap, sym, subst, ◌∙◌, arith}
 use Rattle.std.proofs.lemmas.Int.{ints}
 use Rattle.std.specs.Prelude.{All, Any, Contains, option_and_then, slice_get}
@@ -42,7 +43,7 @@ one_hold : (Q : Placed → Type 0) (f : Frame) (own mac : ℕ) (place : Option S
 one_hold Q f own mac None rest h all = all
 one_hold Q f own mac (Some p) rest h all = All-cons Q (numbered own (box_in f mac p)) rest (h p refl) all
 
--- what holds of each placed cell's box holds of all boxes
+-- what holds for each placed cell's box holds for all boxes
 boxes_hold : (Q : Placed → Type 0) (f : Frame) (own : ℕ) (cells : List Member)
     → ((k : ℕ) (m : Member) (p : SpotPlace) → slice_get cells k ≡ Some m → m.place ≡ Some p → Q (numbered (own + k) (box_in f m.mac p)))
     → All Q (boxes_from f own cells)
@@ -124,7 +125,7 @@ module _ (f : Frame) (table : Cells) (o : Occupied) (of : IsOccupancyOf f table 
       box_is k ∙ ap (λ (x : Option Member). option_and_then (box_of_member f) x) there ∙ ap (λ (x : Option SpotPlace). option_map (box_in f m.mac) x) at
 
   module _ (covered : (x y : ℤ) → Covers rect x y → Any (λ (g : Strip). (g.team ≡ id.team) × Covers (wider (reach o) g.area) x y) o.index.strips) where
-    -- a box that is met is met in the strips
+    -- a box that overlaps is found in the strips
     meets_in : (k : ℕ) (box : Rect) → k ≢ id.own → box_at o id.team k ≡ Some box → SharesPoint rect box → MeetsInStrips o id rect k
     meets_in k box other stands shares = record {
       box = box;
@@ -165,7 +166,7 @@ module _ (f : Frame) (table : Cells) (o : Occupied) (of : IsOccupancyOf f table 
 
 -- ---- the verdict
 
--- the box of a macro of whole size holds a point
+-- the box of a macro of whole size has a point
 wide_trial : (t : Candidate) → IsSized t.frame t.mac → (box_of_trial t).x1 <ℤ (box_of_trial t).x2
 wide_trial t sized =
     let small : IsSmall (turned (size_of t.frame t.mac) t.orient) = turned_small _ _ (small_pitch _ _ _ (sized_pitch t.frame t.mac sized)) in
@@ -174,7 +175,7 @@ wide_trial t sized =
     wide : (x w : ℤ) → pos 0 <ℤ w → x <ℤ (x +ℤ w)
     wide x w h = omega (arith, ints)
 
--- where the rules but overlap hold, the cell that is met in the strips decides
+-- if the rules except overlap hold, the overlapping cell found in the strips decides
 pub met_decides : (t : Candidate) (table : Cells) (o : Occupied) (id : CellId) (rect : Rect) (met : Option ℕ) → IsOccupancyOf t.frame table o → WidenedStripsCover → t.padding ≤ 16 → IsSized t.frame t.mac
     → id.team ≡ t.team → t.others ≡ boxes_beside t.frame (map member_of (cells_of table t.team)) id.own → rect ≡ padded_box t
     → KeepsFrame t → IsFirstMet o id rect met

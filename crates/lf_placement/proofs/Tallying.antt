@@ -49,7 +49,7 @@ within_places (p ∷ ps) (suc own) place is = let h = within_places ps own place
 
 -- ---- the cells of a team, one after the other
 
--- the first so many at their committed places, and the others at their working ones
+-- the first `n` cells at their committed places, and the others at their working places
 abbrev pub half_committed : ℕ → List Cell → Places
 half_committed zero cells = places_of cells
 half_committed (suc n) [] = []
@@ -75,7 +75,7 @@ half_all zero (c ∷ cs) past = absurd (omega (arith, past))
 half_all (suc n) [] past = refl
 half_all (suc n) (c ∷ cs) past = ap (λ (r : Places). c.committed ∷ r) (half_all n cs (omega (arith, past)))
 
--- a place that is put where it is changes nothing
+-- a place written over the same place changes nothing
 pub put_same : (places : Places) (own : ℕ) (place : Option Place) → slice_get places own ≡ Some place → set places own place ≡ places
 put_same [] own place is = absurd cc
 put_same (p ∷ ps) zero place is = let same : p ≡ place = cc in ap (λ (q : Option Place). q ∷ ps) (sym same)
@@ -115,7 +115,7 @@ same_self p = record { frame = refl; cells = refl; index = refl; site = refl; bo
 
 -- ---- what fits
 
--- where there is room for what is counted, what the tally bounds fits
+-- if there is room for the counts, the boxes that they bound fit
 pub bounds_fit : (o : Occupied) (team : ℕ) (boxes : Boxes) (tally : List ℕ) → KeepsCapacities tally o.rooms → Bounds o team boxes tally → FitIn o team boxes
 bounds_fit o team boxes tally room bounds = λ n g at of_team.
     let a = bounds n g at of_team in
@@ -130,7 +130,7 @@ bounds_at_work f cells team o tally bounds =
 
 -- ---- all teams
 
--- those of a number below are at their committed places, and the others at their working ones
+-- teams with a lesser number are at their committed places, and the others at their working places
 pub record HalfCommitted (f : Frame) (cells : Cells) (o : Occupied) (team : ℕ) (tally : List ℕ) : Type 0 where
   pub done : (t : ℕ) → t < team → Bounds o t (boxes_at f (cells_of cells t) (committed_of (cells_of cells t))) tally
   pub rest : (t : ℕ) → team ≤ t → Bounds o t (boxes_at f (cells_of cells t) (places_of (cells_of cells t))) tally
@@ -153,7 +153,7 @@ team_next f cells o p team old new half here others = record {
     at t (inl less) = others (boxes_at f (cells_of cells t) (committed_of (cells_of cells t))) t (omega (arith, less)) (half.done t less)
     at t (inr same) = subst (λ (u : ℕ). Bounds p u (boxes_at f (cells_of cells u) (committed_of (cells_of cells u))) new) (sym same) here
 
--- no team of a greater number has cells
+-- no team with a greater number has cells
 no_cells : (cells : Cells) (ids : List CellId) (teams t : ℕ) → AreAllIds cells ids → All (λ id. id.team < teams) ids → teams ≤ t → cells_of cells t ≡ []
 no_cells cells ids teams t all below past = go (cells_of cells t) refl where
   first : CellId
@@ -188,7 +188,7 @@ placing_fitted f cells m n sized few ground site gains fits = record {
   committed = fits;
 }
 
--- ---- moves that are taken back, the last one first
+-- ---- moves that are undone, the last one first
 
 back_suc : (places : Places) (moves : List Move) (n : ℕ) (m : Move) → n < length moves → m ≡ get_or moves n m
     → moves_taken_back (take n moves) (set places m.own m.old) ≡ moves_taken_back (take (suc n) moves) places

@@ -1,4 +1,5 @@
--- The steps of a change: its cells are taken out of the strips, moved in the table, and put back; no public clause cites it.
+-- The steps of a change: its cells are removed from the strips, moved in the table, and inserted
+-- again. No public clause cites this module.
 use Rattle.std.specs.Prelude.{◌≡◌, ◌≢◌, ◌⊎◌, ℕ, ◌<◌, List, [], ◌∷◌, map, length, Option, None, option_and_then, slice_get, slice_index, slice_index_or, slice_set, unwrap_or}
 use Rattle.std.specs.Option.{option_map}
 use Rattle.lf_units.specs.declared.geometry.Rect.{Rect}
@@ -14,7 +15,7 @@ use Rattle.lf_occupancy.specs.Strips.{MarksBoxes, IsAt, Marked, with_boxes, capa
 use Rattle.lf_occupancy.specs.Floorplans.{box_of}
 use Rattle.lf_undo.specs.declared.moves.Move.{Move}
 
--- the box of a cell at a place; None where there is no such cell, or it stands nowhere
+-- the box of a cell at a place; None if there is no such cell, or no place
 abbrev pub box_moved : Frame → Option Cell → Option Place → Option Rect
 box_moved f cell place = option_and_then (λ c. option_map (λ p. box_in f c.mac (spot_of p)) place) cell
 
@@ -22,7 +23,7 @@ box_moved f cell place = option_and_then (λ c. option_map (λ p. box_in f c.mac
 abbrev pub working_boxes : Frame → Cells → ℕ → List (Option Rect)
 working_boxes f cells team = map (box_of f) (cells_of cells team)
 
--- the cells after these moves are taken back, the last one first
+-- the cells after these moves are undone, the last one first
 abbrev pub moves_reverted : List Move → List Cell → List Cell
 moves_reverted [] cells = cells
 moves_reverted (m ∷ ms) cells = moved (moves_reverted ms cells) m.own m.old
@@ -31,16 +32,16 @@ moves_reverted (m ∷ ms) cells = moved (moves_reverted ms cells) m.own m.old
 abbrev pub moved_positions : List Move → List ℕ
 moved_positions moves = map (λ m. m.own) moves
 
--- none of the first so many names this position
+-- no move among the first `count` names this position
 abbrev pub DoNotMove : List ℕ → ℕ → ℕ → Type 0
 DoNotMove named count own = (k : ℕ) → k < count → slice_index named k ≢ own
 
--- a named cell stands nowhere, and any other where it stood
+-- a named cell has no box, and any other has its old box
 abbrev pub IsRemovedOrUnchanged : List ℕ → ℕ → List (Option Rect) → List (Option Rect) → ℕ → Type 0
 IsRemovedOrUnchanged named count old new own =
     ((DoNotMove named count own → ⊥) × (cell_box new own ≡ None)) ⊎ (DoNotMove named count own × (cell_box new own ≡ cell_box old own))
 
--- only boxes of this team may differ, and they are as many as before
+-- only boxes of this team may differ, and their number is unchanged
 pub record KeepsStrips (team : ℕ) (old new : Occupied) : Type 0 where
   pub many : length (boxes_of new team) ≡ length (boxes_of old team)
   pub boxes : (other : ℕ) → other ≢ team → boxes_of new other ≡ boxes_of old other
@@ -48,74 +49,76 @@ pub record KeepsStrips (team : ℕ) (old new : Occupied) : Type 0 where
   pub site : new.site ≡ old.site
   pub rooms : new.rooms ≡ old.rooms
 
--- the strips hold some boxes of which this is true
+-- the strips hold some boxes for which `Fact` is true
 pub record MarksSome (Fact : Occupied → Type 0) (m : Marked) : Type 0 where
   pub boxes : List (List (Option Rect))
   pub holds : MarksBoxes m boxes
   pub is : Fact (with_boxes m boxes)
 
--- the boxes of all teams, with this one for the team's cell of that position
+-- the boxes of all teams, with this one for the team's cell at this position
 abbrev pub box_set : List (List (Option Rect)) → ℕ → ℕ → Option Rect → List (List (Option Rect))
 box_set boxes team own box = slice_set boxes team (slice_set (slice_index_or boxes team []) own box)
 
--- the look-ups, the site and the rooms of strips stay
+-- the index, the site and the capacities of strips are unchanged
 pub record KeepsRooms (old new : Marked) : Type 0 where
   pub index : new.index ≡ old.index
   pub site : new.site ≡ old.site
   pub rooms : capacities_in new.lanes ≡ capacities_in old.lanes
 
--- the strips hold what they held, and none has less room
+-- the strips hold the same boxes, and no strip has less room
 pub record KeepsMarks (old new : Marked) : Type 0 where
   pub holds : (boxes : List (List (Option Rect))) → MarksBoxes old boxes → MarksBoxes new boxes
   pub index : new.index ≡ old.index
   pub site : new.site ≡ old.site
   pub rooms : KeepsCapacities (capacities_in old.lanes) (capacities_in new.lanes)
 
--- the boxes of the team's cells are part of these, which are as many
+-- the boxes of the team's cells are part of the given ones, in a list of the same length
 pub record IsPartly (team : ℕ) (boxes : List (Option Rect)) (o : Occupied) : Type 0 where
   pub many : length (boxes_of o team) ≡ length boxes
   pub part : ArePartOf (boxes_of o team) boxes
 
--- the cells of all other teams stand at their working places
+-- the cells of all other teams are marked at their working places
 abbrev pub OthersAreInserted : Frame → Cells → ℕ → Occupied → Type 0
 OthersAreInserted f cells team o = (other : ℕ) → other ≢ team → boxes_of o other ≡ working_boxes f cells other
 
--- the first so many of the named cells were taken out
+-- the first `count` of the named cells are removed
 pub record RemovesFirst (team : ℕ) (named : List ℕ) (count : ℕ) (old new : Occupied) : Type 0 where
   pub each : (own : ℕ) → IsRemovedOrUnchanged named count (boxes_of old team) (boxes_of new team) own
   pub rest : KeepsStrips team old new
 
--- the team's boxes are part of these, which fit
+-- the team's boxes are part of the given ones, which fit
 pub record BoxesMayBeInserted (team : ℕ) (boxes : List (Option Rect)) (o : Occupied) : Type 0 where
   pub many : length (boxes_of o team) ≡ length boxes
   pub part : ArePartOf (boxes_of o team) boxes
   pub fits : FitIn o team boxes
 
--- so they are, and the cell of that position stands nowhere
+-- the team's boxes are part of the given ones, which fit, and the cell at this position has no box
 pub record CellMayBeInserted (team : ℕ) (boxes : List (Option Rect)) (own : ℕ) (o : Occupied) : Type 0 where
   pub may : BoxesMayBeInserted team boxes o
   pub out : cell_box (boxes_of o team) own ≡ None
 
--- there is a cell of that id, which is out or has this box, and there is room for the box where it is out
+-- a cell with this id exists and has no box or this box; if it has no box, there is room for this
+-- one
 pub record BoxMayBeInserted (id : CellId) (rect : Rect) (o : Occupied) : Type 0 where
   pub at : IsAt o.boxes id rect
   pub room : HasRoomFor record { index = o.index; site = o.site; boxes = box_set o.boxes id.team id.own None; rooms = o.rooms } id.team rect 1
 
--- what none of these names stands where it is to stand
+-- each cell of the team that is not named has its given box
 abbrev pub AreInsertedExcept : ℕ → List (Option Rect) → List ℕ → Occupied → Type 0
 AreInsertedExcept team boxes named o = (own : ℕ) → DoNotMove named (length named) own → cell_box (boxes_of o team) own ≡ cell_box boxes own
 
--- none of the named cells stands anywhere
+-- no named cell has a box
 abbrev pub AreRemoved : ℕ → List ℕ → Occupied → Type 0
 AreRemoved team named o = (k : ℕ) → k < length named → cell_box (boxes_of o team) (slice_index named k) ≡ None
 
--- the cells of a team are to be put where they stand, those named are out, and all others stand
+-- the working places of the team's cells fit, the named cells have no box, and all others have
+-- their boxes
 pub record MovedMayBeInserted (f : Frame) (cells : Cells) (team : ℕ) (named : List ℕ) (o : Occupied) : Type 0 where
   pub may : BoxesMayBeInserted team (working_boxes f cells team) o
   pub rest : AreInsertedExcept team (working_boxes f cells team) named o
   pub others : OthersAreInserted f cells team o
   pub out : AreRemoved team named o
 
--- the cell that a move names, and its box at the move's place; no box where there is no such cell
+-- the cell that a move names, and its box at the move's place; no box if there is no such cell
 abbrev pub requested_box : Frame → ℕ → List Cell → Move → CellId × Option Rect
 requested_box f team cells m = (unwrap_or (id_in cells team m.own) record { team = 0; own = 0 }, box_moved f (slice_get cells m.own) m.old)

@@ -1,5 +1,7 @@
-//! Moves of a team's cells, in the table and in the strips. All cells of a change are taken out of the
-//! strips first, and then all are put in: so no memory is taken where the cells fit at their new places.
+//! Applies and reverts moves of a team's cells, in the table and in the strips.
+//!
+//! All cells of a change are removed from the strips first, and then all are inserted. So no
+//! allocation is needed if the cells fit at their new places.
 
 ghost use Rattle.std.specs.Prelude.{◌≡◌, All, List, drop, map, take};
 ghost use Rattle.lf_cells.specs.declared.cell.Cell.{Cell};
@@ -18,7 +20,7 @@ use lf_floorplan::Frame;
 use lf_occupancy::Occupancy;
 use lf_undo::{Move, Moves};
 
-/// The moves from that one on.
+/// The moves from index `from` on.
 fn moves_from(moves: &[Move], from: usize) -> &[Move]
     ensures { result.now ≡ drop from moves.now }
 {
@@ -28,7 +30,8 @@ fn moves_from(moves: &[Move], from: usize) -> &[Move]
     &[]
 }
 
-/// Makes the moves from that one on, in their order, and leaves in each the place that its cell had.
+/// Makes the moves from index `from` on, in their order, and stores in each the previous place of
+/// its cell.
 pub(crate) fn apply_moves(
     frame: &Frame,
     cells: &mut CellTable,
@@ -63,7 +66,7 @@ pub(crate) fn apply_moves(
     );
 }
 
-/// Takes the moves back, the last one first.
+/// Reverts the moves, the last one first.
 pub(crate) fn revert_moves(
     frame: &Frame,
     cells: &mut CellTable,

@@ -1,4 +1,4 @@
-//! The tables of a design as it is loaded.
+//! Builds the tables of a loaded design.
 
 ghost use Rattle.std.specs.Prelude.{◌≡◌, ◌≤◌, ℕ, IfOk, length};
 ghost use Rattle.lf_cells.specs.Cells.{cells_of};
@@ -14,7 +14,7 @@ use lf_occupancy::Occupancy;
 use lf_segments::FrameIndex;
 use std::alloc::{AllocError, Global};
 
-/// The frame, the cells of all teams, and what stands in the strips.
+/// The frame, the cells of all teams, and the marks of the placed cells.
 #[derive(Drop)]
 pub(crate) struct BuiltParts {
     pub(crate) frame: Frame,
@@ -34,7 +34,7 @@ fn cells_in(alloc: Global, loaded: Loaded) -> Result<(Frame, CellTable), AllocEr
     Ok(built)
 }
 
-/// What stands in the strips of the frame: the cells at their working places.
+/// The occupancy of the frame by the cells at their working places.
 fn occupancy_of(alloc: Global, frame: &Frame, cells: &CellTable) -> Result<Occupancy, AllocError>
     requires { HaveSize frame.now cells.now }
     ensures held { IfOk result (λ held. IsMarkedBy frame.now cells.now held) }
@@ -43,7 +43,7 @@ fn occupancy_of(alloc: Global, frame: &Frame, cells: &CellTable) -> Result<Occup
     Occupancy::build(alloc, frame, index, cells)
 }
 
-/// What stands in the strips of the frame, with room for the cells' committed places.
+/// The occupancy of the frame, with room for the cells' committed places.
 pub(crate) fn fitted(
     alloc: Global,
     frame: &Frame,

@@ -1,4 +1,4 @@
-//! Room for moves, before they are made.
+//! Makes room for moves.
 
 ghost use Rattle.std.specs.Prelude.{◌≡◌, ◌∷◌, [], All, IfOk, OnOk, map};
 ghost use Rattle.lf_cells.specs.Cells.{cells_of};
@@ -18,7 +18,7 @@ use lf_units::Rect;
 use std::alloc::{AllocError, Global};
 use std::slice;
 
-/// The cell that the move names, and its box at the move's place; no box where there is no such cell.
+/// The cell that the move names, and its box at the move's place. No box if there is no such cell.
 fn requested_box(
     frame: &Frame,
     cells: &CellTable,
@@ -52,9 +52,8 @@ fn requested_boxes(
     Ok(list)
 }
 
-/// Makes the room that this one move of a team's cell needs.
-///
-/// `Err` if an allocation fails: then some room may have been made, and nothing else is changed.
+/// Makes the room that this one move of a team's cell needs. `Err` if an allocation fails: then
+/// some room may have been made, and nothing else is changed.
 fn make_room_for(
     frame: &Frame,
     cells: &CellTable,
@@ -76,9 +75,8 @@ fn make_room_for(
     Ok(())
 }
 
-/// Makes the room that these moves of the team's cells need, where they are made in their order.
-///
-/// `Err` if an allocation fails: then some room may have been made, and nothing else is changed.
+/// Makes the room that these moves of the team's cells need if they are made in their order. `Err`
+/// if an allocation fails: then some room may have been made, and nothing else is changed.
 pub(crate) fn reserve_moves(
     alloc: Global,
     frame: &Frame,

@@ -1,4 +1,4 @@
-//! Room for places, found by counting: no cell is moved.
+//! Makes room for places by counting boxes. No cell is moved.
 
 ghost use Rattle.std.specs.Prelude.{◌≡◌, ◌≢◌, ◌<◌, ◌≤◌, [], All, IfOk, List, None, OnOk, Option, Some, length, option_map, slice_get, slice_set, ℕ};
 ghost use Rattle.lf_units.specs.declared.geometry.Rect.{Rect};
@@ -20,7 +20,7 @@ use lf_rules::box_of;
 use lf_units::Rect;
 use std::alloc::{AllocError, Global};
 
-/// A cell of a team, by its position, and two places of it.
+/// A cell of a team, by its position, and two of its places.
 #[derive(Clone, Copy)]
 pub(crate) struct Change {
     pub(crate) own: u32,
@@ -28,7 +28,7 @@ pub(crate) struct Change {
     pub(crate) to: PackedPlace,
 }
 
-/// The box of a cell of this macro at a place; none where there is none.
+/// The box of a cell of this macro at a place. `None` if there is no place.
 fn box_of_macro(frame: &Frame, mac: &Macro, place: Option<Place>) -> Option<Rect>
     requires { IsSized frame.now mac.now }
     ensures { result ≡ option_map (λ p. box_at (turned (size_of frame.now mac.now) p.orient) p.x p.y) place }
@@ -36,8 +36,8 @@ fn box_of_macro(frame: &Frame, mac: &Macro, place: Option<Place>) -> Option<Rect
     Some(box_of(frame, mac, &place?))
 }
 
-/// The boxes of the team's cell of that position at both places of a change; none where there is no such
-/// cell, or no place.
+/// The boxes of the team's cell at position `change.own`, at both places of the change. `None` for
+/// each place that is missing, or if there is no such cell.
 fn boxes_of_change(
     frame: &Frame,
     cells: &CellTable,
@@ -60,9 +60,8 @@ fn boxes_of_change(
     (from, to)
 }
 
-/// Counts a cell at one place in place of another, and makes the room that is lacking then.
-///
-/// `Err` if an allocation fails.
+/// Counts a cell at the new place of the change, and no longer at the old one. Makes the room that
+/// is then lacking. `Err` if an allocation fails.
 pub(crate) fn reserve_change(
     frame: &Frame,
     cells: &CellTable,
@@ -86,7 +85,7 @@ pub(crate) fn reserve_change(
     occupancy.reserve_counted(tally, team, &from, &to)
 }
 
-/// Counts a cell at its committed place in place of its working one.
+/// Counts a cell at its committed place in place of its working one. `Err` if an allocation fails.
 fn fit_committed(
     frame: &Frame,
     cells: &CellTable,
@@ -118,7 +117,8 @@ fn fit_committed(
     reserve_change(frame, cells, occupancy, tally, id.team as usize, &change)
 }
 
-/// Counts each cell of the team at its committed place in place of its working one.
+/// Counts each cell of the team at its committed place in place of its working one. `Err` if an
+/// allocation fails.
 fn fit_team(
     frame: &Frame,
     cells: &CellTable,
@@ -142,9 +142,8 @@ fn fit_team(
     Ok(())
 }
 
-/// Makes room for the committed places of all cells, which stand at their working places.
-///
-/// `Err` if an allocation fails.
+/// Makes room for the committed places of all cells, whose boxes are marked at their working
+/// places. `Err` if an allocation fails.
 pub(crate) fn fit_all_committed(
     alloc: Global,
     frame: &Frame,

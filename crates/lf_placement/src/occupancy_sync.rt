@@ -1,4 +1,4 @@
-//! Cells of a team are taken out of the strips, and put where they are to stand.
+//! Removes cells of a team from the strips, and inserts them at their working places.
 
 ghost use Rattle.std.specs.Prelude.{◌≡◌, All, IfSome, List, None, Option, Some, [], length, slice_index_or};
 ghost use Rattle.lf_units.specs.declared.geometry.Rect.{Rect};
@@ -17,7 +17,7 @@ use lf_rules::box_of;
 use lf_undo::Move;
 use lf_units::Rect;
 
-/// The box of a cell at a place; none where there is no such cell, or no place.
+/// The box of a cell at a place. `None` if there is no place, or no such cell.
 pub(crate) fn box_at(
     frame: &Frame,
     cells: &CellTable,
@@ -34,7 +34,7 @@ pub(crate) fn box_at(
     Some(box_of(frame, mac, &place))
 }
 
-/// The box of a cell at its working place.
+/// The box of a cell at its working place. `None` if it is unplaced, or there is no such cell.
 fn working_box(frame: &Frame, cells: &CellTable, id: CellId) -> Option<Rect>
     requires { All (IsSizedCell frame.now) (cells_of cells.now id.team) }
     ensures is { result ≡ cell_box (working_boxes frame.now cells.now id.team) id.own }
@@ -43,8 +43,8 @@ fn working_box(frame: &Frame, cells: &CellTable, id: CellId) -> Option<Rect>
     box_at(frame, cells, id, cells.working(id))
 }
 
-/// Takes the team's cell of that position, which is out or stands at its working place, out of the
-/// strips, where there is one.
+/// Removes the team's cell at position `own` from the strips. It is marked at its working place or
+/// not at all. Does nothing if there is no such cell.
 fn remove_cell(frame: &Frame, occupancy: &mut Occupancy, cells: &CellTable, team: usize, own: u32)
     requires sized { All (IsSizedCell frame.now) (cells_of cells.now team) }
     requires part { MarksSome (IsPartly team (working_boxes frame.now cells.now team)) occupancy.old }
@@ -61,7 +61,7 @@ fn remove_cell(frame: &Frame, occupancy: &mut Occupancy, cells: &CellTable, team
     occupancy.remove(id, &rect);
 }
 
-/// Takes the cells of the moves out of the strips.
+/// Removes the cells of the moves from the strips.
 pub(crate) fn remove_moved(
     frame: &Frame,
     occupancy: &mut Occupancy,
@@ -79,7 +79,7 @@ pub(crate) fn remove_moved(
     }
 }
 
-/// Puts a cell, which is out of the strips or has this box already, where this box is.
+/// Marks this box for a cell that has no marks in the strips, or has those of this box already.
 fn replace_box(occupancy: &mut Occupancy, id: CellId, rect: &Rect)
     requires edge { IsPlaceX rect.now.x1 }
     requires may { MarksSome (BoxMayBeInserted id rect.now) occupancy.old }
@@ -91,8 +91,8 @@ fn replace_box(occupancy: &mut Occupancy, id: CellId, rect: &Rect)
     occupancy.insert(id, rect);
 }
 
-/// Puts the team's cell of that position, which is out or stands there already, to its working place,
-/// where there is such a cell.
+/// Marks the team's cell at position `own` at its working place. It has no marks yet, or those of
+/// its working place. Does nothing if there is no such cell.
 fn replace_at_working(
     frame: &Frame,
     occupancy: &mut Occupancy,
@@ -115,8 +115,8 @@ fn replace_at_working(
     replace_box(occupancy, id, &rect);
 }
 
-/// Puts the team's cell of that position, which stands nowhere, to its working place, where there is
-/// such a cell.
+/// Marks the team's cell at position `own` at its working place. It has no marks yet. Does nothing
+/// if there is no such cell.
 fn insert_absent(frame: &Frame, occupancy: &mut Occupancy, cells: &CellTable, team: usize, own: u32)
     requires sized { All (IsSizedCell frame.now) (cells_of cells.now team) }
     requires may { MarksSome (CellMayBeInserted team (working_boxes frame.now cells.now team) own) occupancy.old }
@@ -134,8 +134,9 @@ fn insert_absent(frame: &Frame, occupancy: &mut Occupancy, cells: &CellTable, te
     occupancy.insert(id, &rect);
 }
 
-/// Puts the cells of the moves, which are out of the strips, to their working places. Moves may name a
-/// cell twice, so of several each is taken out once more before it is put in. It allocates nothing.
+/// Marks the cells of the moves, which have no marks in the strips, at their working places.
+/// Several moves may name the same cell. So if there is more than one move, each cell is removed
+/// again before it is inserted. Does not allocate.
 pub(crate) fn insert_moved(
     frame: &Frame,
     occupancy: &mut Occupancy,

@@ -1,4 +1,4 @@
-//! Where the cells of all teams stand on a frame.
+//! The placement of all teams' cells on a frame.
 
 ghost use Rattle.std.specs.Prelude.{◌≡◌, ◌≢◌, ◌<◌, ◌≤◌, ℕ, All, List, length, None, OnOk, IfOk, Some, drop, map, option_map, slice_get, slice_set, take};
 ghost use Rattle.lf_rules.specs.declared.rule.Rule.TheVariants.{Overlap};
@@ -29,13 +29,11 @@ use lf_units::Point;
 use std::alloc::{AllocError, Global};
 use std::marker::Model;
 
-/// The cells of all teams of a loaded design on its frame, and what stands in the strips of the frame:
-/// each cell's box at its working place.
-///
-/// No strip ever has less room, and each team's committed places fit. So a team can be sent back to
-/// places that it had without memory. The macros of all cells are the frame's, of whole size, and no
-/// team has more than 4,000,000 cells. Contracts see the frame, the cells, and the strips with their
-/// boxes and rooms.
+/// The cells of all teams of a loaded design on its frame. The strips of the frame have the marks
+/// of each cell's box at its working place. No strip ever has less room, and each team's committed
+/// places fit. So a team can return to earlier places without allocation. The macros of all cells
+/// are the frame's, of whole size, and no team has more than 4,000,000 cells. Contracts see the
+/// frame, the cells, and the strips with their boxes and capacities.
 #[derive(Drop)]
 pub struct Placement {
     frame: Frame,
@@ -54,9 +52,7 @@ impl Model for Placement {
 }
 
 impl Placement {
-    /// The placement of a design as it is loaded.
-    ///
-    /// `Err` if an allocation fails; the design is then gone.
+    /// The placement of a loaded design. `Err` if an allocation fails; the design is then dropped.
     pub fn build(alloc: Global, loaded: Loaded) -> Result<Placement, AllocError>
         ensures frame { IfOk result (λ placement. placement.frame ≡ loaded.frame) }
         ensures cells { IfOk result (λ placement. placement.cells.cells ≡ initial_cells loaded) }
@@ -74,10 +70,9 @@ impl Placement {
         })
     }
 
-    /// The placement of these cells on the frame, at their working places; there is room for their committed
-    /// ones. The macros of the cells are the frame's, of whole size, and no team has more than 4,000,000.
-    ///
-    /// `Err` if an allocation fails; frame and cells are then gone.
+    /// The placement of the given cells on the frame, at their working places, with room for their
+    /// committed places. The macros of the cells are the frame's, of whole size, and no team has
+    /// more than 4,000,000. `Err` if an allocation fails; frame and cells are then dropped.
     pub fn of(alloc: Global, frame: Frame, cells: CellTable) -> Result<Placement, AllocError>
         requires sized { AreSized frame cells }
         requires few { (team : ℕ) → length (cells_of cells team) ≤ 4000000 }
@@ -92,7 +87,7 @@ impl Placement {
         })
     }
 
-    /// The frame and the cells.
+    /// Takes the placement apart into the frame and the cells.
     pub fn into_parts(self) -> (Frame, CellTable)
         ensures frame { result.0 ≡ self.frame }
         ensures cells { result.1 ≡ self.cells }
@@ -121,15 +116,15 @@ impl Placement {
         &self.cells
     }
 
-    /// The frame with what is looked up of it.
+    /// The frame with its index.
     pub fn indexed_frame(&self) -> IndexedFrame<'_>
         ensures { result ≡ self.now.frame }
     {
         IndexedFrame::new(&self.frame, self.occupancy.index())
     }
 
-    /// The first of the rules but overlap that the cell breaks at the place, whatever else is placed;
-    /// none also where there is no such cell. It allocates nothing.
+    /// The first rule except overlap that the cell breaks at the place, whatever else is placed.
+    /// `None` if it breaks no such rule, or there is no such cell. Does not allocate.
     pub fn broken_frame_rule(&self, id: CellId, place: &Place) -> Option<Rule>
         ensures { IsBrokenFrameRule self.now id place.now result }
     {
@@ -138,10 +133,10 @@ impl Placement {
         broken_frame_rule(&self.indexed_frame(), id.team as usize, mac, place)
     }
 
-    /// The first of the team's other cells, by their positions, whose box shares a point with that of
-    /// the cell at the place, made wider on its left and right by the padding, where it breaks no other
-    /// rule: so overlap with it is the first rule that the cell breaks there. None iff the place is
-    /// team-legal for the cell, or there is no such cell. It allocates nothing.
+    /// The position of the first of the team's other cells that overlaps the cell at the place,
+    /// with the padding on its left and right. The cell breaks no other rule there, so overlap with
+    /// that cell is the first rule that it breaks. `None` iff the place is team-legal for the cell,
+    /// or there is no such cell. Does not allocate.
     pub fn first_overlapping(&self, id: CellId, place: &Place, padding: Padding) -> Option<u32>
         requires { IsBrokenFrameRule self.now id place.now None }
         ensures { IsBrokenAt self.now padding.sites id place.now (option_map (λ own. record { rule = Overlap; other = Some own }) result) }
@@ -155,8 +150,8 @@ impl Placement {
             .first_overlapping(id, &rect)
     }
 
-    /// The first rule that the cell breaks at the place beside the other cells of its team, which has
-    /// this padding; none also where there is no such cell. It allocates nothing.
+    /// The first rule that the cell breaks at the place with the other cells of its team, which has
+    /// this padding. `None` if it breaks no rule, or there is no such cell. Does not allocate.
     pub fn first_broken(&self, id: CellId, place: &Place, padding: Padding) -> Option<Broken>
         ensures { IsBrokenAt self.now padding.sites id place.now result }
     {
@@ -166,10 +161,8 @@ impl Placement {
         overlap_of(self.first_overlapping(id, place, padding))
     }
 
-    /// The best place of the cell for a target, with this padding of its team; none where it has none,
-    /// or there is no such cell.
-    ///
-    /// `Err` if an allocation fails.
+    /// The best place of the cell for a target, with this padding of its team. `None` if it has no
+    /// best place, or there is no such cell. `Err` if an allocation fails.
     pub fn best_place<S: Seeker>(
         &self,
         alloc: Global,
@@ -192,10 +185,9 @@ impl Placement {
         )
     }
 
-    /// Makes the room that `apply` asks where it makes these moves of the team's cells: these fit where the
-    /// moves lead them. Cells and boxes are unchanged, and no strip has less room.
-    ///
-    /// `Err` if an allocation fails: then some room may have been made, and nothing else is changed.
+    /// Makes the room that `apply` needs for these moves of the team's cells: afterwards the places
+    /// after the moves fit. Cells and boxes are unchanged, and no strip has less room. `Err` if an
+    /// allocation fails: then some room may have been made, and nothing else is changed.
     pub fn reserve(&mut self, alloc: Global, team: usize, moves: &[Move]) -> Result<(), AllocError>
         ensures ok { OnOk result (Fits self.new team (places_of (moves_applied moves.now (cells_of self.old.cells team)))) }
         ensures same { SameButRooms self.old self.new }
@@ -210,10 +202,8 @@ impl Placement {
         )
     }
 
-    /// How many boxes each strip holds: the tally bounds the working places of each team. With `reserve_undo` it
-    /// becomes that of places which the team had before.
-    ///
-    /// `Err` if an allocation fails.
+    /// The number of boxes that each strip holds. These counts bound the working places of each
+    /// team. `reserve_undo` changes them to counts of earlier places. `Err` if an allocation fails.
     pub fn strip_counts(&self, alloc: Global) -> Result<StripCounts, AllocError>
         ensures room { IfOk result (λ tally. KeepsCapacities tally self.now.held.rooms) }
         ensures bounds { (team : ℕ) → IfOk result (λ tally. BoundsAt self.now team (places_of (cells_of self.now.cells team)) tally) }
@@ -221,9 +211,9 @@ impl Placement {
         self.occupancy.strip_counts(alloc)
     }
 
-    /// Counts a cell of the team at one place in place of another, and makes the room that is lacking then.
-    ///
-    /// `Err` if an allocation fails: then the tally counts something else.
+    /// Counts a cell of the team at the new place of the change, and no longer at the old one.
+    /// Makes the room that is then lacking. `Err` if an allocation fails: then the counts are
+    /// unspecified.
     pub(crate) fn reserve_change(
         &mut self,
         tally: &mut StripCounts,
@@ -248,12 +238,15 @@ impl Placement {
         )
     }
 
-    /// Takes moves of the team's cells back on a list of places, the last one first, and makes room for the
-    /// places before them, where no cell is moved: the tally bounds the places after the moves, and then those
-    /// before them, which fit; what it bounds of other teams it still does. Taken back so one after the
-    /// other, the newest first, the places before each of a team's undo entries fit.
+    /// Undoes moves of the team's cells on a list of places, the last one first, and makes room for
+    /// the resulting places. No cell is moved.
     ///
-    /// `Err` if an allocation fails: then the tally counts something else, and some room may have been made.
+    /// The counts bound the given places, and afterwards the resulting ones, which then fit. Bounds
+    /// for other teams stay valid. If a team's undo entries are passed one after the other, the
+    /// newest first, the places that each of them restores fit.
+    ///
+    /// `Err` if an allocation fails: then the counts are unspecified, and some room may have been
+    /// made.
     pub fn reserve_undo(
         &mut self,
         tally: &mut StripCounts,
@@ -275,11 +268,12 @@ impl Placement {
         fit_moves_back(self, tally, team, places, moves)
     }
 
-    /// Makes the moves of the team's cells from that one on, in their order, and leaves in each the
-    /// place that its cell had: so afterwards the moves are what takes them back. Where the moves before
-    /// that one have led here from some cells, all of them now lead from the same cells. The cells fit
-    /// where the moves lead them. Other teams, the frame, the positions of components and the rooms of the
-    /// strips are unchanged. It allocates nothing.
+    /// Makes the moves of the team's cells from index `from` on, in their order, and stores in each
+    /// the previous place of its cell. So afterwards the moves are what `undo_moves` needs.
+    ///
+    /// If the moves in front of `from` have led here from some cells, all moves now lead here from
+    /// the same cells. The places after the moves must fit. Other teams, the frame, the positions
+    /// of components and the capacities of the strips are unchanged. Does not allocate.
     pub fn apply(&mut self, team: usize, moves: &mut Moves, from: usize)
         requires { Fits self.old team (places_of (moves_applied (drop from moves.old) (cells_of self.old.cells team))) }
         ensures own { cells_of self.new.cells team ≡ moves_applied (drop from moves.old) (cells_of self.old.cells team) }
@@ -298,9 +292,11 @@ impl Placement {
         );
     }
 
-    /// Takes moves of the team's cells back, the last one first: where they have led here from some cells,
-    /// the team has these again. The cells fit at the places that they go back to. Other teams, the frame,
-    /// the positions of components and the rooms of the strips are unchanged. It allocates nothing.
+    /// Undoes moves of the team's cells, the last one first.
+    ///
+    /// If the moves have led here from some cells, the team has these cells again. The places after
+    /// the undo must fit. Other teams, the frame, the positions of components and the capacities of
+    /// the strips are unchanged. Does not allocate.
     pub fn undo_moves(&mut self, team: usize, moves: &Moves)
         requires { Fits self.old team (moves_taken_back moves.now (places_of (cells_of self.old.cells team))) }
         ensures own { (before : List Cell) → HaveMoved before moves.now (cells_of self.old.cells team) → cells_of self.new.cells team ≡ before }
@@ -316,8 +312,8 @@ impl Placement {
         );
     }
 
-    /// Makes the working places of the team's cells their committed ones. Other teams, the frame, the
-    /// positions of components and the rooms of the strips are unchanged.
+    /// Makes the working places of the team's cells their committed ones. Other teams, the frame,
+    /// the positions of components and the capacities of the strips are unchanged.
     pub fn commit_team(&mut self, team: usize)
         ensures own { cells_of self.new.cells team ≡ map as_committed (cells_of self.old.cells team) }
         ensures others { OtherCellsStay team self.old.cells self.new.cells }
@@ -327,8 +323,8 @@ impl Placement {
         commit_places(&mut self.cells, team);
     }
 
-    /// A law: the macros of all cells are the frame's, of whole size, and no team has more than 4,000,000
-    /// cells.
+    /// A law: the macros of all cells are the frame's, of whole size, and no team has more than
+    /// 4,000,000 cells.
     pub fn cells_are_sized(&self)
         ensures sized { AreSized self.now.frame self.now.cells }
         ensures few { (team : ℕ) → length (cells_of self.now.cells team) ≤ 4000000 }

@@ -1,4 +1,4 @@
-//! Moves of a team's cells in the cell table alone.
+//! Applies and reverts moves of a team's cells in the cell table alone.
 
 ghost use Rattle.std.specs.Prelude.{◌≡◌, List, drop, take};
 ghost use Rattle.lf_cells.specs.declared.cell.Cell.{Cell};
@@ -10,7 +10,7 @@ use lf_cells::{CellId, CellTable};
 use lf_floorplan::Place;
 use lf_undo::Moves;
 
-/// The working place of the team's cell of that position; none where it is unplaced, or there is no
+/// The working place of the team's cell at position `own`. `None` if it is unplaced, or there is no
 /// such cell.
 fn place_at(cells: &CellTable, team: usize, own: u32) -> Option<Place>
     ensures { result ≡ working_at (cells_of cells.now team) own }
@@ -26,7 +26,8 @@ fn set_place(cells: &mut CellTable, id: CellId, place: Option<Place>)
     cells.set_working(id, place);
 }
 
-/// Changes the working place of the team's cell of that position, where there is one.
+/// Changes the working place of the team's cell at position `own`. Does nothing if there is no such
+/// cell.
 fn put_at(cells: &mut CellTable, team: usize, own: u32, place: Option<Place>)
     ensures own { cells_of cells.new team ≡ moved (cells_of cells.old team) own place }
     ensures others { OtherCellsStay team cells.old cells.new }
@@ -36,7 +37,8 @@ fn put_at(cells: &mut CellTable, team: usize, own: u32, place: Option<Place>)
     }
 }
 
-/// Makes the moves from that one on, in their order, and leaves in each the place that its cell had.
+/// Makes the moves from index `from` on, in their order, and stores in each the previous place of
+/// its cell.
 pub(crate) fn apply_in_table(cells: &mut CellTable, team: usize, moves: &mut Moves, from: usize)
     ensures own { cells_of cells.new team ≡ moves_applied (drop from moves.old) (cells_of cells.old team) }
     ensures moved { (before : List Cell) → HaveMoved before (take from moves.old) (cells_of cells.old team) → HaveMoved before moves.new (cells_of cells.new team) }
@@ -51,7 +53,7 @@ pub(crate) fn apply_in_table(cells: &mut CellTable, team: usize, moves: &mut Mov
     }
 }
 
-/// Takes the moves back, the last one first.
+/// Reverts the moves, the last one first.
 pub(crate) fn revert_in_table(cells: &mut CellTable, team: usize, moves: &Moves)
     ensures own { cells_of cells.new team ≡ moves_reverted moves.now (cells_of cells.old team) }
     ensures others { OtherCellsStay team cells.old cells.new }

@@ -1,4 +1,4 @@
-//! Moves that are taken back on a list of places, where room is made for what they lead back to.
+//! Undoes moves on a list of places, and makes room for the resulting places.
 
 ghost use Rattle.std.specs.Prelude.{◌≡◌, ◌≢◌, ◌<◌, All, OnOk, length, slice_set, ℕ};
 ghost use Rattle.lf_occupancy.specs.Occupied.{KeepsCapacities};
@@ -12,8 +12,7 @@ use lf_occupancy::StripCounts;
 use lf_undo::{Move, Moves};
 use std::alloc::AllocError;
 
-/// Takes one move back on the list of the places of the team's cells, and makes room for them.
-///
+/// Undoes one move on the list of the places of the team's cells, and makes room for these places.
 /// `Err` if an allocation fails.
 fn reserve_move_undo(
     placement: &mut Placement,
@@ -43,9 +42,7 @@ fn reserve_move_undo(
     Ok(())
 }
 
-/// The same of each of the moves, the last one first.
-///
-/// `Err` if an allocation fails.
+/// Undoes each of the moves in the same sense, the last one first. `Err` if an allocation fails.
 pub(crate) fn fit_moves_back(
     placement: &mut Placement,
     tally: &mut StripCounts,

@@ -1,4 +1,4 @@
--- Copies of designs: what the cells of one keep wherever they stand, and lists of cells.
+-- Copies of designs: what their cells keep wherever they are placed, and lists of cells.
 use Rattle.std.proofs.Common.{◌≡◌, ◌≢◌, ◌∙◌, ℕ, zero, suc, ◌+◌, ◌<◌, ◌≤◌, List, [], ◌∷◌, ◌++◌, length, map, drop, Option, None, Some, refl, ap, sym, subst, arith}
 use Rattle.std.specs.Prelude.{All, AllPairs, IsSome, slice_get, option_map}
 use Rattle.std.proofs.lemmas.List.{length-map}
@@ -20,7 +20,7 @@ is_read [] k None e within = absurd (omega (arith, within))
 is_read (x ∷ xs) zero None e within = absurd cc
 is_read (x ∷ xs) (suc k) None e within = is_read xs k None e (omega (arith, within))
 
--- nothing is left behind the end
+-- nothing remains past the end
 pub none_left : {X : Type 0} (xs : List X) (k : ℕ) → length xs ≤ k → drop k xs ≡ []
 none_left [] zero past = refl
 none_left [] (suc k) past = refl
@@ -54,7 +54,7 @@ at_front : {X : Type 0} (P : X → Type 0) (xs : List X) (y : X) (ys : List X) �
 at_front P [] y ys all = All-head P y ys all
 at_front P (x ∷ xs) y ys all = at_front P xs y ys (All-tail P x (xs ++ y ∷ ys) all)
 
--- those before an element are apart from it
+-- the elements in front of one are apart from it
 pub apart_before : {X : Type 0} (R : X → X → Type 0) (xs : List X) (y : X) (ys : List X) → AllPairs R (xs ++ y ∷ ys) → All (λ x. R x y) xs
 apart_before R [] y ys pairs = All-nil (λ x. R x y)
 apart_before R (x ∷ xs) y ys pairs =
@@ -67,9 +67,9 @@ pairs_map R S f gives (x ∷ xs) pairs =
     AllPairs-cons S (f x) (map f xs) (All-map (S (f x)) f xs (λ j d within. gives x _ (pairs_head R x xs pairs j d within)))
     (pairs_map R S f gives xs (pairs_tail R x xs pairs))
 
--- ---- cells that stand elsewhere
+-- ---- cells at other places
 
--- two cells differ in their place alone
+-- two cells differ only in their place
 pub record AreOneCell (c d : Cell) : Type 0 where
   pub name : d.name ≡ c.name
   pub team : d.team ≡ c.team
@@ -88,7 +88,7 @@ pub named_apart : (h : Cell → Cell) → ((c : Cell) → AreOneCell c (h c)) �
 named_apart h kept cells named =
     pairs_map (λ a b. a.name ≢ b.name) (λ a b. a.name ≢ b.name) h (λ a b differ same. differ (sym (kept a).name ∙ same ∙ (kept b).name)) cells named
 
--- cells that make a design make one wherever they stand
+-- cells that make a design make one wherever they are placed
 pub design_moved : (f : Frame) (h : Cell → Cell) → ((c : Cell) → AreOneCell c (h c)) → (cells : List Cell) → MakeDesign f cells → MakeDesign f (map h cells)
 design_moved f h kept cells is = record {
   few_cells = subst (λ (n : ℕ). n ≤ 4000000) (sym (length-map cells h)) is.few_cells;

@@ -10,7 +10,7 @@ use Rattle.lf_floorplan.specs.Design.{CellsNamed, IsCell, MakeDesign}
 use Rattle.lf_repair_bounds.specs.Bare.{AreFirstCells, IsKeptOr, unplaced}
 use Rattle.lf_repair_bounds.proofs.Copying.{apart_before, from_here, none_left, pairs_head, pairs_tail}
 
--- ---- lists with an element left out, or another in its place
+-- ---- lists without an element, or with another in its place
 
 all_without : {X : Type 0} (P : X → Type 0) (xs : List X) (y : X) (ys : List X) → All P (xs ++ y ∷ ys) → All P (xs ++ ys)
 all_without P [] y ys all = All-tail P y ys all
@@ -48,7 +48,7 @@ none_kept f cells named = record {
   unplaced = λ i d within. absurd (omega (arith, within));
 }
 
--- the next cell's name is no kept one's
+-- the next cell's name differs from those of the kept cells
 pub next_is_named : (f : Frame) (cells : List Cell) (at : ℕ) (kept : List Cell) (c : Cell) → AreFirstCells f cells at kept → slice_get cells at ≡ Some c
     → All (λ d. d.name ≢ c.name) kept
 next_is_named f cells at kept c are is =

@@ -1,4 +1,4 @@
--- The table of a floor without cells, and a cell of it that stands alone.
+-- The table of a floor without cells, and a cell of it alone.
 use Rattle.std.proofs.Common.{◌≡◌, ◌∙◌, ℕ, zero, suc, ◌+◌, ◌<◌, List, [], ◌∷◌, get_or, length, map, filter, eqb, Option, Some, None, refl, ap, sym, subst}
 use Rattle.std.specs.Prelude.{All, not, option_and_then, option_map, slice_get, unwrap_or}
 use Rattle.std.proofs.lemmas.List.Elements.{All-filter, All-head, All-map, All-nil, All-tail, All-weaker}

@@ -1,4 +1,4 @@
--- Least ways, and the largest of them.
+-- Least displacements, and the largest of them.
 use Rattle.std.proofs.Common.{◌≡◌, ◌≢◌, ◌∙◌, ◌⊎◌, ℕ, ℤ, pos, zero, suc, ◌-ℤ◌, ◌+◌, ◌<◌, ◌≤◌, List, [], ◌∷◌, ◌++◌, get_or, length, take, Option, Some, None, refl, ap, sym, subst, inl, inr, ⊎_elim, arith}
 use Rattle.std.specs.Prelude.{Any, MatchOption, option_map, replicate, slice_get, max, unsigned_abs}
 use Rattle.std.proofs.lemmas.Int.{ints}
@@ -17,7 +17,7 @@ use Rattle.lf_rules.proofs.LegalParts.{frame_beside, frame_padded, legal_by_part
 use Rattle.lf_repair_bounds.specs.Alone.{IsDisplacedAsFar, IsMaxMinDisplacement, IsMinDisplacement, IsMinDisplacementOrNone, AreMaxMinDisplacements, IsNearestDisplacement, NoRepairDoesBetter, alone, corner, query_beside}
 use Rattle.lf_repair_bounds.specs.Bare.{IsRaised, raised}
 
--- ---- one way
+-- ---- one displacement
 
 -- the best place is a nearest one
 nearest_best : (c : PlacementQuery) (from : Point) (best : SpotPlace) → IsBest c from best → IsNearestDisplacement c from (distance from best)
@@ -65,7 +65,7 @@ least_stays f c home is may =
     subst (λ (o : Option Place). MatchOption o ⊥ (λ h. IsNearestDisplacement (alone f c) (corner h) 0)) (sym is)
     record { place = spot_of home; may_go = may; is = no_way home; nearest = λ p goes. omega arith }
 
--- a cell has one least way
+-- a cell has one least displacement
 no_longer : (f : Frame) (c : Cell) (a b : ℕ) → IsMinDisplacement f c a → IsMinDisplacement f c b → b ≤ a
 no_longer f c a b one other = go c.place one other where
   go : (o : Option Place) → MatchOption o ⊥ (λ h. IsNearestDisplacement (alone f c) (corner h) a) → MatchOption o ⊥ (λ h. IsNearestDisplacement (alone f c) (corner h) b) → b ≤ a
@@ -110,7 +110,7 @@ other_cell f cells c team largest other is = record {
       (λ (any : Any (λ d. (d.team ≡ team) × IsMinDisplacement f d largest) cells). inr (any_before (λ d. (d.team ≡ team) × IsMinDisplacement f d largest) cells (c ∷ []) any)) is.is_one;
 }
 
--- one of the team raises it to its way
+-- a cell of the team raises it to its own
 own_cell : (f : Frame) (cells : List Cell) (c : Cell) (largest : ℕ) (way : Option ℕ) → IsMinDisplacementOrNone f c way → IsMaxMinDisplacement f cells c.team largest
     → IsMaxMinDisplacement f (cells ++ c ∷ []) c.team (raised largest way)
 own_cell f cells c largest None none is = record {
@@ -193,7 +193,7 @@ zero_there zero team largest there = absurd cc
 zero_there (suc n) zero largest there = cc
 zero_there (suc n) (suc team) largest there = zero_there n team largest there
 
--- before the first cell all numbers are 0
+-- with no cells yet all numbers are 0
 none_raised : (f : Frame) (n : ℕ) → AreMaxMinDisplacements f [] (replicate n 0)
 none_raised f n team largest there = subst (λ (m : ℕ). IsMaxMinDisplacement f [] team m) (sym (zero_there n team largest there)) (none_largest f team)
 
@@ -211,9 +211,9 @@ take_more {X} (y ∷ ys) (suc k) x e =
     let shift : suc k + 1 ≡ suc (k + 1) = omega arith in
     rw shift (ap (λ (zs : List X). y ∷ zs) (take_more ys k x e))
 
--- ---- where a cell stands
+-- ---- the place of a cell
 
--- a cell that breaks no rule may stay, where there are no soft blockages
+-- a cell that breaks no rule is allowed at its place, if there are no soft blockages
 pub may_stay : (f : Frame) (c : Cell) (home : Place) → length f.soft ≡ 0 → IsFrameRuleVerdict (candidate_of f c.team 0 (macro_of f c.mac) home []) None
     → IsAllowedPlace (alone f c) (spot_of home)
 may_stay f c home none keeps = record {
@@ -221,9 +221,9 @@ may_stay f c home none keeps = record {
   off_soft = λ meets. let within = meets.2 in absurd (omega (arith, within, none));
 }
 
--- ---- what it is good for
+-- ---- what it means for any repair
 
--- beside whatever others, a cell may go only where it may go alone
+-- a place that is allowed for a cell with any other cells is allowed for it alone
 alone_too : (f : Frame) (c : Cell) (padding : ℕ) (others : List Placed) (p : SpotPlace) → IsAllowedPlace (query_beside f c padding others) p → IsAllowedPlace (alone f c) p
 alone_too f c padding others p may = record { legal = legal; off_soft = may.off_soft } where
   t : Candidate

@@ -1,4 +1,5 @@
--- How far cells must go at least: their ways to the nearest places where each may stand if no other cell is on the floor.
+-- The least displacements of cells: the distances to the nearest places where each is allowed if no
+-- other cell is on the floor.
 use Rattle.std.specs.Prelude.{◌≡◌, ◌⊎◌, ℕ, ◌<◌, ◌≤◌, List, [], All, Any, Option, Some, MatchOption, slice_get}
 use Rattle.lf_units.specs.declared.geometry.Point.{Point}
 use Rattle.lf_floorplan.specs.declared.frame.Frame.{Frame}
@@ -8,7 +9,7 @@ use Rattle.lf_floorplan.specs.Boxes.{macro_of}
 use Rattle.lf_rtree.specs.declared.placed.Placed.{Placed}
 use Rattle.lf_rules.specs.Choice.{PlacementQuery, IsAllowedPlace, SpotPlace, distance}
 
--- the cell, taken from its place, beside these other cells of its team, which has this padding
+-- the cell, regarded as unplaced, with these other cells of its team, which has this padding
 abbrev pub query_beside : Frame → Cell → ℕ → List Placed → PlacementQuery
 query_beside f c padding others = record { frame = f; team = c.team; padding = padding; mac = macro_of f c.mac; others = others }
 
@@ -20,37 +21,40 @@ alone f c = query_beside f c 0 []
 abbrev pub corner : Place → Point
 corner p = record { x = p.x; y = p.y }
 
--- it is so far from there to the nearest place where the cell may go
+-- the distance from this point to the nearest allowed place of the cell
 pub record IsNearestDisplacement (c : PlacementQuery) (from : Point) (way : ℕ) : Type 0 where
   pub place : SpotPlace
   pub may_go : IsAllowedPlace c place
   pub is : distance from place ≡ way
   pub nearest : (p : SpotPlace) → IsAllowedPlace c p → way ≤ distance from p
 
--- the cell has a place, and its least way is this: that to the nearest place where it may go alone
+-- the cell has a place, and its least displacement is this one: the distance to the nearest place
+-- that is allowed for it alone
 abbrev pub IsMinDisplacement : Frame → Cell → ℕ → Type 0
 IsMinDisplacement f c way = MatchOption c.place ⊥ (λ home. IsNearestDisplacement (alone f c) (corner home) way)
 
--- the cell's least way, or none: it is unplaced, or may go nowhere
+-- the cell's least displacement, or None if it is unplaced or no place is allowed for it
 abbrev pub IsMinDisplacementOrNone : Frame → Cell → Option ℕ → Type 0
 IsMinDisplacementOrNone f c found = MatchOption found ((way : ℕ) → IsMinDisplacement f c way → ⊥) (λ way. IsMinDisplacement f c way)
 
--- the largest of the least ways of the team's cells among these; 0 if none has one
+-- the largest of the least displacements of the team's cells in the list; 0 if no cell has one
 pub record IsMaxMinDisplacement (f : Frame) (cells : List Cell) (team largest : ℕ) : Type 0 where
   pub no_larger : All (λ c. c.team ≡ team → (way : ℕ) → IsMinDisplacement f c way → way ≤ largest) cells
   pub is_one : (largest ≡ 0) ⊎ Any (λ c. (c.team ≡ team) × IsMinDisplacement f c largest) cells
 
--- so it is for each team
+-- the same for each team
 abbrev pub AreMaxMinDisplacements : Frame → List Cell → List ℕ → Type 0
 AreMaxMinDisplacements f cells list = (team largest : ℕ) → slice_get list team ≡ Some largest → IsMaxMinDisplacement f cells team largest
 
--- wherever the cell may go from its place, beside whatever others, it goes so far or further
+-- wherever the cell is allowed to move from its place, with any other cells, it moves at least as
+-- far
 abbrev pub IsDisplacedAsFar : Frame → Cell → ℕ → Type 0
 IsDisplacedAsFar f c way =
     MatchOption c.place ⊥ (λ home. (padding : ℕ) (others : List Placed) (p : SpotPlace) → IsAllowedPlace (query_beside f c padding others) p
     → way ≤ distance (corner home) p)
 
--- one of the team's cells goes as far as the largest of the least ways, wherever all of them go
+-- one of the team's cells moves at least as far as the largest of the least displacements, wherever
+-- all of them move
 abbrev pub NoRepairDoesBetter : Type 0
 NoRepairDoesBetter =
     (f : Frame) (cells : List Cell) (team largest : ℕ) → IsMaxMinDisplacement f cells team largest → 0 < largest

@@ -1,4 +1,5 @@
--- A floor without cells, which has for each team an unplaced cell of each macro of its cells; no public clause cites it.
+-- A floor without cells, which has for each team an unplaced cell of each macro of its cells. No
+-- public clause cites this module.
 use Rattle.std.specs.Prelude.{◌≡◌, ◌≢◌, ◌⊎◌, ◌+◌, ◌<◌, ◌≤◌, ◌++◌, ◌∷◌, ℕ, List, [], All, Option, None, Some, drop, length, max, slice_get}
 use Rattle.lf_floorplan.specs.declared.frame.Frame.{Frame}
 use Rattle.lf_floorplan.specs.declared.loaded.Cell.{Cell}
@@ -15,11 +16,11 @@ unplaced at c = record c { place = None; component = at }
 abbrev pub AreUnplaced : List Cell → Type 0
 AreUnplaced cells = All (λ c. c.place ≡ None) cells
 
--- the cell is kept behind the others, unplaced, or they stay
+-- the cell is appended, unplaced, or the list is unchanged
 abbrev pub IsKeptOr : ℕ → Cell → List Cell → List Cell → Type 0
 IsKeptOr at c old new = (new ≡ old) ⊎ (new ≡ old ++ unplaced at c ∷ [])
 
--- cells that were kept of the first `at` of these
+-- cells that were kept from the first `at` cells
 pub record AreFirstCells (f : Frame) (cells : List Cell) (at : ℕ) (kept : List Cell) : Type 0 where
   pub few : length kept + length (drop at cells) ≤ length cells
   pub known : All (IsCell f) kept
@@ -28,23 +29,24 @@ pub record AreFirstCells (f : Frame) (cells : List Cell) (at : ℕ) (kept : List
   pub before : All (λ c. c.component < at) kept
   pub unplaced : AreUnplaced kept
 
--- the table has cells of the frame, of whole size, 4,000,000 at most in each team, and none is placed
+-- the table has cells of the frame, of whole size, at most 4,000,000 in each team, and no cell is
+-- placed
 pub record IsEmptyTable (f : Frame) (table : Cells) : Type 0 where
   pub sized : HaveSize f table
   pub few : (team : ℕ) → length (cells_of table team) ≤ 4000000
   pub unplaced : (team : ℕ) → All (λ c. c.working ≡ None) (cells_of table team)
 
--- the floor without cells is one of this frame
+-- the floor without cells belongs to this frame
 pub record IsEmptyFloorOf (f : Frame) (bare : EmptyFloor) : Type 0 where
   pub table : IsEmptyTable f bare.table
   pub marked : IsMarkedBy f bare.table bare.occupancy
 
--- the number raised to the way, if there is one, which is larger
+-- the number raised to the displacement, if there is one and it is larger
 abbrev pub raised : ℕ → Option ℕ → ℕ
 raised was None = was
 raised was (Some way) = max was way
 
--- the team's number is raised, and the others stay
+-- the team's number is raised, and the others are unchanged
 pub record IsRaised (team : ℕ) (way : Option ℕ) (old new : List ℕ) : Type 0 where
   pub many : length new ≡ length old
   pub others : (other : ℕ) → other ≢ team → slice_get new other ≡ slice_get old other

@@ -2,7 +2,7 @@
 use Rattle.std.specs.Prelude.{◌≡◌}
 use Rattle.lf_floorplan.specs.declared.frame.Frame.{Frame}
 
--- what of a copy of a frame is told: what names and numbers of cells need
+-- what is known of a copy of a frame: what names and numbers of cells need
 pub record AreCopies (f g : Frame) : Type 0 where
   pub teams : g.teams ≡ f.teams
   pub limits : g.limits ≡ f.limits

@@ -1,4 +1,4 @@
-//! A floor without cells, on which a cell of any team and macro of a design can be asked for.
+//! A floor without cells, which can be searched for a cell of any team and macro of a design.
 
 ghost use Rattle.std.specs.Prelude.{◌≡◌, ◌≢◌, All, IfOk, IfSome, None, OnOk, Some, option_map};
 ghost use Rattle.lf_floorplan.specs.Design.{MakeDesign};
@@ -14,7 +14,8 @@ use lf_occupancy::Occupancy;
 use lf_segments::FrameIndex;
 use std::alloc::{AllocError, Global};
 
-/// The first cell of a macro in a team: which of the team's cells on the floor without cells it is.
+/// The first cell of a macro in a team, and its position among the team's cells on the floor
+/// without cells.
 #[derive(Clone, Copy)]
 struct First {
     mac: usize,
@@ -24,7 +25,7 @@ struct First {
 /// For each team the first cells, in order of their macros.
 type Firsts = Vec<Vec<First>>;
 
-/// The frame's strips with no cell in them, and the first cells of all macros and teams, unplaced.
+/// The frame's strips without marks, and the first cells of all macros and teams, unplaced.
 #[derive(Drop)]
 pub(crate) struct EmptyFloor {
     pub(crate) table: CellTable,
@@ -43,7 +44,7 @@ fn own_of(firsts: &[First], mac: usize) -> Option<usize> {
     }
 }
 
-/// Whether the macro is a new one of the team; it is then one of the team's.
+/// Whether the macro is a new one of the team. If so, it is added to the team's.
 fn is_new(firsts: &mut Firsts, team: usize, mac: usize) -> Result<bool, AllocError> {
     let Some(own) = firsts.get_mut(team) else {
         return Ok(false);
@@ -60,7 +61,8 @@ fn is_new(firsts: &mut Firsts, team: usize, mac: usize) -> Result<bool, AllocErr
     Ok(true)
 }
 
-/// The cell, unplaced, as the entry of that position; none if a number of it is past what a design keeps.
+/// The cell, unplaced, as the entry at position `at`. `None` if a number of it exceeds the limits
+/// of a design.
 fn plain_of(cell: &CellRef<'_>, at: usize) -> Option<UnnamedCell>
     ensures { IfSome result (λ plain. with_name cell.now.name.now plain ≡ unplaced at (borrowed_cell cell.now)) }
 {
@@ -118,7 +120,7 @@ fn design_with(alloc: Global, frame: &Frame, cells: LoadedCells) -> Result<Loade
     Ok(Loaded { frame, cells })
 }
 
-/// The table of these cells on a copy of the frame.
+/// The table of the given cells on a copy of the frame.
 fn table_of(alloc: Global, frame: &Frame, cells: LoadedCells) -> Result<CellTable, AllocError>
     requires design { MakeDesign frame.now cells }
     requires unplaced { AreUnplaced cells }
@@ -130,7 +132,7 @@ fn table_of(alloc: Global, frame: &Frame, cells: LoadedCells) -> Result<CellTabl
     Ok(table)
 }
 
-/// No first cells yet, of so many teams.
+/// A list of `teams` empty lists of first cells.
 fn no_firsts(alloc: Global, teams: usize) -> Result<Firsts, AllocError> {
     let mut firsts = Vec::new(alloc);
     for _ in 0..teams {
@@ -158,7 +160,8 @@ pub(crate) fn empty_floor(alloc: Global, loaded: &Loaded) -> Result<EmptyFloor, 
     })
 }
 
-/// A cell of the team and of the macro of these numbers on the floor without cells; none if none is found.
+/// A cell of the team and the macro with these numbers on the floor without cells. `None` if there
+/// is no such cell.
 pub(crate) fn id_of(bare: &EmptyFloor, team: usize, mac: usize) -> Option<CellId>
     ensures team { IfSome result (λ id. id.team ≡ team) }
     ensures mac { IfSome result (λ id. option_map (λ c. c.mac) (cell_at bare.now.table id) ≡ Some mac) }

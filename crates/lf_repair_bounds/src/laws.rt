@@ -1,8 +1,9 @@
-//! What the numbers are good for.
+//! What the numbers mean for any repair.
 
 ghost use Rattle.lf_repair_bounds.specs.Alone.{NoRepairDoesBetter};
 
-/// Wherever the cells of a team go, one of them goes as far as the largest of their least ways.
+/// Wherever the cells of a team move, one of them moves at least as far as the largest of their
+/// least displacements.
 pub fn no_repair_does_better()
     ensures { NoRepairDoesBetter }
 {}

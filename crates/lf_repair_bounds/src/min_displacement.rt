@@ -1,4 +1,4 @@
-//! The least ways of cells, and the largest of them in each team.
+//! The least displacements of cells, and the largest of them in each team.
 
 ghost use Rattle.std.specs.Prelude.{◌≡◌, ◌+◌, IfOk, Some, length, option_map, replicate};
 ghost use Rattle.lf_floorplan.specs.Design.{IsCell};
@@ -23,14 +23,14 @@ fn corner(place: &Place) -> Point
     }
 }
 
-/// The way from a place to another one.
+/// The distance from a place to another one.
 fn displacement(from: &Place, to: &Place) -> u64
     ensures { result ≡ distance (corner_of from.now) (spot_of to.now) }
 {
     u64::from(to.x.abs_diff(from.x)) + u64::from(to.y.abs_diff(from.y))
 }
 
-/// The way to the place that was found, if one was.
+/// The distance to the place that was found. `None` if no place was found.
 fn displacement_to(home: &Place, found: &Option<Place>) -> Option<u64>
     ensures { result ≡ option_map (λ place. distance (corner_of home.now) (spot_of place)) found.now }
 {
@@ -40,7 +40,7 @@ fn displacement_to(home: &Place, found: &Option<Place>) -> Option<u64>
     }
 }
 
-/// The least way of a cell that stands there; none if it may go nowhere.
+/// The least displacement of a cell at this place. `None` if no place is allowed for it.
 fn min_displacement_from(
     alloc: Global,
     frame: &Frame,
@@ -61,7 +61,7 @@ fn min_displacement_from(
     Ok(displacement_to(home, &found))
 }
 
-/// The cell's least way; none if it is unplaced, or may go nowhere.
+/// The cell's least displacement. `None` if it is unplaced, or no place is allowed for it.
 fn min_displacement(
     alloc: Global,
     frame: &Frame,
@@ -78,7 +78,7 @@ fn min_displacement(
     }
 }
 
-/// Raises the team's number to the way, if that is larger.
+/// Raises the team's number to the displacement, if that is larger.
 fn raise(largest: &mut Vec<u64>, team: usize, way: Option<u64>)
     ensures { IsRaised team way largest.old.items largest.new.items }
 {
@@ -90,16 +90,15 @@ fn raise(largest: &mut Vec<u64>, team: usize, way: Option<u64>)
     }
 }
 
-/// So many zeros.
+/// A list of `count` zeros.
 fn zeros(alloc: Global, count: usize) -> Result<Vec<u64>, AllocError>
     ensures { IfOk result (λ list. list.items ≡ replicate count 0) }
 {
     vec![in alloc; 0; count]
 }
 
-/// For each team, by its number, the largest of the least ways of its cells; 0 if none has one.
-///
-/// `Err` if an allocation fails.
+/// For each team, by its number, the largest of the least displacements of its cells, in database
+/// units. 0 if no cell has one. `Err` if an allocation fails.
 pub fn max_min_displacements(alloc: Global, loaded: &Loaded) -> Result<Vec<u64>, AllocError>
     ensures many { IfOk result (λ list. length list.items ≡ length loaded.now.frame.teams + 1) }
     ensures each { IfOk result (λ list. AreMaxMinDisplacements loaded.now.frame loaded.now.cells list.items) }

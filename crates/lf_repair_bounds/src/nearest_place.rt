@@ -1,4 +1,4 @@
-//! The nearest place where a cell may stand alone.
+//! Finds the nearest place where a cell is allowed alone.
 
 ghost use Rattle.std.specs.Prelude.{◌≡◌, [], IfOk, IsTrue, None, Some, length, option_map};
 ghost use Rattle.lf_floorplan.specs.Boxes.{IsSized, macro_of};
@@ -19,7 +19,7 @@ use lf_segments::IndexedFrame;
 use lf_units::Point;
 use std::alloc::{AllocError, Global};
 
-/// The nearest place for the cell of the floor without cells.
+/// The nearest place for a cell that the floor without cells has.
 fn nearest_of(
     alloc: Global,
     frame: &Frame,
@@ -47,8 +47,8 @@ fn nearest_of(
     )
 }
 
-/// The nearest place where the cell may go alone; none if it may go nowhere. A cell of a macro that the floor without cells has not
-/// is looked for at every site.
+/// The nearest place where the cell is allowed alone. `None` if no place is allowed for it. If the
+/// floor without cells has no cell of its macro, every site is searched.
 pub(crate) fn nearest(
     alloc: Global,
     frame: &Frame,
@@ -74,7 +74,7 @@ fn has_no_soft(frame: &Frame) -> bool
     frame.soft.len() == 0
 }
 
-/// Whether the cell breaks no rule there alone.
+/// Whether the cell alone breaks no rule at this place.
 fn keeps_rules(frame: &Frame, bare: &EmptyFloor, cell: &CellRef<'_>, home: &Place) -> bool
     requires bare { IsEmptyFloorOf frame.now bare.now }
     requires cell { IsCell frame.now (borrowed_cell cell.now) }
@@ -88,7 +88,8 @@ fn keeps_rules(frame: &Frame, bare: &EmptyFloor, cell: &CellRef<'_>, home: &Plac
     }
 }
 
-/// Whether the cell may stand there alone, on a frame without soft blockages; with some it is not looked at.
+/// Whether the cell is allowed alone at this place, on a frame without soft blockages. Returns
+/// false without a test if there are soft blockages.
 pub(crate) fn is_legal_alone(
     frame: &Frame,
     bare: &EmptyFloor,

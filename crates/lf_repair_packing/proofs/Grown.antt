@@ -10,11 +10,11 @@ use Rattle.lf_repair_packing.specs.Packing.{IsPacked, IsPackedWithin, shape, tot
 use Rattle.lf_repair_packing.specs.Windows.{IsBackStart, IsFrontEnd, IsWindow, MovesWithin}
 use Rattle.lf_repair_packing.proofs.Packed.{packed_append, packed_before, packed_behind, packed_drop, packed_take}
 
--- the window once one more cell stands in it
+-- the window after one more cell is inserted in it
 abbrev pub grown : Window → Window
 grown w = record { first = w.first; last = w.last + 1; start = w.start; end = w.end }
 
--- a cell put in between two positions leaves those before and behind them
+-- a cell inserted between two positions leaves those on either side
 inserted_is : (xs : List Cell) (first last gap : ℕ) (y : Cell) → first ≤ gap → gap ≤ last → last ≤ length xs
     → insert xs gap y ≡ take first xs ++ (insert (between first last xs) (gap - first) y ++ drop last xs)
 inserted_is xs first last gap y after before within =
@@ -46,7 +46,7 @@ sum_of_parts f xs first last order = ap (λ zs. sum_by f zs) (split_between xs f
     ∙ sum_by-append f (take first xs) (between first last xs ++ drop last xs)
     ∙ ap (λ (n : ℕ). sum_by f (take first xs) + n) (sum_by-append f (between first last xs) (drop last xs))
 
--- the one more takes its width of the window
+-- the inserted cell takes its width from the window
 pub room_grown : (room gap : ℕ) (xs : List Cell) (y : Cell) (w : Window) → IsWindow room xs y.width w → w.first ≤ gap → gap ≤ w.last
     → w.start + total_width (between w.first (w.last + 1) (insert xs gap y)) ≤ w.end
 room_grown room gap xs y w is after before =
@@ -105,7 +105,7 @@ kept_grown room gap xs ys y w is after before moved p =
     (subst (λ zs. IsBackStart room zs w.end) (sym back) is.back) in
     parts_same (grown w) more ys order moved.front moved.back (between w.first (w.last + 1) more) (moved.kept within) ∙ sym parts
 
--- the ways grow by what those of the window do
+-- the total displacement grows by as much as that of the window
 pub way_grown : (room gap : ℕ) (xs ys : List Cell) (y : Cell) (w : Window) → IsWindow room xs y.width w → w.first ≤ gap → gap ≤ w.last
     → MovesWithin (grown w) (insert xs gap y) ys
     → total_displacement ys + total_displacement (between w.first w.last xs) ≡ total_displacement xs + total_displacement (between w.first (w.last + 1) ys)

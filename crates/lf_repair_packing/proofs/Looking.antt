@@ -1,4 +1,4 @@
--- One look from left to right: what is settled so far, and the next cell.
+-- One pass from left to right: the settled cells, and the next one.
 use Rattle.std.proofs.Common.{◌≡◌, ℕ, ◌+◌, ◌-◌, ◌<◌, ◌≤◌, ◌⊎◌, inl, inr, List, [], ◌∷◌, suc}
 use Rattle.std.proofs.Common.{zero, drop, get_or, set, map, length, sym, ap, ◌∙◌, arith, subst, get_or-set_other, get_or-set_same}
 use Rattle.std.proofs.lemmas.List.{drop_more, drop-set-lt, map-set, set-get_or, get_or_default}
@@ -6,7 +6,8 @@ use Rattle.std.proofs.lemmas.List.Sums.{sum_by-cons, sum_by-drop_more}
 use Rattle.lf_repair_packing.specs.declared.cells.Cell.{Cell}
 use Rattle.lf_repair_packing.specs.Packing.{IsPackedWithin, shape, total_width}
 
--- the cells below i are settled between `start` and `free`; those from i on take `rest` sites and have room up to `end`
+-- the cells below i are settled between `start` and `free`; those from i on take `rest` sites and
+-- have room up to `end`
 pub record Settles (start end : ℕ) (old cells : List Cell) (free rest i : ℕ) : Type 0 where
   pub begun : start ≤ free
   pub fit : free + rest ≤ end

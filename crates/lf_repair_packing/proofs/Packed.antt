@@ -15,7 +15,7 @@ none_packed start end = record {
   apart = λ i j d a b. absurd (omega (arith, b));
 }
 
--- the first of packed cells, and those behind it
+-- the first of packed cells, and those after it
 pub packed_rest : (start end : ℕ) (x : Cell) (xs : List Cell) → IsPackedWithin start end (x ∷ xs) → IsPackedWithin (x.at + x.width) end xs
 packed_rest start end x xs p = record {
   from = λ i d l. p.apart zero (suc i) d (omega arith) (omega (arith, l));
@@ -49,7 +49,7 @@ packed_wider start end low high xs below above p = record {
   apart = p.apart;
 }
 
--- packed cells before packed cells
+-- packed cells in front of packed cells
 pub packed_append : (start middle end : ℕ) (xs ys : List Cell) → start ≤ middle → middle ≤ end → IsPackedWithin start middle xs → IsPackedWithin middle end ys
     → IsPackedWithin start end (xs ++ ys)
 packed_append start middle end [] ys below above p q = packed_wider middle end start end ys below (omega arith) q
@@ -73,7 +73,7 @@ packed_drop start end (suc n) (x ∷ xs) p =
     let from = p.from zero x (omega arith) in
     packed_drop start end n xs (packed_wider (x.at + x.width) end start end xs (omega (arith, from)) (omega arith) (packed_rest start end x xs p))
 
--- without one of them
+-- packed cells without one
 pub packed_without : (start end n : ℕ) (xs : List Cell) → IsPackedWithin start end xs → IsPackedWithin start end (remove xs n)
 packed_without start end zero [] p = p
 packed_without start end (suc n) [] p = p
@@ -82,7 +82,7 @@ packed_without start end (suc n) (x ∷ xs) p =
     packed_first start end x (remove xs n) (p.from zero x (omega arith)) (p.within zero x (omega arith))
     (packed_without (x.at + x.width) end n xs (packed_rest start end x xs p))
 
--- with another one, as wide, in the place of one
+-- packed cells with another one, of the same width, in the place of one
 pub packed_replaced : (start end n : ℕ) (xs : List Cell) (y d : Cell) → n < length xs → y.at ≡ (get_or xs n d).at → y.width ≡ (get_or xs n d).width
     → IsPackedWithin start end xs → IsPackedWithin start end (set xs n y)
 packed_replaced start end n [] y d within at wide p = absurd (omega (arith, within))
@@ -107,7 +107,7 @@ width_replaced (suc n) (x ∷ xs) y d within wide =
     let rest = width_replaced n xs y d (omega (arith, within)) wide in
     omega (arith, old, new, rest)
 
--- cells that stand behind others stand behind the end of those
+-- cells that are right of others are right of their end
 pub packed_behind : (start end site : ℕ) (xs ys : List Cell) → IsPackedWithin start end (xs ++ ys) → IsFrontEnd xs site → IsPackedWithin site end ys
 packed_behind start end site xs ys p front = record {
   from = λ k d l. front.least (slice_index_or ys k d).at (λ j e h.
@@ -125,7 +125,7 @@ packed_behind start end site xs ys p front = record {
     long : length (xs ++ ys) ≡ length xs + length ys
     long = length-append xs ys
 
--- and those that stand before others before the start of those
+-- cells that are left of others are left of their start
 pub packed_before : (start room site : ℕ) (xs ys : List Cell) → IsPackedWithin start room (xs ++ ys) → IsBackStart room ys site → IsPackedWithin start site xs
 packed_before start room site xs ys p back = record {
   from = λ k d l. subst (λ (c : Cell). start ≤ c.at) (get_or_append_left xs ys d k l) (p.from k d (let n = long in omega (arith, l, n)));
@@ -145,7 +145,7 @@ packed_before start room site xs ys p back = record {
     long : length (xs ++ ys) ≡ length xs + length ys
     long = length-append xs ys
 
--- where the cells before a position end: where the last of them does
+-- the cells in front of a position end where the last of them does
 pub front_end_is : (room first : ℕ) (cells : List Cell) (d : Cell) → 0 < first → first ≤ length cells → IsPacked room cells
     → IsFrontEnd (take first cells) ((slice_index_or cells (first - 1) d).at + (slice_index_or cells (first - 1) d).width)
 front_end_is room first cells d some within p = record {
@@ -169,7 +169,7 @@ front_end_is room first cells d some within p = record {
           (sym same) (omega arith)
     ]
 
--- where those from a position on begin: where the first of them does
+-- the cells from a position on begin where the first of them does
 pub back_start_is : (room last : ℕ) (cells : List Cell) (d : Cell) → last < length cells → IsPacked room cells
     → IsBackStart room (drop last cells) (slice_index_or cells last d).at
 back_start_is room last cells d within p = record {

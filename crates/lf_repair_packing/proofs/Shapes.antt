@@ -15,7 +15,7 @@ width_by_shapes (x ∷ xs) = sum_by-cons (λ (c : Cell). c.width) x xs ∙ ap (�
 pub same_width : (xs ys : List Cell) → map shape xs ≡ map shape ys → total_width xs ≡ total_width ys
 same_width xs ys same = width_by_shapes xs ∙ ap (λ ss. sum_by (λ (s : CellShape). s.width) ss) same ∙ sym (width_by_shapes ys)
 
--- and are as many
+-- the same cells have the same number
 pub same_length : (xs ys : List Cell) → map shape xs ≡ map shape ys → length xs ≡ length ys
 same_length xs ys same = sym (length-map xs shape) ∙ ap length same ∙ length-map ys shape
 
@@ -25,7 +25,7 @@ pub same_moved : (start cells : List Cell) (i : ℕ) (y d : Cell) → map shape 
 same_moved start cells i y d same alike = same ∙ sym (map-set shape cells i y ∙ ap (λ z. set (map shape cells) i z) alike
     ∙ sym (map-set shape cells i (get_or cells i d)) ∙ ap (map shape) (set-get_or cells i d))
 
--- packed cells are in nobody's way: none is pushed
+-- packed cells do not overlap: no cell is pushed
 pub pushed_kept : (start cells : List Cell) (i end : ℕ) (y d : Cell) → i + 1 < length cells → end ≡ (get_or cells (i + 1) d).at
     → (get_or cells i d).width ≤ end → end - (get_or cells i d).width < (get_or cells i d).at
     → ((low high : ℕ) → IsPackedWithin low high start → cells ≡ start) → (low high : ℕ) → IsPackedWithin low high start → set cells i y ≡ start

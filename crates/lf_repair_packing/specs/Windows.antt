@@ -1,22 +1,24 @@
--- Which cells of a span make room for one more, and between which sites they may move while the others stay.
+-- The cells of a span that make room for one more, and the sites between which they can move while
+-- the others stay.
 use Rattle.std.specs.Prelude.{◌≡◌, ℕ, ◌+◌, ◌≤◌, List, All, drop, take, length}
 use Rattle.std.specs.List.{between}
 use Rattle.lf_repair_packing.specs.declared.cells.Cell.{Cell}
 use Rattle.lf_repair_packing.specs.declared.window.Window.{Window}
 use Rattle.lf_repair_packing.specs.Packing.{AreSameCells, IsPackedWithin, total_width}
 
--- the least site by which all of these cells end
+-- the least site at which all of the cells have ended
 pub record IsFrontEnd (cells : List Cell) (site : ℕ) : Type 0 where
   pub ends : All (λ c. c.at + c.width ≤ site) cells
   pub least : (limit : ℕ) → All (λ c. c.at + c.width ≤ limit) cells → site ≤ limit
 
--- the greatest site of the room up to which none of these cells begins
+-- the greatest site, within the room, with all of the cells at it or to its right
 pub record IsBackStart (room : ℕ) (cells : List Cell) (site : ℕ) : Type 0 where
   pub begins : All (λ c. site ≤ c.at) cells
   pub short : site ≤ room
   pub greatest : (limit : ℕ) → limit ≤ room → All (λ c. limit ≤ c.at) cells → limit ≤ site
 
--- the cells of the window have room between its sites with one more of this width, and all others stand on either side
+-- the cells of the window have room between its sites with one more of this width, and all other
+-- cells are on either side
 pub record IsWindow (room : ℕ) (cells : List Cell) (width : ℕ) (window : Window) : Type 0 where
   pub order : window.first ≤ window.last
   pub within : window.last ≤ length cells
@@ -24,7 +26,8 @@ pub record IsWindow (room : ℕ) (cells : List Cell) (width : ℕ) (window : Win
   pub back : IsBackStart room (drop window.last cells) window.end
   pub fits : window.start + width + total_width (between window.first window.last cells) ≤ window.end
 
--- the cells of the window are packed between its sites, those that were so stay, and so do all others
+-- the cells of the window are packed between its sites, they do not move if they were packed
+-- already, and all other cells do not move
 pub record MovesWithin (window : Window) (old new : List Cell) : Type 0 where
   pub front : take window.first new ≡ take window.first old
   pub back : drop window.last new ≡ drop window.last old

@@ -3,20 +3,20 @@
 ghost use Rattle.std.specs.Prelude.{◌≡◌, ◌+◌, ◌<◌, ◌≤◌, ◌^◌, ◌↔◌, IsTrue, length};
 ghost use Rattle.lf_repair_packing.specs.Packing.{total_displacement, total_width};
 
-/// A cell of one row's height, in sites from the first one of its span.
+/// A cell of one row's height. Sites are counted from the first one of its span.
 #[derive(Clone, Copy, Debug, PartialEq, Eq)]
 pub struct Cell {
-    /// The caller's number of it.
+    /// The caller's number for the cell.
     pub number: u32,
-    /// How many sites it takes.
+    /// The width in sites.
     pub width: u32,
-    /// Where it is wanted.
+    /// The target site.
     pub wanted: u32,
-    /// Where it stands.
+    /// The current site.
     pub at: u32,
 }
 
-/// How many sites the cells take.
+/// The total width of the cells, in sites.
 pub(crate) fn width_of(cells: &[Cell]) -> u32
     requires { total_width cells.now < 2 ^ 32 }
     ensures { result ≡ total_width cells.now }
@@ -28,7 +28,7 @@ pub(crate) fn width_of(cells: &[Cell]) -> u32
     width
 }
 
-/// Whether the cells have room side by side between two sites.
+/// Whether the cells fit between two sites, next to each other.
 pub(crate) fn have_room(cells: &[Cell], start: u64, end: u64) -> bool
     requires { end < 2 ^ 63 }
     ensures { IsTrue result ↔ start + total_width cells.now ≤ end }
@@ -43,7 +43,7 @@ pub(crate) fn have_room(cells: &[Cell], start: u64, end: u64) -> bool
     free <= end
 }
 
-/// How far the cells stand from where they are wanted, together.
+/// The total displacement of the cells from their targets, in sites.
 pub(crate) fn total_displacement(cells: &[Cell]) -> u64
     requires { length cells.now ≤ 2 ^ 30 }
     ensures way { result ≡ total_displacement cells.now }

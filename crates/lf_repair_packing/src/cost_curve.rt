@@ -1,19 +1,19 @@
-//! What the ways of cells cost while one of them is moved along its row.
+//! The cost of the displacements of cells while one cell moves along its row.
 
 ghost use Rattle.std.specs.Prelude.{◌≡◌, ◌≤◌, ◌<◌};
 
 use crate::cells::Cell;
 use std::alloc::{AllocError, Global};
 
-/// A site at which the slope changes, and by how much.
+/// A site at which the slope changes, and the change.
 #[derive(Clone, Copy)]
 struct Breakpoint {
     at: u32,
     bend: i32,
 }
 
-/// A cost over the sites of a range, in straight pieces: its value and its slope at the first of them, and its kinks behind it, which
-/// rise. Sums stop at the ends of their type.
+/// A cost over the sites of a range, as a piecewise linear function. It has the value and the slope
+/// at the first site, and the breakpoints after it in rising order. Sums saturate.
 #[derive(Drop)]
 pub struct CostCurve {
     low: u32,
@@ -23,14 +23,14 @@ pub struct CostCurve {
     kinks: Vec<Breakpoint>,
 }
 
-/// Where a curve is least, and how much it is there.
+/// A site where a curve is least, and its value there.
 #[derive(Clone, Copy)]
 pub(crate) struct Least {
     pub(crate) at: u32,
     pub(crate) value: i64,
 }
 
-/// The lesser of the least so far and what the curve is at a site.
+/// The lesser of the least value so far and the curve's value at a site.
 fn lesser(least: Least, at: u32, value: i64) -> Least {
     if value < least.value {
         Least { at, value }
@@ -39,7 +39,7 @@ fn lesser(least: Least, at: u32, value: i64) -> Least {
     }
 }
 
-/// Moves the last kink before those that are right of it.
+/// Moves the last breakpoint in front of those that are right of it.
 fn sift_last(kinks: &mut [Breakpoint]) {
     let mut place = kinks.len();
     while 1 < place {
@@ -53,7 +53,7 @@ fn sift_last(kinks: &mut [Breakpoint]) {
     }
 }
 
-/// Puts a kink in behind those that are not right of it.
+/// Inserts a breakpoint after those that are not right of it.
 fn insert_breakpoint(kinks: &mut Vec<Breakpoint>, kink: Breakpoint) -> Result<(), AllocError> {
     kinks.push(kink)?;
     sift_last(kinks.as_mut_slice());
@@ -61,7 +61,8 @@ fn insert_breakpoint(kinks: &mut Vec<Breakpoint>, kink: Breakpoint) -> Result<()
 }
 
 impl CostCurve {
-    /// The curve of no cells, which allocates nothing. It is the working memory of trials.
+    /// The curve of no cells, which allocates nothing. It serves as working memory for
+    /// `try_insertion`.
     pub fn new(alloc: Global) -> CostCurve {
         CostCurve {
             low: 0,
@@ -72,7 +73,7 @@ impl CostCurve {
         }
     }
 
-    /// Begins again with no cells, over these sites.
+    /// Restarts with no cells, over these sites.
     pub(crate) fn begin(&mut self, low: u32, high: u32) {
         self.low = low;
         self.high = high;
@@ -87,7 +88,7 @@ impl CostCurve {
         self.slope = self.slope.saturating_add(slope);
     }
 
-    /// From this site on the slope is greater by so much.
+    /// Increases the slope by `bend` from this site on.
     fn bend(&mut self, at: i64, bend: i32) -> Result<(), AllocError> {
         if at <= self.low as i64 {
             self.raise(0, bend as i64);
@@ -105,7 +106,8 @@ impl CostCurve {
         )
     }
 
-    /// Adds the way of the cell that is moved, of which each site beyond the first `near` counts as `weight`.
+    /// Adds the displacement of the moved cell. Each site beyond the first `near` counts `weight`
+    /// times.
     pub(crate) fn add_own(
         &mut self,
         wanted: u32,
@@ -122,7 +124,7 @@ impl CostCurve {
         self.bend(wanted + near, more)
     }
 
-    /// Adds a cell that is pushed to the left where the one that is moved comes nearer than this distance.
+    /// Adds a cell that is pushed to the left if the moved one comes nearer than this distance.
     pub(crate) fn add_left(&mut self, cell: &Cell, distance: u32) -> Result<(), AllocError> {
         let (at, wanted, distance) = (cell.at as i64, cell.wanted as i64, distance as i64);
         let pushed = at.min(self.low as i64 - distance);
@@ -134,7 +136,7 @@ impl CostCurve {
         self.bend(at + distance, -1)
     }
 
-    /// Adds a cell that is pushed to the right where the one that is moved comes nearer than this distance.
+    /// Adds a cell that is pushed to the right if the moved one comes nearer than this distance.
     pub(crate) fn add_right(&mut self, cell: &Cell, distance: u32) -> Result<(), AllocError> {
         let (at, wanted, distance) = (cell.at as i64, cell.wanted as i64, distance as i64);
         let pushed = at.max(self.low as i64 + distance);
@@ -146,7 +148,7 @@ impl CostCurve {
         self.bend(wanted - distance, 2)
     }
 
-    /// Where the curve is least; the first of several such sites.
+    /// The site where the curve is least; the first if there are several.
     pub(crate) fn least(&self) -> Least {
         let mut at = self.low;
         let mut value = self.value;

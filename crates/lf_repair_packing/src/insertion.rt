@@ -1,4 +1,4 @@
-//! What a cell more costs in a gap between others, and where.
+//! The cost of one more cell in a gap between others, and its best site there.
 
 ghost use Rattle.std.specs.Prelude.{◌≡◌, ◌≤◌, ◌<◌, ◌↔◌, IfOk, IfSome, length};
 
@@ -6,20 +6,21 @@ use crate::cells::Cell;
 use crate::cost_curve::CostCurve;
 use std::alloc::AllocError;
 
-/// How far a trial looks, and how much the own way of its cell counts.
+/// The limits of the search for an insertion, and the weight of the inserted cell's own
+/// displacement.
 #[derive(Clone, Copy)]
 pub struct SearchEffort {
-    /// The cell comes to stand at most so many sites from where it is wanted.
+    /// The greatest distance of the cell from its target, in sites.
     pub reach: u32,
-    /// At most so many cells are pushed on each side.
+    /// The greatest number of cells pushed on each side.
     pub most: usize,
-    /// So many sites of the cell's way count as one each,
+    /// The cell's displacement up to this many sites counts once;
     pub near: u32,
-    /// and each one beyond them as so many.
+    /// beyond that, `weight` times.
     pub weight: u16,
 }
 
-/// A place in a gap, and by how much the ways grow if a cell comes to stand there.
+/// A place in a gap, and by how much the total displacement grows if a cell is placed there.
 #[derive(Clone, Copy, Debug, PartialEq, Eq)]
 pub struct Insertion {
     pub gap: usize,
@@ -27,8 +28,9 @@ pub struct Insertion {
     pub cost: i64,
 }
 
-/// How many cells may be pushed on one side of a gap, how far it is from the site of the cell in the gap to the outer edge of the
-/// last of them when they stand close to it, and the site up to which that cell may then come.
+/// One side of a gap. `count` is the number of cells that can be pushed on it. `extent` is the
+/// distance from the site of the cell in the gap to the outer edge of the pushed cells, packed next
+/// to it. `limit` is the last site that the cell can then reach on this side.
 #[derive(Clone, Copy)]
 struct Side {
     count: usize,
@@ -36,7 +38,7 @@ struct Side {
     limit: i64,
 }
 
-/// The cells on the left of a gap that are in the way of a cell at this site.
+/// The cells on the left of a gap that conflict with a cell as far left as site `lowest`.
 fn left_side(cells: &[Cell], gap: usize, lowest: i64, most: usize) -> Side
     requires { gap ≤ length cells.now }
     ensures { result.count ≤ gap }
@@ -65,7 +67,8 @@ fn left_side(cells: &[Cell], gap: usize, lowest: i64, most: usize) -> Side
     }
 }
 
-/// The cells on the right of a gap that are in the way of a cell of this width at this site.
+/// The cells on the right of a gap that conflict with a cell of this width as far right as site
+/// `highest`.
 fn right_side(cells: &[Cell], width: u32, highest: i64, most: usize, room: u32) -> Side
     ensures { result.count ≤ length cells.now }
 {
@@ -92,7 +95,7 @@ fn right_side(cells: &[Cell], width: u32, highest: i64, most: usize, room: u32) 
     }
 }
 
-/// Adds to the curve the cells of a gap's left side, of that extent, from left to right.
+/// Adds the cells of a gap's left side, which has this extent, to the curve, from left to right.
 fn add_left_side(curve: &mut CostCurve, cells: &[Cell], extent: u32) -> Result<(), AllocError> {
     let mut distance = extent;
     for cell in cells {
@@ -102,7 +105,7 @@ fn add_left_side(curve: &mut CostCurve, cells: &[Cell], extent: u32) -> Result<(
     Ok(())
 }
 
-/// Adds to the curve the cells of the right side of a gap with a cell of this width.
+/// Adds the cells on the right side of a gap with a cell of this width to the curve.
 fn add_right_side(curve: &mut CostCurve, cells: &[Cell], width: u32) -> Result<(), AllocError> {
     let mut distance = width;
     for cell in cells {
@@ -112,10 +115,9 @@ fn add_right_side(curve: &mut CostCurve, cells: &[Cell], width: u32) -> Result<(
     Ok(())
 }
 
-/// The place of a gap at which the ways of a cell there and of those that it pushes grow least, as far as the effort goes; none
-/// if it finds no room.
-///
-/// `Err` if an allocation fails.
+/// The place in a gap at which the displacements of a cell there and of the cells that it pushes
+/// grow least. `None` if it finds no room within the limits of the search. `Err` if an allocation
+/// fails.
 pub(crate) fn try_gap(
     cells: &[Cell],
     room: u32,

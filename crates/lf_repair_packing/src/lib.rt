@@ -1,13 +1,30 @@
-//! Cells packed into one free span of a row, each near to where it is wanted.
+//! Packs cells into one free span of a row, each near to its target.
 //!
-//! A span is counted in sites from its first one on; this crate knows of no row, frame or design. What a cell more costs and
-//! where is told by a trial, and no contract says how good it is: whatever place is asked for, `insert` keeps the cells within
-//! the span and apart, and tells exactly by how much all of them together are farther from where they are wanted.
+//! A span is counted in sites from its first one. This crate has no rows, frames or designs. An
+//! `Insertion` says what one more cell costs in a gap, and at which site; no contract says how good
+//! it is. Whatever place is requested, `insert` keeps the cells within the span and apart. It
+//! returns by how much their total displacement from their targets grows, which is exact.
+//!
+//! Used by `lf_repair_planner`.
+//!
+//! Modules, in reading order:
+//!
+//! - `cells`: a cell in a span
+//! - `cost_curve`: the cost of moving one cell along its row
+//! - `insertion`: the cost of one more cell in a gap
+//! - `push_apart`: cells moved apart between two sites
+//! - `window`: the cells that make room for one more
+//! - `packed_span`: the cells of one free span
+//!
+//! From `crates/lf_tests_basics/src/packing.rt`:
 //!
 //! ```
-//! let mut segment = PackedSpan::new(Global, 100);
-//! let cell = Cell { number: 7, width: 4, wanted: 20, at: 20 };
-//! segment.insert(0, cell)?; // 0: it stands where it is wanted
+//! let gap = segment.gap_near(&more);
+//! assert!(rt; gap == 1);
+//! assert!(rt; segment.len() == 3);
+//! assert!(rt; segment.has_room(more.width));
+//! let cost = segment.insert(gap, more)?;
+//! assert!(rt; cost == 4);
 //! ```
 #![tactic(auto)]
 

@@ -12,9 +12,8 @@ use crate::window::insert_cell;
 use std::alloc::{AllocError, Global};
 use std::marker::Model;
 
-/// The cells that stand in a free span of so many sites, from left to right, none over another.
-///
-/// Contracts see the room of the span and the cells.
+/// The cells in a free span, from left to right, without overlap. Contracts see the number of sites
+/// of the span, its room, and the cells.
 #[derive(Drop)]
 pub struct PackedSpan {
     room: u32,
@@ -34,7 +33,7 @@ impl Model for PackedSpan {
     ghost invariant = { λ s. IsSegment s.room s.taken s.cells.items };
 }
 
-/// The first cell whose middle lies right of that of a cell at its wanted place.
+/// The gap in front of the first cell whose middle lies right of that of a cell at its target.
 fn gap_near(cells: &[Cell], wanted: u32, width: u32) -> usize
     ensures { result ≤ length cells.now }
 {
@@ -42,7 +41,7 @@ fn gap_near(cells: &[Cell], wanted: u32, width: u32) -> usize
     cells.partition_point(|cell| 2 * cell.at as u64 + (cell.width as u64) < middle)
 }
 
-/// Whether the cell of this position has this number.
+/// Whether the cell at position `own` has this number.
 fn is_numbered(cells: &[Cell], own: usize, number: u32) -> bool
     ensures within { IsTrue result → own < length cells.now }
     ensures number { (d : Cell) → IsTrue result → (slice_index_or cells.now own d).number ≡ number }
@@ -53,7 +52,7 @@ fn is_numbered(cells: &[Cell], own: usize, number: u32) -> bool
     }
 }
 
-/// The cell of this number, looked for from the one at this site on outwards.
+/// The position of the cell with this number, searched outward from site `near`.
 fn find_near(cells: &[Cell], number: u32, near: u32) -> Option<usize>
     ensures within { IfSome result (λ own. own < length cells.now) }
     ensures number { (d : Cell) → IfSome result (λ own. (slice_index_or cells.now own d).number ≡ number) }
@@ -70,7 +69,7 @@ fn find_near(cells: &[Cell], number: u32, near: u32) -> Option<usize>
     None
 }
 
-/// Another cell stands where the one of this position stands.
+/// Replaces the cell at position `own` by another one, at the same site.
 fn replace_cell(cells: &mut Vec<Cell>, own: usize, cell: Cell)
     requires { own < vec_len cells.old }
     ensures { cells.new.items ≡ set cells.old.items own (at_place_of (slice_index_or cells.old.items own cell) cell) }
@@ -91,7 +90,7 @@ impl PackedSpan {
         }
     }
 
-    /// How many cells there are.
+    /// The number of cells.
     pub fn len(&self) -> usize
         ensures { result ≡ length self.now.cells }
     {
@@ -106,14 +105,15 @@ impl PackedSpan {
         self.cells.as_slice()
     }
 
-    /// Whether the sites that are free are as many as this, wherever they are.
+    /// Whether the span has at least `width` free sites in total.
     pub fn has_room(&self, width: u32) -> bool
         ensures { IsTrue result ↔ total_width self.now.cells + width ≤ self.now.room }
     {
         width <= self.room - self.taken
     }
 
-    /// The position of a cell of this number, looked for from this site on outwards. No clause says when there is none.
+    /// The position of a cell with this number, searched outward from site `near`. No clause says
+    /// when it is `None`.
     pub fn find(&self, number: u32, near: u32) -> Option<usize>
         ensures within { IfSome result (λ own. own < length self.now.cells) }
         ensures number { (d : Cell) → IfSome result (λ own. (slice_index_or self.now.cells own d).number ≡ number) }
@@ -121,7 +121,7 @@ impl PackedSpan {
         find_near(self.cells.as_slice(), number, near)
     }
 
-    /// How far the cells stand from where they are wanted, together.
+    /// The total displacement of the cells from their targets, in sites.
     pub fn displacement(&self) -> u64
         requires few { length self.now.cells ≤ 2 ^ 30 }
         ensures way { result ≡ total_displacement self.now.cells }
@@ -129,16 +129,16 @@ impl PackedSpan {
         total_displacement(self.cells.as_slice())
     }
 
-    /// The gap in which a cell is looked for first: before the first one whose middle lies right of its own at its wanted place.
+    /// The gap to search first: in front of the first cell whose middle lies right of the given
+    /// cell's middle at its target.
     pub fn gap_near(&self, cell: &Cell) -> usize
         ensures { result ≤ length self.now.cells }
     {
         gap_near(self.cells.as_slice(), cell.wanted, cell.width)
     }
 
-    /// The place of a gap at which the ways grow least if the cell comes to stand there; none if the effort finds no room.
-    ///
-    /// `Err` if an allocation fails.
+    /// The place in a gap at which the total displacement grows least if the cell is inserted
+    /// there. `None` if the search finds no room. `Err` if an allocation fails.
     pub fn try_insertion(
         &self,
         gap: usize,
@@ -152,10 +152,9 @@ impl PackedSpan {
         try_gap(self.cells.as_slice(), self.room, gap, cell, effort, curve)
     }
 
-    /// Puts a cell in as the one of this position, at its place where that is free, else near to it: the others make room. Tells by
-    /// how much the cells together are farther from where they are wanted.
-    ///
-    /// `Err` if an allocation fails; then nothing has changed.
+    /// Inserts a cell at position `gap`, at its own site if that is free, otherwise near it. The
+    /// others make room. Returns by how much the total displacement of the cells grows. `Err` if an
+    /// allocation fails; then nothing is changed.
     pub fn insert(&mut self, gap: usize, cell: Cell) -> Result<i64, AllocError>
         requires gap { gap ≤ length self.old.cells }
         requires few { length self.old.cells < 2 ^ 30 }
@@ -171,7 +170,7 @@ impl PackedSpan {
         Ok(cost)
     }
 
-    /// Takes the cell of this position out; the others stay.
+    /// Removes the cell at position `own`. The others stay.
     pub fn remove(&mut self, own: usize) -> Cell
         requires { own < length self.old.cells }
         ensures cell { result ≡ slice_index_or self.old.cells own result }
@@ -183,7 +182,7 @@ impl PackedSpan {
         cell
     }
 
-    /// Another cell, as wide, stands where the one of this position stands.
+    /// Replaces the cell at position `own` by another one of the same width, at the same site.
     pub fn replace(&mut self, own: usize, cell: Cell)
         requires own { own < length self.old.cells }
         requires width { (slice_index_or self.old.cells own cell).width ≡ cell.width }

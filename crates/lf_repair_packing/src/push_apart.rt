@@ -1,12 +1,12 @@
-//! Any wish made legal.
+//! Moves overlapping cells apart.
 
 ghost use Rattle.std.specs.Prelude.{◌≡◌, ◌+◌, ◌≤◌, ◌<◌, ℕ, length};
 ghost use Rattle.lf_repair_packing.specs.Packing.{AreSameCells, IsPackedWithin, total_width};
 
 use crate::cells::{Cell, width_of};
 
-/// Moves the cells, in their order, to where they stand apart between the two sites, as near to where they stood as one look
-/// from left to right finds. Cells that are packed stay.
+/// Moves the cells apart between the two sites, in their order. One pass from left to right keeps
+/// each as near to its site as it can. Cells that are packed already do not move.
 fn push_apart(cells: &mut [Cell], start: u32, end: u32)
     requires fits { start + total_width cells.old ≤ end }
     ensures packed { IsPackedWithin start end cells.new }
@@ -23,8 +23,9 @@ fn push_apart(cells: &mut [Cell], start: u32, end: u32)
     }
 }
 
-/// Pushes cells that are in the way of the one behind them to the left, the nearer ones first, up to the first that is not, or
-/// that has no room to the left. `from` is the cell that stays.
+/// Pushes cells to the left that overlap the one to their right, the nearer ones first. It stops at
+/// the first cell that does not overlap or has no room on its left. The cell at `from` does not
+/// move.
 fn push_left(cells: &mut [Cell], from: usize)
     requires { from < length cells.old }
     ensures same { AreSameCells cells.old cells.new }
@@ -43,8 +44,8 @@ fn push_left(cells: &mut [Cell], from: usize)
     }
 }
 
-/// Moves the cells, in their order, to where they stand apart between the two sites; those to the left of this one make room to
-/// the left for it first. Cells that are packed stay.
+/// Moves the cells apart between the two sites, in their order. The cells left of the one at `from`
+/// make room for it to the left first. Cells that are packed already do not move.
 pub(crate) fn settle_around(cells: &mut [Cell], from: usize, start: u32, end: u32)
     requires from { from < length cells.old }
     requires fits { start + total_width cells.old ≤ end }

@@ -1,4 +1,4 @@
-//! Which cells make room for one more.
+//! Finds the cells that make room for one more.
 
 ghost use Rattle.std.specs.Prelude.{◌≡◌, ◌+◌, ◌≤◌, ◌<◌, ◌^◌, ◌+ℤ◌, IfOk, OnErr, OnOk, drop, insert, length, pos, take, vec_len};
 ghost use Rattle.std.specs.List.{between};
@@ -9,18 +9,20 @@ use crate::cells::{Cell, have_room, total_displacement};
 use crate::push_apart::settle_around;
 use std::alloc::AllocError;
 
-/// The cells of some positions, which follow one another, and the sites between which they may move while the others stay.
+/// A range of consecutive positions, and the sites between which its cells can move while the
+/// others stay.
 #[derive(Clone, Copy)]
 struct Window {
-    /// The position of the first of them,
+    /// The position of the first cell,
     first: usize,
-    /// and that behind the last.
+    /// and the position after the last one.
     last: usize,
     start: u32,
     end: u32,
 }
 
-/// The first cell that is in the way of one that comes to stand behind it at this site.
+/// The first cell that must be pushed left if a cell is inserted at position `gap` and begins at
+/// site `at`.
 fn first_pushed(cells: &[Cell], gap: usize, at: u32) -> usize
     requires { gap ≤ length cells.now }
     ensures { result ≤ gap }
@@ -41,7 +43,8 @@ fn first_pushed(cells: &[Cell], gap: usize, at: u32) -> usize
     0
 }
 
-/// The cell behind the last one that is in the way of one that comes to stand before it and ends at this site.
+/// The position after the last cell that must be pushed right if a cell is inserted at position
+/// `gap` and ends at site `end`.
 fn last_pushed(cells: &[Cell], gap: usize, end: u32) -> usize
     requires { gap ≤ length cells.now }
     ensures from { gap ≤ result }
@@ -60,7 +63,7 @@ fn last_pushed(cells: &[Cell], gap: usize, end: u32) -> usize
     last
 }
 
-/// Where the cells before this position end.
+/// The site where the cells in front of position `first` end.
 fn front_end(cells: &[Cell], first: usize, room: u32) -> u32
     requires first { first ≤ length cells.now }
     requires packed { IsPacked room cells.now }
@@ -73,7 +76,7 @@ fn front_end(cells: &[Cell], first: usize, room: u32) -> u32
     cell.at + cell.width
 }
 
-/// Where the cells from this position on begin, or the span ends.
+/// The site where the cells from position `last` on begin, or the end of the span.
 fn back_start(cells: &[Cell], last: usize, room: u32) -> u32
     requires last { last ≤ length cells.now }
     requires packed { IsPacked room cells.now }
@@ -85,8 +88,8 @@ fn back_start(cells: &[Cell], last: usize, room: u32) -> u32
     cells[last].at
 }
 
-/// The cells that make room for one that comes to stand before this position at this site: those that are in the way, if they
-/// have room, and else all.
+/// The cells that make room for a cell inserted at position `gap`. These are the ones that must be
+/// pushed, if they have room; otherwise all cells.
 fn window_at(cells: &[Cell], gap: usize, cell: &Cell, room: u32) -> Window
     requires gap { gap ≤ length cells.now }
     requires packed { IsPacked room cells.now }
@@ -116,7 +119,7 @@ fn window_at(cells: &[Cell], gap: usize, cell: &Cell, room: u32) -> Window
     }
 }
 
-/// The window once one more cell stands in it.
+/// The window after one more cell is inserted in it.
 fn with_one_more(window: &Window) -> Window
     requires { window.now.last < 2 ^ 63 }
     ensures { result ≡ record { first = window.now.first; last = window.now.last + 1; start = window.now.start; end = window.now.end } }
@@ -127,7 +130,7 @@ fn with_one_more(window: &Window) -> Window
     }
 }
 
-/// What is added to the first number to make the second.
+/// The second number minus the first.
 fn growth(before: u64, after: u64) -> i64
     requires before { before < 2 ^ 63 }
     requires after { after < 2 ^ 63 }
@@ -136,7 +139,8 @@ fn growth(before: u64, after: u64) -> i64
     after as i64 - before as i64
 }
 
-/// Moves the cells of a window to where they stand apart between its sites; those before this one make room for it first.
+/// Moves the cells of a window apart between its sites. Those in front of position `own` make room
+/// for its cell first.
 fn move_cells(cells: &mut [Cell], own: usize, window: &Window)
     requires first { window.now.first ≤ own }
     requires own { own < window.now.last }
@@ -152,7 +156,7 @@ fn move_cells(cells: &mut [Cell], own: usize, window: &Window)
     );
 }
 
-/// The same of a list.
+/// Moves the cells of a window as `move_cells` does, in a vector.
 fn move_list(cells: &mut Vec<Cell>, own: usize, window: &Window)
     requires first { window.now.first ≤ own }
     requires own { own < window.now.last }
@@ -164,10 +168,9 @@ fn move_list(cells: &mut Vec<Cell>, own: usize, window: &Window)
     move_cells(cells.as_mut_slice(), own, window);
 }
 
-/// Puts a cell in before this position, at its place where that is free, else near to it: those that are in the way make room.
-/// Tells by how much the cells together are farther from where they are wanted.
-///
-/// `Err` if an allocation fails; then nothing has changed.
+/// Inserts a cell at position `gap`, at its own site if that is free, otherwise near it. Cells that
+/// overlap it make room. Returns by how much the total displacement of the cells grows. `Err` if an
+/// allocation fails; then nothing is changed.
 pub(crate) fn insert_cell(
     cells: &mut Vec<Cell>,
     gap: usize,

@@ -1,4 +1,4 @@
--- One spot more in a plan that is filled from left to right.
+-- One more spot in a plan that is filled from left to right.
 use Rattle.std.proofs.Common.{◌≡◌, ◌≢◌, ◌⊎◌, inl, inr, ⊎_elim, ℕ, zero, suc, ◌+◌, ◌*◌, ◌<◌, ◌≤◌, List, [], ◌∷◌, length, map, set, Option, Some, None, refl, sym, ap, ◌∙◌, subst, arith}
 use Rattle.std.specs.Prelude.{slice_get, slice_index_or}
 use Rattle.std.specs.Option.{option_map}
@@ -24,7 +24,7 @@ set_other (x ∷ xs) (suc i) (suc j) w h = set_other xs i j w (λ e. h (ap suc e
 mapped_at : {X : Type 0} (f : X → ℕ) (xs : List X) (i : ℕ) (x : X) → slice_get xs i ≡ Some x → slice_index_or (map f xs) i 0 ≡ f x
 mapped_at f xs i x at = get_or_from_slice_get (map f xs) i (f x) 0 (slice_get-map f xs i ∙ ap (option_map f) at)
 
--- one spot more, behind the others
+-- one more spot, right of the others
 pub one_more : (spans : List FreeSpan) (wishes : List PlannerCell) (span own free at : ℕ) (sites : FreeSpan) (wish : PlannerCell) (spots : List (Option PlannedSite))
     → IsFilledTo spans wishes span free spots
     → slice_get spans span ≡ Some sites → slice_get wishes own ≡ Some wish → slice_get spots own ≡ Some None
@@ -80,7 +80,7 @@ one_more spans wishes span own free at sites wish spots filled span_is wish_is n
     | inr old ↦ filled.plan.within j spot old.1
   ]
 
-  -- an old spot of this span ends where the new one begins, or before
+  -- an old spot of this span ends no later than the new one begins
   ends_before : (j : ℕ) (spot : PlannedSite) → slice_get spots j ≡ Some (Some spot) → spot.span ≡ span → end_at spans wishes j spot ≤ start_at spans here
   ends_before j spot is same = elim (filled.before j spot is) [
     | inl less ↦ absurd (omega (arith, less, same))

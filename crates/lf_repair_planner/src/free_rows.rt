@@ -1,10 +1,10 @@
-//! The free ground of a team, row after row, in sites.
+//! The free spans of a team's rows, in sites.
 
 ghost use Rattle.std.specs.Prelude.{◌<ℤ◌, pos};
 
 use std::alloc::Global;
 
-/// How a row is oriented.
+/// The orientation of a row.
 #[derive(Clone, Copy, Debug, PartialEq, Eq)]
 pub enum RowKind {
     N,
@@ -13,7 +13,7 @@ pub enum RowKind {
     FS,
 }
 
-/// The kinds of rows that a cell may stand on.
+/// The kinds of rows on which a cell may be placed.
 #[derive(Clone, Copy)]
 pub struct RowKinds {
     pub n: bool,
@@ -34,7 +34,8 @@ impl RowKinds {
     }
 }
 
-/// A free span of a row: the x of its first site and how far its sites are apart, in database units, and how many there are.
+/// A free span of a row: the x of its first site and the distance of its sites, in database units,
+/// and their number.
 #[derive(Clone, Copy)]
 pub struct FreeSpan {
     pub first: i32,
@@ -43,7 +44,7 @@ pub struct FreeSpan {
 }
 
 impl FreeSpan {
-    /// How far the sites are apart, at least 1.
+    /// The distance of neighboring sites, at least 1.
     pub(crate) fn pitch(&self) -> i64
         ensures some { pos 0 <ℤ result }
         ensures short { result <ℤ pos 4294967296 }
@@ -51,13 +52,14 @@ impl FreeSpan {
         self.step.max(1) as i64
     }
 
-    /// Where the last site ends.
+    /// The x at which the last site ends.
     pub(crate) fn end(&self) -> i64 {
         (self.first as i64).saturating_add(self.pitch().saturating_mul(self.count as i64))
     }
 }
 
-/// A row with the positions of its spans in the land's list of spans: from the first on, up to before the last.
+/// A row with the positions of its spans in the list of all spans, from `first` on and below
+/// `last`.
 #[derive(Clone, Copy)]
 pub struct PlannerRow {
     pub y: i32,
@@ -66,7 +68,8 @@ pub struct PlannerRow {
     pub last: usize,
 }
 
-/// Rows by rising y, and the free spans of all of them, those of a row from left to right.
+/// Rows by rising y, and the free spans of all of them. Those of a row are ordered from left to
+/// right.
 #[derive(Drop)]
 pub struct FreeRows {
     pub rows: Vec<PlannerRow>,

@@ -1,11 +1,30 @@
-//! Where the cells of a team go, planned over all of its rows at once.
+//! Plans a place for each cell of a team, over all of its rows at once.
 //!
-//! A plan knows no floor. It is given the free ground in sites, the cells of one row's height and where each of them is wanted, and
-//! it has for each cell a place or none, so that no cell has two. Each cell in turn goes to where the ways of all together grow
-//! least; those beside it make room. No contract says how good a plan is: a floor tests each place that it is asked for.
+//! A plan has no floor. It is given the free spans of the team's rows in sites, and the cells of
+//! one row's height with their targets. It has a place or `None` for each cell, so that no two
+//! cells overlap. One cell after the other is inserted where the total displacement of all grows
+//! least, and its neighbors make room. No contract says how good a plan is: a floor tests each
+//! place that is requested of it.
+//!
+//! Used by `lf_repair_strategy`.
+//!
+//! Modules, in reading order:
+//!
+//! - `free_rows`: the free spans of a team's rows
+//! - `search_limits`: the limits of a search, and the cost of a displacement
+//! - `plan_state`: the places of the cells so far
+//! - `search`: the gap that costs least
+//! - `order`: the order in which cells are placed
+//! - `passes`: the first places of all cells, and passes that improve them
+//! - `scored_plan`: a plan by one order of the cells, and its cost
+//! - `plan`: the best of the plans tried
+//!
+//! From `crates/lf_repair_strategy/src/rounds.rt`:
 //!
 //! ```
-//! let plan = plan_cells(Global, &land, &wishes, &PlanOptions { passes: 2, rounds: 2, two_orders: false })?;
+//! let steps = steps_of(placement, owner.team, owns.as_slice().len());
+//! let spots = plan_cells(alloc, land, wishes.as_slice(), &steps)?;
+//! planned_cells(alloc, owns.as_slice(), spots.as_slice())
 //! ```
 #![tactic(auto)]
 

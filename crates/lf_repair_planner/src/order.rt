@@ -1,4 +1,5 @@
-//! The order in which cells get their places: wide ones first, and neighbours not one after the other.
+//! The order in which cells are placed. Wide cells come first, and cells near each other are far
+//! apart in the order.
 
 ghost use Rattle.std.specs.Prelude.{◌<◌};
 
@@ -6,18 +7,19 @@ use crate::plan::PlannerCell;
 use crate::search_limits::number_of;
 use std::alloc::{AllocError, Global};
 
-/// So many rows are a tile's side.
+/// The side of a tile, in rows.
 const TILE: i64 = 64;
 
-/// What the order of a cell is by.
+/// The sort key of a cell.
 #[derive(Clone, Copy, PartialEq, Eq, PartialOrd, Ord)]
 struct Key {
-    /// The farther its nearest place alone, the less; the same for all that have one near.
+    /// The farther the cell's nearest place on empty rows, the less. It is the same for all cells
+    /// that have a near place.
     nearness: i64,
     class: u8,
     tile_y: i64,
     tile_x: i64,
-    /// Its number, scattered.
+    /// The cell's number, scrambled.
     scattered: u32,
     number: u32,
 }
@@ -33,7 +35,7 @@ fn mean_width(wishes: &[PlannerCell]) -> u64
     (sum / (wishes.len() as u64).max(1)).max(1)
 }
 
-/// The class of a width: from four times, twice and once the mean on, and the rest.
+/// The class of a width: at least four times the mean, at least twice, at least once, or less.
 fn class_of(width: u32, mean: u64) -> u8 {
     let width = width as u64;
     if mean.saturating_mul(4) <= width {
@@ -68,7 +70,8 @@ fn key_of(wish: &PlannerCell, number: u32, away: i64, mean: u64, height: u32) ->
     }
 }
 
-/// The numbers of the cells in their order; `away` has for each how far its nearest place alone is.
+/// The numbers of the cells in their order. `away` has the distance of each cell's nearest place on
+/// empty rows.
 pub(crate) fn order_of(
     alloc: Global,
     wishes: &[PlannerCell],
@@ -88,12 +91,12 @@ pub(crate) fn order_of(
     Ok(order)
 }
 
-/// What the order by widths is by.
+/// The sort key of a cell in the order by widths.
 #[derive(Clone, Copy, PartialEq, Eq, PartialOrd, Ord)]
 struct Width {
     /// The wider, the less.
     narrowness: u32,
-    /// Its number, scattered.
+    /// The cell's number, scrambled.
     scattered: u32,
     number: u32,
 }

@@ -1,4 +1,4 @@
-//! The first places of all cells, and passes that improve them.
+//! Places all cells, and improves their places in passes.
 
 use crate::free_rows::FreeRows;
 use crate::plan::PlannerCell;
@@ -8,7 +8,7 @@ use crate::search_limits::{SearchLimits, apart, cost_of, number_of};
 use lf_repair_packing::CostCurve;
 use std::alloc::{AllocError, Global};
 
-/// What all steps read.
+/// The input that all steps read.
 #[derive(Clone, Copy)]
 pub(crate) struct PlannerInput<'a> {
     pub(crate) land: &'a FreeRows,
@@ -16,7 +16,8 @@ pub(crate) struct PlannerInput<'a> {
     pub(crate) height: u32,
 }
 
-/// The y of the row in which a span lies: the last one whose spans begin at its position or before.
+/// The y of the row that contains a span: the last row whose spans begin at the span's position or
+/// in front of it.
 fn row_y(land: &FreeRows, span: usize) -> Option<i32> {
     let after = land.rows.partition_point(|row| row.first <= span);
     if after == 0 {
@@ -25,7 +26,7 @@ fn row_y(land: &FreeRows, span: usize) -> Option<i32> {
     Some(land.rows.get(after - 1)?.y)
 }
 
-/// The way of a cell that stands there.
+/// The displacement of a cell in a gap, in database units.
 fn displacement_at(given: &PlannerInput, wish: &PlannerCell, gap: &Gap) -> i64 {
     let (Some(sites), Some(y)) = (given.land.spans.get(gap.span), row_y(given.land, gap.span))
     else {
@@ -37,7 +38,7 @@ fn displacement_at(given: &PlannerInput, wish: &PlannerCell, gap: &Gap) -> i64 {
     dx.saturating_add(apart(y, wish.y))
 }
 
-/// The best gap; where it costs more than one and a half rows, the best if more cells may be pushed.
+/// The best gap. If it costs more than one and a half rows, the best gap with more cells pushed.
 fn find_gap(
     search: &Search,
     limit: i64,
@@ -64,7 +65,7 @@ fn find_gap(
     Ok(best)
 }
 
-/// For each cell what its nearest place costs if no other cell is there; 0 where there is none.
+/// The cost of each cell's nearest place if no other cell is placed. 0 if there is no such place.
 pub(crate) fn nearest_alone(
     alloc: Global,
     given: &PlannerInput,
@@ -87,7 +88,7 @@ pub(crate) fn nearest_alone(
     Ok(away)
 }
 
-/// Each cell in turn to where the ways grow least.
+/// Places one cell after the other where the total displacement grows least.
 pub(crate) fn place_all(
     given: &PlannerInput,
     order: &[u32],
@@ -114,7 +115,8 @@ pub(crate) fn place_all(
     Ok(())
 }
 
-/// Takes a cell out and puts it in where that costs less than its own way, and else back.
+/// Removes a cell and inserts it where that costs less than its present displacement. If no gap
+/// costs less, it is inserted at its old place.
 fn place_again(
     given: &PlannerInput,
     number: u32,
@@ -148,7 +150,7 @@ fn place_again(
     Ok(())
 }
 
-/// Each cell whose way is longer than this again, in this order.
+/// Places each cell again that has no place or a longer displacement than `longer`, in this order.
 pub(crate) fn pass(
     given: &PlannerInput,
     order: &[u32],
@@ -172,7 +174,7 @@ pub(crate) fn pass(
     Ok(())
 }
 
-/// The way that 99.9 % of the cells do not pass.
+/// The displacement that 99.9 % of the cells do not exceed.
 pub(crate) fn long_displacement(
     alloc: Global,
     given: &PlannerInput,
@@ -193,17 +195,17 @@ pub(crate) fn long_displacement(
     }
 }
 
-/// What a plan is worth: the less, the better; what stands first counts first.
+/// The cost of a plan. The less, the better; fields are compared in their order.
 #[derive(Clone, Copy, PartialEq, Eq, PartialOrd, Ord)]
 pub(crate) struct PlanCost {
-    /// How many cells have no place.
+    /// The number of cells without a place.
     pub(crate) left: u64,
-    /// The longest way, and the sum of all.
+    /// The longest displacement, and the sum of all.
     pub(crate) longest: i64,
     pub(crate) sum: i64,
 }
 
-/// What the places on the board are worth.
+/// The cost of the current places.
 pub(crate) fn cost_of_plan(given: &PlannerInput, board: &PlanState) -> PlanCost {
     let mut worth = PlanCost {
         left: 0,

@@ -1,4 +1,4 @@
-//! A plan: for each cell a place or none.
+//! A plan: a place or `None` for each cell.
 
 ghost use Rattle.std.specs.Prelude.{◌≡◌, ◌⊎◌, ◌+◌, ◌-◌, ◌*◌, ◌<◌, ◌^◌, IfOk, IsTrue, None, Some, length, set, slice_get, vec_len};
 ghost use Rattle.lf_repair_planner.specs.Plans.{IsFilledTo, IsPlan};
@@ -11,7 +11,7 @@ use crate::scored_plan::{ScoredPlan, initial_limits, try_order};
 use lf_repair_packing::{Cell, CostCurve, PackedSpan};
 use std::alloc::{AllocError, Global};
 
-/// A cell: where it is wanted and how wide it is, in database units, and on what rows it may stand.
+/// A cell: its target and its width, in database units, and the rows on which it may be placed.
 #[derive(Clone, Copy)]
 pub struct PlannerCell {
     pub x: i32,
@@ -20,15 +20,16 @@ pub struct PlannerCell {
     pub kinds: RowKinds,
 }
 
-/// A place of a plan: the position of a span in the land, and a site of the span.
+/// A place of a plan: the position of a span in the list of spans, and a site of the span.
 #[derive(Clone, Copy, Debug, PartialEq, Eq)]
 pub struct PlannedSite {
     pub span: usize,
     pub at: u32,
 }
 
-/// How many passes go over all cells, how many rounds over those that are farthest off, and whether a second order of the cells is
-/// tried where the first leaves one without a place or sends it far.
+/// The number of passes over all cells, and of rounds over those with the longest displacements.
+/// `two_orders` allows a second order of the cells, which is tried if the first leaves a cell
+/// without a place or moves one far.
 #[derive(Clone, Copy)]
 pub struct PlanOptions {
     pub passes: usize,
@@ -36,7 +37,7 @@ pub struct PlanOptions {
     pub two_orders: bool,
 }
 
-/// How far so many sites reach.
+/// The length of `count` sites.
 fn length_of(count: u32, step: u32) -> u64
     ensures is { result ≡ count * step }
     ensures short { result < 2 ^ 64 - 2 ^ 32 }
@@ -44,7 +45,7 @@ fn length_of(count: u32, step: u32) -> u64
     count as u64 * step as u64
 }
 
-/// Gives the cell of that position this spot.
+/// Gives the cell at position `own` this spot.
 fn set_spot(spots: &mut Vec<Option<PlannedSite>>, own: usize, spot: PlannedSite)
     requires { own < vec_len spots.old }
     ensures { spots.new.items ≡ set spots.old.items own (Some spot) }
@@ -52,7 +53,7 @@ fn set_spot(spots: &mut Vec<Option<PlannedSite>>, own: usize, spot: PlannedSite)
     spots[own] = Some(spot);
 }
 
-/// Whether the cell of that position is one that has no spot.
+/// Whether the cell at position `own` exists and has no spot.
 fn is_open(spots: &[Option<PlannedSite>], own: usize) -> bool
     ensures is { IsTrue result → slice_get spots.now own ≡ Some None }
     ensures within { IsTrue result → own < length spots.now }
@@ -63,8 +64,9 @@ fn is_open(spots: &[Option<PlannedSite>], own: usize) -> bool
     }
 }
 
-/// Notes where a cell of a span stands, behind those before it, and returns where it ends. One that is no cell of the plan, or
-/// that lies in another's way or past the span's end, is passed over.
+/// Records the spot of a cell of a span, which is right of the previous ones, and returns its end.
+/// A cell is skipped if it is not one of the plan, overlaps another, or reaches past the span's
+/// end.
 fn note_cell(
     spots: &mut Vec<Option<PlannedSite>>,
     given: &PlannerInput,
@@ -89,7 +91,7 @@ fn note_cell(
     end
 }
 
-/// Notes where the cells of a span stand.
+/// Records the spots of the cells of a span.
 fn note_span(
     spots: &mut Vec<Option<PlannedSite>>,
     given: &PlannerInput,
@@ -106,7 +108,7 @@ fn note_span(
     }
 }
 
-/// Notes where the cells of all spans stand.
+/// Records the spots of the cells of all spans.
 fn note_spans(spots: &mut Vec<Option<PlannedSite>>, given: &PlannerInput, segments: &[PackedSpan])
     requires { IsFilledTo given.now.land.now.spans.items given.now.wishes.now 0 0 spots.old.items }
     ensures plan { IsPlan given.now.land.now.spans.items given.now.wishes.now spots.new.items }
@@ -117,7 +119,7 @@ fn note_spans(spots: &mut Vec<Option<PlannedSite>>, given: &PlannerInput, segmen
     }
 }
 
-/// Where each of the cells stands.
+/// The spot of each cell.
 pub(crate) fn spots_of(
     alloc: Global,
     given: &PlannerInput,
@@ -131,7 +133,7 @@ pub(crate) fn spots_of(
     Ok(spots)
 }
 
-/// The least distance of two rows that follow one another; 1 if there are none.
+/// The least distance of two consecutive rows. 1 if there are no two rows.
 fn row_height(land: &FreeRows) -> u32 {
     let mut height = u32::MAX;
     let mut last = None;
@@ -147,22 +149,22 @@ fn row_height(land: &FreeRows) -> u32 {
     if height == u32::MAX { 1 } else { height }
 }
 
-/// The order of the cells: those that are far from any place first.
+/// The first order of the cells: those that are far from any place come first.
 fn first_order(alloc: Global, given: &PlannerInput) -> Result<Vec<u32>, AllocError> {
     let mut curve = CostCurve::new(alloc);
     let away = nearest_alone(alloc, given, &initial_limits(given.height), &mut curve)?;
     order_of(alloc, given.wishes, away.as_slice(), given.height)
 }
 
-/// A plan goes far if a cell of it has no spot or goes farther than so many rows.
+/// A plan moves a cell far if its displacement is more than this number of rows.
 const FAR: i64 = 8;
 
-/// Whether a plan leaves a cell without a spot, or sends one far.
+/// Whether a plan leaves a cell without a spot, or moves one far.
 fn goes_far(worth: &PlanCost, height: u32) -> bool {
     0 < worth.left || FAR * (height as i64) < worth.longest
 }
 
-/// The spots of the better of two plans; of the first if they are worth the same.
+/// The spots of the better of two plans; of the first if their costs are equal.
 fn better(first: ScoredPlan, second: ScoredPlan) -> Vec<Option<PlannedSite>>
     ensures { (result ≡ first.spots) ⊎ (result ≡ second.spots) }
 {
@@ -173,11 +175,11 @@ fn better(first: ScoredPlan, second: ScoredPlan) -> Vec<Option<PlannedSite>>
     }
 }
 
-/// Plans a place for each cell: all in turn, then passes, then rounds over those farthest off. Where that leaves a cell or sends one
-/// far, and two orders are asked for, it is done once more with the widest cells first, and the better plan taken. A cell with no
-/// spot found no room. Each cell that has one lies within its span there, and two cells of one span lie apart.
-///
-/// `Err` if an allocation fails.
+/// Plans a place for each cell: all in turn, then passes, then rounds over the cells with the
+/// longest displacements. That may leave a cell without a place or move one far. Then, if
+/// `two_orders` is set, it plans again with the widest cells first, and returns the better plan. A
+/// cell without a spot found no room. Each cell that has one lies within its span there, and two
+/// cells of one span lie apart. `Err` if an allocation fails.
 pub fn plan_cells(
     alloc: Global,
     land: &FreeRows,

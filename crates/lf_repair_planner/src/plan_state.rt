@@ -1,11 +1,11 @@
-//! Where the cells of a plan stand so far.
+//! The places of the cells of a plan so far.
 
 use crate::free_rows::FreeRows;
 use crate::search_limits::number_of;
 use lf_repair_packing::{Cell, PackedSpan};
 use std::alloc::{AllocError, Global};
 
-/// A place in the land: the span, the gap between the cells there, and the site.
+/// A place in the free rows: the span, the gap between the cells there, and the cell with its site.
 #[derive(Clone, Copy)]
 pub(crate) struct Gap {
     pub(crate) span: usize,
@@ -13,21 +13,21 @@ pub(crate) struct Gap {
     pub(crate) cell: Cell,
 }
 
-/// The span in which a cell stands, and a site near to which it does.
+/// The span of a placed cell, and a site near its own.
 #[derive(Clone, Copy)]
 pub(crate) struct CellSpan {
     pub(crate) span: u32,
     pub(crate) near: u32,
 }
 
-/// The cells in each span of a land, and for each cell where it stands; none if it has no place.
+/// The cells in each span, and the span of each cell. `None` if a cell has no place.
 #[derive(Drop)]
 pub(crate) struct PlanState {
     pub(crate) segments: Vec<PackedSpan>,
     pub(crate) stands: Vec<Option<CellSpan>>,
 }
 
-/// At most so many cells stand in one span.
+/// The greatest number of cells in one span.
 const MOST: usize = 1 << 29;
 
 /// An empty segment for each span.
@@ -42,7 +42,7 @@ pub(crate) fn empty_segments(
     Ok(segments)
 }
 
-/// Puts a cell in; false if it has no room there.
+/// Inserts a cell. Returns false if it has no room there.
 fn put_in(segment: &mut PackedSpan, gap: usize, cell: Cell) -> Result<bool, AllocError> {
     if segment.len() < gap || MOST <= segment.len() || !segment.has_room(cell.width) {
         return Ok(false);
@@ -51,14 +51,14 @@ fn put_in(segment: &mut PackedSpan, gap: usize, cell: Cell) -> Result<bool, Allo
     Ok(true)
 }
 
-/// The cell of this number, as it stands in the segment, and its position there.
+/// The cell with this number, as it is placed in the segment, and its position there.
 fn find_in(segment: &PackedSpan, number: u32, near: u32) -> Option<(usize, Cell)> {
     let own = segment.find(number, near)?;
     Some((own, segment.as_slice()[own]))
 }
 
 impl PlanState {
-    /// No cell of so many has a place.
+    /// The state in which no cell of `count` has a place.
     pub(crate) fn new(
         alloc: Global,
         land: &FreeRows,
@@ -70,7 +70,7 @@ impl PlanState {
         })
     }
 
-    /// Puts a cell in a gap, where there is room for it.
+    /// Inserts a cell in a gap if there is room for it.
     pub(crate) fn put(&mut self, gap: &Gap) -> Result<(), AllocError> {
         let Some(segment) = self.segments.get_mut(gap.span) else {
             return Ok(());
@@ -87,7 +87,7 @@ impl PlanState {
         Ok(())
     }
 
-    /// The gap that a cell would leave; none if it stands nowhere.
+    /// The gap that a cell would leave. `None` if it has no place.
     pub(crate) fn place_of(&self, number: u32) -> Option<Gap> {
         let stand = (*self.stands.get(number as usize)?)?;
         let span = stand.span as usize;
@@ -96,7 +96,7 @@ impl PlanState {
         Some(Gap { span, gap, cell })
     }
 
-    /// Takes the cell of a gap out.
+    /// Removes the cell of a gap.
     pub(crate) fn take(&mut self, gap: &Gap) {
         if let Some(segment) = self.segments.get_mut(gap.span) {
             if gap.gap < segment.len() {

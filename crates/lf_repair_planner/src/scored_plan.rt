@@ -1,4 +1,4 @@
-//! One try at a plan: the cells in one order, passes that improve it, and what it is worth.
+//! One attempt at a plan: the cells in one order, passes that improve it, and its cost.
 
 ghost use Rattle.std.specs.Prelude.{◌≡◌, IfOk, length, vec_len};
 ghost use Rattle.lf_repair_planner.specs.Plans.{IsPlan};
@@ -10,14 +10,14 @@ use crate::search_limits::SearchLimits;
 use lf_repair_packing::CostCurve;
 use std::alloc::{AllocError, Global};
 
-/// A plan, and what it is worth.
+/// A plan and its cost.
 #[derive(Drop)]
 pub(crate) struct ScoredPlan {
     pub(crate) spots: Vec<Option<PlannedSite>>,
     pub(crate) worth: PlanCost,
 }
 
-/// How cells are searched for at first, over rows of this height.
+/// The limits of the first searches, for rows of this height.
 pub(crate) fn initial_limits(height: u32) -> SearchLimits {
     SearchLimits {
         gaps: 1,
@@ -27,7 +27,7 @@ pub(crate) fn initial_limits(height: u32) -> SearchLimits {
     }
 }
 
-/// Passes over all cells, and then rounds over those whose ways are the longest.
+/// Makes passes over all cells, and then rounds over those with the longest displacements.
 fn improve(
     alloc: Global,
     given: &PlannerInput,
@@ -53,7 +53,7 @@ fn improve(
     Ok(())
 }
 
-/// All cells in turn, and then what improves their places.
+/// The state after all cells are placed in turn and their places improved.
 fn placed_state(
     alloc: Global,
     given: &PlannerInput,
@@ -73,7 +73,7 @@ fn placed_state(
     Ok(board)
 }
 
-/// A plan by this order of the cells.
+/// The plan by this order of the cells.
 pub(crate) fn try_order(
     alloc: Global,
     given: &PlannerInput,

@@ -1,5 +1,7 @@
-//! The gap at which the ways grow least: rows outward from the wanted y, in a row spans outward from the wanted x, in a span the gap
-//! there and those beside it.
+//! Searches for the gap where displacements grow least.
+//!
+//! It visits rows outward from the target's y, the spans of a row outward from the target's x, and
+//! in a span the gap at the target and those on both sides.
 
 use crate::free_rows::{FreeRows, FreeSpan, PlannerRow};
 use crate::plan::PlannerCell;
@@ -8,7 +10,7 @@ use crate::search_limits::{SearchLimits, apart, cost_of};
 use lf_repair_packing::{Cell, CostCurve, PackedSpan, SearchEffort};
 use std::alloc::AllocError;
 
-/// A cell that is looked a place for, and where.
+/// A cell to place, and the spans to search.
 #[derive(Clone, Copy)]
 pub(crate) struct Search<'a> {
     pub(crate) land: &'a FreeRows,
@@ -18,14 +20,15 @@ pub(crate) struct Search<'a> {
     pub(crate) how: &'a SearchLimits,
 }
 
-/// The best gap so far, and what it costs; without one, what it is to cost less than.
+/// The best gap so far and its cost. Without a gap, the cost is a limit that a gap must be below.
 #[derive(Clone, Copy)]
 pub(crate) struct Best {
     pub(crate) cost: i64,
     pub(crate) gap: Option<Gap>,
 }
 
-/// The cell as it is tried in a span, and what it costs there before it is moved along it.
+/// The cell as it is tried in a span, and its cost there when it is at the span's site nearest to
+/// its target.
 #[derive(Clone, Copy)]
 struct SpanTrial {
     span: usize,
@@ -35,18 +38,19 @@ struct SpanTrial {
     base: i64,
 }
 
-/// A number of 32 bits, which the greatest stands for where it is greater, and 0 where it is less.
+/// The number limited to the range of 32 bits: 0 if it is less, the greatest number if it is
+/// greater.
 fn clipped(number: i64) -> u32 {
     number.clamp(0, 4_294_967_295) as u32
 }
 
-/// The number of the site that is nearest to an x.
+/// The number of the site nearest to an x.
 fn site_at(sites: &FreeSpan, x: i32) -> i64 {
     let pitch = sites.pitch();
     (x as i64 - sites.first as i64 + pitch / 2).div_euclid(pitch)
 }
 
-/// A cell of this number and width that stands where it is wanted.
+/// A cell with this number and width, at its target.
 fn cell_at(number: u32, width: u32, wanted: u32) -> Cell {
     Cell {
         number,
@@ -56,7 +60,8 @@ fn cell_at(number: u32, width: u32, wanted: u32) -> Cell {
     }
 }
 
-/// How the cell is tried in a span of a row that is so far away; none if it is too wide for the span or costs too much there.
+/// How to try the cell in a span of a row at distance `dy`. `None` if it is too wide for the span
+/// or costs too much there.
 fn try_of(
     search: &Search,
     span: usize,
@@ -137,7 +142,8 @@ fn try_gap(
     Ok(())
 }
 
-/// Tries the gap at the wanted place and so many on each side; where any place will do and none was found, all.
+/// Tries the gap at the target and `gaps` others on each side. If any cost is allowed and no gap
+/// was found, it tries all.
 fn try_gaps(
     segment: &PackedSpan,
     gaps: usize,
@@ -159,7 +165,7 @@ fn try_gaps(
     Ok(())
 }
 
-/// Tries a span of a row that is so far away.
+/// Tries a span of a row at distance `dy`.
 fn try_span(
     search: &Search,
     span: usize,
@@ -180,12 +186,12 @@ fn try_span(
     try_gaps(segment, search.how.gaps, &tried, best, curve)
 }
 
-/// Whether what is so far away along a row that is itself so far away costs too much.
+/// Whether anything at distance `dx` on a row at distance `dy` costs too much.
 fn is_beyond(search: &Search, dy: i64, dx: i64, best: &Best) -> bool {
     best.cost <= cost_of(dy, search.how).saturating_add(dx.max(0))
 }
 
-/// Tries a row: its spans from the wanted x to the right, and then to the left.
+/// Tries a row: its spans from the target's x to the right, and then to the left.
 fn try_row(
     search: &Search,
     row: &PlannerRow,
@@ -214,7 +220,7 @@ fn try_row(
     Ok(())
 }
 
-/// How far the row of a position is from a y; the greatest number where there is none.
+/// The distance of the row at a position from a y. The greatest number if there is no such row.
 fn row_away(rows: &[PlannerRow], position: usize, y: i32) -> i64 {
     match rows.get(position) {
         Some(row) => apart(row.y, y),
@@ -222,7 +228,8 @@ fn row_away(rows: &[PlannerRow], position: usize, y: i32) -> i64 {
     }
 }
 
-/// The nearer row of the next one above and the one before the next one below; none if both cost too much.
+/// The position of the nearer row of the next one above and the next one below. `None` if both cost
+/// too much.
 fn next_row(search: &Search, above: usize, below: usize, best: &Best) -> Option<usize> {
     let rows = search.land.rows.as_slice();
     let up = row_away(rows, above, search.wish.y);
@@ -243,7 +250,7 @@ fn next_row(search: &Search, above: usize, below: usize, best: &Best) -> Option<
     }
 }
 
-/// The gap that costs least, if it costs less than the limit.
+/// The gap with the least cost, if that is below the limit.
 pub(crate) fn best_gap(
     search: &Search,
     limit: i64,

@@ -1,25 +1,25 @@
-//! What ways cost. Lengths are in database units, and sums stop at the ends of their type.
+//! The cost of displacements. Lengths are in database units, and sums saturate.
 
-/// How far a search looks, and what long ways cost.
+/// The limits of a search, and the cost of long displacements.
 #[derive(Clone, Copy)]
 pub(crate) struct SearchLimits {
-    /// So many gaps are tried on each side of the one at the wanted place.
+    /// The number of gaps tried on each side of the one at the target.
     pub(crate) gaps: usize,
-    /// At most so many cells are pushed on each side.
+    /// The greatest number of cells pushed on each side.
     pub(crate) most: usize,
-    /// So much of a cell's way counts once,
+    /// Displacement up to this length is charged once;
     pub(crate) near: i64,
-    /// and what is beyond it so often.
+    /// beyond it, `weight` times.
     pub(crate) weight: u16,
 }
 
-/// What a way costs.
+/// The cost of a displacement.
 pub(crate) fn cost_of(way: i64, how: &SearchLimits) -> i64 {
     let beyond = way.saturating_sub(how.near).max(0);
     way.saturating_add(beyond.saturating_mul((how.weight as i64).saturating_sub(1)))
 }
 
-/// The number of a cell by its position; the greatest number stands for all positions past it.
+/// The number of a cell by its position, limited to the greatest number.
 pub(crate) fn number_of(position: usize) -> u32 {
     position.min(4_294_967_295) as u32
 }

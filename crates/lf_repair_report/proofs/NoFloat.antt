@@ -16,7 +16,7 @@ counts : (list : List ℕ) → items_have_float (items_of (map count_data list))
 counts [] = refl
 counts (n ∷ ns) = counts ns
 
--- that of a team has none
+-- the line of a team has no such number
 pub team_has_none : (floor : FloorState) (team : List ℕ) (r : RepairStats) (least : ℕ) (line : Data) → IsTeamData floor team r least line
     → has_float line ≡ false
 team_has_none floor team r least line is =

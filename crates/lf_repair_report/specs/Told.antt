@@ -1,4 +1,5 @@
--- What is told of a repair: a line of JSON for each team, and one for all. Lengths are in database units.
+-- The report of a repair: a line of JSON for each team, and one for all. Lengths are in database
+-- units.
 use Rattle.std.specs.Prelude.{◌≡◌, ◌==◌, ◌+◌, ◌-◌, ◌/◌, ◌^◌, ℕ, Bool, true, if◌then◌else◌, List, [], ◌∷◌, ◌++◌, All, Option, Some, None, codes, flat_map, length, map, max, min, slice_get, option_and_then}
 use Rattle.std.specs.Option.{option_map_or}
 use Rattle.serde_json.specs.Data.{Data, array, boolean, member, no_members, object}
@@ -14,7 +15,7 @@ use Rattle.lf_repair_report.specs.declared.report.RepairReport.{RepairReport}
 
 -- ---- values
 
--- a name as a text; null if its bytes are no UTF-8 text
+-- a name as a text; null if its bytes are not UTF-8
 abbrev pub text_data : List ℕ → Data
 text_data = name_data
 
@@ -25,22 +26,22 @@ count_data = whole_number
 abbrev pub line_text : Data → List ℕ
 line_text = text_of_line
 
--- the name of the team's cell of that position, if there is one
+-- the name of the team's cell at this position, if there is one
 abbrev pub name_of_cell : FloorState → List ℕ → ℕ → List (List ℕ)
 name_of_cell floor team own = option_map_or (λ name. name ∷ []) (option_and_then (λ s. name_at s.cells own) (state_of floor team)) []
 
--- the names of the team's cells of these positions
+-- the names of the team's cells at these positions
 abbrev pub cell_names : FloorState → List ℕ → List ℕ → List (List ℕ)
 cell_names floor team owns = flat_map (λ own. name_of_cell floor team own) owns
 
--- the mean way of so many cells, whose ways sum up so, rounded down; 0 for none
+-- the mean displacement of `moved` cells with this total, rounded down; 0 for no cells
 abbrev pub mean_displacement : ℕ → ℕ → ℕ
 mean_displacement total moved = if moved == 0 then 0 else total / moved
 
 -- ---- a team
 
--- what is told of a team: its name, the names of the cells that are left, how wide the widest gap near each is, the largest of the least
--- ways of its cells, and what became of them
+-- the JSON of a team: its name, the names of the unrepaired cells, the width of the widest gap near
+-- each, the largest of the least displacements of its cells, and the statistics of its repair
 abbrev pub team_data : Data → Data → Data → ℕ → RepairStats → Data
 team_data name left gaps least r =
     object (member (codes "cells") (count_data r.cells)
@@ -64,22 +65,22 @@ names_data names = array (items_of (map text_data names))
 abbrev pub counts_data : List ℕ → Data
 counts_data counts = array (items_of (map count_data counts))
 
--- the line of a team, the left of whose cells have these names and gaps
+-- the line of a team whose unrepaired cells have these names and gaps
 abbrev pub team_line : List ℕ → List (List ℕ) → List ℕ → ℕ → RepairStats → List ℕ
 team_line name left gaps least r = line_text (team_data (text_data name) (names_data left) (counts_data gaps) least r)
 
--- the number of that position; 0 if there is none
+-- the number for this team; 0 if there is no number for it
 abbrev pub least_for : List ℕ → Option ℕ → ℕ
 least_for least number = option_map_or (λ n. option_map_or (λ way. way) (slice_get least n) 0) number 0
 
--- so the team is told of on this floor
+-- the JSON of the team on this floor
 abbrev pub IsTeamData : FloorState → List ℕ → RepairStats → ℕ → Data → Type 0
 IsTeamData floor team r least line =
     (gaps : List ℕ) × (line ≡ team_data (text_data team) (names_data (cell_names floor team r.left.items)) (counts_data gaps) least r)
 
 -- ---- all teams
 
--- a sum that ends at the greatest number of 64 bits
+-- a sum that saturates at the greatest number of 64 bits
 abbrev pub saturating_sum : ℕ → ℕ → ℕ
 saturating_sum a b = min (a + b) (2 ^ 64 - 1)
 
@@ -99,7 +100,7 @@ no_sums = record {
   least_largest = 0;
 }
 
--- the sums with one team more
+-- the sums with one more team
 abbrev pub with_team : Totals → RepairStats → ℕ → Totals
 with_team s r least = record {
   teams = saturating_sum s.teams 1;
@@ -137,7 +138,7 @@ all_line s legal = line_text (all_data s legal)
 
 -- ---- the lines
 
--- one team more is told of, as it was repaired on this floor
+-- the line of one more team is appended, given the result of its repair on this floor
 pub record IsOneMore (floor : FloorState) (team : List ℕ) (r : RepairStats) (old new : RepairReport) : Type 0 where
   pub gaps : List ℕ
   pub text : new.text.items ≡ old.text.items ++ team_line team (cell_names floor team r.left.items) gaps (least_for old.least.items (team_number floor.frame team)) r

@@ -1,4 +1,4 @@
-//! Why cells are left: how wide the widest free run of sites near to each is.
+//! Explains unrepaired cells: the width of the widest free run of sites near each.
 
 ghost use Rattle.std.specs.Prelude.{◌≡◌, IfOk, length};
 
@@ -7,11 +7,11 @@ use lf_legalize::Seeker;
 use lf_repair_strategy::{PaddedTeam, free_widths};
 use std::alloc::{AllocError, Global};
 
-/// For each of these positions of the team's cells, how wide a cell may be that fits into the widest free run of sites near to that
-/// cell, in database units: of the rows at most 8 rows' heights from its committed place, or from the nearest point of a box around
-/// the team's ground. 0 where there is no free site, and no such cell or team.
-///
-/// `Err` if an allocation fails.
+/// The greatest width of a cell that fits into the widest free run of sites near each of the given
+/// cells, in database units. The cells are given by their positions in the team. Near are the rows
+/// at most 8 row heights from the cell's committed place, moved into a box around the team's
+/// ground. For a cell without a committed place it is the team's anchor. A width is 0 if there is
+/// no free site, no such cell or no such team. `Err` if an allocation fails.
 pub(crate) fn gaps_near<S: Seeker + Drop>(
     alloc: Global,
     floor: &Floor<S>,

@@ -1,4 +1,4 @@
-//! The lines as JSON.
+//! Builds the lines as JSON.
 
 ghost use Rattle.std.specs.Prelude.{◌≡◌, ◌++◌, IfOk, OnOk, map};
 ghost use Rattle.serde_json.specs.Data.{array};
@@ -13,7 +13,7 @@ use lf_repair_strategy::RepairStats;
 use serde_json::{Value, json};
 use std::alloc::{AllocError, Global};
 
-/// Appends the name of the team's cell of that position, if there is one.
+/// Appends the name of the team's cell at position `own`, if there is one.
 fn push_name<S: Seeker + Drop>(
     alloc: Global,
     floor: &Floor<S>,
@@ -31,7 +31,7 @@ fn push_name<S: Seeker + Drop>(
     Ok(())
 }
 
-/// The names of the team's cells of these positions.
+/// The names of the team's cells at these positions.
 pub(crate) fn name_values<S: Seeker + Drop>(
     alloc: Global,
     floor: &Floor<S>,
@@ -72,7 +72,8 @@ pub(crate) fn array_value(values: Vec<Value>) -> Value
     Value::Array(values)
 }
 
-/// The line of a team: its name, the names of the cells that are left, the gaps near them, and the largest of the least ways.
+/// The line of a team: its name, its unrepaired cells and the gaps near them, the largest of the
+/// least displacements, and the statistics.
 pub(crate) fn team_value(
     alloc: Global,
     name: Value,
@@ -93,7 +94,7 @@ pub(crate) fn team_value(
     })
 }
 
-/// The line of all teams; the design is then fully legal or not.
+/// The line of all teams. `legal` says whether the committed design is then fully legal.
 pub(crate) fn all_value(alloc: Global, sums: &Totals, legal: bool) -> Result<Value, AllocError>
     ensures { IfOk result (λ v. view v ≡ all_data sums.now legal) }
 {

@@ -1,13 +1,23 @@
-//! What is told of a repair: a line of JSON for each team, and one for all.
+//! Prints the report of a repair: a line of JSON for each team, and one for all.
 //!
-//! Each line is compact JSON; `docs/PROTOCOL.md` has the keys. The text so far is exactly the lines of the teams that were added
-//! (`team_line`), and the last line is that of their sums (`all_line`). `least_largest` of a line is the number that the report was
-//! begun with for that team.
+//! Each line is compact JSON; `docs/PROTOCOL.md` has the keys. The text so far is exactly the lines
+//! of the teams that were added (`team_line`). The last line is that of their sums (`all_line`).
+//! `least_largest` of a line is the number for that team with which the report was created.
+//!
+//! Used by `lf_task_repair`.
+//!
+//! Modules, in reading order:
+//!
+//! - `gaps`: the widest free gap near each unrepaired cell
+//! - `totals`: sums over the teams of a repair
+//! - `json`: the lines as JSON
+//! - `report`: the report so far
+//!
+//! From `crates/lf_task_repair/src/repair_task.rt`:
 //!
 //! ```
-//! let mut report = RepairReport::new(alloc, &max_min_displacements(alloc, &loaded)?)?;
-//! report.add(alloc, &floor, b"A", &repaired)?;
-//! report.close(alloc, legal)?; // report.text has two lines
+//! let legal = is_committed_legal(alloc, floor)?;
+//! report.close(alloc, legal)?;
 //! ```
 #![tactic(auto)]
 

@@ -1,4 +1,4 @@
-//! The lines so far.
+//! The report so far.
 
 ghost use Rattle.std.specs.Prelude.{◌≡◌, ◌++◌, [], IfOk, OnOk, false};
 ghost use Rattle.serde_json.specs.View.{view};
@@ -15,19 +15,19 @@ use lf_repair_strategy::RepairStats;
 use serde_json::Value;
 use std::alloc::{AllocError, Global};
 
-/// The lines so far, and the sums of their teams.
+/// The lines so far, and the sums over their teams.
 #[derive(Drop)]
 pub struct RepairReport {
     /// The lines, each with its line feed.
     pub text: Vec<u8>,
     /// The sums over the teams that have a line.
     pub sums: Totals,
-    /// For each team of the frame, the ground's last, the largest of the least ways of its cells before any is repaired, in
-    /// database units.
+    /// For each team of the frame, the ground team last, the largest of the least displacements of
+    /// its cells. It is from the start of the repair, in database units.
     pub least: Vec<u64>,
 }
 
-/// The number of that position; 0 if there is none.
+/// The number for this team. 0 if there is no number for it.
 fn least_at(least: &[u64], number: Option<usize>) -> u64
     ensures { result ≡ least_for least.now number }
 {
@@ -51,7 +51,8 @@ fn push_line(alloc: Global, text: &mut Vec<u8>, value: &Value) -> Result<(), All
     Ok(())
 }
 
-/// The line of a team, which was repaired so on the floor, and of whose cells the largest of the least ways is this.
+/// The line of a team, given the result of its repair on the floor and the largest of the least
+/// displacements of its cells.
 fn line_of<S: Seeker + Drop>(
     alloc: Global,
     floor: &Floor<S>,
@@ -69,7 +70,8 @@ fn line_of<S: Seeker + Drop>(
 }
 
 impl RepairReport {
-    /// No line yet; for each team the largest of the least ways of its cells is this. `Err` if an allocation fails.
+    /// A report without lines. `least` has the largest of the least displacements of each team's
+    /// cells. `Err` if an allocation fails.
     pub fn new(alloc: Global, least: &[u64]) -> Result<RepairReport, AllocError>
         ensures text { IfOk result (λ report. report.text.items ≡ []) }
         ensures sums { IfOk result (λ report. report.sums ≡ no_sums) }
@@ -82,7 +84,8 @@ impl RepairReport {
         })
     }
 
-    /// Appends the line of a team, which was repaired so on the floor. `Err` if an allocation fails.
+    /// Appends the line of a team, given the result of its repair on the floor. `Err` if an
+    /// allocation fails.
     pub fn add<S: Seeker + Drop>(
         &mut self,
         alloc: Global,
@@ -99,7 +102,8 @@ impl RepairReport {
         Ok(())
     }
 
-    /// Appends the line of all teams; the design is then fully legal or not. `Err` if an allocation fails.
+    /// Appends the line of all teams. `legal` says whether the committed design is then fully
+    /// legal. `Err` if an allocation fails.
     pub fn close(&mut self, alloc: Global, legal: bool) -> Result<(), AllocError>
         ensures { OnOk result (self.new.text.items ≡ self.old.text.items ++ all_line self.old.sums legal) }
     {

@@ -5,30 +5,31 @@ ghost use Rattle.lf_repair_report.specs.Told.{mean_displacement, no_sums, with_t
 
 use lf_repair_strategy::RepairStats;
 
-/// What became of the cells of all teams that are told of, lengths in database units; the greatest number stands for a sum past it.
+/// The sums over all teams in the report. Lengths are in database units. Sums saturate at the
+/// greatest number.
 #[derive(Clone, Copy)]
 pub struct Totals {
-    /// How many teams there are.
+    /// The number of teams.
     pub teams: u64,
-    /// How many cells broke a rule or had no place.
+    /// The number of cells that broke a rule or had no place.
     pub cells: u64,
-    /// How many of those that stood legally stand where they stood.
+    /// The number of legal cells that did not move.
     pub kept: u64,
-    /// How many had a place and are at another corner now.
+    /// The number of cells that had a place and now have another corner.
     pub moved: u64,
-    /// How many had no place and have one now.
+    /// The number of cells that had no place and have one now.
     pub placed: u64,
-    /// How many of those that stood legally stand otherwise now.
+    /// The number of legal cells whose place or orientation changed.
     pub pushed: u64,
-    /// How many had a place and face otherwise now.
+    /// The number of cells that had a place and now have another orientation.
     pub turned: u64,
-    /// How many are unplaced or break a rule.
+    /// The number of unrepaired cells: those that are unplaced or break a rule.
     pub left: u64,
-    /// The ways of all cells together.
+    /// The total displacement of all cells.
     pub total: u64,
-    /// The longest way.
+    /// The longest displacement.
     pub largest: u64,
-    /// The largest of the teams' largest least ways.
+    /// The largest of the least displacements of all teams' cells.
     pub least_largest: u64,
 }
 
@@ -51,7 +52,7 @@ pub(crate) fn none() -> Totals
     }
 }
 
-/// The sums with those of one more team, of whose cells the largest of the least ways is this.
+/// The sums with those of one more team, given the largest of the least displacements of its cells.
 pub(crate) fn with_one(sums: &Totals, repaired: &RepairStats, least: u64) -> Totals
     ensures { result ≡ with_team sums.now repaired.now least }
 {
@@ -70,7 +71,7 @@ pub(crate) fn with_one(sums: &Totals, repaired: &RepairStats, least: u64) -> Tot
     }
 }
 
-/// The mean way of the cells that moved, rounded down; 0 if none did.
+/// The mean displacement of the cells that moved, rounded down. 0 if no cell moved.
 pub(crate) fn mean_displacement(total: u64, moved: u64) -> u64
     ensures { result ≡ mean_displacement total moved }
 {

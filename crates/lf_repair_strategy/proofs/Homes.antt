@@ -1,4 +1,4 @@
--- Where the cells of a team stand, one after the other.
+-- The places of the cells of a team, one after the other.
 use Rattle.std.proofs.Common.{◌≡◌, ◌≢◌, ◌⊎◌, inl, inr, ⊎_elim, ℕ, ◌+◌, ◌<◌, List, [], ◌∷◌, ◌++◌, length, get_or, Option, Some, None, ap, sym, ◌∙◌, arith}
 use Rattle.std.specs.Prelude.{◌≤◌, slice_get, option_and_then}
 use Rattle.std.proofs.lemmas.Bool.{cases_eq}
@@ -9,7 +9,7 @@ use Rattle.lf_cells.specs.Cells.{working_at}
 use Rattle.lf_repair_strategy.specs.Homes.{AreWorkingPlaces, target_at}
 use Rattle.lf_repair_strategy.proofs.Lists.{before_last, last_is, one_longer}
 
--- the first so many places are those of the cells
+-- the first `count` places are those of the cells
 pub record AreHomesTo (cells : List Cell) (count : ℕ) (homes : List (Option Place)) : Type 0 where
   pub many : length homes ≡ count
   pub are : (own : ℕ) → own < count → target_at homes own ≡ working_at cells own

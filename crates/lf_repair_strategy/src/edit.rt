@@ -1,20 +1,20 @@
-//! What is asked of a floor for the cells of a team.
+//! Edits that a repair requests of a floor for the cells of a team.
 
 use lf_floorplan::Place;
 use lf_units::Point;
 
-/// What is asked for a cell.
+/// An edit of a cell.
 #[derive(Clone, Copy)]
 pub enum Edit {
-    /// It becomes unplaced.
+    /// Unplaces it.
     Unplace,
-    /// It goes to this place.
+    /// Places it here.
     Place(Place),
-    /// It goes to the best place for this target.
+    /// Moves it to its best place for this target.
     Legalize(Point),
 }
 
-/// What is asked for the cell of that position.
+/// An edit of the team's cell at position `own`.
 #[derive(Clone, Copy)]
 pub struct CellEdit {
     pub own: u32,

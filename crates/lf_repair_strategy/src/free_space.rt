@@ -1,4 +1,4 @@
-//! The free ground of a team, in sites.
+//! The free sites of a team.
 
 ghost use Rattle.std.specs.Prelude.{◌<ℤ◌, negsuc};
 
@@ -9,7 +9,7 @@ use lf_rules::Padding;
 use lf_segments::{IndexedFrame, Segment};
 use std::alloc::{AllocError, Global};
 
-/// The team of that number, and how far apart it keeps its cells, in database units.
+/// A team, by its number, and the padding of its cells, in database units.
 #[derive(Clone, Copy)]
 pub struct PaddedTeam {
     pub team: usize,
@@ -17,7 +17,7 @@ pub struct PaddedTeam {
 }
 
 impl PaddedTeam {
-    /// The team of that number on this frame, whose cells keep so much free beside them.
+    /// The team with this number on this frame, whose cells have this padding.
     pub fn new(frame: &Frame, team: usize, padding: Padding) -> PaddedTeam {
         PaddedTeam {
             team,
@@ -26,7 +26,7 @@ impl PaddedTeam {
     }
 }
 
-/// What is taken of a row, from one x on and below another, in database units.
+/// A blocked span of a row, from `lo` on and below `hi`, in database units.
 #[derive(Clone, Copy, PartialEq, Eq, PartialOrd, Ord)]
 pub(crate) struct BlockedSpan {
     row: usize,
@@ -34,7 +34,7 @@ pub(crate) struct BlockedSpan {
     hi: i64,
 }
 
-/// A range of x and one of y, in database units, which a cell takes.
+/// The area of a cell: a range of x and one of y, in database units.
 #[derive(Clone, Copy)]
 pub(crate) struct Area {
     pub(crate) x1: i64,
@@ -43,7 +43,8 @@ pub(crate) struct Area {
     pub(crate) y2: i64,
 }
 
-/// The sites of a row: where the first one begins, and how far they are apart; a cell needs so much more room to its right.
+/// The sites of a row: the x of the first one, and their distance. A cell needs `pad` more room on
+/// its right.
 #[derive(Clone, Copy)]
 struct Grid {
     x: i64,
@@ -51,7 +52,7 @@ struct Grid {
     pad: i64,
 }
 
-/// Notes what an area takes of each row that it lies on, and as much beside it.
+/// Appends the spans of the rows that an area covers, widened by `pad` on both sides.
 pub(crate) fn take_area(
     plan: &IndexedFrame<'_>,
     area: &Area,
@@ -68,7 +69,7 @@ pub(crate) fn take_area(
     Ok(())
 }
 
-/// Notes what soft blockages take of the team's segments.
+/// Appends the spans of the team's segments that soft blockages cover.
 pub(crate) fn take_soft(
     plan: &IndexedFrame<'_>,
     team: usize,
@@ -88,19 +89,19 @@ pub(crate) fn take_soft(
     Ok(())
 }
 
-/// A number of 32 bits; one that is out of range is moved to its end.
+/// The number limited to the range of 32 bits.
 fn clipped(number: i64) -> u32 {
     number.clamp(0, 4_294_967_295) as u32
 }
 
-/// A coordinate of DEF; one that is out of range is moved to its end.
+/// The number limited to the range of DEF coordinates.
 pub(crate) fn coordinate(number: i64) -> i32
     ensures { negsuc 2147483647 <ℤ result }
 {
     number.clamp(-2_147_483_647, 2_147_483_647) as i32
 }
 
-/// Notes the sites from one x on and below another.
+/// Appends the sites from `lo` on and below `hi`.
 fn push_sites(spans: &mut Vec<FreeSpan>, lo: i64, hi: i64, grid: &Grid) -> Result<(), AllocError> {
     let step = grid.step.max(1);
     let before = lo.saturating_sub(grid.x).saturating_add(step - 1);
@@ -122,7 +123,7 @@ fn push_sites(spans: &mut Vec<FreeSpan>, lo: i64, hi: i64, grid: &Grid) -> Resul
     Ok(())
 }
 
-/// Notes the free sites of a segment: those that nothing of the list takes.
+/// Appends the free sites of a segment: those that no blocked span covers.
 fn push_free(
     spans: &mut Vec<FreeSpan>,
     taken: &[BlockedSpan],
@@ -156,7 +157,7 @@ fn kind_of(orient: Orient) -> RowKind {
     }
 }
 
-/// Notes the free sites of the team in the row of that position.
+/// Appends the free sites of the team in the row at position `number`.
 fn push_row(
     plan: &IndexedFrame<'_>,
     frame: &Frame,
@@ -189,9 +190,8 @@ fn push_row(
     Ok(())
 }
 
-/// The free sites of the team, where these are taken: rows by rising y.
-///
-/// `Err` if an allocation fails.
+/// The free sites of the team, outside the spans in `taken`, in rows by rising y. `Err` if an
+/// allocation fails.
 pub(crate) fn free_rows_beside(
     alloc: Global,
     plan: &IndexedFrame<'_>,

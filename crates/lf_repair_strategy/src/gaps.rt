@@ -1,4 +1,4 @@
-//! Why cells are left: how wide the widest free run of sites near to each is.
+//! Explains unrepaired cells: the width of the widest free run of sites near each.
 
 ghost use Rattle.std.specs.Prelude.{◌≡◌, IfOk, length};
 
@@ -11,12 +11,12 @@ use lf_placement::Placement;
 use lf_repair_planner::{FreeRows, FreeSpan, PlannerRow};
 use std::alloc::{AllocError, Global};
 
-/// How wide a run of sites is, in database units.
+/// The width of a run of sites, in database units.
 fn width_of(sites: &FreeSpan) -> u64 {
     (sites.step as u64).saturating_mul(sites.count as u64)
 }
 
-/// The width of the widest free run of the row; 0 if there is none.
+/// The width of the widest free run of the row. 0 if there is no free run.
 fn widest_in(land: &FreeRows, row: &PlannerRow) -> u64 {
     let runs = land.spans.get(row.first..row.last).unwrap_or(&[]);
     let mut widest = 0;
@@ -26,7 +26,8 @@ fn widest_in(land: &FreeRows, row: &PlannerRow) -> u64 {
     widest
 }
 
-/// The width of the widest free run of the rows that are at most so far from y; 0 if there is none.
+/// The width of the widest free run of the rows that are at most `far` from y. 0 if there is no
+/// free run.
 fn widest_near(land: &FreeRows, y: i64, far: i64) -> u64 {
     let rows = land.rows.as_slice();
     let first = rows.partition_point(|row| (row.y as i64) < y.saturating_sub(far));
@@ -40,18 +41,18 @@ fn widest_near(land: &FreeRows, y: i64, far: i64) -> u64 {
     widest
 }
 
-/// The team's cell of that position and its committed place.
+/// The team's cell at position `own`, and its committed place.
 fn committed_at(placement: &Placement, number: usize, own: u32) -> Option<(CellId, Option<Place>)> {
     let cells = placement.cells();
     let id = *cells.cells_of(number).get(own as usize)?;
     Some((id, cells.committed(id)))
 }
 
-/// For each of these positions of the team's cells, how wide a cell may be that fits into the widest free run of sites near to that
-/// cell, in database units: of the rows at most 8 rows' heights from its committed place, or from the nearest point of a box around
-/// the team's ground. 0 where there is no free site, and no such cell or team.
-///
-/// `Err` if an allocation fails.
+/// The greatest width of a cell that fits into the widest free run of sites near each of the given
+/// cells, in database units. The cells are given by their positions in the team. Near are the rows
+/// at most 8 row heights from the cell's committed place, moved into a box around the team's
+/// ground. For a cell without a committed place it is the team's anchor. A width is 0 if there is
+/// no free site, no such cell or no such team. `Err` if an allocation fails.
 pub fn free_widths(
     alloc: Global,
     placement: &Placement,

@@ -1,13 +1,33 @@
-//! Plans for a repair: what is asked for which cells of a team, which legal ones must make room, and how wide the gaps near others are.
+//! Lists the edits of a repair: which cells of a team to unplace or place, and which legal cells to
+//! free.
 //!
-//! A plan looks at a placement and at no floor. A go is a list of the cells that are held fast, and of where each cell is wanted; in
-//! each of its rounds (`Phase`) deeds are asked, of which `lf_repair_planner` plans those for the cells of one row's height. A further go
-//! (`LocalPass`) also frees legal cells near to those that are left without a place, or far from where they are wanted. Nothing of it is
-//! relied on: a floor tests each place that it is asked for. `RepairStats` are the numbers of what became of a team, which `lf_repair_team`
-//! counts and `lf_repair_report` tells.
+//! It reads a placement, and no floor. A *pass* has for each cell whether it is *locked*, and its
+//! target. Each phase of a pass (`Phase`) lists edits. `lf_repair_planner` plans those for the
+//! cells of one row's height. A *local pass* (`LocalPass`) also frees legal cells near problem
+//! cells: those without a place, or far from their targets. Nothing relies on these edits: a floor
+//! tests each place that is requested of it.
+//!
+//! `RepairStats` is the result of repairing a team. `lf_repair_team` counts it, and
+//! `lf_repair_report` prints it.
+//!
+//! Used by `lf_repair_team`, `lf_repair_report` and `lf_task_repair`.
+//!
+//! Modules, in reading order:
+//!
+//! - `edit`: an edit of a cell
+//! - `pass`: a team at the start of its repair
+//! - `free_space`: the free sites of a team
+//! - `rounds`: the edits of each phase of a pass
+//! - `local_pass`: passes that also free legal cells
+//! - `gaps`: the widest free run of sites near a cell
+//! - `stats`: the result of repairing a team
+//!
+//! From `crates/lf_repair_team/src/team.rt`:
 //!
 //! ```
-//! let deeds = edits_for(alloc, floor.placement(), &owner, &start.go, Phase::Lift)?;
+//! let placement = floor.placement();
+//! let owner = PaddedTeam::new(placement.frame(), number, floor.padding_of(number));
+//! edits_for(alloc, placement, &owner, go, phase)
 //! ```
 #![tactic(auto)]
 

@@ -1,4 +1,5 @@
-//! Which cells a further go may move, so that none is left without a place and none goes far.
+//! Plans local passes, which free legal cells to find places for cells without one and to shorten
+//! long displacements.
 
 use crate::edit::{CellEdit, Edit};
 use crate::free_space::coordinate;
@@ -13,19 +14,21 @@ use lf_segments::Segment;
 use lf_units::Point;
 use std::alloc::{AllocError, Global};
 
-/// A cell is far that stands more than so many rows' heights from where it is wanted.
+/// A cell is far if its displacement from its target is more than this number of row heights.
 pub(crate) const FAR: i64 = 8;
 
-/// Which cells a further go may move.
+/// The cells that a local pass may move.
 #[derive(Clone, Copy)]
 pub enum Neighborhood {
-    /// Those near to where a cell in need is wanted: in its tile, which is of so many rows and sites, or in one that touches it.
+    /// Cells in the tile of a problem cell's target or in an adjacent tile. A tile is `rows` ×
+    /// `sites`.
     Near { rows: i64, sites: i64 },
-    /// All, if a cell has no place.
+    /// All cells, if a cell has no place.
     All,
 }
 
-/// A further go, where all cells stand before it, how many have no place then, and how many are in need.
+/// A local pass, with the places of all cells at its start. It has also the numbers of cells
+/// without a place and of problem cells at that time.
 #[derive(Drop)]
 pub struct LocalPass {
     pub go: Pass,
@@ -34,7 +37,8 @@ pub struct LocalPass {
     needy: usize,
 }
 
-/// The cells in need: how many have no place, how wide the widest is, and where each is wanted that has none or stands far off.
+/// The problem cells, which have no place or are far from their targets. `left` is the number of
+/// those without a place, `widest` the width of the widest, and `points` are the targets.
 #[derive(Drop)]
 struct ProblemCells {
     left: usize,
@@ -42,21 +46,21 @@ struct ProblemCells {
     points: Vec<Point>,
 }
 
-/// A box that holds the segments of a team.
+/// A box around the segments of a team.
 #[derive(Clone, Copy)]
 pub(crate) struct Bounds {
     low: Point,
     high: Point,
 }
 
-/// The place of a tile among those of its size.
+/// The position of a tile in the grid of tiles of one size.
 #[derive(Clone, Copy, PartialEq, Eq, PartialOrd, Ord)]
 struct Tile {
     y: i64,
     x: i64,
 }
 
-/// A box that holds this one and the segment of a row at y.
+/// A box around this one and the segment of a row at y.
 fn with_segment(bounds: &Bounds, segment: &Segment, y: i64) -> Bounds {
     Bounds {
         low: Point {
@@ -70,7 +74,7 @@ fn with_segment(bounds: &Bounds, segment: &Segment, y: i64) -> Bounds {
     }
 }
 
-/// A box that holds the segments of the team of that number.
+/// A box around the segments of the team with this number.
 pub(crate) fn bounds_of(placement: &Placement, number: usize) -> Bounds {
     let mut bounds = Bounds {
         low: Point {
@@ -94,7 +98,8 @@ pub(crate) fn bounds_of(placement: &Placement, number: usize) -> Bounds {
     bounds
 }
 
-/// Where a cell is wanted: where it stood, moved into the box that holds its team's segments, or at the team's anchor.
+/// The target of a cell: its original place, moved into the box around its team's segments, or the
+/// team's anchor if it had no place.
 pub(crate) fn point_of(frame: &Frame, id: CellId, home: Option<Place>, bounds: &Bounds) -> Point {
     match home {
         Some(home) => Point {
@@ -105,14 +110,15 @@ pub(crate) fn point_of(frame: &Frame, id: CellId, home: Option<Place>, bounds: &
     }
 }
 
-/// How far a place is from a point: |dx| + |dy|.
+/// The distance of a place from a point: |dx| + |dy|.
 fn displacement(place: &Place, point: &Point) -> i64 {
     let dx = (place.x as i64).saturating_sub(point.x).saturating_abs();
     let dy = (place.y as i64).saturating_sub(point.y).saturating_abs();
     dx.saturating_add(dy)
 }
 
-/// Notes a cell that stood there, if it has no place now or stands far off.
+/// Adds a cell with this original place to the problem cells, if it has no place now or is far from
+/// its target.
 fn note_cell(
     placement: &Placement,
     id: CellId,
@@ -136,7 +142,7 @@ fn note_cell(
     Ok(())
 }
 
-/// The cells of the team of that number that are in need, of those that stood at these places.
+/// The problem cells of the team with this number, whose cells have these original places.
 fn problem_cells(
     alloc: Global,
     placement: &Placement,
@@ -155,7 +161,7 @@ fn problem_cells(
     Ok(need)
 }
 
-/// The tile of that size in which a point lies.
+/// The tile of this size that contains a point.
 fn tile_of(point: &Point, size: &Point) -> Tile {
     let high = size.y.max(1);
     let wide = size.x.max(1);
@@ -165,12 +171,12 @@ fn tile_of(point: &Point, size: &Point) -> Tile {
     }
 }
 
-/// Whether both are one tile.
+/// Whether the two tiles are the same.
 fn is_one_tile(a: &Tile, b: &Tile) -> bool {
     a.y == b.y && a.x == b.x
 }
 
-/// Whether the tile is the last one that was noted.
+/// Whether the tile is the last one that was added.
 fn is_last(last: Option<Tile>, tile: &Tile) -> bool {
     match last {
         Some(last) => is_one_tile(&last, tile),
@@ -178,7 +184,7 @@ fn is_last(last: Option<Tile>, tile: &Tile) -> bool {
     }
 }
 
-/// Notes a tile and those that touch it.
+/// Appends a tile and its adjacent tiles.
 fn push_touched(tile: &Tile, tiles: &mut Vec<Tile>) -> Result<(), AllocError> {
     for up in [-1i64, 0, 1] {
         for right in [-1i64, 0, 1] {
@@ -191,7 +197,7 @@ fn push_touched(tile: &Tile, tiles: &mut Vec<Tile>) -> Result<(), AllocError> {
     Ok(())
 }
 
-/// The tiles of that size in which these points lie, and those that touch them, in order.
+/// The tiles of this size that contain the points, and their adjacent tiles, in order.
 fn tiles_of(alloc: Global, points: &[Point], size: &Point) -> Result<Vec<Tile>, AllocError> {
     let mut own = Vec::with_capacity(alloc, points.len())?;
     for point in points {
@@ -210,7 +216,7 @@ fn tiles_of(alloc: Global, points: &[Point], size: &Point) -> Result<Vec<Tile>, 
     Ok(tiles)
 }
 
-/// Whether the tile is one of these, which are in order.
+/// Whether the tile is in this ordered list.
 fn is_among(tiles: &[Tile], tile: &Tile) -> bool {
     let (y, x) = (tile.y, tile.x);
     let at = tiles.partition_point(|one| one.y < y || (one.y == y && one.x < x));
@@ -220,14 +226,15 @@ fn is_among(tiles: &[Tile], tile: &Tile) -> bool {
     }
 }
 
-/// The ground near to cells in need: tiles of a size, in order; all ground without them.
+/// The region near problem cells: tiles of one size, in order. The region is everything if there
+/// are no tiles.
 #[derive(Drop)]
 struct NearRegion {
     tiles: Option<Vec<Tile>>,
     size: Point,
 }
 
-/// The ground that a go of this reach is about.
+/// The region that a local pass with this reach covers.
 fn near_of(
     alloc: Global,
     frame: &Frame,
@@ -250,7 +257,7 @@ fn near_of(
     })
 }
 
-/// Whether a cell stands on that ground, or is wanted there.
+/// Whether the place of a cell or its target is in the region.
 fn is_near(place: &Place, wanted: &Point, near: &NearRegion) -> bool {
     let Some(tiles) = &near.tiles else {
         return true;
@@ -263,7 +270,8 @@ fn is_near(place: &Place, wanted: &Point, near: &NearRegion) -> bool {
         || is_among(tiles.as_slice(), &tile_of(wanted, &near.size))
 }
 
-/// Whether a go leaves the cell alone: it has a place, and stood legally on several rows, or is not near.
+/// Whether a local pass locks the cell: it has a place, and it was legal and covers several rows,
+/// or it is not near.
 fn is_locked(
     placement: &Placement,
     id: CellId,
@@ -277,7 +285,7 @@ fn is_locked(
     (legal && is_tall(placement, id)) || !is_near(&place, wanted, near)
 }
 
-/// The cells that are held fast, of all of the team of that number.
+/// Whether each cell of the team with this number is locked.
 fn locked_cells(
     alloc: Global,
     placement: &Placement,
@@ -300,7 +308,8 @@ fn locked_cells(
     Ok(marks)
 }
 
-/// Where a cell is wanted in a further go: where it stood; if it stood nowhere, where it stands; else at the team's anchor.
+/// The target place of a cell in a local pass: its original place if it had one, otherwise its
+/// present place, otherwise the team's anchor.
 fn target_place(placement: &Placement, id: CellId, home: Option<Place>) -> Place {
     if let Some(home) = home {
         return home;
@@ -312,7 +321,7 @@ fn target_place(placement: &Placement, id: CellId, home: Option<Place>) -> Place
     Place::new(coordinate(point.x), coordinate(point.y), Orient::N)
 }
 
-/// Where the cells of the team of that number are wanted.
+/// The target places of the cells of the team with this number.
 fn all_wanted(
     alloc: Global,
     placement: &Placement,
@@ -326,7 +335,7 @@ fn all_wanted(
     Ok(wanted)
 }
 
-/// Whether there is nothing that a go of this reach could mend.
+/// Whether a local pass with this reach has nothing to improve.
 fn has_no_work(need: &ProblemCells, reach: &Neighborhood) -> bool {
     match reach {
         Neighborhood::Near { .. } => need.points.len() == 0,
@@ -334,7 +343,7 @@ fn has_no_work(need: &ProblemCells, reach: &Neighborhood) -> bool {
     }
 }
 
-/// Whether a cell that stood legally is not held fast.
+/// Whether a cell that was legal is not locked.
 fn frees_legal(legal: &[bool], marks: &[bool]) -> bool {
     for (legal, held) in legal.iter().zip(marks.iter()) {
         if *legal && !*held {
@@ -344,9 +353,8 @@ fn frees_legal(legal: &[bool], marks: &[bool]) -> bool {
     false
 }
 
-/// The aim of a go of this reach for the team of that number; none if it has nothing to mend, or could move no legal cell.
-///
-/// `Err` if an allocation fails.
+/// The local pass with this reach for the team with this number. `None` if it has nothing to
+/// improve, or could move no legal cell. `Err` if an allocation fails.
 pub fn plan_local_pass(
     alloc: Global,
     placement: &Placement,
@@ -374,14 +382,15 @@ pub fn plan_local_pass(
     }))
 }
 
-/// Whether fewer cells are in need than before the go: those without a place count first.
+/// Whether there are fewer problem cells than at the start of the local pass. Cells without a place
+/// count first.
 fn is_better(need: &ProblemCells, aim: &LocalPass) -> bool {
     need.left < aim.left || (need.left == aim.left && need.points.len() < aim.needy)
 }
 
-/// What takes a go back that has mended nothing: all cells that it has moved are lifted, and go to where they stood before it.
-///
-/// `Err` if an allocation fails.
+/// The edits that undo a local pass which has improved nothing. All cells that it moved are
+/// unplaced, and then placed at their old places. No edits if it has improved something. `Err` if
+/// an allocation fails.
 pub fn undo_edits(
     alloc: Global,
     placement: &Placement,
@@ -412,7 +421,8 @@ pub fn undo_edits(
     Ok(deeds)
 }
 
-/// Notes what takes a cell back: it is lifted where it has a place, and goes to where it stood before, if it did.
+/// Adds the edits that undo a cell's move. It is unplaced if it has a place, and placed at its old
+/// place if it had one.
 fn push_undo(
     own: u32,
     now: Option<Place>,

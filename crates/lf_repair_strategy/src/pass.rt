@@ -1,4 +1,4 @@
-//! A team before its repair: which of its cells are held fast, and where all stand.
+//! A team at the start of its repair: its locked cells, and the places of all.
 
 ghost use Rattle.std.specs.Prelude.{◌≡◌, IfOk};
 ghost use Rattle.lf_cells.specs.Cells.{cells_of};
@@ -10,26 +10,28 @@ use lf_floorplan::Place;
 use lf_placement::Placement;
 use std::alloc::{AllocError, Global};
 
-/// Which of a team's cells a repair may move.
+/// The cells of a team that a repair may move.
 #[derive(Clone, Copy, Debug, PartialEq, Eq)]
 pub enum MovePolicy {
     /// Those that break a rule or have no place.
     Keep,
-    /// These, and others of one row's height where one of these would be left without a place or go far.
+    /// Those that break a rule or have no place. Other cells of one row's height may move if one of
+    /// the former would otherwise have no place or a long displacement.
     AsNeeded,
     /// Those that break a rule or have no place, and all others of one row's height.
     All,
 }
 
-/// Of a team's cells in a go, in loading order: whether each is held fast, and where it is wanted.
+/// One pass over a team. `marks` says whether each cell is locked, and `homes` has its target. Both
+/// lists are indexed by the cell's position in loading order.
 #[derive(Drop)]
 pub struct Pass {
     pub marks: Vec<bool>,
     pub homes: Vec<Option<Place>>,
 }
 
-/// A team before its repair: which of its cells may be moved, whether each stands legally, and the first go, in which each is wanted
-/// where it stands.
+/// A team at the start of its repair: the cells that may move, whether each cell is legal, and the
+/// first pass. The target of each cell in the first pass is its own place.
 #[derive(Drop)]
 pub struct RepairInput {
     pub how: MovePolicy,
@@ -37,7 +39,7 @@ pub struct RepairInput {
     pub go: Pass,
 }
 
-/// Whether the cell is of several rows.
+/// Whether the cell covers several rows.
 pub(crate) fn is_tall(placement: &Placement, id: CellId) -> bool {
     let frame = placement.frame();
     let Some(facts) = placement.cells().cell(id) else {
@@ -49,7 +51,7 @@ pub(crate) fn is_tall(placement: &Placement, id: CellId) -> bool {
     }
 }
 
-/// A copy of the marks.
+/// A copy of the locks.
 fn copied(alloc: Global, marks: &[bool]) -> Result<Vec<bool>, AllocError>
     ensures { IfOk result (λ copy. copy.items ≡ marks.now) }
 {
@@ -58,7 +60,7 @@ fn copied(alloc: Global, marks: &[bool]) -> Result<Vec<bool>, AllocError>
     Ok(copy)
 }
 
-/// Of the marked cells those of several rows.
+/// Marks the legal cells that cover several rows.
 fn tall_of(
     alloc: Global,
     placement: &Placement,
@@ -72,10 +74,8 @@ fn tall_of(
     Ok(marks)
 }
 
-/// The cells that are held fast at first: those that stand legally, or with `All` those of them that are of several rows, unless all stand
-/// legally: then none goes anywhere.
-///
-/// `Err` if an allocation fails.
+/// The cells locked in the first pass. `Keep`, `AsNeeded`: all legal cells. `All`: the legal cells
+/// that cover several rows, or every cell if all are legal. `Err` if an allocation fails.
 pub fn initial_locks(
     alloc: Global,
     placement: &Placement,
@@ -93,9 +93,7 @@ pub fn initial_locks(
     }
 }
 
-/// Where the cells of the team of that number stand.
-///
-/// `Err` if an allocation fails.
+/// The working places of the cells of the team with this number. `Err` if an allocation fails.
 pub fn working_places(
     alloc: Global,
     placement: &Placement,

@@ -1,4 +1,4 @@
-//! What is asked for which cells.
+//! Lists the edits of each phase of a pass.
 
 use crate::edit::{CellEdit, Edit};
 use crate::free_space::{
@@ -16,7 +16,8 @@ use lf_repair_planner::{
 use lf_units::Point;
 use std::alloc::{AllocError, Global};
 
-/// How a plan for so many cells of a team is improved: where most of the team's cells are held fast, in two orders.
+/// The options of a plan for `loose` cells of a team. It tries two orders if these are at most half
+/// of the team's cells.
 fn steps_of(placement: &Placement, team: usize, loose: usize) -> PlanOptions {
     PlanOptions {
         passes: 1,
@@ -25,20 +26,21 @@ fn steps_of(placement: &Placement, team: usize, loose: usize) -> PlanOptions {
     }
 }
 
-/// The rounds in which deeds are asked.
+/// The phases of a pass.
 #[derive(Clone, Copy)]
 pub enum Phase {
-    /// Each cell that may move becomes unplaced.
+    /// Unplaces each cell that may move.
     Lift,
-    /// Those of several rows go to their best places, the largest area first.
+    /// Moves those that cover several rows to their best places, the largest area first.
     Tall,
-    /// Those of one row go where a plan has them, row after row from left to right.
+    /// Places those of one row as planned, row by row from left to right.
     Plan,
-    /// Those that are still unplaced go to their best places, the largest area first.
+    /// Moves those that are still unplaced to their best places, the largest area first.
     Rest,
 }
 
-/// A cell that may move: its id, where it stood, and the size of its macro in database units.
+/// A cell that may move: its id, its target place, and its macro with the macro's size in database
+/// units.
 #[derive(Clone, Copy)]
 struct MovableCell<'a> {
     id: CellId,
@@ -48,12 +50,12 @@ struct MovableCell<'a> {
     height: i64,
 }
 
-/// A length of LEF in database units.
+/// A length of LEF, converted to database units.
 fn length_of(frame: &Frame, micros: i64) -> i64 {
     micros.saturating_mul(frame.header.units as i64) / 1_000_000
 }
 
-/// How wide a cell is, in database units.
+/// The width of a cell, in database units.
 pub(crate) fn width_of(placement: &Placement, id: CellId) -> i64 {
     let frame = placement.frame();
     let Some(facts) = placement.cells().cell(id) else {
@@ -65,7 +67,7 @@ pub(crate) fn width_of(placement: &Placement, id: CellId) -> i64 {
     }
 }
 
-/// The cell as one that may move; none if it is held fast.
+/// The cell as one that may move. `None` if it is locked, or there is no such cell.
 fn movable_cell<'a>(placement: &'a Placement, go: &Pass, id: CellId) -> Option<MovableCell<'a>> {
     let frame = placement.frame();
     if *go.marks.get(id.own as usize)? {
@@ -83,7 +85,7 @@ fn movable_cell<'a>(placement: &'a Placement, go: &Pass, id: CellId) -> Option<M
     })
 }
 
-/// How many cells may move.
+/// The number of cells that may move.
 fn movable_count(go: &Pass) -> usize {
     let mut count = 0usize;
     for held in &go.marks {
@@ -94,7 +96,7 @@ fn movable_count(go: &Pass) -> usize {
     count
 }
 
-/// Where a cell is wanted: where it stood, or at the team's anchor.
+/// The target of a cell: its target place, or the team's anchor if it has no target place.
 fn target_of(frame: &Frame, cell: &MovableCell<'_>) -> Point {
     match cell.home {
         Some(place) => Point {
@@ -105,7 +107,7 @@ fn target_of(frame: &Frame, cell: &MovableCell<'_>) -> Point {
     }
 }
 
-/// What the order of best places is by.
+/// The sort key of cells that are moved to their best places.
 #[derive(Clone, Copy, PartialEq, Eq, PartialOrd, Ord)]
 struct Key {
     /// The larger the area, the less.
@@ -125,7 +127,7 @@ fn key_of(frame: &Frame, cell: &MovableCell<'_>) -> Key {
     }
 }
 
-/// Best places for these cells, in the order of their keys.
+/// Edits that move these cells to their best places, in the order of their keys.
 fn best_places(alloc: Global, keys: &mut Vec<Key>) -> Result<Vec<CellEdit>, AllocError> {
     keys.sort_unstable();
     let mut deeds = Vec::with_capacity(alloc, keys.len())?;
@@ -138,7 +140,7 @@ fn best_places(alloc: Global, keys: &mut Vec<Key>) -> Result<Vec<CellEdit>, Allo
     Ok(deeds)
 }
 
-/// Takes all cells off the floor that may move.
+/// Edits that unplace all cells that may move.
 fn unplace_movable(
     alloc: Global,
     placement: &Placement,
@@ -159,7 +161,7 @@ fn unplace_movable(
     Ok(deeds)
 }
 
-/// Best places for the cells of several rows that may move.
+/// Edits that move the cells that cover several rows to their best places.
 fn legalize_tall(
     alloc: Global,
     placement: &Placement,
@@ -178,7 +180,7 @@ fn legalize_tall(
     best_places(alloc, &mut keys)
 }
 
-/// Best places for the cells that have no place now.
+/// Edits that move the cells without a place to their best places.
 fn legalize_unplaced(
     alloc: Global,
     placement: &Placement,
@@ -197,7 +199,7 @@ fn legalize_unplaced(
     best_places(alloc, &mut keys)
 }
 
-/// What the team's placed cells take of its rows, and soft blockages.
+/// The spans of rows that the team's placed cells or soft blockages cover.
 fn blocked_spans(
     alloc: Global,
     placement: &Placement,
@@ -238,7 +240,7 @@ pub(crate) fn free_rows(
     )
 }
 
-/// What a cell takes that stands there, not on its side.
+/// The area of a cell at this place. The cell is not rotated by 90 degrees.
 fn area_of(frame: &Frame, mac: &Macro, place: &Place) -> Area {
     let (x, y) = (place.x as i64, place.y as i64);
     Area {
@@ -249,12 +251,13 @@ fn area_of(frame: &Frame, mac: &Macro, place: &Place) -> Area {
     }
 }
 
-/// Whether a cell of one row's height may stand so on a row of that orientation.
+/// Whether a cell of one row's height may have this orientation on a row of that one.
 fn fits_on(frame: &Frame, mac: &Macro, orient: Orient, row: Orient) -> bool {
     is_candidate(mac.symmetry, orient) && equal_under(frame.site.symmetry, orient, row)
 }
 
-/// How a cell stands on a row of that orientation: as it did where it may, else as the first of N, S, FN and FS that it may.
+/// The orientation of a cell on a row of this orientation: its own if allowed, otherwise the first
+/// allowed one of N, S, FN and FS.
 fn orient_on(frame: &Frame, mac: &Macro, home: Orient, row: Orient) -> Option<Orient> {
     if fits_on(frame, mac, home, row) {
         return Some(home);
@@ -267,7 +270,7 @@ fn orient_on(frame: &Frame, mac: &Macro, home: Orient, row: Orient) -> Option<Or
     None
 }
 
-/// The kinds of rows on which a cell of one row's height may stand.
+/// The kinds of rows on which a cell of one row's height may be placed.
 fn kinds_of(frame: &Frame, mac: &Macro) -> RowKinds {
     RowKinds {
         n: orient_on(frame, mac, Orient::N, Orient::N).is_some(),
@@ -277,7 +280,7 @@ fn kinds_of(frame: &Frame, mac: &Macro) -> RowKinds {
     }
 }
 
-/// A site of a span, and the position in the team of the cell that goes there.
+/// A site of a span, and the position in the team of the cell placed there.
 #[derive(Clone, Copy, PartialEq, Eq, PartialOrd, Ord)]
 struct PlannedCell {
     span: u32,
@@ -285,14 +288,14 @@ struct PlannedCell {
     own: u32,
 }
 
-/// The positions of cells of one row's height, and what each wishes.
+/// The positions of cells of one row's height, and the planner's input for each.
 #[derive(Drop)]
 struct PlannerCells {
     owns: Vec<u32>,
     wishes: Vec<PlannerCell>,
 }
 
-/// What a cell wishes that stood there.
+/// The planner's input for a cell with this target place.
 fn planner_cell(frame: &Frame, cell: &MovableCell<'_>, home: &Place, pad: i64) -> PlannerCell {
     PlannerCell {
         x: home.x,
@@ -302,7 +305,7 @@ fn planner_cell(frame: &Frame, cell: &MovableCell<'_>, home: &Place, pad: i64) -
     }
 }
 
-/// The cells of one row's height that may move and stood somewhere.
+/// The cells of one row's height that may move and have a target place.
 fn planner_cells(
     alloc: Global,
     placement: &Placement,
@@ -328,7 +331,7 @@ fn planner_cells(
     Ok(PlannerCells { owns, wishes })
 }
 
-/// The spots of a plan for cells of these positions, row after row from left to right.
+/// The spots of a plan for the cells at these positions, row by row from left to right.
 fn planned_cells(
     alloc: Global,
     owns: &[u32],
@@ -348,7 +351,7 @@ fn planned_cells(
     Ok(stops)
 }
 
-/// How a row of this kind is oriented.
+/// The orientation of a row of this kind.
 fn orient_of(kind: RowKind) -> Orient {
     match kind {
         RowKind::N => Orient::N,
@@ -358,7 +361,7 @@ fn orient_of(kind: RowKind) -> Orient {
     }
 }
 
-/// The place of a cell at a site of a land.
+/// The place of a cell at a planned site.
 fn place_at(
     frame: &Frame,
     land: &FreeRows,
@@ -375,7 +378,8 @@ fn place_at(
     Some(Place::new(coordinate(x), coordinate(row.y as i64), orient))
 }
 
-/// The stops of a plan for the cells of one row's height that may move. What else a plan is made of is gone with it.
+/// The planned sites of the cells of one row's height that may move. All other data of the plan is
+/// dropped.
 fn all_planned_cells(
     alloc: Global,
     placement: &Placement,
@@ -389,7 +393,7 @@ fn all_planned_cells(
     planned_cells(alloc, owns.as_slice(), spots.as_slice())
 }
 
-/// The places of a plan for the cells of one row's height that may move.
+/// Edits that place the cells of one row's height that may move as planned.
 fn place_by_plan(
     alloc: Global,
     placement: &Placement,
@@ -417,9 +421,8 @@ fn place_by_plan(
     Ok(deeds)
 }
 
-/// What is asked in a round for the cells of the team: nothing for those that are held fast.
-///
-/// `Err` if an allocation fails.
+/// The edits of a phase for the cells of the team. Locked cells have no edits. `Err` if an
+/// allocation fails.
 pub fn edits_for(
     alloc: Global,
     placement: &Placement,

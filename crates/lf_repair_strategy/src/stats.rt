@@ -1,27 +1,27 @@
-//! What becomes of a team that is repaired.
+//! The result of repairing a team.
 
-/// What became of the cells of a repaired team. A way is |dx| + |dy| between the places of a cell before and after, in database
-/// units.
+/// The result of repairing one team. Displacement is |dx| + |dy| between a cell's old and new
+/// place, in database units.
 #[derive(Drop)]
 pub struct RepairStats {
-    /// How many cells broke a rule or had no place.
+    /// The number of cells that broke a rule or had no place.
     pub cells: u32,
-    /// How many of those that stood legally stand where they stood.
+    /// The number of legal cells that did not move.
     pub kept: u32,
-    /// How many had a place and are at another corner now.
+    /// The number of cells that had a place and now have another corner.
     pub moved: u32,
-    /// How many had no place and have one now.
+    /// The number of cells that had no place and have one now.
     pub placed: u32,
-    /// How many of those that stood legally stand otherwise now.
+    /// The number of legal cells whose place or orientation changed.
     pub pushed: u32,
-    /// How many had a place and face otherwise now.
+    /// The number of cells that had a place and now have another orientation.
     pub turned: u32,
-    /// The ways of all cells together.
+    /// The total displacement of all cells.
     pub total: u64,
-    /// The longest way.
+    /// The longest displacement.
     pub largest: u64,
-    /// The positions in the team, in loading order and the first at 0, of the cells that stand otherwise than before.
+    /// The positions in the team, in loading order from 0, of the cells whose place changed.
     pub changed: Vec<u32>,
-    /// The positions of the cells that are unplaced or break a rule.
+    /// The positions of the unrepaired cells: those that are unplaced or break a rule.
     pub left: Vec<u32>,
 }

@@ -1,4 +1,4 @@
--- A change of one cell leaves the places of all others.
+-- A change of one cell leaves the places of all others unchanged.
 use Rattle.std.proofs.Common.{◌≡◌, ◌≢◌, ◌⊎◌, inl, inr, ⊎_elim, ℕ, zero, suc, ◌<◌, List, [], ◌∷◌, length, map, get_or, Bool, true, false, cond, eqb, ltb, Option, Some, None, refl, ap, sym, ◌∙◌, subst, arith}
 use Rattle.std.specs.Prelude.{AllPairs, bytes_eq, slice_get, option_and_then}
 use Rattle.std.specs.Option.{option_map}
@@ -87,7 +87,8 @@ module _ (s : TeamState) (cell : List ℕ) (other : ℕ) (differ : cell_named ce
   change_stays t session Revert is = absurd is
   change_stays t session (Pad padding) is = absurd is
 
--- what holds of the outcome of a change if it is done, and of the team as it was, holds of it in any case
+-- what holds for the outcome of a change if it is made, and for the unchanged team, holds for the
+-- outcome in any case
 asked_of : (P : List Cell → Type 0) (t : TeamRules) (session : ℕ) (change : Change (List ℕ) Place) (s : TeamState) → P s.cells
     → P (outcome_of_change t session change s).team.cells → P (outcome_of_asking t session change s).team.cells
 asked_of P t session change s before done = slot (seen_at s.slots session) where
@@ -119,7 +120,7 @@ cell_there [] own within = absurd (omega arith)
 cell_there (c ∷ cs) zero within = (c, refl)
 cell_there (c ∷ cs) (suc own) within = cell_there cs own (omega arith)
 
--- a name is one cell's
+-- a name belongs to one cell
 pub named_is : (cells : List Cell) (own other : ℕ) (name : List ℕ) → AllPairs (λ a b. a ≢ b) (map (λ c. c.name) cells) → name_at cells own ≡ Some name
     → cell_named name cells ≡ Some other → other ≡ own
 named_is cells own other name differ at named = ⊎_elim (λ (same : other ≡ own). same) apart (cases_eq other own) where
@@ -160,7 +161,7 @@ named_is cells own other name differ at named = ⊎_elim (λ (same : other ≡ o
 
 -- ---- the floor
 
--- a change of one cell is no commit
+-- a change of one cell is not a commit
 pub no_commit : (session : ℕ) (cell : List ℕ) (change : Change (List ℕ) Place) → IsOfCell cell change → is_commit (Within session (Changing change)) ≡ false
 no_commit session cell (PlaceAt name place) is = refl
 no_commit session cell (Legalize name target) is = refl
@@ -172,7 +173,7 @@ no_commit session cell Commit is = absurd is
 no_commit session cell Revert is = refl
 no_commit session cell (Pad padding) is = refl
 
--- a change of the cell of that name leaves the place of each cell that it is not
+-- a change of the cell with this name leaves the place of each other cell unchanged
 pub others_stay : (l : Legalizer) (old new : FloorState) (team cell : List ℕ) (session : ℕ) (change : Change (List ℕ) Place) (other : ℕ)
     → IsOfCell cell change → IsUnchangedOrStepped l old (To team (Within session (Changing change))) new
     → ((s : TeamState) → state_of old team ≡ Some s → cell_named cell s.cells ≡ Some other → ⊥)
@@ -195,7 +196,7 @@ commit_done t session own s = go (first_unplaced s.cells) (broken_cells t s.cell
   go None (b ∷ bs) = refl
   go None [] = committed_working s.cells own
 
--- a commit leaves all places
+-- a commit leaves all places unchanged
 pub commit_stays : (l : Legalizer) (old new : FloorState) (team : List ℕ) (session : ℕ) → IsUnchangedOrStepped l old (To team (Within session (Changing Commit))) new
     → KeepsPlaces team old new
 commit_stays l old new team session asked own =

@@ -1,4 +1,4 @@
--- The cells of a team after its repair: those that stand otherwise than before, and those that are left.
+-- The cells of a team after its repair: those whose place changed, and those that are unrepaired.
 use Rattle.std.proofs.Common.{◌≡◌, ◌≢◌, ◌⊎◌, inl, inr, ⊎_elim, ℕ, ◌+◌, ◌<◌, List, [], length, map, get_or, Option, Some, None, refl, ap, sym, ◌∙◌, subst, arith}
 use Rattle.std.specs.Prelude.{All, ◌≤◌, Contains, slice_get, option_and_then}
 use Rattle.std.specs.Option.{option_map}
@@ -22,9 +22,9 @@ use Rattle.lf_repair_team.proofs.Legal.{legal_is_told, state_there, told_legal}
 use Rattle.lf_repair_team.proofs.Lists.{AreNamedTo, one_more_named, one_more_not}
 use Rattle.lf_repair_team.proofs.Steps.{place_of_state}
 
--- ---- cells that stand otherwise
+-- ---- cells whose place changed
 
--- a cell of these has its place in the list
+-- the cell at this position has its place in `homes`
 abbrev pub IsHome : List Cell → List (Option Place) → ℕ → Type 0
 IsHome cells homes own = working_at cells own ≡ target_at homes own
 
@@ -52,7 +52,7 @@ pub all_changed : (cells : List Cell) (homes : List (Option Place)) (count : ℕ
     → AreNamedTo (IsHome cells homes) count changed → AreAtTargetsExcept cells homes changed
 all_changed cells homes count changed many to own within = to own (omega (arith, within, many))
 
--- the same of a team
+-- the same for a team
 pub home_but : (team : List ℕ) (floor : FloorState) (number : ℕ) (homes : List (Option Place)) (changed : List ℕ) → team_number floor.frame team ≡ Some number
     → ((s : TeamState) → slice_get floor.teams number ≡ Some s → AreAtTargetsExcept s.cells homes changed) → TeamIsAtTargetsExcept team homes floor changed
 home_but team floor number homes changed named but names are own within = go (state_of floor team) refl where
@@ -78,14 +78,14 @@ home_through team homes old new changed same stay but names are own within = go 
   go (inl home) = inl (stay own ∙ home)
   go (inr in_list) = inr in_list
 
--- the named cells stand elsewhere
+-- the listed cells are at other places
 pub elsewhere : (team : List ℕ) (floor : FloorState) (number : ℕ) (homes : List (Option Place)) (changed : List ℕ) → team_number floor.frame team ≡ Some number
     → ((s : TeamState) → slice_get floor.teams number ≡ Some s → HaveLeftTargets s.cells homes changed) → TeamHasLeftTargets team homes floor changed
 elsewhere team floor number homes changed named all s there =
     All-weaker (λ own. working_at s.cells own ≢ target_at homes own) (λ own. place_in floor team own ≢ target_at homes own)
     (λ own apart e. apart (sym (place_of_state floor team own s there) ∙ e)) changed (all s (state_there floor team number s named there))
 
--- a team that has the same cells is there before and after
+-- a team with the same cells exists on both floors
 pub team_was : (team : List ℕ) (old new : FloorState) (t : TeamState) → names_in new team ≡ names_in old team → state_of new team ≡ Some t
     → (s : TeamState) × (state_of old team ≡ Some s)
 team_was team old new t same there = go (state_of old team) refl where
@@ -113,7 +113,7 @@ all_move team old new number homes changed named homes_are same all s there =
     All-weaker (λ own. place_in new team own ≢ target_at homes own) (λ own. place_in new team own ≢ place_in old team own)
     (λ own apart e. apart (e ∙ place_of_state old team own s there ∙ sym (homes_are s (state_there old team number s named there) own))) changed (all is.0 is.1)
 
--- where no cell has left its home but those that are named, no other has moved
+-- if each cell that is not listed is at its original place, no other cell has moved
 pub only_move : (team : List ℕ) (old new : FloorState) (number : ℕ) (homes : List (Option Place)) (changed : List ℕ) → team_number old.frame team ≡ Some number
     → ((s : TeamState) → slice_get old.teams number ≡ Some s → AreWorkingPlaces s.cells homes) → names_in new team ≡ names_in old team
     → TeamIsAtTargetsExcept team homes new changed → OnlyListedMove team old new changed
@@ -160,9 +160,9 @@ only_move team old new number homes changed named homes_are same but own = go (s
         ∙ sym (place_of_state old team own s was)
         )
 
--- ---- cells that are left
+-- ---- unrepaired cells
 
--- the cell of that position stands legally, where there is one
+-- the cell at this position is legal, if it exists
 abbrev pub MayStand : List ℕ → FloorState → ℕ → Type 0
 MayStand team floor own = (s : TeamState) → state_of floor team ≡ Some s → own < length s.cells → IsLegalIn floor team own
 
@@ -204,7 +204,7 @@ pub all_stand : (team : List ℕ) (floor : FloorState) (number count : ℕ) → 
 all_stand team floor number count named many all s there own within =
     inl (all own (omega (arith, within, many s (state_there floor team number s named there))) s there within)
 
--- a team with a cell that does not stand legally is not whole
+-- a team with a cell that is not legal is not wholly legal
 pub not_whole : (team : List ℕ) (floor : FloorState) (number own : ℕ) (Told : Type 0) → team_number floor.frame team ≡ Some number
     → ((s : TeamState) → slice_get floor.teams number ≡ Some s → own < length s.cells → IsLegalCell floor.frame number s.padding (map member_of s.cells) own → Told)
     → (Told → ⊥) → (s : TeamState) → state_of floor team ≡ Some s → own < length s.cells → AreLegalExcept team floor [] → ⊥

@@ -1,4 +1,4 @@
--- The cells of a team that are looked at are those of the floor's state.
+-- The cells of a team that are visited are those of the floor's state.
 use Rattle.std.proofs.Common.{◌≡◌, ◌<◌, ℕ, List, length, Some, ap, arith}
 use Rattle.std.specs.Prelude.{◌≤◌, slice_get}
 use Rattle.lf_cells.specs.declared.cell.Cell.{Cell}
@@ -9,7 +9,7 @@ use Rattle.lf_floor_model.specs.States.{FloorState, TeamState}
 use Rattle.lf_floor_model.specs.Teams.{state_of, team_number}
 use Rattle.lf_repair_team.proofs.Legal.{state_there}
 
--- the ids are as many as the team's cells
+-- there are as many ids as cells of the team
 pub looked_within : (team : List ℕ) (floor : FloorState) (number k : ℕ) (cells : List Cell) (ids : List CellId) → ids ≡ ids_of number cells → k < length ids
     → team_number floor.frame team ≡ Some number → ((s : TeamState) → slice_get floor.teams number ≡ Some s → cells ≡ s.cells)
     → (s : TeamState) → state_of floor team ≡ Some s → k < length s.cells

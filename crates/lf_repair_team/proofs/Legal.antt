@@ -1,4 +1,5 @@
--- What holds of a team's cells through commands that leave them as they are, and where all are committed.
+-- What holds for a team's cells through commands that leave them unchanged, and if all are
+-- committed.
 use Rattle.std.proofs.Common.{◌≡◌, ◌≢◌, ◌⊎◌, inl, inr, ℕ, ◌<◌, List, [], ◌∷◌, length, map, Bool, Option, Some, refl, ap, sym, ◌∙◌, subst}
 use Rattle.std.specs.Prelude.{All, Contains, slice_get, option_and_then}
 use Rattle.std.specs.Option.{option_map}
@@ -18,12 +19,12 @@ use Rattle.lf_floor_model.proofs.Standing.{some_one}
 use Rattle.lf_repair_team.specs.Deeds.{AreLegalFlags, KeepsCommittedPlaces, KeepsLockedPlaces, KeepsPlaces, SameCells}
 use Rattle.lf_repair_team.specs.Mending.{AreLegalExcept, IsIllegalIn, IsLegalIn, KeepsLegalPlaces}
 
--- the state of the team of that number
+-- the state of the team with this number
 pub state_there : (floor : FloorState) (team : List ℕ) (number : ℕ) (s : TeamState) → team_number floor.frame team ≡ Some number → state_of floor team ≡ Some s
     → slice_get floor.teams number ≡ Some s
 state_there floor team number s named there = ap (λ (o : Option ℕ). state_at floor.teams o) (sym named) ∙ there
 
--- ---- through what leaves the cells as they are
+-- ---- through commands that leave the cells unchanged
 
 stands_same : (f g : Frame) (number : ℕ) (s t : TeamState) (own : ℕ) → g ≡ f → KeepsCells s t
     → IsLegalCell f number s.padding (map member_of s.cells) own → IsLegalCell g number t.padding (map member_of t.cells) own
@@ -32,7 +33,7 @@ stands_same f g number s t own frame keeps legal =
     (subst (λ (n : ℕ). IsLegalCell f number n (map member_of t.cells) own) (sym keeps.padding)
     (subst (λ (cells : List Cell). IsLegalCell f number s.padding (map member_of cells) own) (sym keeps.cells) legal))
 
--- a cell that stands legally does so through it
+-- a cell that is legal stays legal
 pub legal_through : (team : List ℕ) (old new : FloorState) (own : ℕ) → new.frame ≡ old.frame → SameCells team old new → IsLegalIn old team own → IsLegalIn new team own
 legal_through team old new own frame same legal = elim same [
   | inl state ↦ record {
@@ -96,7 +97,7 @@ committed_through l team old new frame same all = elim same [
       }
 ]
 
--- where all are committed each stands legally
+-- if all cells are committed, each is legal
 pub committed_legal : (l : Legalizer) (team : List ℕ) (floor : FloorState) (left : List ℕ) → AllCommittedIn l floor team → AreLegalExcept team floor left
 committed_legal l team floor left all s there own within =
     let is : all.state ≡ s = some_one (sym all.there ∙ there) in
@@ -109,7 +110,7 @@ committed_legal l team floor left all s there own within =
       legal = subst (λ (x : TeamState). IsLegalCell floor.frame all.number x.padding (map member_of x.cells) own) is (all.legal own);
     })
 
--- one that does not, does not through it
+-- a cell that is not legal stays illegal
 same_back : (team : List ℕ) (old new : FloorState) → SameCells team old new → SameCells team new old
 same_back team old new (inl state) = inl (sym state)
 same_back team old new (inr has) = inr (record {
@@ -136,7 +137,7 @@ pub all_left_through : (team : List ℕ) (old new : FloorState) (left : List ℕ
 all_left_through team old new left frame same all =
     All-weaker (λ own. IsIllegalIn old team own) (λ own. IsIllegalIn new team own) (λ own is. left_through team old new own frame same is) left all
 
--- no cell moves where the cells are the same, and no committed place changes
+-- if the cells are the same, no cell moves and no committed place changes
 pub same_places : (team : List ℕ) (old new : FloorState) → SameCells team old new → KeepsPlaces team old new
 same_places team old new (inl state) own = ap (λ (o : Option TeamState). option_and_then (λ (s : TeamState). working_at s.cells own) o) state
 same_places team old new (inr has) own =
@@ -151,7 +152,7 @@ same_committed team old new (inr has) =
     ∙ ap (λ (cells : List Cell). Some (map (λ (c : Cell). c.committed) cells)) has.keeps.cells
     ∙ sym (ap (λ (o : Option TeamState). option_map committed_places o) has.was)
 
--- where all are committed none is left
+-- if all cells are committed, no cell is unrepaired
 pub none_left : (l : Legalizer) (team : List ℕ) (floor : FloorState) (left : List ℕ) → All (λ own. IsIllegalIn floor team own) left → AllCommittedIn l floor team → left ≡ []
 none_left l team floor [] all committed = refl
 none_left l team floor (own ∷ others) all committed =
@@ -168,13 +169,13 @@ none_left l team floor (own ∷ others) all committed =
 pub legal_stay : (team : List ℕ) (marks : List Bool) (old new : FloorState) → AreLegalFlags team old marks → KeepsLockedPlaces team marks old new → KeepsLegalPlaces team old new
 legal_stay team marks old new marked stay own legal = stay own (marked.legal own legal)
 
--- a cell of which the floor says so stands legally
+-- a cell that the floor reports as legal is legal
 pub told_legal : (team : List ℕ) (floor : FloorState) (number own : ℕ) (s : TeamState) → team_number floor.frame team ≡ Some number → state_of floor team ≡ Some s
     → own < length s.cells → IsLegalCell floor.frame number s.padding (map member_of s.cells) own → IsLegalIn floor team own
 told_legal team floor number own s named there within legal =
     record { number = number; state = s; named = named; there = there; within = within; legal = legal }
 
--- and if the floor does not say so, it does not
+-- a cell that the floor does not report as legal is not
 pub legal_is_told : (team : List ℕ) (floor : FloorState) (number own : ℕ) (Told : Type 0) → team_number floor.frame team ≡ Some number
     → ((s : TeamState) → slice_get floor.teams number ≡ Some s → own < length s.cells → IsLegalCell floor.frame number s.padding (map member_of s.cells) own → Told)
     → IsLegalIn floor team own → Told
@@ -183,7 +184,7 @@ legal_is_told team floor number own Told named told legal =
     told legal.state (state_there floor team number legal.state named legal.there) legal.within
     (subst (λ (n : ℕ). IsLegalCell floor.frame n legal.state.padding (map member_of legal.state.cells) own) is legal.legal)
 
--- ---- a commit where no cell is left, which asks nothing else
+-- ---- a commit if no cell is unrepaired, and otherwise no command
 
 module _ (team : List ℕ) (a b : FloorState) (given left : List ℕ) (same : given ≡ left) (kept : given ≢ [] → b ≡ a) where
   pub but_committed : (l : Legalizer) → (given ≡ [] → AllCommittedIn l b team) → AreLegalExcept team a left → AreLegalExcept team b left

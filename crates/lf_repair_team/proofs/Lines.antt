@@ -27,7 +27,7 @@ printed_visible (b ∷ bs) all = one (All-head IsPrinted b bs all) (printed_visi
   one : IsPrinted b → list_all is_visible bs ≡ true → list_all is_visible (b ∷ bs) ≡ true
   one here rest = grind (arith, nat_tests)
 
--- a name of a text that has a byte is one that a line can write
+-- a name in a text that has a byte can be written in a line
 pub line_name : (name : List ℕ) → IsTextName name → 0 < length name → IsName name
 line_name name is some = record { some = some; visible = printed_visible name is.printed }
 

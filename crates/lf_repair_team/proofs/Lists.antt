@@ -1,4 +1,4 @@
--- Positions that are named in lists that grow by one.
+-- Positions that are listed in lists that grow by one.
 use Rattle.std.proofs.Common.{◌≡◌, ◌≢◌, ◌⊎◌, inl, inr, ⊎_elim, ℕ, ◌+◌, ◌<◌, List, [], ◌∷◌, ◌++◌, length, Option, ap, sym, ◌∙◌, subst, arith}
 use Rattle.std.specs.Prelude.{All, Contains}
 use Rattle.std.specs.Option.{unwrap_or}
@@ -8,7 +8,7 @@ use Rattle.std.proofs.lemmas.Option.{get_or_from_slice_get, unwrap_or-slice_get}
 use Rattle.lf_repair_strategy.proofs.Lists.{before_last, last_is, one_longer}
 use Rattle.lf_repair_team.specs.Deeds.{HoldsOrIsListed}
 
--- of the first so many positions it is so, or they are named
+-- for each of the first `count` positions it is so, or it is listed
 abbrev pub AreNamedTo : (ℕ → Type 0) → ℕ → List ℕ → Type 0
 AreNamedTo So count named = (own : ℕ) → own < count → So own ⊎ Contains named own
 
@@ -39,7 +39,7 @@ one_more_named So Not own old new so_far (inr (more, not)) k within =
     grown (inl is) = inl is
     grown (inr named) = inr (still_in old own k named)
 
--- each that is named is such a one
+-- each listed position has the property
 pub one_more_not : (Such : ℕ → Type 0) (So Not : Type 0) (own : ℕ) (old new : List ℕ) → (Not → Such own) → All Such old → HoldsOrIsListed So Not own old new → All Such new
 one_more_not Such So Not own old new such so_far (inl (same, is)) = All-same Such new old same so_far
 one_more_not Such So Not own old new such so_far (inr (more, not)) = All-same Such new (old ++ own ∷ []) more (All-push Such old own so_far (such not))

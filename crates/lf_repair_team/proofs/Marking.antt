@@ -1,4 +1,4 @@
--- The cells of a team before its repair: marks of those that stand legally.
+-- The cells of a team at the start of its repair: flags for those that are legal.
 use Rattle.std.proofs.Common.{◌≡◌, ◌≢◌, ◌⊎◌, ⊎_elim, ℕ, ◌+◌, ◌<◌, List, [], ◌∷◌, ◌++◌, length, map, Bool, true, Some, None, ap, sym, ◌∙◌, subst, arith}
 use Rattle.std.specs.Prelude.{◌≤◌, slice_get}
 use Rattle.std.proofs.lemmas.Bool.{cases_eq, cases_lt}
@@ -15,7 +15,7 @@ use Rattle.lf_repair_team.specs.Mending.{IsLegalIn}
 use Rattle.lf_repair_team.proofs.Legal.{state_there, told_legal}
 use Rattle.lf_repair_strategy.proofs.Lists.{before_last, last_is, one_longer}
 
--- the first so many marks are right
+-- the first `count` flags are right
 pub record AreMarkedTo (team : List ℕ) (floor : FloorState) (count : ℕ) (marks : List Bool) : Type 0 where
   pub many : length marks ≡ count
   pub are : (own : ℕ) → own < count → IsLegalIn floor team own → slice_get marks own ≡ Some true
@@ -75,7 +75,7 @@ one_more_marked team floor number own old new named short marked more = record {
   before : (k : ℕ) → k < own → IsLegalIn floor team k → slice_get new k ≡ Some true
   before k less legal = ap (λ (xs : List Bool). slice_get xs k) more.more ∙ before_last old more.mark k (omega (arith, less, marked.many)) ∙ marked.are k less legal
 
--- all cells have their marks
+-- all cells have their flags
 pub all_marked : (team : List ℕ) (floor : FloorState) (number count : ℕ) (marks : List Bool) → team_number floor.frame team ≡ Some number
     → ((s : TeamState) → slice_get floor.teams number ≡ Some s → length s.cells ≤ count)
     → AreMarkedTo team floor count marks → AreLegalFlags team floor marks

@@ -1,4 +1,4 @@
--- What holds of a result, from what holds in any case.
+-- What holds for a result, from what holds in any case.
 use Rattle.std.proofs.Common.{◌≡◌, ℕ, List, true, false, Option, None, Some, Result, Ok, Err, OnOk, OnErr, subst}
 use Rattle.std.specs.Prelude.{All, IfOk, is_err}
 use Rattle.std.proofs.lemmas.Option.{slice_get_within, get_or_from_slice_get}
@@ -33,7 +33,7 @@ pub err_is : {T E : Type 0} (r : Result T E) (P : Type 0) → is_err r ≡ true 
 err_is (Ok x) P e p = absurd cc
 err_is (Err e') P e p = p
 
--- what holds of each team holds of the one of that name
+-- what holds for each team holds for the one with this name
 pub each_state : (P : TeamState → Type 0) (floor : FloorState) (team : List ℕ) (s : TeamState) → All P floor.teams → state_of floor team ≡ Some s → P s
 each_state P floor team s all there = go (team_number floor.frame team) there where
   go : (o : Option ℕ) → state_at floor.teams o ≡ Some s → P s

@@ -1,4 +1,4 @@
--- Runs one after the other, and what they leave.
+-- Runs one after the other, and what they leave unchanged.
 use Rattle.std.proofs.Common.{◌≡◌, ◌≢◌, ℕ, List, [], ◌∷◌, ◌++◌, Bool, true, false, Option, Some, None, refl, ap, sym, ◌∙◌, subst, take, append_assoc, append-nil, arith}
 use Rattle.std.specs.Io.KnownBytes.{Appends, Keeps}
 use Rattle.std.proofs.lemmas.List.Elements.{All-append, All-cons, All-nil}
@@ -59,11 +59,11 @@ kept_bytes : (a : Option (List ℕ)) → Appends a a []
 kept_bytes None = tt
 kept_bytes (Some xs) = sym (append-nil xs)
 
--- nothing was asked
+-- no command was sent
 pub nothing : (l : Legalizer) (team : List ℕ) (floor : FloorState) (bytes : Option (List ℕ)) → IsWrittenRun l team floor bytes bytes floor
 nothing l team floor bytes = ([], none_run l team floor floor refl, kept_bytes bytes)
 
--- what was asked is left out
+-- a refused command is not written
 pub left_out : (l : Legalizer) (team : List ℕ) (old new : FloorState) (bytes : Option (List ℕ)) (reply : Reply) → KeepsIfRefused reply old new
     → is_ok reply ≡ false → IsWrittenRun l team old bytes bytes new
 left_out l team old new bytes reply keeps refused = ([], none_run l team old new (keeps refused), kept_bytes bytes)
@@ -88,7 +88,7 @@ then_written l team a b c x y z first second = (
       (Appends-more x y z (lines_of first.0) (lines_of second.0) first.2 second.2),
 )
 
--- ---- runs that broke off
+-- ---- runs that stopped early
 
 pub kept_behind : (a b c : Option (List ℕ)) (bs : List ℕ) → Appends a b bs → Keeps b c → Appends a c bs
 kept_behind None b c bs p q = tt
@@ -110,7 +110,7 @@ uncut l team old new x y run = record {
 pub none_cut : (l : Legalizer) (team : List ℕ) (floor : FloorState) (bytes : Option (List ℕ)) → IsRunWithCutLine l team floor bytes bytes floor
 none_cut l team floor bytes = uncut l team floor floor bytes bytes (nothing l team floor bytes)
 
--- one command, and a front of its line
+-- one command, and a prefix of its line
 pub one_cut : (l : Legalizer) (team : List ℕ) (old new : FloorState) (before after : Option (List ℕ)) (line : List ℕ) (command : Command (List ℕ) Place) (reply : Reply)
     → IsTo team command → (IsName team → IsPlain command) → Step l old command reply new → is_ok reply ≡ true → line ≡ line_of command
     → AppendsFront before after line → IsRunWithCutLine l team old before after new
@@ -140,7 +140,7 @@ then_cut l team a b c x y z first second =
           (Appends-more x y z (lines_of first.0) (lines_of second.commands ++ front) first.2 second.written);
     }
 
--- ---- what stays
+-- ---- what is unchanged
 
 pub unchanged : (team : List ℕ) (floor : FloorState) → ChangesOnly team floor floor
 unchanged team floor = record { others = λ other differ. refl; frame = refl; components = refl; names = refl; legal = λ legal. legal }
@@ -154,7 +154,7 @@ then_only team a b c first second = record {
   legal = λ legal. second.legal (first.legal legal);
 }
 
--- a step to the team changes no other
+-- a step to the team changes no other team
 pub step_only : (team : List ℕ) (command : Command (List ℕ) Place) (old new : FloorState) → IsTo team command
     → ((other : List ℕ) → ¬ IsTo other command → state_of new other ≡ state_of old other) → new.frame ≡ old.frame → new.components ≡ old.components
     → names_in new team ≡ names_in old team → (IsCommittedLegal old → IsCommittedLegal new) → ChangesOnly team old new

@@ -1,4 +1,4 @@
--- What a step to a team does to it.
+-- The effect of a step to a team on it.
 use Rattle.std.proofs.Common.{◌≡◌, ◌⊎◌, inl, inr, ℕ, List, map, Bool, true, false, Option, Some, None, refl, ap, sym, ◌∙◌, subst}
 use Rattle.std.specs.Prelude.{MatchBool, slice_get, option_and_then}
 use Rattle.std.specs.Option.{option_map}
@@ -22,7 +22,7 @@ use Rattle.lf_floor_model.proofs.Kept.{committed_stay}
 use Rattle.lf_repair_team.specs.Deeds.{KeepsCommittedPlaces, IsUnchangedOrStepped, SameCells}
 use Rattle.lf_repair_team.specs.Mending.{names_in, place_in}
 
--- ---- the team before and after
+-- ---- the team on both floors
 
 -- an order to no team changes nothing
 none_there : (l : Legalizer) (floor : FloorState) (team : List ℕ) (order : TeamCommand (List ℕ) Place) → state_of floor team ≡ None
@@ -37,7 +37,7 @@ none_there l floor team order none = go (team_number floor.frame team) none wher
   go None e = refl
   go (Some number) e = by (slice_get floor.teams number) number e
 
--- the floor is as before, or the team is as its rules have it
+-- the floor is unchanged, or the team is as its rules say
 pub record IsServed (l : Legalizer) (old new : FloorState) (team : List ℕ) (order : TeamCommand (List ℕ) Place) : Type 0 where
   pub number : ℕ
   pub state : TeamState
@@ -67,7 +67,7 @@ team_step l old new team order reply step = short (is_short reply) step where
   short true runs = inl runs.short.kept
   short false answers = answered answers (team_number old.frame team) refl (state_of old team) refl
 
--- the same where it may be that nothing was asked
+-- the same if possibly no command was sent
 pub asked_step : (l : Legalizer) (old new : FloorState) (team : List ℕ) (order : TeamCommand (List ℕ) Place) → IsUnchangedOrStepped l old (To team order) new
     → (new ≡ old) ⊎ IsServed l old new team order
 asked_step l old new team order (inl same) = inl same
@@ -78,7 +78,7 @@ asked_step l old new team order (inr (reply, step)) = team_step l old new team o
 pub place_of_state : (floor : FloorState) (team : List ℕ) (own : ℕ) (s : TeamState) → state_of floor team ≡ Some s → place_in floor team own ≡ working_at s.cells own
 place_of_state floor team own s there = ap (λ (o : Option TeamState). option_and_then (λ (s : TeamState). working_at s.cells own) o) there
 
--- the place of a cell stays where the rules leave it
+-- the place of a cell is unchanged if the rules leave it unchanged
 pub place_stays : (l : Legalizer) (old new : FloorState) (team : List ℕ) (order : TeamCommand (List ℕ) Place) (own : ℕ)
     → IsUnchangedOrStepped l old (To team order) new
     → ((number : ℕ) (s : TeamState) → state_of old team ≡ Some s → working_at (outcome_by_rules l old.frame number order s).team.cells own ≡ working_at s.cells own)
@@ -91,7 +91,7 @@ place_stays l old new team order own asked stays = elim (asked_step l old new te
       ∙ sym (place_of_state old team own served.state served.before)
 ]
 
--- a look leaves each cell
+-- a query leaves each cell unchanged
 pub look_same : (l : Legalizer) (old new : FloorState) (team : List ℕ) (order : TeamCommand (List ℕ) Place)
     → QueryKeepsState → is_change order ≡ false → IsUnchangedOrStepped l old (To team order) new → SameCells team old new
 look_same l old new team order keeps look asked = elim (asked_step l old new team order asked) [
@@ -107,7 +107,7 @@ look_same l old new team order keeps look asked = elim (asked_step l old new tea
 
 -- ---- committed places
 
--- they stay, unless the order is a commit
+-- they are unchanged, unless the order is a commit
 pub committed_stays : (l : Legalizer) (old new : FloorState) (team : List ℕ) (order : TeamCommand (List ℕ) Place) → is_commit order ≡ false
     → IsUnchangedOrStepped l old (To team order) new → KeepsCommittedPlaces team old new
 committed_stays l old new team order plain asked = elim (asked_step l old new team order asked) [

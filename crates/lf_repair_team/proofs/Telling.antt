@@ -1,4 +1,4 @@
--- What is told of a team's cells, one by one.
+-- The statistics of a team's cells, cell by cell.
 use Rattle.std.proofs.Common.{◌≡◌, ◌≢◌, ◌↔◌, ◌⊎◌, inl, inr, ⊎_elim, ℕ, ◌+◌, ◌*◌, ◌<◌, ◌≤◌, List, [], ◌∷◌, ◌++◌, length, map, max, sum, get_or, Bool, not, ltb, true, false, Option, Some, None, refl, ap, sym, ◌∙◌, subst, zero-add, arith}
 use Rattle.std.specs.Prelude.{Contains, IsSome, fold, slice_get, unwrap_or}
 use Rattle.std.specs.List.{range_with_len}
@@ -38,7 +38,7 @@ none_so So count none = record {
   many = sym none;
 }
 
--- what a list with one more holds
+-- the elements of a list with one more
 in_longer : (xs : List ℕ) (x y : ℕ) → Contains (xs ++ x ∷ []) y → Contains xs y ⊎ (y ≡ x)
 in_longer xs x y (k, within, is) = ⊎_elim earlier last (cases_lt k (length xs)) where
   earlier : k < length xs → Contains xs y ⊎ (y ≡ x)
@@ -102,7 +102,7 @@ count_few : (So : Type 0) (k old new : ℕ) → old ≤ k → IsCounted So old n
 count_few So k old new few (inl (so, more)) = omega (arith, more, few)
 count_few So k old new few (inr (never, same)) = omega (arith, same, few)
 
--- the same said otherwise
+-- the same with an equivalent condition
 pub counted_as : (So Too : Type 0) (old new : ℕ) → (So → Too) → (Too → So) → IsCounted So old new → IsCounted Too old new
 counted_as So Too old new to from (inl (so, more)) = inl (to so, more)
 counted_as So Too old new to from (inr (never, same)) = inr (λ too. never (from too), same)
@@ -127,7 +127,7 @@ many_as all count So Too to from many = record {
 
 -- ---- one cell more
 
--- the numbers are small, of so many cells
+-- the numbers are at most the number of cells
 pub record IsShortTo (all : ℕ) (told : RepairStats) : Type 0 where
   pub cells : told.cells ≤ all
   pub kept : told.kept ≤ all
@@ -182,7 +182,7 @@ module _ (home now : ℕ → Option Place) (Stood : ℕ → Type 0) where
         ∙ sym (ap (λ (ns : List ℕ). fold max 0 ns) (map-range_with_len_more far 0 k k (zero-add k)));
   }
 
--- the same said of another list of marks
+-- the same with an equivalent condition
 one_told_as : (home now : Option Place) (Stood Too : Type 0) (old new : RepairStats) → (Stood → Too) → (Too → Stood) → CountsOneCell home now Stood old new
     → CountsOneCell home now Too old new
 one_told_as home now Stood Too old new to from one = record {
@@ -197,7 +197,7 @@ one_told_as home now Stood Too old new to from one = record {
   largest = one.largest;
 }
 
--- the team's cell of that id is told of
+-- the team's cell with this id is counted
 module _ (homes : List (Option Place)) (marks : List Bool) (cells : List Cell) (number k : ℕ) (id : CellId) (home now : Option Place) (stood : Bool) (old new : RepairStats) where
   one_told_at : id ≡ id_of number k → now ≡ working_at cells k → home ≡ target_at homes id.own → ((stood ≡ true) ↔ (slice_get marks id.own ≡ Some true))
       → CountsOneCell home now (stood ≡ true) old new → CountsOneCell (target_at homes k) (working_at cells k) (slice_get marks k ≡ Some true) old new

@@ -1,4 +1,5 @@
--- Changes of one cell, and what is looked up before and after them; no public clause cites it.
+-- Changes of one cell, and what is read at the start and at the end of a repair. No public clause
+-- cites this module.
 use Rattle.std.specs.Prelude.{◌≡◌, ◌≢◌, ◌⊎◌, ℕ, ◌<◌, ◌≤◌, ◌+◌, ◌++◌, ◌∷◌, [], List, Bool, true, All, Contains, IsSome, None, Option, Some, length, map, max, min, slice_get}
 use Rattle.lf_floorplan.specs.declared.place.Place.{Place}
 use Rattle.lf_rules.specs.Legalizer.{Legalizer}
@@ -19,18 +20,18 @@ use Rattle.lf_repair_strategy.specs.declared.stats.RepairStats.{RepairStats}
 use Rattle.lf_repair_team.specs.Mending.{IsLegalIn, committed_in, names_in, place_in}
 use Rattle.lf_repair_team.specs.Tallies.{AreTurned, AreStatsOf, displacement}
 
--- the floor is as it was, or has answered the command
+-- the floor is unchanged, or has executed the command
 abbrev pub IsUnchangedOrStepped : Legalizer → FloorState → Command (List ℕ) Place → FloorState → Type 0
 IsUnchangedOrStepped l old command new = (new ≡ old) ⊎ ((reply : Reply) × Step l old command reply new)
 
--- the change is a place, a legalize or an unplace of the cell of that name
+-- the change is a place, a legalize or an unplace of the cell with this name
 abbrev pub IsOfCell : List ℕ → Change (List ℕ) Place → Type 0
 IsOfCell cell (PlaceAt name place) = name ≡ cell
 IsOfCell cell (Legalize name target) = name ≡ cell
 IsOfCell cell (Unplace name) = name ≡ cell
 IsOfCell cell _ = ⊥
 
--- the team has the same cells and padding before and after
+-- the team has the same cells and padding on both floors
 pub record HasSameCells (team : List ℕ) (old new : FloorState) : Type 0 where
   pub before : TeamState
   pub after : TeamState
@@ -38,32 +39,32 @@ pub record HasSameCells (team : List ℕ) (old new : FloorState) : Type 0 where
   pub is : state_of new team ≡ Some after
   pub keeps : KeepsCells before after
 
--- so it is, or the team is unchanged
+-- the team has the same cells and padding on both floors, or is unchanged
 abbrev pub SameCells : List ℕ → FloorState → FloorState → Type 0
 SameCells team old new = (state_of new team ≡ state_of old team) ⊎ HasSameCells team old new
 
--- ---- what stays
+-- ---- what is unchanged
 
--- all cells stand where they stood
+-- all cells are at the same places
 abbrev pub KeepsPlaces : List ℕ → FloorState → FloorState → Type 0
 KeepsPlaces team old new = (own : ℕ) → place_in new team own ≡ place_in old team own
 
--- the marked cells stand where they stood
+-- the locked cells are at the same places
 abbrev pub KeepsLockedPlaces : List ℕ → List Bool → FloorState → FloorState → Type 0
 KeepsLockedPlaces team marks old new = (own : ℕ) → slice_get marks own ≡ Some true → place_in new team own ≡ place_in old team own
 
--- the committed places are as they were
+-- the committed places are unchanged
 abbrev pub KeepsCommittedPlaces : List ℕ → FloorState → FloorState → Type 0
 KeepsCommittedPlaces team old new = committed_in new team ≡ committed_in old team
 
--- ---- before a repair
+-- ---- at the start of a repair
 
--- the cells that stand legally are marked, and no others
+-- the marked cells are exactly those that are legal
 pub record AreLegalFlags (team : List ℕ) (floor : FloorState) (marks : List Bool) : Type 0 where
   pub legal : (own : ℕ) → IsLegalIn floor team own → slice_get marks own ≡ Some true
   pub only : (s : TeamState) → state_of floor team ≡ Some s → (own : ℕ) → slice_get marks own ≡ Some true → IsLegalIn floor team own
 
--- one mark more, which is true if the cell of that position stands legally in the team of that number
+-- one flag more, which is true if the cell at this position is legal in the team of this number
 pub record AddsLegalFlag (floor : FloorState) (number own : ℕ) (old new : List Bool) : Type 0 where
   pub mark : Bool
   pub more : new ≡ old ++ mark ∷ []
@@ -72,42 +73,42 @@ pub record AddsLegalFlag (floor : FloorState) (number own : ℕ) (old new : List
   pub legal : (s : TeamState) → slice_get floor.teams number ≡ Some s → mark ≡ true
       → IsLegalCell floor.frame number s.padding (map member_of s.cells) own
 
--- ---- after it
+-- ---- at the end of a repair
 
--- so it is of that position, or the position is named behind the others and it is not so
+-- it is so and the list is unchanged, or it is not so and the position is appended to the list
 abbrev pub HoldsOrIsListed : Type 0 → Type 0 → ℕ → List ℕ → List ℕ → Type 0
 HoldsOrIsListed So Not own old new = ((new ≡ old) × So) ⊎ ((new ≡ old ++ own ∷ []) × Not)
 
--- the cell of that position stands legally, where there is one, or it is named and does not
+-- the cell at this position is legal, if it exists, or it is listed and is not legal
 abbrev pub IsLegalOrListed : List ℕ → FloorState → ℕ → List ℕ → List ℕ → Type 0
 IsLegalOrListed team floor own old new =
     HoldsOrIsListed ((s : TeamState) → state_of floor team ≡ Some s → own < length s.cells → IsLegalIn floor team own) (IsLegalIn floor team own → ⊥) own old new
 
--- each of these cells has its place in the list, or is named
+-- each of the cells has its place in `homes`, or is listed
 abbrev pub AreAtTargetsExcept : List Cell → List (Option Place) → List ℕ → Type 0
 AreAtTargetsExcept cells homes changed = (own : ℕ) → own < length cells → (working_at cells own ≡ target_at homes own) ⊎ Contains changed own
 
--- the same of the team's cells
+-- the same for the team's cells
 abbrev pub TeamIsAtTargetsExcept : List ℕ → List (Option Place) → FloorState → List ℕ → Type 0
 TeamIsAtTargetsExcept team homes floor changed =
     (names : List (List ℕ)) → names_in floor team ≡ Some names → (own : ℕ) → own < length names → (place_in floor team own ≡ target_at homes own) ⊎ Contains changed own
 
--- each of the named cells has another place than in the list
+-- each of the listed cells has another place than in `homes`
 abbrev pub HaveLeftTargets : List Cell → List (Option Place) → List ℕ → Type 0
 HaveLeftTargets cells homes changed = All (λ own. working_at cells own ≢ target_at homes own) changed
 
--- the same of the team's cells
+-- the same for the team's cells
 abbrev pub TeamHasLeftTargets : List ℕ → List (Option Place) → FloorState → List ℕ → Type 0
 TeamHasLeftTargets team homes floor changed =
     (s : TeamState) → state_of floor team ≡ Some s → All (λ own. place_in floor team own ≢ target_at homes own) changed
 
--- ---- what is told of it
+-- ---- the statistics
 
--- the count is one more where it is so, unless no greater one can be written, and the same where it is not
+-- the count is one more if it is so, up to the greatest number, and otherwise the same
 abbrev pub IsCounted : Type 0 → ℕ → ℕ → Type 0
 IsCounted So old new = (So × (new ≡ min (old + 1) 4294967295)) ⊎ ((So → ⊥) × (new ≡ old))
 
--- a cell more is told of, by where it stood and stands now, and whether it stood legally
+-- one more cell is counted, given its original and its present place, and whether it was legal
 pub record CountsOneCell (home now : Option Place) (Stood : Type 0) (old new : RepairStats) : Type 0 where
   pub cells : IsCounted (Stood → ⊥) old.cells new.cells
   pub kept : IsCounted (Stood × (now ≡ home)) old.kept new.kept
@@ -119,6 +120,6 @@ pub record CountsOneCell (home now : Option Place) (Stood : Type 0) (old new : R
   pub total : new.total ≡ min (old.total + displacement home now) 18446744073709551615
   pub largest : new.largest ≡ max old.largest (displacement home now)
 
--- so many cells have been told of, which stood there by these lists
+-- the statistics of the first `all` cells, given these lists of original places and of legal cells
 abbrev pub AreStatsOfFirst : List (Option Place) → List Bool → List Cell → ℕ → RepairStats → Type 0
 AreStatsOfFirst homes marks cells all told = AreStatsOf (target_at homes) (working_at cells) (λ own. slice_get marks own ≡ Some true) all told

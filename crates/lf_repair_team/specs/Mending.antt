@@ -1,4 +1,4 @@
--- What a repair of a team leaves.
+-- The result of repairing a team.
 use Rattle.std.specs.Prelude.{◌≡◌, ◌≢◌, ◌⊎◌, ℕ, ◌<◌, List, Option, Some, All, Contains, length, map, option_and_then, option_map}
 use Rattle.lf_floorplan.specs.declared.place.Place.{Place}
 use Rattle.lf_rules.specs.Team.{IsLegalCell}
@@ -9,7 +9,7 @@ use Rattle.lf_floor_model.specs.Teams.{state_of, team_number}
 use Rattle.lf_floor_model.specs.VerbLaws.{committed_places}
 use Rattle.lf_floor_model.specs.Committed.{IsCommittedLegal}
 
--- where the team's cell of that position stands; None also where there is no such cell
+-- the place of the team's cell at this position; None also if there is no such cell
 abbrev pub place_in : FloorState → List ℕ → ℕ → Option Place
 place_in floor team own = option_and_then (λ s. working_at s.cells own) (state_of floor team)
 
@@ -21,7 +21,8 @@ names_in floor team = option_map (λ s. map (λ c. c.name) s.cells) (state_of fl
 abbrev pub committed_in : FloorState → List ℕ → Option (List (Option Place))
 committed_in floor team = option_map committed_places (state_of floor team)
 
--- only the state of the team of that name may differ, which has the same cells, and a fully legal committed design stays fully legal
+-- only the state of the team with this name may differ, the team has the same cells, and a fully
+-- legal committed design stays fully legal
 pub record ChangesOnly (team : List ℕ) (old new : FloorState) : Type 0 where
   pub others : (other : List ℕ) → other ≢ team → state_of new other ≡ state_of old other
   pub frame : new.frame ≡ old.frame
@@ -29,7 +30,7 @@ pub record ChangesOnly (team : List ℕ) (old new : FloorState) : Type 0 where
   pub names : names_in new team ≡ names_in old team
   pub legal : IsCommittedLegal old → IsCommittedLegal new
 
--- the team's cell of that position is one, and stands legally
+-- the team has a cell at this position, which is legal
 pub record IsLegalIn (floor : FloorState) (team : List ℕ) (own : ℕ) : Type 0 where
   pub number : ℕ
   pub state : TeamState
@@ -38,23 +39,23 @@ pub record IsLegalIn (floor : FloorState) (team : List ℕ) (own : ℕ) : Type 0
   pub within : own < length state.cells
   pub legal : IsLegalCell floor.frame number state.padding (map member_of state.cells) own
 
--- the cells that stood legally stand where they stood
+-- the legal cells are at the same places
 abbrev pub KeepsLegalPlaces : List ℕ → FloorState → FloorState → Type 0
 KeepsLegalPlaces team old new = (own : ℕ) → IsLegalIn old team own → place_in new team own ≡ place_in old team own
 
--- each cell of the team stands where it stood, or its position is one of these
+-- each cell of the team is at the same place, or its position is listed
 abbrev pub OnlyListedMove : List ℕ → FloorState → FloorState → List ℕ → Type 0
 OnlyListedMove team old new changed = (own : ℕ) → (place_in new team own ≡ place_in old team own) ⊎ Contains changed own
 
--- each cell of these positions stands otherwise
+-- each cell at a listed position is at another place
 abbrev pub AllListedMove : List ℕ → FloorState → FloorState → List ℕ → Type 0
 AllListedMove team old new changed = (s : TeamState) → state_of old team ≡ Some s → All (λ own. place_in new team own ≢ place_in old team own) changed
 
--- each cell of the team stands legally, or its position is one of these
+-- each cell of the team is legal, or its position is listed
 abbrev pub AreLegalExcept : List ℕ → FloorState → List ℕ → Type 0
 AreLegalExcept team floor left = (s : TeamState) → state_of floor team ≡ Some s → (own : ℕ) → own < length s.cells → IsLegalIn floor team own ⊎ Contains left own
 
--- the position is that of a cell of the team, which does not stand legally
+-- the position is that of a cell of the team, which is not legal
 pub record IsIllegalIn (floor : FloorState) (team : List ℕ) (own : ℕ) : Type 0 where
   pub within : (s : TeamState) → state_of floor team ≡ Some s → own < length s.cells
   pub illegal : IsLegalIn floor team own → ⊥

@@ -1,4 +1,4 @@
--- Runs of one team's own commands, and the lines of them.
+-- Runs of one team's own commands, and their lines.
 use Rattle.std.specs.Prelude.{◌≡◌, ℕ, ◌≤◌, List, [], ◌∷◌, ◌++◌, All, Option, length, take, true}
 use Rattle.std.specs.List.{flat_map}
 use Rattle.std.specs.Io.KnownBytes.{Appends}
@@ -18,12 +18,12 @@ use Rattle.lf_floor_model.specs.VerbLaws.{is_ok}
 abbrev pub line_of : Command (List ℕ) Place → List ℕ
 line_of command = printed command ++ 10 ∷ []
 
--- the lines of these commands
+-- the lines of the commands
 abbrev pub lines_of : List (Command (List ℕ) Place) → List ℕ
 lines_of commands = flat_map line_of commands
 
--- the floor goes from old to new by these commands, all of them to this team and each of them accepted; if the team's name is of
--- visible bytes, a line can ask each, so that its line reads as that command
+-- the commands lead the floor from `old` to `new`, all of them are to this team, and all are
+-- accepted; if the team's name is of visible bytes, a line can contain each command and reads as it
 pub record IsRunBy (commands : List (Command (List ℕ) Place)) (l : Legalizer) (team : List ℕ) (old new : FloorState) : Type 0 where
   pub replies : List Reply
   pub run : Run l old commands replies new
@@ -31,16 +31,19 @@ pub record IsRunBy (commands : List (Command (List ℕ) Place)) (l : Legalizer) 
   pub own : All (IsTo team) commands
   pub plain : IsName team → All IsPlain commands
 
--- the floor goes so by some commands, whose lines are what has been written, where the writer's bytes are known
+-- some commands lead the floor from `old` to `new`, and their lines have been written, as far as
+-- the writer's bytes are known
 abbrev pub IsWrittenRun : Legalizer → List ℕ → FloorState → Option (List ℕ) → Option (List ℕ) → FloorState → Type 0
 IsWrittenRun l team old before after new =
     (commands : List (Command (List ℕ) Place)) × IsRunBy commands l team old new × Appends before after (lines_of commands)
 
--- a front of these bytes has been written, where the writer's bytes are known: perhaps none of them, perhaps all
+-- a prefix of the bytes has been written, as far as the writer's bytes are known: perhaps no byte,
+-- perhaps all
 abbrev pub AppendsFront : Option (List ℕ) → Option (List ℕ) → List ℕ → Type 0
 AppendsFront before after bytes = (count : ℕ) × Appends before after (take count bytes)
 
--- the floor goes so by some commands and at most one more; what has been written are the lines of the former, and a front of that one's
+-- some commands and at most one more lead the floor from `old` to `new`; written are the lines of
+-- the former and a prefix of the last one's
 pub record IsRunWithCutLine (l : Legalizer) (team : List ℕ) (old : FloorState) (before after : Option (List ℕ)) (new : FloorState) : Type 0 where
   pub commands : List (Command (List ℕ) Place)
   pub last : List (Command (List ℕ) Place)

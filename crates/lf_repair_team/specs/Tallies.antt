@@ -1,4 +1,4 @@
--- What a repair tells of a team's cells.
+-- The statistics of a team's repair.
 use Rattle.std.specs.Prelude.{◌≡◌, ◌≢◌, ◌↔◌, ℕ, ◌<◌, ◌+◌, ◌-ℤ◌, List, AllPairs, Contains, IsSome, None, Option, Some, fold, length, map, max, sum}
 use Rattle.std.specs.Int.RustNames.{unsigned_abs}
 use Rattle.std.specs.List.{range_with_len}
@@ -8,31 +8,32 @@ use Rattle.lf_floor_model.specs.Teams.{state_of}
 use Rattle.lf_repair_strategy.specs.declared.stats.RepairStats.{RepairStats}
 use Rattle.lf_repair_team.specs.Mending.{IsLegalIn, place_in}
 
--- |dx| + |dy| between two places; 0 where one of them is none
+-- |dx| + |dy| between two places; 0 if one of them is None
 abbrev pub displacement : Option Place → Option Place → ℕ
 displacement (Some a) (Some b) = unsigned_abs (a.x -ℤ b.x) + unsigned_abs (a.y -ℤ b.y)
 displacement (Some a) None = 0
 displacement None b = 0
 
--- both are places, and of different orientations
+-- both are places, with different orientations
 abbrev pub AreTurned : Option Place → Option Place → Type 0
 AreTurned (Some a) (Some b) = a.orient ≢ b.orient
 AreTurned (Some a) None = ⊥
 AreTurned None b = ⊥
 
--- of the first so many positions, it is so of this many
+-- it is so for exactly `count` of the first `all` positions
 pub record HowMany (all : ℕ) (So : ℕ → Type 0) (count : ℕ) : Type 0 where
   pub which : List ℕ
   pub rise : AllPairs (λ own later. own < later) which
   pub are : (own : ℕ) → Contains which own ↔ ((own < all) × So own)
   pub many : length which ≡ count
 
--- the ways of the first so many cells
+-- the displacements of the first `all` cells
 abbrev pub total_displacement : (ℕ → Option Place) → (ℕ → Option Place) → ℕ → List ℕ
 total_displacement home now all = map (λ own. displacement (home own) (now own)) (range_with_len 0 all)
 
--- what is told of so many cells, by where each of them stood and stands now, and which of them stood legally: how many did not, stand
--- where they stood, have been pushed, have another corner, have a place now, and face otherwise; all ways together, and the longest
+-- the statistics of `all` cells, given the original and the present place of each and which of them
+-- were legal: how many were not legal, are at the same place, were legal and moved, have another
+-- corner, have a place now, and have another orientation; the total displacement, and the longest
 pub record AreStatsOf (home now : ℕ → Option Place) (Stood : ℕ → Type 0) (all : ℕ) (told : RepairStats) : Type 0 where
   pub cells : HowMany all (λ own. Stood own → ⊥) told.cells
   pub kept : HowMany all (λ own. Stood own × (now own ≡ home own)) told.kept
@@ -43,7 +44,7 @@ pub record AreStatsOf (home now : ℕ → Option Place) (Stood : ℕ → Type 0)
   pub total : told.total ≡ sum (total_displacement home now all)
   pub largest : told.largest ≡ fold max 0 (total_displacement home now all)
 
--- so it is told of the team's cells, from the one floor to the other
+-- the statistics of the team's cells, from one floor to the other
 abbrev pub AreTeamStats : List ℕ → FloorState → FloorState → RepairStats → Type 0
 AreTeamStats team old new told =
     (s : TeamState) → state_of old team ≡ Some s → AreStatsOf (place_in old team) (place_in new team) (IsLegalIn old team) (length s.cells) told

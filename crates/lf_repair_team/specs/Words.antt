@@ -1,4 +1,4 @@
--- The words that a line is written from.
+-- The words of a line.
 use Rattle.std.specs.Prelude.{ℕ, List, ◌∷◌, decimal}
 use Rattle.std.specs.Fmt.{signed_decimal}
 use Rattle.lf_repair_team.specs.declared.request_text.Word.{Word}

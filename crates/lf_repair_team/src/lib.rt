@@ -1,12 +1,29 @@
-//! Teams repaired: cells that break a rule, or have no place, go to legal places by the floor's own changes.
+//! Repairs a team: moves cells that break a rule or have no place to legal places by the floor's
+//! commands.
 //!
-//! A team is repaired by one session of its own. Each command is asked of the floor, and its line is written exactly if the floor
-//! accepts it: so the lines are a run of the floor, every law on runs holds of it, and they are a journal that `replay` reads. A
-//! plan of `lf_repair_planner` says where cells of one row's height go; others, and those whose place is refused, go to their best place.
+//! A team is repaired in one session of its own. Each command is sent to the floor, and its line is
+//! written exactly if the floor accepts it. So the lines are a run of the floor, all laws on runs
+//! hold for it, and they are a journal that `replay` reads. A plan of `lf_repair_planner` places
+//! the cells of one row's height. Other cells, and those whose place is refused, move to their best
+//! places.
+//!
+//! Used by `lf_task_repair`.
+//!
+//! Modules, in reading order:
+//!
+//! - `request_text`: the line of a command
+//! - `run_command`: a command sent to the floor, and its line written
+//! - `run_edits`: edits of single cells as commands
+//! - `repair_input`: a team at the start of its repair
+//! - `outcome`: the changed and the unrepaired cells
+//! - `stats`: the result of a repair, counted
+//! - `team`: the repair of one team
+//!
+//! From `crates/lf_tests_repair/src/repairs.rt`:
 //!
 //! ```
-//! let repaired = repair_team(alloc, &mut floor, b"A", MovePolicy::Keep, &mut lines)?;
-//! repaired.left.is_empty(); // the team is committed
+//! let mut lines = ToWrite::new(writer);
+//! repair_team(alloc, floor, b"A", how, &mut lines)
 //! ```
 #![tactic(auto)]
 

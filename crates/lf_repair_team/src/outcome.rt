@@ -1,4 +1,5 @@
-//! A team after the rounds of its repair: which cells stand otherwise than before, and which are left.
+//! A team after the passes of its repair: the cells whose place changed, and those that are
+//! unrepaired.
 
 ghost use Rattle.std.specs.Prelude.{◌≡◌, All, IfOk, OnOk, Some};
 ghost use Rattle.lf_cells.specs.Cells.{cells_of};
@@ -15,21 +16,22 @@ use lf_legalize::Seeker;
 use lf_placement::Placement;
 use std::alloc::{AllocError, Global};
 
-/// Positions in a team of the cells that stand otherwise than before, and of those that are unplaced or break a rule.
+/// The positions in a team of the cells whose place changed, and of those that are unplaced or
+/// break a rule.
 #[derive(Drop)]
 pub(crate) struct RepairOutcome {
     pub(crate) changed: Vec<u32>,
     pub(crate) left: Vec<u32>,
 }
 
-/// The place of that position in the list, if it has one there.
+/// The place at this position in the list, if there is one.
 pub(crate) fn target_place(homes: &[Option<Place>], own: usize) -> Option<Place>
     ensures { result ≡ target_at homes.now own }
 {
     *homes.get(own)?
 }
 
-/// Names the cell of that position, unless it stands where it stood.
+/// Lists the cell at position `own`, unless its place is unchanged.
 fn name_changed(
     now: Option<Place>,
     home: Option<Place>,
@@ -45,7 +47,7 @@ fn name_changed(
     Ok(())
 }
 
-/// The positions of the team's cells that do not stand where they stood.
+/// The positions of the team's cells whose place changed.
 fn changed_cells(
     alloc: Global,
     placement: &Placement,
@@ -64,7 +66,7 @@ fn changed_cells(
     Ok(changed)
 }
 
-/// Names the cell, unless it stands legally.
+/// Lists the cell, unless it is legal.
 fn note_illegal<S: Seeker + Drop>(
     floor: &Floor<S>,
     seat: &TeamSession<'_>,
@@ -81,7 +83,7 @@ fn note_illegal<S: Seeker + Drop>(
     Ok(())
 }
 
-/// The positions of the team's cells that do not stand legally.
+/// The positions of the team's cells that are not legal.
 fn illegal_cells<S: Seeker + Drop>(
     alloc: Global,
     floor: &Floor<S>,
@@ -98,9 +100,7 @@ fn illegal_cells<S: Seeker + Drop>(
     Ok(left)
 }
 
-/// What is found of the team, whose cells stood at these places before.
-///
-/// `Err` if an allocation fails.
+/// The outcome for the team, whose cells had these original places. `Err` if an allocation fails.
 pub(crate) fn found_of<S: Seeker + Drop>(
     alloc: Global,
     floor: &Floor<S>,

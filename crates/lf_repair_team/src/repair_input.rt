@@ -1,4 +1,4 @@
-//! A team before its repair: which of its cells stand legally.
+//! A team at the start of its repair: which of its cells are legal.
 
 ghost use Rattle.std.specs.Prelude.{◌≡◌, [], List, ℕ, IfOk, IsTrue, OnOk, Some, slice_get};
 ghost use Rattle.lf_floor_model.specs.States.{TeamState};
@@ -14,7 +14,8 @@ use lf_legalize::Seeker;
 use lf_repair_strategy::{MovePolicy, Pass, RepairInput, initial_locks, working_places};
 use std::alloc::{AllocError, Global};
 
-/// Whether all cells of the team of that name are placed and team-legal; false also if there is no such team. It allocates nothing.
+/// Whether all cells of the team with this name are placed and team-legal. Also false if there is
+/// no such team. Does not allocate.
 pub fn is_team_legal<S: Seeker + Drop>(floor: &Floor<S>, team: &[u8]) -> bool
     ensures whole { IsTrue result → AreLegalExcept team.now floor.now [] }
     ensures told { (s : TeamState) → state_of floor.now team.now ≡ Some s → AreLegalExcept team.now floor.now [] → IsTrue result }
@@ -30,7 +31,7 @@ pub fn is_team_legal<S: Seeker + Drop>(floor: &Floor<S>, team: &[u8]) -> bool
     true
 }
 
-/// Notes whether the cell stands legally, behind the others.
+/// Appends whether the cell is legal.
 fn mark_cell<S: Seeker + Drop>(
     floor: &Floor<S>,
     number: usize,
@@ -43,7 +44,7 @@ fn mark_cell<S: Seeker + Drop>(
     Ok(())
 }
 
-/// Whether each of the team's cells stands legally.
+/// Whether each of the team's cells is legal.
 fn legal_of<S: Seeker + Drop>(
     alloc: Global,
     floor: &Floor<S>,
@@ -58,9 +59,7 @@ fn legal_of<S: Seeker + Drop>(
     Ok(legal)
 }
 
-/// The team of that number before its repair.
-///
-/// `Err` if an allocation fails.
+/// The input of a repair of the team with this number. `Err` if an allocation fails.
 pub(crate) fn repair_input<S: Seeker + Drop>(
     alloc: Global,
     floor: &Floor<S>,

@@ -1,4 +1,4 @@
-//! The lines that print commands.
+//! Prints commands as lines.
 
 ghost use Rattle.std.specs.Prelude.{◌≡◌, ◌++◌, ◌∷◌, OnOk, map};
 ghost use Rattle.std.specs.List.{flat_map};
@@ -45,7 +45,7 @@ fn put_spaced(out: &mut Vec<u8>, word: &Word<'_>) -> Result<(), AllocError>
     put_word(out, word)
 }
 
-/// Appends the words, a space before each.
+/// Appends the words, each after a space.
 fn put_words(out: &mut Vec<u8>, words: &[Word<'_>]) -> Result<(), AllocError>
     ensures { OnOk result (out.new.items ≡ out.old.items ++ flat_map spaced words.now) }
 {
@@ -55,7 +55,7 @@ fn put_words(out: &mut Vec<u8>, words: &[Word<'_>]) -> Result<(), AllocError>
     Ok(())
 }
 
-/// Appends a line of words, the first of them given apart.
+/// Appends a line of words. The first word is a separate argument.
 #[tactic(auto, using(crate::proofs::Lines::line_put))]
 fn put_line(out: &mut Vec<u8>, first: &[u8], words: &[Word<'_>]) -> Result<(), AllocError>
     ensures { OnOk result (out.new.items ≡ out.old.items ++ line_text (first.now ∷ map word_text words.now)) }
@@ -152,9 +152,8 @@ fn put_action<'x>(
     }
 }
 
-/// Appends the line of a request, with its line feed, as a journal has it: it reads back as that request.
-///
-/// `Err` if an allocation fails; a front of the line may then be appended.
+/// Appends the line of a request, with its line feed, in the form of a journal. It reads back as
+/// that request. `Err` if an allocation fails; a prefix of the line may then be appended.
 pub fn write_request(out: &mut Vec<u8>, request: &Request) -> Result<(), AllocError>
     ensures { OnOk result (out.new.items ≡ out.old.items ++ line_of (command_of request.now)) }
 {

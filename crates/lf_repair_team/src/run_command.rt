@@ -1,4 +1,4 @@
-//! Commands that are asked of a floor, and written if it accepts them.
+//! Sends commands to a floor, and writes them if it accepts them.
 
 ghost use Rattle.std.specs.Prelude.{◌≡◌, IfOk, List, OnErr, OnOk, ℕ};
 ghost use Rattle.std.specs.Io.KnownBytes.{Appends};
@@ -19,14 +19,15 @@ use lf_legalize::Seeker;
 use lf_proto::{Refusal, Reply, Request};
 use lf_rules::legalizer_exists;
 
-/// Why the repair of a team broke off.
+/// Why the repair of a team stopped early.
 #[derive(Clone, Copy, Debug, PartialEq, Eq)]
 pub enum RepairFault {
-    /// No team has the name; nothing was asked.
+    /// No team has this name. No command was sent.
     NoTeam,
     /// An allocation failed.
     OutOfMemory,
-    /// The lines could not be written: of the last command's line a front was, perhaps nothing.
+    /// The lines could not be written. A prefix of the last command's line, possibly empty, was
+    /// written.
     Lines,
     /// The floor refused to open a session, or to commit the team.
     Refused(Refusal),
@@ -51,8 +52,8 @@ fn write_whole<K: Sink>(lines: &mut K, bytes: &[u8]) -> Result<(), DeviceFault>
     Ok(())
 }
 
-/// Asks a command of the floor, and writes its line if the reply is no refusal. The line is made first: where there is no memory
-/// for it, nothing is asked.
+/// Sends a command to the floor, and writes its line if the reply is not a refusal. The line is
+/// built first. If there is no memory for it, no command is sent.
 pub(crate) fn run_command<S: Seeker + Drop, K: Sink>(
     floor: &mut Floor<S>,
     request: &Request,

@@ -1,4 +1,4 @@
-//! Changes of single cells, which leave all other cells where they stand.
+//! Changes single cells, and leaves all other cells at their places.
 
 ghost use Rattle.std.specs.Prelude.{◌≡◌, ◌≢◌, ◌↔◌, IfOk, IsTrue, OnErr, Some, ℕ, slice_get, true};
 ghost use Rattle.lf_proto.specs.Lines.{IsName};
@@ -33,7 +33,7 @@ pub(crate) struct TeamSession<'a> {
     pub(crate) session: u32,
 }
 
-/// The name of a cell, and the line of a command, while it is asked.
+/// Buffers for the name of a cell and the line of a command.
 #[derive(Drop)]
 pub(crate) struct Buffers {
     pub(crate) name: Vec<u8>,
@@ -41,7 +41,7 @@ pub(crate) struct Buffers {
 }
 
 impl Buffers {
-    /// Empty texts, which allocate nothing.
+    /// Empty buffers, which allocate nothing.
     pub(crate) fn new(alloc: Global) -> Buffers {
         Buffers {
             name: Vec::new(alloc),
@@ -50,7 +50,7 @@ impl Buffers {
     }
 }
 
-/// The target, moved to the end of the range of coordinates that a line can write if it lies past it.
+/// The target, limited to the range of coordinates that a line can contain.
 fn target_in_range(target: &Point) -> Point
     ensures { IsTarget result }
 {
@@ -60,14 +60,15 @@ fn target_in_range(target: &Point) -> Point
     }
 }
 
-/// The same place: that a line can write it follows from its numbers, which are read here.
+/// The same place. The copy shows the prover that its coordinates are in the range that a line can
+/// contain.
 fn place_in_range(place: &Place) -> Place
     ensures { IsInRange result }
 {
     Place::new(place.x, place.y, place.orient)
 }
 
-/// The change of the cell of that name.
+/// The change of the cell with this name.
 fn change_of<'x>(step: &Edit, cell: &'x [u8]) -> Change<&'x [u8]>
     requires { IsName cell.now }
     ensures cell { IsOfCell cell.now (change_of result) }
@@ -86,7 +87,7 @@ fn change_of<'x>(step: &Edit, cell: &'x [u8]) -> Change<&'x [u8]>
     }
 }
 
-/// What a reply to a change means for the repair: it goes on unless memory ran out.
+/// The effect of a reply on the repair: it continues unless memory ran out.
 pub(crate) fn continue_unless_out_of_memory(reply: &Reply) -> Result<(), RepairFault> {
     match reply {
         Reply::Refused(Refusal::OutOfMemory) => Err(RepairFault::OutOfMemory),
@@ -94,7 +95,7 @@ pub(crate) fn continue_unless_out_of_memory(reply: &Reply) -> Result<(), RepairF
     }
 }
 
-/// Asks the step for the cell of that name.
+/// Sends the edit of the cell with this name.
 fn run_edit_of<S: Seeker + Drop, K: Sink>(
     floor: &mut Floor<S>,
     seat: &TeamSession<'_>,
@@ -125,7 +126,8 @@ fn run_edit_of<S: Seeker + Drop, K: Sink>(
     }
 }
 
-/// Copies the name of the team's cell of that position; false if there is none, or no line can write it.
+/// Copies the name of the team's cell at position `own`. Returns false if there is no such cell, or
+/// if no line can contain its name.
 fn copy_name<S: Seeker + Drop>(
     floor: &Floor<S>,
     team: &[u8],
@@ -143,7 +145,7 @@ fn copy_name<S: Seeker + Drop>(
     Ok(!bytes.is_empty())
 }
 
-/// Asks the step for the team's cell of that position.
+/// Sends the edit of the team's cell at position `own`.
 fn run_edit<S: Seeker + Drop, K: Sink>(
     floor: &mut Floor<S>,
     seat: &TeamSession<'_>,
@@ -167,7 +169,7 @@ fn run_edit<S: Seeker + Drop, K: Sink>(
     }
 }
 
-/// Whether the cell of that position is marked.
+/// Whether the cell at position `own` is locked.
 pub(crate) fn is_locked(marks: &[bool], own: usize) -> bool
     ensures { IsTrue result ↔ slice_get marks.now own ≡ Some true }
 {
@@ -177,7 +179,7 @@ pub(crate) fn is_locked(marks: &[bool], own: usize) -> bool
     }
 }
 
-/// Asks what the deed says, unless its cell is marked.
+/// Sends the edit, unless its cell is locked.
 fn run_edit_unless_locked<S: Seeker + Drop, K: Sink>(
     floor: &mut Floor<S>,
     seat: &TeamSession<'_>,
@@ -199,7 +201,7 @@ fn run_edit_unless_locked<S: Seeker + Drop, K: Sink>(
     run_edit(floor, seat, own, &deed.step, texts, lines)
 }
 
-/// Asks all deeds in their order, but for those of marked cells.
+/// Sends all edits in their order, except those of locked cells.
 pub(crate) fn run_edits<S: Seeker + Drop, K: Sink>(
     floor: &mut Floor<S>,
     seat: &TeamSession<'_>,

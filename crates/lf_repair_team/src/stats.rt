@@ -1,4 +1,4 @@
-//! What a repair tells of a team.
+//! Counts the result of repairing a team.
 
 ghost use Rattle.std.specs.Prelude.{◌≡◌, ◌≢◌, ◌≤◌, ◌↔◌, IsSome, IsTrue, None, Some, length, slice_get};
 ghost use Rattle.lf_cells.specs.Cells.{cells_of};
@@ -14,7 +14,7 @@ use lf_legalize::Seeker;
 use lf_placement::Placement;
 use lf_repair_strategy::{RepairInput, RepairStats};
 
-/// How far it is between two places; 0 where one of them is none.
+/// The distance |dx| + |dy| between two places. 0 if one of them is `None`.
 fn displacement(home: Option<Place>, now: Option<Place>) -> u64
     ensures way { result ≡ displacement home now }
     ensures short { result ≤ 8589934590 }
@@ -27,7 +27,7 @@ fn displacement(home: Option<Place>, now: Option<Place>) -> u64
     }
 }
 
-/// Whether both are places, and of different orientations.
+/// Whether both are places, with different orientations.
 fn is_turned(home: Option<Place>, now: Option<Place>) -> bool
     ensures { IsTrue result ↔ AreTurned home now }
 {
@@ -37,7 +37,7 @@ fn is_turned(home: Option<Place>, now: Option<Place>) -> bool
     }
 }
 
-/// Whether there was no place and is one now.
+/// Whether there was no place and there is one now.
 fn is_placed(home: Option<Place>, now: Option<Place>) -> bool
     ensures { IsTrue result ↔ ((home ≡ None) × IsSome now) }
 {
@@ -47,28 +47,28 @@ fn is_placed(home: Option<Place>, now: Option<Place>) -> bool
     }
 }
 
-/// Whether a cell stood legally, and stands where it stood.
+/// Whether a cell was legal, and its place is unchanged.
 fn is_kept(home: Option<Place>, now: Option<Place>, stood: bool) -> bool
     ensures { IsTrue result ↔ (IsTrue stood × (now ≡ home)) }
 {
     stood && same_place(now, home)
 }
 
-/// Whether a cell stood legally, and stands otherwise now.
+/// Whether a cell was legal, and its place changed.
 fn is_pushed(home: Option<Place>, now: Option<Place>, stood: bool) -> bool
     ensures { IsTrue result ↔ (IsTrue stood × (now ≢ home)) }
 {
     stood && !same_place(now, home)
 }
 
-/// One more, if it is so.
+/// The count, increased by one if `so` is true.
 fn counted(count: u32, so: bool) -> u32
     ensures { IsCounted (IsTrue so) count result }
 {
     if so { count.saturating_add(1) } else { count }
 }
 
-/// Counts a cell by its place before and now, and whether it stood legally.
+/// Counts a cell, given its original and its present place, and whether it was legal.
 fn count_cell(home: Option<Place>, now: Option<Place>, stood: bool, told: &mut RepairStats)
     ensures changed { told.new.changed ≡ told.old.changed }
     ensures left { told.new.left ≡ told.old.left }
@@ -85,7 +85,7 @@ fn count_cell(home: Option<Place>, now: Option<Place>, stood: bool, told: &mut R
     told.largest = told.largest.max(far);
 }
 
-/// Tells of a team's cells, which stood at these places, those of them legally that are marked.
+/// Statistics of a team's repair, given each cell's original place and whether it was legal there.
 fn count_cells(
     placement: &Placement,
     number: usize,
@@ -120,7 +120,7 @@ fn count_cells(
     told
 }
 
-/// Tells of the team of that number, of which this was found.
+/// Statistics of the repair of the team with this number, given its outcome.
 pub(crate) fn stats_of<S: Seeker + Drop>(
     floor: &Floor<S>,
     number: usize,

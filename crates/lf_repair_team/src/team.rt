@@ -52,7 +52,7 @@ fn open<S: Seeker + Drop, K: Sink>(
     }
 }
 
-/// The session that was opened.
+/// The number of the opened session.
 fn session_of(reply: &Reply) -> Result<u32, RepairFault> {
     match reply {
         Reply::Opened { session, .. } => Ok(*session),
@@ -88,7 +88,7 @@ fn commit<S: Seeker + Drop, K: Sink>(
     }
 }
 
-/// Whether the reply is no refusal: `Err` with the refusal if it is one.
+/// `Err` with the refusal if the reply is one.
 fn accepted(reply: &Reply) -> Result<(), RepairFault>
     ensures { IfOk result (λ _. is_ok reply.now ≡ true) }
 {
@@ -98,7 +98,7 @@ fn accepted(reply: &Reply) -> Result<(), RepairFault>
     }
 }
 
-/// Commits the team if no cell of it is left; else nothing is asked.
+/// Commits the team if no cell is unrepaired; otherwise sends no command.
 fn commit_if_clean<S: Seeker + Drop, K: Sink>(
     floor: &mut Floor<S>,
     seat: &TeamSession<'_>,
@@ -120,7 +120,7 @@ fn commit_if_clean<S: Seeker + Drop, K: Sink>(
     commit(floor, seat, texts, lines)
 }
 
-/// Closes the session, so that its slot is free again.
+/// Closes the session, which frees its slot.
 fn close<S: Seeker + Drop, K: Sink>(
     floor: &mut Floor<S>,
     seat: &TeamSession<'_>,
@@ -147,7 +147,8 @@ fn close<S: Seeker + Drop, K: Sink>(
     }
 }
 
-/// Looks at what the rounds have left; commits the team if no cell is left; and closes the session.
+/// Finds the outcome of the passes, commits the team if no cell is unrepaired, and closes the
+/// session.
 fn finish<S: Seeker + Drop, K: Sink>(
     alloc: Global,
     floor: &mut Floor<S>,
@@ -182,10 +183,10 @@ fn finish<S: Seeker + Drop, K: Sink>(
     }
 }
 
-/// The rounds of a repair.
+/// The phases of a pass.
 const PHASES: [Phase; 4] = [Phase::Lift, Phase::Tall, Phase::Plan, Phase::Rest];
 
-/// What is asked in a round for the cells of the team of that number, as they stand on the floor.
+/// The edits of a phase for the cells of the team with this number, at their present places.
 fn deeds_in<S: Seeker + Drop>(
     alloc: Global,
     floor: &Floor<S>,
@@ -198,7 +199,8 @@ fn deeds_in<S: Seeker + Drop>(
     edits_for(alloc, placement, &owner, go, phase)
 }
 
-/// All rounds of a go: what is asked in each is looked up on the floor as the round before left it.
+/// Runs all phases of a pass. The edits of each phase are computed from the floor after the
+/// previous one.
 fn run_pass<S: Seeker + Drop, K: Sink>(
     alloc: Global,
     floor: &mut Floor<S>,
@@ -232,7 +234,7 @@ fn run_pass<S: Seeker + Drop, K: Sink>(
     Ok(())
 }
 
-/// The further goes, each about more ground than the one before.
+/// The local passes, each over a larger region than the previous one.
 const REACHES: [Neighborhood; 4] = [
     Neighborhood::Near { rows: 2, sites: 16 },
     Neighborhood::Near { rows: 8, sites: 64 },
@@ -243,7 +245,8 @@ const REACHES: [Neighborhood; 4] = [
     Neighborhood::All,
 ];
 
-/// A further go, in which legal cells may move too: its cells are lifted and planned anew. It is taken back if it has mended nothing.
+/// Runs a local pass, in which legal cells may move too: its cells are unplaced and planned again.
+/// It is undone if it has improved nothing.
 fn run_local_pass<S: Seeker + Drop, K: Sink>(
     alloc: Global,
     floor: &mut Floor<S>,
@@ -280,7 +283,7 @@ fn run_local_pass<S: Seeker + Drop, K: Sink>(
     )
 }
 
-/// Whether legal cells may move where that is needed.
+/// Whether legal cells may move as needed.
 fn is_as_needed(how: MovePolicy) -> bool
     ensures { how ≡ Keep → result ≡ false }
 {
@@ -290,7 +293,7 @@ fn is_as_needed(how: MovePolicy) -> bool
     }
 }
 
-/// The further goes, where legal cells may move as needed; else nothing is asked.
+/// Runs the local passes if legal cells may move as needed; otherwise sends no command.
 fn run_local_passes<S: Seeker + Drop, K: Sink>(
     alloc: Global,
     floor: &mut Floor<S>,
@@ -316,7 +319,7 @@ fn run_local_passes<S: Seeker + Drop, K: Sink>(
     Ok(())
 }
 
-/// Opens a session, makes all goes, and finishes.
+/// Opens a session, runs all passes, and finishes.
 fn repair_in_session<S: Seeker + Drop, K: Sink>(
     alloc: Global,
     floor: &mut Floor<S>,
@@ -365,17 +368,22 @@ fn repair_in_session<S: Seeker + Drop, K: Sink>(
     )
 }
 
-/// Repairs a team: its cells that break a rule or have no place go to legal places; with `All` other cells may be moved too, and with
-/// `AsNeeded` where one of these would be left without a place or go far.
+/// Repairs a team: moves its cells that break a rule or have no place to legal places.
 ///
-/// Each command is asked of the floor, and its line is written exactly if the floor accepts it; where a line can name the team, each
-/// line reads as its command. With `Keep` cells that stand legally stay, whatever comes of the repair; those that stand otherwise at
-/// its end are named in any case. The team is then committed if and only if no cell is left; else its cells stand where the repair
-/// left them, those that are left without a place or illegal, and the committed places are as before. No other team changes, and a
-/// committed design that was fully legal stays so. The numbers that are told are exact.
+/// With `All` other cells may move too, with `AsNeeded` only if a cell would otherwise have no
+/// place or a long displacement. With `Keep` legal cells never move, whether or not the repair
+/// succeeds. All cells whose place changed are listed.
 ///
-/// `Err` tells why a repair broke off: the floor is then where the commands so far have led it, and their lines are written, of the
-/// last one perhaps a front alone.
+/// Each command is sent to the floor, and its line is written exactly if the floor accepts it. If a
+/// line can contain the team's name, each line reads as its command.
+///
+/// The team is committed if and only if no cell is unrepaired. Otherwise its cells stay at their
+/// working places, the unrepaired ones are unplaced or illegal, and the committed places are
+/// unchanged. No other team changes, and a fully legal committed design stays fully legal. The
+/// numbers in the result are exact.
+///
+/// `Err` says why the repair stopped early. The floor is then as the accepted commands left it, and
+/// their lines are written; of the last line perhaps only a prefix.
 pub fn repair_team<S: Seeker + Drop, K: Sink>(
     alloc: Global,
     floor: &mut Floor<S>,

@@ -42,7 +42,7 @@ unequal a b differ = go (bytes_eq a b) refl where
   go true e = absurd (differ ((bytes_eq-Decides a b).0 e))
   go false e = refl
 
--- the first that passes has this position
+-- the first element that satisfies the test has this position
 first_at : {X : Type 0} (p : X → Bool) (xs : List X) (n : ℕ) → n < length xs → position_or_len p xs ≡ n → position p xs ≡ Some n
 first_at p xs n within at = grind (arith, common_steps)
 
@@ -62,7 +62,7 @@ numbered f n name there =
     (position_or_len_is (λ m. bytes_eq m name) names n [] (omega (arith, within))
     (λ k less. unequal (get_or names k []) name (λ same. names_differ f k n less few (same ∙ sym is))) (λ _. (bytes_eq-Decides (get_or names n []) name).1 is))
 
--- the names before a team's are those of others
+-- the names in front of a team's are those of other teams
 pub others_before : (f : Frame) (n : ℕ) → n ≤ length (team_names f) → All (λ name. team_number f name ≢ Some n) (take n (team_names f))
 others_before f n le = All-from_get_or (λ name. team_number f name ≢ Some n) (take n (team_names f)) [] (λ i less.
     let names = team_names f in

@@ -1,4 +1,4 @@
--- Runs of repairs, one after the other, and what they leave.
+-- Runs of repairs one after the other, and what they leave unchanged.
 use Rattle.std.proofs.Common.{◌≡◌, ◌≢◌, ◌⊎◌, inl, inr, ⊎_elim, ℕ, zero, suc, ◌+◌, ◌<◌, List, [], ◌∷◌, ◌++◌, length, Bool, true, false, map, Option, Some, None, cond, is_some, refl, ap, sym, ◌∙◌, subst, append-nil, arith}
 use Rattle.std.specs.Prelude.{◌≤◌, ◌==◌, ◌||◌, Err, IfErr, IfOk, MatchBool, Ok, OnOk, Result, bytes_eq, option_and_then, position, slice_get, slice_set}
 use Rattle.std.specs.Borrow.{Bor}
@@ -46,7 +46,7 @@ kept_bytes_stay : (a : Option (List ℕ)) → Appends a a []
 kept_bytes_stay None = tt
 kept_bytes_stay (Some xs) = sym (append-nil xs)
 
--- nothing was asked
+-- no command was sent
 pub nothing_asked : (l : Legalizer) (floor : FloorState) (bytes : Option (List ℕ)) → IsKeptRun l floor bytes bytes floor
 nothing_asked l floor bytes =
     ([], record { replies = []; run = refl; granted = All-nil (λ (r : Reply). is_ok r ≡ true) }, kept_bytes_stay bytes)
@@ -64,13 +64,13 @@ then_kept l a b c x y z first second = (
       (Appends-more x y z (lines_of first.0) (lines_of second.0) first.2 second.2),
 )
 
--- the run of one team is one
+-- a run of one team is a run
 pub of_team : (l : Legalizer) (team : List ℕ) (old new : FloorState) (before after : Option (List ℕ)) → IsWrittenRun l team old before after new
     → IsKeptRun l old before after new
 of_team l team old new before after run =
     (run.0, record { replies = run.1.replies; run = run.1.run; granted = run.1.granted }, run.2)
 
--- ---- who changes
+-- ---- which teams change
 
 pub none_changes : (teams : List (List ℕ)) (floor : FloorState) → OnlySelectedChange teams floor floor
 none_changes teams floor = record { others = λ team asked. refl; frame = refl; components = refl; legal = λ legal. legal }
@@ -85,7 +85,7 @@ then_asked teams a b c first second = record {
 
 -- ---- legal cells
 
--- names of one number name one team
+-- names with the same number name the same team
 place_alike : (floor : FloorState) (a b : List ℕ) (own : ℕ) → team_number floor.frame a ≡ team_number floor.frame b → place_in floor a own ≡ place_in floor b own
 place_alike floor a b own same = ap (λ (o : Option ℕ). option_and_then (λ (s : TeamState). working_at s.cells own) (state_at floor.teams o)) same
 
@@ -99,7 +99,7 @@ legal_alike floor a b own same legal = record {
   legal = legal.legal;
 }
 
--- so legal cells stay under the one name if they do under the other
+-- if legal cells stay under one name, they stay under the other
 pub stay_alike : (a b : List ℕ) (old new : FloorState) → new.frame ≡ old.frame → team_number old.frame a ≡ team_number old.frame b → KeepsLegalPlaces b old new
     → KeepsLegalPlaces a old new
 stay_alike a b old new frame same stay own legal =
@@ -119,7 +119,7 @@ legal_same old new team own frame same legal = record {
   legal = subst (λ (f : Frame). IsLegalCell f legal.number legal.state.padding (map member_of legal.state.cells) own) (sym frame) legal.legal;
 }
 
--- in the first so many teams the cells that stood legally stay, and the others are as they were
+-- in the first `count` teams legal cells stay, and the other teams are unchanged
 pub record HaveStayed (old new : FloorState) (count : ℕ) : Type 0 where
   pub done : (team : List ℕ) (n : ℕ) → team_number old.frame team ≡ Some n → n < count → KeepsLegalPlaces team old new
   pub rest : (team : List ℕ) (n : ℕ) → team_number old.frame team ≡ Some n → count ≤ n → state_of new team ≡ state_of old team
@@ -152,7 +152,7 @@ one_more_stayed old mid new number frame stayed stay others = record {
   before : (team : List ℕ) (n : ℕ) → team_number old.frame team ≡ Some n → n ≢ number → n < number → KeepsLegalPlaces team old new
   before team n named differ less own legal = place_same mid new team own (apart team n named differ) ∙ stayed.done team n named less own legal
 
--- so they stay in all teams
+-- if they stay in the first `count` teams, which are all, they stay in all
 pub all_stayed : (old new : FloorState) (count : ℕ) → HaveStayed old new count → KeepsAllLegalPlaces old new
 all_stayed old new count stayed team own legal = ⊎_elim (λ (less : legal.number < count). stayed.done team legal.number legal.named less own legal)
     (λ (more : count ≤ legal.number). place_same old new team own (stayed.rest team legal.number legal.named more)) (below legal.number count) where
@@ -168,14 +168,14 @@ position_mapped : (name : List ℕ) (i : ℕ) (teams : List (Bor (List ℕ)))
 position_mapped name i [] = refl
 position_mapped name i (t ∷ ts) = ap (λ (o : Option ℕ). cond (bytes_eq t.now name) (Some i) o) (position_mapped name (i + 1) ts)
 
--- the same name is found first among the names
+-- the name has the same first position among the names
 pub position_named : (name : List ℕ) (teams : List (Bor (List ℕ)))
     → position (λ (t : Bor (List ℕ)). bytes_eq t.now name) teams ≡ position (λ (t : List ℕ). bytes_eq t name) (map (λ (t : Bor (List ℕ)). t.now) teams)
 position_named name teams =
     position_from-zero (λ (t : Bor (List ℕ)). bytes_eq t.now name) teams ∙ position_mapped name 0 teams
     ∙ sym (position_from-zero (λ (t : List ℕ). bytes_eq t name) (map (λ (t : Bor (List ℕ)). t.now) teams))
 
--- a team that is found among the names is asked for
+-- a team that is found among the names is selected
 pub asked_named : (name : List ℕ) (teams : List (Bor (List ℕ))) (found : Bool) → (length teams == 0) ≡ false
     → found ≡ is_some (position (λ (t : Bor (List ℕ)). bytes_eq t.now name) teams) → found ≡ is_selected (map (λ (t : Bor (List ℕ)). t.now) teams) name
 asked_named name teams found some is =
@@ -184,7 +184,7 @@ asked_named name teams found some is =
     let many : (length names == 0) ≡ false = ap (λ (n : ℕ). n == 0) (length-map teams (λ (t : Bor (List ℕ)). t.now)) ∙ some in
     is ∙ ap (λ (o : Option ℕ). is_some o) (position_named name teams) ∙ sym (ap (λ (b : Bool). b || here) many)
 
--- ---- how many teams there are
+-- ---- the number of teams
 
 set_long : {X : Type 0} (xs : List X) (i : ℕ) (x : X) → length (slice_set xs i x) ≡ length xs
 set_long [] i x = refl
@@ -218,7 +218,7 @@ run_long l (c ∷ cs) (r ∷ rs) old new run = run_long l cs rs run.0 new run.2 
 run_long l [] (r ∷ rs) old new run = absurd run
 run_long l (c ∷ cs) [] old new run = absurd run
 
--- a run leaves as many teams as there were
+-- a run does not change the number of teams
 pub as_many : (l : Legalizer) (teams : List (List ℕ)) (old new : FloorState) (before after : Option (List ℕ)) → IsKeptRun l old before after new
     → OnlySelectedChange teams old new → length old.teams ≡ length old.frame.teams + 1 → length new.teams ≡ length new.frame.teams + 1
 as_many l teams old new before after run only many =
@@ -226,11 +226,11 @@ as_many l teams old new before after run only many =
 
 -- ---- what is written
 
--- where no lines are asked for none fail to be put
+-- if no lines are requested, their file cannot fail
 pub none_unlisted : (lines : Option (List ℕ)) (fault : Fault) → lines ≡ None → IsLinesFileFault lines fault → ⊥
 none_unlisted lines fault none is = subst (λ (l : Option (List ℕ)). IsLinesFileFault l fault) none is
 
--- an unknown name is told before anything is written
+-- an unknown name is reported when nothing is written yet
 pub unknown_early : (f : Frame) (teams : List (List ℕ)) (fault : Fault) → IsUnknown f teams fault → IsEarly fault
 unknown_early f teams (Refused file its) is = absurd is
 unknown_early f teams (File file why) is = absurd is
@@ -249,7 +249,7 @@ unknown_early f teams (Unlisted path why) is = absurd is
 unknown_early f teams NoMemory is = absurd is
 unknown_early f teams NoRoom is = absurd is
 
--- so is want of memory in the repair
+-- a failed allocation in the repair is reported when nothing is written yet
 pub memory_early : (fault : Fault) → fault ≡ NoMemory → IsEarly fault
 memory_early fault is = subst IsEarly (sym is) tt
 
@@ -265,12 +265,12 @@ output_blames kept reader writer export service sound fault is failed =
       sparing = λ of. absurd of;
     })
 
--- what holds of a value, and what holds where there is one, give what is asked of it
+-- what holds for a value, and what holds if there is one, give what is to be shown of it
 pub ok_and : {A E : Type 0} (r : Result A E) (P R : A → Type 0) (Q : Type 0) → IfOk r P → OnOk r Q → ((value : A) → P value → Q → R value) → IfOk r R
 ok_and (Ok value) P R Q is also gives = gives value is also
 ok_and (Err fault) P R Q is also gives = tt
 
--- what holds of a fault, and what also holds of it, give what is asked of it
+-- two facts of a fault give what is to be shown of it
 pub err_and : {A E : Type 0} (r : Result A E) (P Q R : E → Type 0) → IfErr r P → IfErr r Q → ((fault : E) → P fault → Q fault → R fault) → IfErr r R
 err_and (Ok value) P Q R is also gives = tt
 err_and (Err fault) P Q R is also gives = gives fault is also

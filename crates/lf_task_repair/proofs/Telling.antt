@@ -1,4 +1,4 @@
--- Lines that are told of repaired teams, one after the other.
+-- Lines that report repaired teams, one after the other.
 use Rattle.std.proofs.Common.{◌≡◌, ◌≢◌, ◌∙◌, inl, inr, ⊎_elim, ℕ, ◌+◌, ◌<◌, Bool, true, cond, List, [], ◌∷◌, ◌++◌, length, map, take, get_or, Option, Some, refl, sym, ap, ap₂, subst, append-nil, append_assoc, arith}
 use Rattle.std.specs.Prelude.{◌≤◌, All, filter, option_and_then, slice_get}
 use Rattle.std.specs.List.{flat_map}
@@ -22,7 +22,7 @@ use Rattle.lf_task_repair.specs.Telling.{AddsTeamLines, IsReport, AddsTotalLine,
 use Rattle.lf_task_repair.proofs.Named.{others_before}
 use Rattle.lf_task_repair.proofs.Repairing.{legal_same}
 
--- ---- what is told stays so, where the team stays
+-- ---- a report stays true if the team is unchanged
 
 left_same : (old new : FloorState) (team : List ℕ) (own : ℕ) → new.frame ≡ old.frame → state_of new team ≡ state_of old team → IsIllegalIn old team own → IsIllegalIn new team own
 left_same old new team own frame same left = record {
@@ -51,7 +51,7 @@ told_still bounds old new (t ∷ ts) frame same each =
 
 -- ---- one line after the other
 
--- nothing is told
+-- no team is reported
 pub none_told : (floor : FloorState) (r : RepairReport) → AddsTeamLines [] floor r r
 none_told floor r = record {
   told = [];
@@ -62,7 +62,7 @@ none_told floor r = record {
   least = refl;
 }
 
--- one team is told of
+-- one team is reported
 pub one_told : (f : Frame) (teams : List (List ℕ)) (number : ℕ) (name : List ℕ) (floor : FloorState) (repaired : RepairStats) (old new : RepairReport)
     → slice_get (team_names f) number ≡ Some name → is_selected teams name ≡ true → IsOneMore floor name repaired old new
     → AreLegalExcept name floor repaired.left.items → All (IsIllegalIn floor name) repaired.left.items → AddsTeamLines (selected_at f teams number) floor old new
@@ -88,7 +88,7 @@ sums_append : (s : Totals) (a b : List TeamReport) → sums_with s (a ++ b) ≡ 
 sums_append s [] b = refl
 sums_append s (t ∷ ts) b = sums_append (with_team s t.became t.least) ts b
 
--- more are told behind
+-- more teams are reported after the first ones
 then_told : (names more : List (List ℕ)) (mid floor : FloorState) (a b c : RepairReport) → floor.frame ≡ mid.frame
     → All (λ name. state_of floor name ≡ state_of mid name) names → AddsTeamLines names mid a b → AddsTeamLines more floor b c → AddsTeamLines (names ++ more) floor a c
 then_told names more mid floor a b c frame same first second = record {
@@ -107,7 +107,7 @@ then_told names more mid floor a b c frame same first second = record {
 
 -- ---- team after team
 
--- the names of the first so many teams that are asked for
+-- the names of the selected teams among the first `count`
 abbrev pub first_asked : Frame → List (List ℕ) → ℕ → List (List ℕ)
 first_asked f teams count = filter (is_selected teams) (take count (team_names f))
 
@@ -132,14 +132,14 @@ next_told f teams number mid floor a b c less mid_is floor_is others first secon
       one_more : first_asked f teams (number + 1) ≡ first_asked f teams number ++ selected_at mid.frame teams number
       one_more = filter_more (is_selected teams) (team_names f) number [] within ∙ ap (λ (list : List (List ℕ)). first_asked f teams number ++ list) (sym here)
 
--- all teams are told of
+-- all teams are reported
 pub every_told : (f : Frame) (teams : List (List ℕ)) (count : ℕ) (floor : FloorState) (a b : RepairReport) → length f.teams + 1 ≤ count
     → AddsTeamLines (first_asked f teams count) floor a b → AddsTeamLines (selected_names f teams) floor a b
 every_told f teams count floor a b all =
     subst (λ (list : List (List ℕ)). AddsTeamLines (filter (is_selected teams) list) floor a b)
     (take_all count (team_names f) (subst (λ (n : ℕ). n ≤ count) (sym (names_many f)) all))
 
--- the line of all is told last
+-- the line of all teams is the last one
 pub all_told : (f : Frame) (teams : List (List ℕ)) (bounds : List ℕ) (floor : FloorState) (a b c : RepairReport)
     → floor.frame ≡ f → a.text.items ≡ [] → a.sums ≡ no_sums → a.least.items ≡ bounds → AddsTeamLines (selected_names f teams) floor a b → AddsTotalLine floor b c
     → IsReport teams bounds floor c.text.items

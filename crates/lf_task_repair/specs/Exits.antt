@@ -1,4 +1,4 @@
--- How repairs end.
+-- The results of repairs.
 use Rattle.std.specs.Prelude.{◌≡◌, ◌⊎◌, ℕ, List, Option, None, take}
 use Rattle.std.specs.Io.KnownBytes.{Appends}
 use Rattle.lf_floorplan.specs.declared.limits.Limits.{Limits}
@@ -19,7 +19,7 @@ use Rattle.lf_task_files.specs.States.{IsFloorFault}
 use Rattle.lf_task_repair.specs.Repairs.{KeepsAllLegalPlaces, AreKnown, IsStatusOf, IsKeptRun, IsLinesFileFault, IsListed, IsRepairFault, OnlySelectedChange, initial_lines}
 use Rattle.lf_task_repair.specs.Telling.{AreBounds, IsReport}
 
--- the report was written; the exported text was put where one was asked for, and then the lines
+-- the report is written; then the exported text is written if requested, and then the command lines
 pub record IsPut (export lines : Option (List ℕ)) (text : List ℕ) (document : Document) (floor : FloorState) (kept : Option (List ℕ)) (report : List ℕ)
     (before after : Option (List ℕ)) (old_puts new_puts : Option (List Put)) : Type 0 where
   pub told : Appends before after report
@@ -27,10 +27,11 @@ pub record IsPut (export lines : Option (List ℕ)) (text : List ℕ) (document 
   pub exports : IsExported export text document floor old_puts between
   pub lists : IsListed lines kept between new_puts
 
--- the floor that was begun with is repaired to this one: each name that was asked for is a team's; the floor went there by commands that
--- were each accepted, which are the lines that are kept; only teams that were asked for changed, and no cell that stood legally if these
--- are to stay; and the report tells of each team that was asked for with these bounds and with what is left of it, and whether the
--- committed design is then fully legal
+-- the first floor is repaired and becomes this one: each requested name is a team's; accepted
+-- commands lead from the first floor to this one, and they are the lines that are kept; only
+-- selected teams change, and no legal cell moves if legal cells are to stay; the report has each
+-- selected team with its bound and its unrepaired cells, and says whether the committed design is
+-- then fully legal
 pub record IsRepair (teams : List (List ℕ)) (legal : LegalCells) (lines : Option (List ℕ)) (bounds : List ℕ) (begin floor : FloorState)
     (kept : Option (List ℕ)) (report : List ℕ) : Type 0 where
   pub known : AreKnown begin.frame teams
@@ -39,8 +40,9 @@ pub record IsRepair (teams : List (List ℕ)) (legal : LegalCells) (lines : Opti
   pub stay : legal ≡ Stay → KeepsAllLegalPlaces begin floor
   pub tells : IsReport teams bounds floor report
 
--- the floor that was begun with was repaired; the report was written; the exported text was put where one was asked for, and then the
--- lines; and the status says whether the committed design is fully legal
+-- the first floor is repaired; the report is written; then the exported text is written if
+-- requested, and then the command lines; the status says whether the committed design is fully
+-- legal
 pub record IsRepaired (teams : List (List ℕ)) (legal : LegalCells) (export lines : Option (List ℕ)) (text : List ℕ) (document : Document)
     (bounds : List ℕ) (begin : FloorState) (before after : Option (List ℕ)) (old_puts new_puts : Option (List Put)) (status : ℕ) : Type 0 where
   pub floor : FloorState
@@ -50,7 +52,8 @@ pub record IsRepaired (teams : List (List ℕ)) (legal : LegalCells) (export lin
   pub put : IsPut export lines text document floor kept report before after old_puts new_puts
   pub judged : IsStatusOf floor status
 
--- the design was opened, and its teams were repaired, and told of with the largest of the least ways of their cells
+-- the design is opened, and its teams are repaired and reported with the largest of the least
+-- displacements of their cells
 pub record IsOpenRepaired (limits : Limits) (gives : ReadsFile) (def : List ℕ) (lefs teams : List (List ℕ)) (legal : LegalCells) (export lines : Option (List ℕ))
     (before after : Option (List ℕ)) (old_puts new_puts : Option (List Put)) (status : ℕ) : Type 0 where
   pub text : List ℕ
@@ -63,21 +66,22 @@ pub record IsOpenRepaired (limits : Limits) (gives : ReadsFile) (def : List ℕ)
 
 -- ---- faults
 
--- the files that are asked for are not put: the exported text is not, and then no file is; or it is, where it is asked for, and nothing
--- else: the lines are not
+-- the requested files are not written: either the exported text fails, and no file is written; or
+-- it is written if requested, and the command lines are not
 abbrev pub AreNotPut : Option (List ℕ) → Option (List ℕ) → List ℕ → Document → FloorState → Option (List Put) → Option (List Put) → Fault → Type 0
 AreNotPut export lines text document floor old new fault =
     (IsExportFault export fault × (new ≡ old)) ⊎ (IsLinesFileFault lines fault × IsExported export text document floor old new)
 
--- the report is not written, or only a front of it, and no file is put; or it is written, and the files that are asked for are not put
+-- the report is not written, or only a prefix of it, and no file is written; or the report is
+-- written, and the requested files are not
 abbrev pub IsNotPut : Option (List ℕ) → Option (List ℕ) → List ℕ → Document → FloorState → List ℕ → Option (List ℕ) → Option (List ℕ)
     → Option (List Put) → Option (List Put) → Fault → Type 0
 IsNotPut export lines text document floor report before after old new fault =
     ((fault ≡ Output) × ((n : ℕ) × Appends before after (take n report)) × (new ≡ old))
     ⊎ (Appends before after report × AreNotPut export lines text document floor old new fault)
 
--- the floor that was begun with is not repaired, and nothing is written and no file put; or it is, and the report is not written, or the
--- files are not put
+-- the first floor is not repaired, and nothing is written; or it is, and the report or the
+-- requested files are not written
 abbrev pub IsUnrepaired : List (List ℕ) → LegalCells → Option (List ℕ) → Option (List ℕ) → List ℕ → Document → List ℕ → FloorState
     → Option (List ℕ) → Option (List ℕ) → Option (List Put) → Option (List Put) → Fault → Type 0
 IsUnrepaired teams legal export lines text document bounds begin before after old new fault =
@@ -85,7 +89,7 @@ IsUnrepaired teams legal export lines text document bounds begin before after ol
     ⊎ ((floor : FloorState) × (kept : Option (List ℕ)) × (report : List ℕ) × IsRepair teams legal lines bounds begin floor kept report
     × IsNotPut export lines text document floor report before after old new fault)
 
--- the design was opened, and is not repaired so
+-- the design is opened, and is not repaired or its results are not written
 pub record IsOpenUnrepaired (limits : Limits) (gives : ReadsFile) (def : List ℕ) (lefs teams : List (List ℕ)) (legal : LegalCells) (export lines : Option (List ℕ))
     (before after : Option (List ℕ)) (old_puts new_puts : Option (List Put)) (fault : Fault) : Type 0 where
   pub text : List ℕ
@@ -96,7 +100,8 @@ pub record IsOpenUnrepaired (limits : Limits) (gives : ReadsFile) (def : List �
   pub least : AreBounds loaded bounds
   pub unrepaired : IsUnrepaired teams legal export lines text document bounds (initial_floor loaded) before after old_puts new_puts fault
 
--- there is no floor of the design, and nothing is written and no file put; or there is, and it is not repaired so
+-- the design has no floor, and nothing is written; or it has one, and is not repaired or its
+-- results are not written
 abbrev pub IsNotRepaired : Limits → ReadsFile → List ℕ → List (List ℕ) → List (List ℕ) → LegalCells → Option (List ℕ) → Option (List ℕ) → Option (List ℕ)
     → Option (List ℕ) → Option (List Put) → Option (List Put) → Fault → Type 0
 IsNotRepaired limits gives def lefs teams legal export lines before after old new fault =

@@ -1,4 +1,4 @@
--- What is told of a repair: the lines of its teams, and that of all of them.
+-- The report of a repair: the lines of its teams, and the line of all teams.
 use Rattle.std.specs.Prelude.{◌≡◌, ◌↔◌, ◌+◌, ◌++◌, ℕ, Bool, IsTrue, List, [], ◌∷◌, All, filter, flat_map, length, map, slice_get}
 use Rattle.std.specs.Option.{option_map_or}
 use Rattle.lf_floorplan.specs.declared.frame.Frame.{Frame}
@@ -14,8 +14,8 @@ use Rattle.lf_repair_report.specs.declared.totals.Totals.{Totals}
 use Rattle.lf_repair_report.specs.Told.{all_line, cell_names, least_for, no_sums, team_line, with_team}
 use Rattle.lf_task_repair.specs.Repairs.{is_selected}
 
--- what is told of a team: its name, the names of the cells that are left and the gaps near them, the largest of the least ways of its
--- cells, and what became of them
+-- the report of a team: its name, the names of its unrepaired cells and the gaps near them, the
+-- largest of the least displacements of its cells, and the statistics of its repair
 pub record TeamReport : Type 0 where
   pub name : List ℕ
   pub left : List (List ℕ)
@@ -26,27 +26,29 @@ pub record TeamReport : Type 0 where
 abbrev pub line_of_team : TeamReport → List ℕ
 line_of_team t = team_line t.name t.left t.gaps t.least t.became
 
--- these sums, with those of the teams
+-- the sums with those of the teams
 abbrev pub sums_with : Totals → List TeamReport → Totals
 sums_with s [] = s
 sums_with s (t ∷ ts) = sums_with (with_team s t.became t.least) ts
 
--- the names of the teams that are asked for, in the frame's order, the ground team's last
+-- the names of the selected teams, in the frame's order, the ground team's last
 abbrev pub selected_names : Frame → List (List ℕ) → List (List ℕ)
 selected_names f teams = filter (is_selected teams) (team_names f)
 
--- the name of the team of that number, if it is asked for
+-- the name of the team with this number, if it is selected
 abbrev pub selected_at : Frame → List (List ℕ) → ℕ → List (List ℕ)
 selected_at f teams number = filter (is_selected teams) (option_map_or (λ name. name ∷ []) (slice_get (team_names f) number) [])
 
--- the team is told with its own bound; and the cells that are told as left are those of its cells that do not stand legally on the floor
+-- the team is reported with its own bound, and its reported cells are exactly those that are not
+-- legal on the floor
 pub record IsTeamReport (bounds : List ℕ) (floor : FloorState) (t : TeamReport) : Type 0 where
   pub least : t.least ≡ least_for bounds (team_number floor.frame t.name)
   pub left : t.left ≡ cell_names floor t.name t.became.left.items
   pub legal : AreLegalExcept t.name floor t.became.left.items
   pub illegal : All (IsIllegalIn floor t.name) t.became.left.items
 
--- lines of the teams of these names are told behind the others, each with what is left of it on this floor
+-- the lines of the teams with these names are appended, each with its unrepaired cells on this
+-- floor
 pub record AddsTeamLines (names : List (List ℕ)) (floor : FloorState) (old new : RepairReport) : Type 0 where
   pub told : List TeamReport
   pub named : map (λ t. t.name) told ≡ names
@@ -55,14 +57,14 @@ pub record AddsTeamLines (names : List (List ℕ)) (floor : FloorState) (old new
   pub sums : new.sums ≡ sums_with old.sums told
   pub least : new.least ≡ old.least
 
--- the line of all teams is told last, and says whether the committed design is fully legal
+-- the line of all teams is appended last, and says whether the committed design is fully legal
 pub record AddsTotalLine (floor : FloorState) (old new : RepairReport) : Type 0 where
   pub legal : Bool
   pub right : IsTrue legal ↔ IsCommittedLegal floor
   pub text : new.text.items ≡ old.text.items ++ all_line old.sums legal
 
--- the text is the lines of the teams that are asked for, one of each, with its own bound and with what is left of it on the floor; and
--- that of all of them, which says whether the committed design is fully legal
+-- the text has the line of each selected team, with its own bound and its unrepaired cells on the
+-- floor, and then the line of all teams, which says whether the committed design is fully legal
 pub record IsReport (teams : List (List ℕ)) (bounds : List ℕ) (floor : FloorState) (text : List ℕ) : Type 0 where
   pub told : List TeamReport
   pub named : map (λ t. t.name) told ≡ selected_names floor.frame teams
@@ -71,7 +73,7 @@ pub record IsReport (teams : List (List ℕ)) (bounds : List ℕ) (floor : Floor
   pub right : IsTrue legal ↔ IsCommittedLegal floor
   pub is : text ≡ flat_map line_of_team told ++ all_line (sums_with no_sums told) legal
 
--- for each team of the design the largest of the least ways of its cells
+-- for each team of the design the largest of the least displacements of its cells
 pub record AreBounds (loaded : Loaded) (bounds : List ℕ) : Type 0 where
   pub many : length bounds ≡ length loaded.frame.teams + 1
   pub each : AreMaxMinDisplacements loaded.frame loaded.cells bounds

@@ -1,4 +1,5 @@
-//! The lines of a repair: they are kept where they are asked for, and put into their file at the end.
+//! Keeps the command lines of a repair if they are requested, and writes them to their file at the
+//! end.
 
 ghost use Rattle.std.specs.Prelude.{◌≡◌, ◌||◌, Bool, None, Some, IfErr, OnErr, OnOk, option_map};
 ghost use Rattle.std.specs.Io.KnownBytes.{Appends, Keeps};
@@ -14,17 +15,17 @@ use std::alloc::{AllocError, Global};
 use std::io;
 use std::io::Write;
 
-/// Lines that are kept, if they are asked for.
+/// Command lines, which are kept if they are requested.
 #[derive(Drop)]
 pub(crate) struct CommandLog {
-    /// Their text so far; none if they are not asked for.
+    /// The text of the lines so far. `None` if they are not requested.
     kept: Option<Vec<u8>>,
     flushed: bool,
     failed: bool,
 }
 
 impl CommandLog {
-    /// No line yet; lines are asked for if there is a path for them.
+    /// A log without lines. Lines are kept if there is a path for them.
     pub(crate) fn new(alloc: Global, path: Option<&str>) -> CommandLog
         ensures { kept_text result ≡ initial_lines (path_of path.entry) }
     {
@@ -40,7 +41,7 @@ impl CommandLog {
     }
 }
 
-/// Appends the bytes, where they are kept; nothing is changed if an allocation fails.
+/// Appends the bytes if lines are kept. `Err` if an allocation fails; then nothing is changed.
 fn keep(kept: &mut Option<Vec<u8>>, bytes: &[u8]) -> Result<(), AllocError>
     ensures ok { OnOk result (Appends (option_map (λ text. text.items) kept.old) (option_map (λ text. text.items) kept.new) bytes.now) }
     ensures err { OnErr result (Keeps (option_map (λ text. text.items) kept.old) (option_map (λ text. text.items) kept.new)) }
@@ -99,7 +100,7 @@ impl<'a> TextSource for WholeText<'a> {
     }
 }
 
-/// The fault of lines that are not put into their file.
+/// The fault of lines that are not written to their file.
 fn lines_fault<'f>(path: &'f str, unwritten: WriteFailure) -> Fault<'f>
     ensures told { result ≡ lines_fault path.entry unwritten }
     ensures fault { IsLinesFileFault (Some path.now) result }
@@ -111,7 +112,8 @@ fn lines_fault<'f>(path: &'f str, unwritten: WriteFailure) -> Fault<'f>
     }
 }
 
-/// Makes sure, as far as that shows beforehand, that lines can be written to the file of that path, if one is given.
+/// Tests whether the lines can be written to the file at this path, as far as this can be known in
+/// advance. Does nothing if no path is given.
 pub(crate) fn check_lines_path<'a, E: OutputFiles>(
     path: Option<&'a str>,
     exports: &mut E,
@@ -131,7 +133,7 @@ pub(crate) fn check_lines_path<'a, E: OutputFiles>(
     }
 }
 
-/// Writes the lines to the file of that path, if one is given.
+/// Writes the lines to the file at this path, if one is given.
 pub(crate) fn save_lines<'a, E: OutputFiles>(
     lines: &CommandLog,
     path: Option<&'a str>,

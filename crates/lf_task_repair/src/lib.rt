@@ -1,13 +1,26 @@
-//! Repairs of designs of files: the floor's own commands repair their teams, what became of each is told, and texts are put into files.
+//! Repairs the teams of a design from files, reports the results, and writes the requested files.
 //!
-//! `repair` opens a design (`lf_task_designs`), and repairs those of its teams that are asked for, one after the other (`lf_repair_team`). What
-//! becomes of each is told in a line of JSON (`lf_repair_report`); the exported text and the lines of all commands are put at the end, each
-//! where it is asked for, and their paths are tried before anything is done. Who waits is told how far it is (`Progress`). The exit
-//! status is 0, or 4 where the committed design is not fully legal; of a fault nothing is written here.
+//! `repair` opens a design (`lf_task_designs`), and repairs the selected teams one after the other
+//! (`lf_repair_team`). The result of each is reported in a line of JSON (`lf_repair_report`). The
+//! exported DEF text and the lines of all accepted commands are written at the end, if requested.
+//! Their paths are tested first. A `Progress` reports how far the repair is. The exit status is 0,
+//! or 4 if the committed design is not fully legal. Messages of faults are not written here.
+//!
+//! Used by `lf_app`.
+//!
+//! Modules, in reading order:
+//!
+//! - `command_log`: the command lines of a repair
+//! - `progress`: how far a repair is
+//! - `repair_task`: the repair of the teams of a design
+//!
+//! From `crates/lf_app/src/tasks.rt`:
 //!
 //! ```
-//! let asked = RepairJob { def: "chip.def", lefs, teams: &[], legal, export, lines: None, limits };
-//! let status = repair(alloc, &texts, &mut exports, &mut writer, &mut NoProgress, &asked)?; // 0, or 4
+//! let exports = &mut around.exports;
+//! let writer = &mut around.writer;
+//! let progress = &mut around.progress;
+//! repair(alloc, &around.texts, exports, writer, progress, &asked)
 //! ```
 #![tactic(auto)]
 

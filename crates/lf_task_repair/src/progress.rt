@@ -1,4 +1,4 @@
-//! How far a repair is, for those who wait for it.
+//! Reports how far a repair is.
 
 ghost use Rattle.lf_task_repair.specs.Repairs.{kept_text};
 
@@ -10,16 +10,18 @@ use std::rt::Clock;
 use std::str;
 use std::time::{Duration, Instant};
 
-/// Who is told how far a repair is. Contracts know nothing of what is told: whoever listens, the same holds of a repair.
+/// A receiver of progress reports. Contracts say nothing about them: whatever the receiver is, the
+/// same holds for a repair.
 pub trait Progress {
-    /// The repair of the team of that name begins, which is that of this number, from 1, of so many.
+    /// Reports that the repair of the team with this name begins. It is team `number`, counted from
+    /// 1, of `teams`.
     fn begin(&mut self, team: &[u8], number: usize, teams: usize);
 
-    /// One more command was accepted.
+    /// Reports that one more command was accepted.
     fn step(&mut self);
 }
 
-/// Nobody is told.
+/// Reports nothing.
 #[derive(Clone, Copy, Debug)]
 pub struct NoProgress;
 
@@ -29,28 +31,30 @@ impl Progress for NoProgress {
     fn step(&mut self) {}
 }
 
-/// The clock is looked at once in so many commands.
+/// The clock is read once in this number of commands.
 const COMMANDS: u64 = 1_024;
 
-/// Tells a writer how far a repair is: a line whenever this time has passed since the last one or, at first, since `new`. Where the clock
-/// cannot be read or the writer fails, nothing more is told, and that is no fault.
+/// Writes a progress line whenever `pause` has passed since the last one, or since `new` for the
+/// first. If the clock cannot be read or the writer fails, it writes no more lines. That is not a
+/// fault.
 #[derive(Drop)]
 pub struct TimedProgress<'a, T, W> {
     clock: &'a T,
     writer: W,
     pause: Duration,
-    /// When the last line was written, or `new` if none was; `None` if nothing more is told.
+    /// The time of the last line, or of `new` if there is no line yet. `None` if no more lines are
+    /// written.
     since: Option<Instant>,
     /// The name of the team.
     team: Vec<u8>,
     number: usize,
     teams: usize,
-    /// How many commands of all teams were accepted so far.
+    /// The number of accepted commands of all teams so far.
     commands: u64,
 }
 
 impl<'a, T: Clock, W: Write> TimedProgress<'a, T, W> {
-    /// Nothing is told yet. The time between two lines is `pause`.
+    /// A receiver that has written no line yet. The time between two lines is `pause`.
     pub fn new(alloc: Global, clock: &'a T, pause: Duration, writer: W) -> Self {
         TimedProgress {
             clock,
@@ -76,7 +80,7 @@ impl<'a, T: Clock, W: Write> TimedProgress<'a, T, W> {
         };
     }
 
-    /// Writes a line; false if that fails.
+    /// Writes a line. Returns false if that fails.
     fn tell(&mut self) -> bool {
         let team = str::from_utf8(&self.team).unwrap_or("?");
         let (number, teams, commands) = (self.number, self.teams, self.commands);
@@ -91,7 +95,7 @@ impl<'a, T: Clock, W: Write> TimedProgress<'a, T, W> {
 impl<'a, T: Clock, W: Write> Progress for TimedProgress<'a, T, W> {
     fn begin(&mut self, team: &[u8], number: usize, teams: usize) {
         self.team.clear();
-        // (a line without the name where there is no memory for it)
+        // (if there is no memory for the name, the line has no name)
         let _ = self.team.extend_from_slice(team);
         self.number = number;
         self.teams = teams;
@@ -106,7 +110,7 @@ impl<'a, T: Clock, W: Write> Progress for TimedProgress<'a, T, W> {
     }
 }
 
-/// Lines that are kept; it is told of each.
+/// Command lines that are kept. Each is also reported to `progress`.
 #[derive(Drop)]
 pub(crate) struct ProgressSink<'p, P> {
     pub(crate) lines: CommandLog,
@@ -120,7 +124,7 @@ impl<'p, P: Progress> Sink for ProgressSink<'p, P> {
 
     ghost has_failed = { λ s. s.lines.failed };
 
-    // (the line of a command is written by one call)
+    // (each command's line is written by one call)
     fn write(&mut self, bytes: &[u8]) -> Result<usize, DeviceFault> {
         self.progress.step();
         self.lines.write(bytes)

@@ -1,4 +1,4 @@
-//! The repair of the teams of a design: the floor's own commands give their cells legal places.
+//! Repairs the teams of a design: the floor's own commands give their cells legal places.
 
 ghost use Rattle.std.specs.Prelude.{◌≡◌, ◌≢◌, ◌⊎◌, ◌+◌, ℕ, All, List, None, Option, Some, IfErr, IfOk, IsTrue, OnErr, OnOk};
 ghost use Rattle.std.specs.Prelude.{bytes_eq, is_some, length, map, position, take, true};
@@ -50,25 +50,25 @@ use lf_task_files::{
 use lf_write::kept_clauses_suffice;
 use std::alloc::Global;
 
-/// A repair that is asked for: of a design of files, and what is written of it.
+/// Arguments of `lefence repair`.
 #[derive(Clone, Copy)]
 pub struct RepairJob<'a> {
     /// The path of the DEF file.
     pub def: &'a str,
     /// The paths of the LEF files, in the order in which they are read.
     pub lefs: &'a [&'a str],
-    /// The names of the teams; all teams are repaired if there is none.
+    /// The names of the selected teams. All teams are repaired if it is empty.
     pub teams: &'a [&'a str],
-    /// Whether cells that stand legally may be moved.
+    /// Whether legal cells may move.
     pub legal: LegalCells,
-    /// The path of the exported text, if it is asked for.
+    /// The path of the exported DEF text, if requested.
     pub export: Option<&'a str>,
-    /// The path of the lines, if they are asked for.
+    /// The path of the command lines, if requested.
     pub lines: Option<&'a str>,
     pub limits: Limits,
 }
 
-/// Which of a team's cells may be moved.
+/// Which of a team's cells may move.
 fn how_of(legal: LegalCells) -> MovePolicy
     ensures { result ≡ how_of legal }
 {
@@ -79,14 +79,14 @@ fn how_of(legal: LegalCells) -> MovePolicy
     }
 }
 
-/// Where the name stands first among these; none if it is none of them.
+/// The first position of the name in the list. `None` if it is not in the list.
 fn position_of(teams: &[&str], name: &[u8]) -> Option<usize>
     ensures { result ≡ position (λ team. bytes_eq team.now name.now) teams.now }
 {
     teams.iter().position(|team| team.as_bytes() == name)
 }
 
-/// Whether the team of that name is to be repaired: it is one of these, or none is named.
+/// Whether the team with this name is selected: it is in the list, or the list is empty.
 fn is_selected(teams: &[&str], name: &[u8]) -> bool
     ensures { result ≡ is_selected (map (λ team. team.now) teams.now) name.now }
 {
@@ -96,14 +96,14 @@ fn is_selected(teams: &[&str], name: &[u8]) -> bool
     position_of(teams, name).is_some()
 }
 
-/// Whether the name is that of a team.
+/// Whether a team has this name.
 fn is_known(floor: &Floor<IndexSeeker>, name: &[u8]) -> bool
     ensures { result ≡ is_some (team_number floor.now.frame name.now) }
 {
     floor.team_number(name).is_some()
 }
 
-/// Makes sure that each of the names is that of a team.
+/// Tests that each of the names is that of a team. `Err(NoTeam)` with the first that is not.
 fn all_known<'a>(floor: &Floor<IndexSeeker>, teams: &'a [&'a str]) -> Result<(), Fault<'a>>
     ensures ok { OnOk result (AreKnown floor.now.frame (map (λ team. team.now) teams.now)) }
     ensures err { IfErr result (IsUnknown floor.now.frame (map (λ team. team.now) teams.now)) }
@@ -116,7 +116,7 @@ fn all_known<'a>(floor: &Floor<IndexSeeker>, teams: &'a [&'a str]) -> Result<(),
     Ok(())
 }
 
-/// Repairs the team of that name, and tells of it.
+/// Repairs the team with this name, and adds its line to the report.
 fn repair_named<'f, P: Progress>(
     alloc: Global,
     floor: &mut Floor<IndexSeeker>,
@@ -141,12 +141,12 @@ fn repair_named<'f, P: Progress>(
     }
 }
 
-/// Tells that the repair of the team of that name and number begins.
+/// Reports that the repair of the team with this name and number begins.
 fn announce_team<P: Progress>(progress: &mut P, frame: &Frame, name: &[u8], number: usize) {
     progress.begin(name, number.saturating_add(1), frame.teams.len() + 1);
 }
 
-/// Repairs the team of that number, if it is asked for.
+/// Repairs the team with this number, if it is selected.
 #[tactic(auto, using(crate::proofs::Repairing::nothing_asked, crate::proofs::Repairing::none_changes))]
 fn repair_numbered<'a, P: Progress>(
     alloc: Global,
@@ -175,7 +175,7 @@ fn repair_numbered<'a, P: Progress>(
     repair_named(alloc, floor, name, how_of(asked.legal), lines, report)
 }
 
-/// Repairs the teams that are asked for, in their order.
+/// Repairs the selected teams in their order.
 fn repair_teams<'a, P: Progress>(
     alloc: Global,
     floor: &mut Floor<IndexSeeker>,
@@ -196,7 +196,7 @@ fn repair_teams<'a, P: Progress>(
     Ok(())
 }
 
-/// The exit status, by whether the committed design is fully legal.
+/// The exit status: whether the committed design is fully legal.
 fn status_by(legal: bool) -> u8
     ensures done { IsDone result }
     ensures legal { result ≡ 0 → IsTrue legal }
@@ -205,7 +205,7 @@ fn status_by(legal: bool) -> u8
     if legal { LEGAL_STATUS } else { ILLEGAL_STATUS }
 }
 
-/// Tells of all teams, and returns the exit status.
+/// Adds the line of all teams to the report, and returns the exit status.
 fn close_report<'f>(
     alloc: Global,
     floor: &Floor<IndexSeeker>,
@@ -221,7 +221,7 @@ fn close_report<'f>(
     Ok(status_by(legal))
 }
 
-/// A repair that is done on a floor, and not written yet.
+/// A finished repair whose results are not written yet.
 #[derive(Drop)]
 struct FinishedRepair {
     lines: CommandLog,
@@ -230,7 +230,8 @@ struct FinishedRepair {
     status: u8,
 }
 
-/// Repairs the teams that are asked for, and tells of them; for each team the largest of the least ways of its cells is this.
+/// Repairs the selected teams, and reports the results. `least` has for each team the largest of
+/// the least displacements of its cells.
 fn repair_selected<'a, P: Progress>(
     alloc: Global,
     floor: &mut Floor<IndexSeeker>,
@@ -275,7 +276,7 @@ fn put_report<'f, W: Sink>(writer: &mut W, report: &RepairReport) -> Result<(), 
     }
 }
 
-/// Makes sure, as far as that shows beforehand, that what is asked for can be written.
+/// Tests whether the requested files can be written, as far as this can be known in advance.
 fn try_files<'a, E: OutputFiles>(asked: &RepairJob<'a>, exports: &mut E) -> Result<(), Fault<'a>>
     ensures err { IfErr result (λ fault. IsExportFault (path_of asked.now.export) fault ⊎ IsLinesFileFault (path_of asked.now.lines) fault) }
     ensures fails { IfErr result (λ fault. ExportFails fault (E.has_failed exports.old) (E.has_failed exports.new)) }
@@ -287,7 +288,7 @@ fn try_files<'a, E: OutputFiles>(asked: &RepairJob<'a>, exports: &mut E) -> Resu
     check_lines_path(asked.lines, exports)
 }
 
-/// Writes what is asked for: the exported text and then the lines.
+/// Writes the requested files: the exported text and then the command lines.
 fn put_files<'a, E: OutputFiles>(
     floor: &Floor<IndexSeeker>,
     original: &SourceText,
@@ -313,7 +314,7 @@ fn put_files<'a, E: OutputFiles>(
     save_lines(lines, asked.lines, exports)
 }
 
-/// Writes the report, and what is asked for.
+/// Writes the report, and then the requested files.
 fn put_all<'a, E: OutputFiles, W: Sink>(
     floor: &Floor<IndexSeeker>,
     original: &SourceText,
@@ -342,18 +343,18 @@ fn put_all<'a, E: OutputFiles, W: Sink>(
     Ok(done.status)
 }
 
-/// What there is beside the floor of a design, before any team is repaired.
+/// What a repair needs besides the floor of a design. It is built first.
 #[derive(Drop)]
 struct RepairContext<'p, P> {
     original: SourceText,
-    /// For each team the largest of the least ways of its cells.
+    /// For each team the largest of the least displacements of its cells.
     least: Vec<u64>,
-    /// Who is told how far the repair is.
+    /// The receiver of progress reports.
     progress: &'p mut P,
 }
 
-/// Repairs the teams of a floor of the text's design, and writes what is asked for. Where that cannot be, as far as it shows
-/// beforehand, nothing is asked of the floor.
+/// Repairs the teams of a floor of the text's design, and writes the report and the requested
+/// files. If a fault can be known in advance, no command is sent to the floor.
 fn repair_on_floor<'a, E: OutputFiles, W: Sink, P: Progress>(
     alloc: Global,
     floor: &mut Floor<IndexSeeker>,
@@ -385,7 +386,7 @@ fn repair_on_floor<'a, E: OutputFiles, W: Sink, P: Progress>(
     put_all(floor, &before.original, &done, asked, exports, writer)
 }
 
-/// Repairs the teams of the design of a text that was opened.
+/// Repairs the teams of the design of an opened text.
 fn repair_opened<'a, E: OutputFiles, W: Sink, P: Progress>(
     alloc: Global,
     opened: OpenedDesign,
@@ -428,11 +429,22 @@ fn repair_opened<'a, E: OutputFiles, W: Sink, P: Progress>(
     repair_on_floor(alloc, &mut floor, &mut before, asked, exports, writer)
 }
 
-/// Repairs the teams of the design of a DEF file over LEF files by the floor's own commands, writes what became of each as JSON Lines and
-/// then the files that are asked for, and returns the exit status: 0, or 4 if the committed design is not fully legal. `Err` is the first
-/// fault of: the files, LEF before DEF; the design; a name that is no team's; the paths of the files that are asked for; memory; the
-/// writer; those files, the exported text before the lines. No file is written if another than the lines' is at fault; of the report a
-/// front is if the writer is, and all of it if a file is once the repair is done.
+/// Repairs the teams of the design of a DEF file and LEF files by the floor's own commands.
+///
+/// Writes the results as JSON Lines and then the requested files. Returns the exit status: 0, or 4
+/// if the committed design is not fully legal. `Err` is the first fault in this order:
+///
+/// - the files, LEF and then DEF
+/// - the design
+/// - a name that is not a team's
+/// - the paths of the requested files
+/// - memory
+/// - the writer
+/// - the requested files, the exported text and then the command lines
+///
+/// No file is written unless the fault is that of the command lines. If the writer is at fault, a
+/// prefix of the report is written. If a file is at fault after the repair, all of the report is
+/// written.
 pub fn repair<'a, T: InputFiles, E: OutputFiles, W: Sink, P: Progress>(
     alloc: Global,
     texts: &T,

@@ -21,7 +21,7 @@ sized_cell f c known = go (get_or f.macros c.mac no_macro, slice_get-get_or f.ma
       let is : macro_of f c.mac ≡ found.0 = ap (λ (o : Option Macro). unwrap_or o no_macro) found.1 in
       record { known = known.mac_known; sized = rw is (known.mac_sized found.0 found.1) }
 
--- those of each team
+-- the macros of each team's cells
 sized_team : (design : Loaded) (number : ℕ) → All (HasSize design.frame) (own_cells number design.cells)
 sized_team design number =
     All-map (HasSize design.frame) initial_cell (filter (λ c. eqb c.team number) design.cells)

@@ -1,4 +1,4 @@
-//! The table of the built-in design's cells. Best places are in the rows of lefence_rows.
+//! The table of the built-in design's cells. Best places are tested by the rows of lefence_rows.
 
 use crate::designs::{Asked, holds};
 use lf_cells::CellTable;
@@ -24,7 +24,8 @@ fn strangers_have_none(frame: &Frame) -> bool {
     best_place(frame, 3, inverter, &[], &target, Padding::none()).is_none()
 }
 
-/// Whether the table of the built-in design's cells has a2 as the second cell of A, and no other team's cell.
+/// Whether the table of the built-in design's cells has a2 as the second cell of A, and does not
+/// find another team's cell in A.
 fn finds_cells(table: &CellTable) -> bool {
     let Some(second) = table.find_own(0, b"a2") else {
         return false;
@@ -40,7 +41,8 @@ fn finds_cells(table: &CellTable) -> bool {
         && table.find_own(0, b"b1").is_none()
 }
 
-/// Whether a place is working once it is set, and committed once its team has committed.
+/// Whether a place is the working one after it is set, and the committed one after its team has
+/// committed.
 fn keeps_places(table: &mut CellTable) -> bool {
     let Some(second) = table.find_own(0, b"a2") else {
         return false;
@@ -54,7 +56,7 @@ fn keeps_places(table: &mut CellTable) -> bool {
     table.committed(second) == Some(place)
 }
 
-/// Whether the table of the design's cells does both.
+/// Whether the table of the design's cells passes both tests.
 fn serves(alloc: Global, design: Loaded) -> Result<bool, Fail> {
     let (_, mut table) = CellTable::build(alloc, design)?;
     Ok(finds_cells(&table) && keeps_places(&mut table))
@@ -80,14 +82,14 @@ END GROUPS
 END DESIGN
 ";
 
-/// Whether the DEF text of A is made whole.
+/// Whether the complete DEF text of A is written.
 fn has_text(alloc: Global, design: Loaded) -> Result<bool, Fail> {
     let (frame, table) = CellTable::build(alloc, design)?;
     let text = team_def(alloc, &frame, &table, 0)?;
     Ok(text.as_slice() == TEXT_OF_A)
 }
 
-/// What is asked of the cells of the built-in design.
+/// The conditions on the cells of the built-in design.
 #[derive(Clone, Copy)]
 enum Case {
     Table,

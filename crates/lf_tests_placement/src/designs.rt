@@ -1,4 +1,4 @@
-//! Designs over the built-in LEF text, and what is known of the built-in one.
+//! Designs over the built-in LEF text, and facts about the built-in design.
 
 ghost use Rattle.std.specs.Prelude.{◌<◌, IfSome};
 ghost use Rattle.lf_floorplan.specs.Boxes.{IsSized};
@@ -20,19 +20,19 @@ pub fn placement_of(alloc: Global, def: &[u8]) -> Result<Placement, Fail> {
     Ok(Placement::build(alloc, design)?)
 }
 
-/// What is asked of a design.
+/// A condition on a design.
 pub trait Asked {
-    /// Whether the design is as it is asked.
+    /// Whether the condition holds.
     fn holds(&self, alloc: Global, design: Loaded) -> Result<bool, Fail>;
 }
 
-/// Whether the design of the built-in LEF text and this DEF text is as it is asked.
+/// Whether the condition holds for the design of the built-in LEF text and this DEF text.
 pub fn holds<A: Asked>(alloc: Global, def: &[u8], asked: &A) -> Result<bool, Fail> {
     let design = design_of(alloc, def, Limits::standard())?;
     asked.holds(alloc, design)
 }
 
-/// What is asked of the built-in design, or of one with soft blockages.
+/// The conditions on the built-in design, or on one with soft blockages.
 #[derive(Clone, Copy)]
 enum Case {
     Counts,
@@ -59,8 +59,8 @@ fn is_built_in(frame: &Frame) -> bool {
         && frame.macros.len() == 2
 }
 
-/// The line of the blockage of the built-in design, with soft ones before and behind it: rectangles that touch, overlap and have
-/// no area, and one that is PARTIAL too.
+/// The line of the blockage of the built-in design, between soft ones. These are rectangles that
+/// touch, overlap and have no area, and one that is PARTIAL too.
 const SOFT_LINES: &[u8] =
     b"- PLACEMENT + SOFT RECT ( 400 2000 ) ( 0 0 ) RECT ( 400 0 ) ( 600 2000 ) ;
 - PLACEMENT + SOFT + PARTIAL 0.5 RECT ( 0 0 ) ( 200 200 ) ;
@@ -68,7 +68,7 @@ const SOFT_LINES: &[u8] =
 - PLACEMENT + PARTIAL 0.5 + SOFT RECT ( 1 1 ) ( 2 2 ) ;
 - PLACEMENT + SOFT RECT ( 300 -5 ) ( 500 70 ) RECT ( 9 9 ) ( 9 9 ) ;";
 
-/// The rectangles of those that are soft and not PARTIAL, in the order of the text.
+/// The rectangles of the blockages that are soft and not PARTIAL, in the order of the text.
 const SOFT_RECTS: [(i64, i64, i64, i64); 4] = [
     (0, 0, 400, 2000),
     (400, 0, 600, 2000),
@@ -89,13 +89,13 @@ fn are_rects(rects: &[Rect], wanted: &[(i64, i64, i64, i64)]) -> bool {
     true
 }
 
-/// Whether the frame has those soft blockages, and none of them is an obstacle.
+/// Whether the frame has these soft blockages, and no soft blockage is an obstacle.
 fn has_soft_blockages(frame: &Frame) -> bool {
     are_rects(frame.soft.as_slice(), &SOFT_RECTS)
         && are_rects(frame.obstacles.as_slice(), &[(4000, 0, 4400, 2000)])
 }
 
-/// The team of the cell of that number.
+/// The team of the cell with this number.
 fn team_at(cells: &LoadedCells, own: usize) -> Option<usize> {
     Some(cells.get(own)?.team)
 }
@@ -133,12 +133,12 @@ fn limits(rt: HostRuntime) {
     }
 }
 
-/// The name of the cell of that number.
+/// The name of the cell with this number.
 fn name_at(design: &Loaded, own: usize) -> Option<&[u8]> {
     Some(design.cells.get(own)?.name)
 }
 
-/// The macro of the cell of that number, whose size is whole.
+/// The macro of the cell with this number, if its size is whole.
 fn macro_at(design: &Loaded, own: usize) -> Option<&Macro>
     ensures { IfSome result (λ m. IsSized design.now.frame m.now) }
 {
@@ -150,14 +150,14 @@ fn macro_at(design: &Loaded, own: usize) -> Option<&Macro>
     None
 }
 
-/// The box of the cell of that number at the place.
+/// The box of the cell with this number at the place.
 fn box_at(design: &Loaded, own: usize, place: &Option<Place>) -> Option<Rect> {
     let place = (*place)?;
     let mac = macro_at(design, own)?;
     Some(box_of(&design.frame, mac, &place))
 }
 
-/// The boxes of the placed cells but the one of that number.
+/// The boxes of the placed cells, except that of the cell `own`.
 fn boxes_beside(
     alloc: Global,
     design: &Loaded,
@@ -178,7 +178,8 @@ fn boxes_beside(
     Ok(others)
 }
 
-/// The first rule that the cell of that number breaks at its place, by a look at all of the frame and of the other cells.
+/// The first rule that the cell with this number breaks at its place, found by a test against the
+/// whole frame and all other cells.
 fn broken_by_all(
     alloc: Global,
     design: &Loaded,
@@ -197,12 +198,13 @@ fn broken_by_all(
     Ok(first_broken(&design.frame, cell.team, mac, place, &others, padding))
 }
 
-/// Whether the violation is that of the cell of that number.
+/// Whether the violation is that of the cell with this number.
 fn is_of(design: &Loaded, own: usize, violation: &Violation) -> bool {
     name_at(design, own) == Some(violation.cell.as_bytes())
 }
 
-/// Whether the report tells of the cell of that number what is broken, or nothing where nothing is.
+/// Whether the report has the broken rule of the cell with this number, or no violation of it if it
+/// breaks no rule.
 fn tells_of(design: &Loaded, report: &Report, own: usize, broken: &Option<Broken>) -> bool {
     let violations = report.violations.as_slice();
     let told = violations.iter().find(|it| is_of(design, own, it));
@@ -213,7 +215,7 @@ fn tells_of(design: &Loaded, report: &Report, own: usize, broken: &Option<Broken
     }
 }
 
-/// Whether the violation tells what is broken.
+/// Whether the violation has this broken rule.
 fn tells(design: &Loaded, violation: &Violation, broken: &Broken) -> bool {
     if violation.rule.number() != broken.rule.number() {
         return false;
@@ -225,7 +227,7 @@ fn tells(design: &Loaded, violation: &Violation, broken: &Broken) -> bool {
     }
 }
 
-/// Places of the five cells of the built-in design, another for each step.
+/// Places of the five cells of the built-in design, different in each step.
 fn places_at(step: u16) -> [Option<Place>; 5]
     requires { step < 30 }
 {
@@ -240,8 +242,8 @@ fn places_at(step: u16) -> [Option<Place>; 5]
     ]
 }
 
-/// Whether the report of the design at these places tells of each cell what a look at all tells; true where there are not as
-/// many places as it has cells.
+/// Whether the report of the design at these places has the same for each cell as a test against
+/// everything. True if the number of places differs from that of its cells.
 fn search_alike(alloc: Global, design: &Loaded, places: &[Option<Place>; 5]) -> Result<bool, Fail> {
     if design.cells.len() != places.len() {
         return Ok(true);
@@ -256,7 +258,7 @@ fn search_alike(alloc: Global, design: &Loaded, places: &[Option<Place>; 5]) -> 
     Ok(true)
 }
 
-/// Whether it does at all places of the built-in design.
+/// Whether that holds for all these places of the built-in design.
 fn search_alike_everywhere(alloc: Global, design: &Loaded) -> Result<bool, Fail> {
     for step in 0..30u16 {
         if !search_alike(alloc, design, &places_at(step))? {

@@ -1,4 +1,12 @@
-//! Tests of loading, reports, segments, cells and strips: what no clause says of them.
+//! Tests of `lf_frame`, `lf_reports`, `lf_segments`, `lf_cells`, `lf_occupancy` and `lf_placement`,
+//! in what no clause specifies.
+//!
+//! Modules, in reading order:
+//!
+//! - `designs`: loading and reports
+//! - `segments`: segments, and rows by y
+//! - `cells`: the table of cells
+//! - `strips`: strips and placements
 #![tactic(auto)]
 
 #[cfg(test)]

@@ -9,7 +9,7 @@ use lf_units::Span;
 use std::alloc::{AllocError, Global};
 use std::test::Fail;
 
-/// The row, the team and the span of each segment: of A and B, which are 0 and 1, and of the ground team, which is 2.
+/// The row, the team and the span of each segment. A is team 0, B is 1, and the ground team is 2.
 const OF_DESIGN: [(usize, usize, i64, i64); 10] = [
     (0, 0, 0, 4000),
     (0, 1, 6000, 10_000),
@@ -37,7 +37,7 @@ fn are(segments: &[Segment], wanted: &[(usize, usize, i64, i64)]) -> bool {
     true
 }
 
-/// Whether the built-in frame has its segments, and they are found by their rows and by an x.
+/// Whether the built-in frame has its segments, and they are found by row and by x.
 fn has_segments(alloc: Global, frame: &Frame) -> Result<bool, AllocError> {
     let segments = Segments::cut(alloc, frame)?;
     Ok(
@@ -49,7 +49,7 @@ fn has_segments(alloc: Global, frame: &Frame) -> Result<bool, AllocError> {
     )
 }
 
-/// Whether the segments of a fence of two rectangles go on where these touch.
+/// Whether the segments of a fence of two rectangles continue where the rectangles touch.
 fn has_joined_segments(alloc: Global, frame: &Frame) -> Result<bool, AllocError> {
     let segments = Segments::cut(alloc, frame)?;
     Ok(
@@ -59,7 +59,7 @@ fn has_joined_segments(alloc: Global, frame: &Frame) -> Result<bool, AllocError>
     )
 }
 
-/// Whether the entries are of these rows, in this order.
+/// Whether the entries are of the given rows, in this order.
 fn are_rows(entries: &[RowEntry], wanted: &[usize]) -> bool {
     if entries.len() != wanted.len() {
         return false;
@@ -72,7 +72,7 @@ fn are_rows(entries: &[RowEntry], wanted: &[usize]) -> bool {
     true
 }
 
-/// Whether the rows of a frame, of which the first and the last lie at one y, are found by their y.
+/// Whether the rows of a frame whose first and last row have the same y are found by their y.
 fn has_rows(alloc: Global, frame: &Frame) -> Result<bool, AllocError> {
     let rows = RowsByY::build(alloc, frame)?;
     Ok(
@@ -82,7 +82,7 @@ fn has_rows(alloc: Global, frame: &Frame) -> Result<bool, AllocError> {
     )
 }
 
-/// What is asked of a frame.
+/// The conditions on a frame.
 #[derive(Clone, Copy)]
 enum Case {
     Segments,

@@ -1,4 +1,4 @@
-//! What stands in the strips of the built-in design, where a1 stands at (400 0).
+//! The strips of the built-in design with a1 at (400 0).
 
 ghost use Rattle.std.specs.Prelude.{◌≤ℤ◌, pos, IfOk};
 ghost use Rattle.lf_occupancy.specs.Floorplans.{HaveSize, IsMarkedBy};
@@ -35,7 +35,7 @@ fn inverter(x: i64, y: i64) -> Rect
     }
 }
 
-/// What stands in the strips of the frame: the cells at their working places.
+/// The occupancy of the frame by the cells at their working places.
 fn occupancy_of(alloc: Global, frame: &Frame, cells: &CellTable) -> Result<Occupancy, AllocError>
     requires { HaveSize frame.now cells.now }
     ensures { IfOk result (λ held. IsMarkedBy frame.now cells.now held) }
@@ -52,7 +52,7 @@ fn tables_of(alloc: Global, design: Loaded) -> Result<(Frame, CellTable), AllocE
     Ok(built)
 }
 
-/// The cell of that name of A.
+/// The cell of A with this name.
 fn cell_of(cells: &CellTable, name: &[u8]) -> Option<CellId> {
     cells.find_own(0, name)
 }
@@ -70,14 +70,14 @@ fn are(spans: &[Span], wanted: &[(i64, i64)]) -> bool {
     true
 }
 
-/// A padding, in database units, which the strips are felt around.
+/// A padding in database units, limited to the greatest padding of the strips.
 fn padding_of(strips: &OccupancyView<'_>, length: i64) -> i64
     ensures { IsPaddingOf strips.now result }
 {
     length.clamp(0, strips.max_padding())
 }
 
-/// Whether these spans of the strip are free with that padding, the cell left out.
+/// Whether these spans of the strip are free with this padding, without the cell `without`.
 fn is_left(
     alloc: Global,
     strips: &OccupancyView<'_>,
@@ -91,8 +91,8 @@ fn is_left(
     Ok(are(&free, wanted))
 }
 
-/// Whether the strips show what a1 leaves free, also with a padding and to a cell of another team, and nothing where there is no
-/// strip.
+/// Whether the strips have the spans that a1 leaves free, also with a padding and for a cell of
+/// another team. If there is no such strip, there are no spans.
 fn shows_what_is_free(
     alloc: Global,
     strips: &OccupancyView<'_>,
@@ -115,7 +115,8 @@ fn shows_what_is_free(
     Ok(is_left(alloc, strips, 10, a1, 0, &[])?)
 }
 
-/// Whether a window shows what a1 leaves free with a padding, and a box that overlaps a1 meets it.
+/// Whether a window has the spans that a1 leaves free with a padding, and a box that overlaps a1 is
+/// found to overlap it.
 fn shows_what_is_near(
     alloc: Global,
     strips: &OccupancyView<'_>,
@@ -134,7 +135,7 @@ fn shows_what_is_near(
     Ok(other == Some(a1.own) && itself.is_none())
 }
 
-/// Whether the occupancy, lent with the tables, tells of a strip what its filled strips do.
+/// Whether the occupancy returns the same free spans of a strip as its view with boxes.
 fn tells_what_is_free(
     alloc: Global,
     occupancy: &Occupancy,
@@ -151,7 +152,7 @@ fn tells_what_is_free(
     Ok(are(&free, &[(0, 100), (1100, 4000)]))
 }
 
-/// Whether the strips of the design show what is free and what is near.
+/// Whether the strips of the design pass these tests.
 fn answer(alloc: Global, design: Loaded) -> Result<bool, Fail> {
     let built = tables_of(alloc, design)?;
     let (frame, cells) = built;
@@ -172,7 +173,7 @@ fn answer(alloc: Global, design: Loaded) -> Result<bool, Fail> {
     shows_what_is_near(alloc, &strips, &a1, &a2)
 }
 
-/// Whether strips show what they should.
+/// The condition that strips pass these tests.
 #[derive(Clone, Copy)]
 struct AreShown;
 
@@ -182,7 +183,7 @@ impl Asked for AreShown {
     }
 }
 
-/// A DEF text in which a1 stands at (400 0).
+/// A DEF text with a1 at (400 0).
 fn standing(alloc: Global) -> Result<Vec<u8>, AllocError> {
     with_line(alloc, DEMO_DEF, 15, b"- a1 INV + PLACED ( 400 0 ) N ;")
 }
@@ -197,12 +198,12 @@ fn place(x: i32, above: bool) -> Place
     Place::new(x, 0, Orient::N)
 }
 
-/// Which cell of A a2 meets at the place; none if it meets none.
+/// The cell of A that a2 overlaps at the place. `None` if it overlaps no cell.
 fn met_at(placement: &Placement, a2: CellId, at: &Place) -> Option<u32> {
     placement.first_broken(a2, at, Padding::none())?.other
 }
 
-/// Moves the cell of A to the place, or takes it away, after room was made for it; the move, as it was made.
+/// Makes room, and then moves the cell of A to the place or unplaces it. Returns the applied move.
 fn moved(
     alloc: Global,
     placement: &mut Placement,
@@ -216,7 +217,8 @@ fn moved(
     Ok(moves)
 }
 
-/// Whether a2 meets a1 where it moves and no more where it was, and nowhere once it is taken away.
+/// Whether a2 overlaps a1 at its new place, no longer at its old place, and nowhere after a1 is
+/// unplaced.
 fn follows_a_cell(alloc: Global, placement: &mut Placement) -> Result<bool, Fail> {
     let Some(a1) = cell_of(placement.cells(), b"a1") else {
         return Ok(false);

@@ -1,4 +1,10 @@
-//! Tests of repairs and of their lines: what no clause says of them.
+//! Tests of `lf_repair_team`: repairs and their lines, in what no clause specifies.
+//!
+//! Modules, in reading order:
+//!
+//! - `writers`: a writer that can be made to fail
+//! - `lines`: the lines of requests
+//! - `repairs`: repairs of one team
 #![tactic(auto)]
 
 #[cfg(test)]

@@ -5,7 +5,7 @@ use lf_repair_team::write_request;
 use std::alloc::{AllocError, Global};
 use std::test::Fail;
 
-/// Whether the request of a line is put as that line and a line feed.
+/// Whether the request of a line is printed as that line and a line feed.
 fn is_put(alloc: Global, line: &[u8]) -> Result<bool, AllocError> {
     let Ok(request) = parse_line(line) else {
         return Ok(false);

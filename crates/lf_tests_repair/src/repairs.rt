@@ -16,28 +16,28 @@ use std::test::Fail;
 /// The lines of the three cells of A.
 type Cells = [&'static [u8]; 3];
 
-/// At legal places.
+/// All at legal places.
 const LEGAL: Cells = [
     b"- a1 INV + PLACED ( 0 0 ) N ;",
     b"- a2 INV + PLACED ( 400 0 ) N ;",
     b"- a3 DBL + PLACED ( 2000 0 ) N ;",
 ];
 
-/// a2 lies one site right of a1, and over it.
+/// a2 is one site right of a1, and overlaps it.
 const OVERLAPPING: Cells = [
     b"- a1 INV + PLACED ( 0 0 ) N ;",
     b"- a2 INV + PLACED ( 200 0 ) N ;",
     b"- a3 DBL + PLACED ( 2000 0 ) N ;",
 ];
 
-/// a1 faces as no cell may in its row.
+/// a1 has an orientation that its row does not allow.
 const TURNED: Cells = [
     b"- a1 INV + PLACED ( 0 2000 ) N ;",
     b"- a2 INV + PLACED ( 400 0 ) N ;",
     b"- a3 DBL + PLACED ( 2000 0 ) N ;",
 ];
 
-/// Nowhere.
+/// All without a place.
 const UNPLACED: Cells = [
     b"- a1 INV ;",
     b"- a2 INV + UNPLACED ;",
@@ -51,16 +51,17 @@ fn def_of(alloc: Global, cells: &Cells) -> Result<Vec<u8>, AllocError> {
     with_line(alloc, second.as_slice(), 17, cells[2])
 }
 
-/// The same with room in the fence of A for one INV alone, at (0 0).
+/// The built-in DEF text with these lines, and with room in the fence of A for only one INV, at (0
+/// 0).
 fn narrow_def_of(alloc: Global, cells: &Cells) -> Result<Vec<u8>, AllocError> {
     let def = def_of(alloc, cells)?;
     let fence = b"- A ( 0 0 ) ( 400 2000 ) + TYPE FENCE ;";
     with_line(alloc, def.as_slice(), 11, fence)
 }
 
-/// What is asked of a floor.
+/// A condition on a floor.
 trait Asked {
-    /// Whether the floor is as it is asked.
+    /// Whether the condition holds.
     fn holds(&self, alloc: Global, floor: &mut Floor<PlainSeeker>) -> bool;
 }
 
@@ -73,7 +74,7 @@ fn floor_of(alloc: Global, def: &[u8]) -> Result<Floor<PlainSeeker>, Fail> {
     Ok(Floor::start(alloc, design, PlainSeeker)?)
 }
 
-/// Whether the floor of a DEF text is as it is asked.
+/// Whether the condition holds for the floor of a DEF text.
 fn holds<A: Asked>(alloc: Global, def: &[u8], asked: &A) -> Result<bool, Fail> {
     match floor_of(alloc, def) {
         Ok(mut floor) => Ok(asked.holds(alloc, &mut floor)),
@@ -81,14 +82,14 @@ fn holds<A: Asked>(alloc: Global, def: &[u8], asked: &A) -> Result<bool, Fail> {
     }
 }
 
-/// What came of a repair, and its lines.
+/// The result of a repair, and its lines.
 #[derive(Drop)]
 struct Told {
     repaired: Result<RepairStats, RepairFault>,
     lines: Vec<u8>,
 }
 
-/// Repairs A; its lines go to the writer.
+/// Repairs A, and writes its lines to the writer.
 fn repair_to(
     alloc: Global,
     floor: &mut Floor<PlainSeeker>,
@@ -99,7 +100,7 @@ fn repair_to(
     repair_team(alloc, floor, b"A", how, &mut lines)
 }
 
-/// Repairs A, of whose lines so many bytes can be written.
+/// Repairs A with a writer that takes at most `left` bytes of its lines.
 fn repair_within(
     alloc: Global,
     floor: &mut Floor<PlainSeeker>,
@@ -117,7 +118,7 @@ fn repair_within(
     }
 }
 
-/// Whether a repair broke off by this fault, with these lines.
+/// Whether a repair stopped with this fault and these lines.
 fn is_fault(told: &Told, fault: RepairFault, lines: &[u8]) -> bool {
     match &told.repaired {
         Ok(_) => false,
@@ -125,8 +126,9 @@ fn is_fault(told: &Told, fault: RepairFault, lines: &[u8]) -> bool {
     }
 }
 
-/// What is to come of a repair: how many cells broke a rule or had no place, and how many were kept, moved, placed and turned; the
-/// sum of the ways, and the longest; and the positions of those that stand otherwise, and of those that are left.
+/// The expected result of a repair. `counts`: how many cells broke a rule or had no place, and how
+/// many were kept, moved, placed and turned. `ways`: the total displacement and the longest.
+/// `changed` and `left`: the positions of the changed and of the unrepaired cells.
 #[derive(Clone, Copy)]
 struct Comes {
     how: MovePolicy,
@@ -136,7 +138,7 @@ struct Comes {
     left: &'static [u32],
 }
 
-/// Whether this came of it.
+/// Whether the result is the expected one.
 fn is_told(repaired: &RepairStats, comes: &Comes) -> bool {
     let counts = [
         repaired.cells,
@@ -237,7 +239,7 @@ fn cells_that_stand_legally_stay(rt: HostRuntime) -> Result<(), Fail> {
     Ok(())
 }
 
-/// Whether A stands whole, and B does not, whose cell has no place, nor a team that is not there.
+/// Whether A is wholly legal, and B, which has an unplaced cell, and a missing team are not.
 #[derive(Clone, Copy)]
 struct OnlyAStands;
 
@@ -254,7 +256,7 @@ fn a_team_stands_whole(rt: HostRuntime) -> Result<(), Fail> {
     Ok(())
 }
 
-/// The lines that a repair is to write.
+/// The expected lines of a repair.
 #[derive(Clone, Copy)]
 struct Writes {
     how: MovePolicy,
@@ -297,7 +299,7 @@ commit A 0
 close A 0
 ";
 
-/// Where the line stands by which the team is committed.
+/// The position of the line that commits the team.
 const COMMIT: usize = 77;
 
 /// The committed place of a2.
@@ -307,7 +309,8 @@ fn committed(floor: &Floor<PlainSeeker>) -> Option<Place> {
     cells.committed(id)
 }
 
-/// So many bytes of the lines can be written, and no more. A repair breaks off there, and the command whose line is cut off is done.
+/// A writer takes `left` bytes of the lines, and no more. The repair stops there, and the command
+/// whose line is cut off has been executed.
 #[derive(Clone, Copy)]
 struct BreaksOff {
     left: usize,
@@ -338,7 +341,7 @@ fn each_byte_of_the_lines_may_find_no_room(rt: HostRuntime) -> Result<(), Fail> 
     Ok(())
 }
 
-/// Whether a repair is refused where no session is left, and nothing is written.
+/// Whether a repair is refused if no session is free, and writes nothing.
 #[derive(Clone, Copy)]
 struct IsRefused;
 

@@ -1,9 +1,10 @@
-//! A writer for tests, of which each write can be made to fail.
+//! A writer for tests, which can be made to fail at any write.
 
 use std::io;
 use std::io::Write;
 
-/// A writer that takes so many bytes in all, at most three a call, and then fails. It keeps what it takes.
+/// A writer that takes `left` bytes in all, at most three a call, and then fails. It keeps what it
+/// takes.
 #[derive(Drop)]
 pub struct Room {
     pub taken: Vec<u8>,

@@ -6,7 +6,7 @@ use Rattle.lf_legalize.specs.RowSearches.{query_of_search}
 use Rattle.lf_legalize.proofs.Rounds.{IsOnEntries}
 use Rattle.lf_legalize.proofs.nearest.best_within.Given as goal
 
--- the first rows of the run were looked at
+-- the first rows of the run were searched
 abbrev pub invariant-loop-entry : goal.invariant-loop-entry
 invariant-loop-entry l =
     ScansPlacesWithin (IsOnEntries l.search.frame.now l.search.size l.run l.entry-index)

@@ -5,7 +5,7 @@ use Rattle.lf_rules.specs.Looking.{ScansPlaces, IsOnRows}
 use Rattle.lf_legalize.specs.Lifting.{query_without}
 use Rattle.lf_legalize.proofs.plain_search.best_place.Given as goal
 
--- the first rows were looked at
+-- the first rows were searched
 abbrev pub invariant-loop-row : goal.invariant-loop-row
 invariant-loop-row l =
     ScansPlaces (IsOnRows l.frame.pitch l.frame.rows l.row-index) (query_without l.frame l.team l.fn.padding.sites l.mac l.others) l.target None (option_map spot_of l.best)

@@ -1,6 +1,6 @@
 use Rattle.lf_occupancy.specs.Building.{HaveNoMarks}
 use Rattle.lf_occupancy.proofs.build.empty_marks.Given as goal
 
--- as many lanes as were asked for so far
+-- the strips without marks so far
 abbrev pub invariant-loop : goal.invariant-loop
 invariant-loop l = HaveNoMarks l.counter l.lanes.items

@@ -5,7 +5,7 @@ use Rattle.lf_occupancy.specs.Strips.{AreKept}
 use Rattle.lf_occupancy.proofs.Changes.{IsBetween}
 use Rattle.lf_occupancy.proofs.marking.make_room_in_row.Given as goal
 
--- all lanes hold what they held, and those passed have room
+-- all strips keep their marks, and those visited have room
 abbrev pub invariant-loop-n : goal.invariant-loop-n
 invariant-loop-n l = record {
   kept : AreKept l.initial.lanes.items l.lanes.items;

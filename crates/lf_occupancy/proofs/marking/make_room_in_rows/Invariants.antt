@@ -4,7 +4,7 @@ use Rattle.lf_occupancy.specs.Lanes.{HasRoomOf}
 use Rattle.lf_occupancy.specs.Strips.{AreKept, IsReached, widened_strips}
 use Rattle.lf_occupancy.proofs.marking.make_room_in_rows.Given as goal
 
--- all lanes hold what they held, and those of the rows passed have room
+-- all strips keep their marks, and those of the rows visited have room
 abbrev pub invariant-loop-entry : goal.invariant-loop-entry
 invariant-loop-entry l = record {
   kept : AreKept l.initial.lanes.items l.lanes.items;

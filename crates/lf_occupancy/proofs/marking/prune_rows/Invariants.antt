@@ -3,7 +3,7 @@ use Rattle.lf_occupancy.specs.Lanes.{IsUnmarked}
 use Rattle.lf_occupancy.specs.Strips.{AreChanged, IsReached, widened_strips}
 use Rattle.lf_occupancy.proofs.marking.prune_rows.Given as goal
 
--- the lanes of the rows passed are changed
+-- the strips of the rows visited are changed
 abbrev pub invariant-loop-entry : goal.invariant-loop-entry
 invariant-loop-entry l =
     AreChanged (IsReached (widened_strips l.site l.index.strips) (take l.entry-index l.rows) l.id.team l.rect) (λ n. IsUnmarked l.id.own) l.initial.lanes.items l.lanes.items

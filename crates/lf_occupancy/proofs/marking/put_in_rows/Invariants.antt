@@ -2,7 +2,7 @@ use Rattle.std.proofs.Common.{take}
 use Rattle.lf_occupancy.specs.Strips.{AreChanged, IsReached, PutsIn, widened_strips}
 use Rattle.lf_occupancy.proofs.marking.put_in_rows.Given as goal
 
--- the lanes of the rows passed are changed
+-- the strips of the rows visited are changed
 abbrev pub invariant-loop-entry : goal.invariant-loop-entry
 invariant-loop-entry l =
     AreChanged (IsReached (widened_strips l.site l.index.strips) (take l.entry-index l.rows) l.id.team l.rect)

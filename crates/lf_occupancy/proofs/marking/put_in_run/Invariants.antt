@@ -2,7 +2,7 @@ use Rattle.lf_occupancy.specs.Strips.{AreChanged, PutsIn, widened_strips}
 use Rattle.lf_occupancy.proofs.Changes.{IsBetween}
 use Rattle.lf_occupancy.proofs.marking.put_in_run.Given as goal
 
--- the lanes passed have the cell's parts
+-- the strips visited have the cell's parts
 abbrev pub invariant-loop-n : goal.invariant-loop-n
 invariant-loop-n l =
     AreChanged (IsBetween l.initial.n l.n l.n-end) (PutsIn (widened_strips l.site l.index.strips) l.own l.rect) l.initial.lanes.items l.lanes.items

@@ -3,7 +3,7 @@ use Rattle.std.specs.Prelude.{All, IfSome}
 use Rattle.lf_occupancy.specs.Strips.{AreKept, HaveRoom, MeetsStrip, widened_strips}
 use Rattle.lf_occupancy.proofs.marking.reserve_moves.Given as goal
 
--- all lanes hold what they held, and there is room for the moves passed
+-- all strips keep their marks, and there is room for the moves visited
 abbrev pub invariant-loop-id : goal.invariant-loop-id
 invariant-loop-id l = record {
   kept : AreKept l.initial.lanes.items l.lanes.items;

@@ -2,6 +2,6 @@ use Rattle.lf_occupancy.specs.Strips.{widened_strips, strip_views}
 use Rattle.lf_occupancy.proofs.Frees.{AreFreeBetween}
 use Rattle.lf_occupancy.proofs.queries.free_in_strips.Given as goal
 
--- what is free in the strips passed
+-- the free spans of the strips visited
 abbrev pub invariant-loop-n : goal.invariant-loop-n
 invariant-loop-n l = AreFreeBetween l.index.strips (strip_views (widened_strips l.site l.index.strips) l.boxes l.lanes) l.id.own l.padding l.initial.n l.n l.n-end l.window l.free.items

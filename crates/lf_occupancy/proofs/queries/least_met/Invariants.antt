@@ -4,7 +4,7 @@ use Rattle.lf_occupancy.specs.Lanes.{IsLeast}
 use Rattle.lf_occupancy.specs.Strips.{MeetsInRow, widened_strips, strip_views}
 use Rattle.lf_occupancy.proofs.queries.least_met.Given as goal
 
--- the least of what is met in the rows passed
+-- the least of the overlaps in the rows visited
 abbrev pub invariant-loop-entry : goal.invariant-loop-entry
 invariant-loop-entry l =
     IsLeast (λ own. Any (λ e. MeetsInRow (widened_strips l.site l.index.strips) (strip_views (widened_strips l.site l.index.strips) l.boxes l.lanes) e.row l.id.team l.rect l.id.own own) (take l.entry-index l.entry-items)) None l.least

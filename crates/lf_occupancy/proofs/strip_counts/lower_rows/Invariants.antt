@@ -3,7 +3,7 @@ use Rattle.lf_occupancy.specs.Strips.{AreChanged, IsReached, widened_strips}
 use Rattle.lf_occupancy.specs.Tallies.{IsLessAt}
 use Rattle.lf_occupancy.proofs.strip_counts.lower_rows.Given as goal
 
--- the strips of the rows passed count less
+-- the strips of the rows visited count less
 abbrev pub invariant-loop-entry : goal.invariant-loop-entry
 invariant-loop-entry l =
     AreChanged (IsReached (widened_strips l.site l.index.strips) (take l.entry-index l.rows) l.team l.rect) (IsLessAt (widened_strips l.site l.index.strips) l.rect)

@@ -4,7 +4,7 @@ use Rattle.lf_occupancy.specs.Strips.{AreChanged, AreKept, IsReached, widened_st
 use Rattle.lf_occupancy.specs.Tallies.{IsMore}
 use Rattle.lf_occupancy.proofs.strip_counts.raise_rows.Given as goal
 
--- the strips of the rows passed count one more, and all have room for what they count
+-- the strips of the rows visited count one more, and all have room for what they count
 abbrev pub invariant-loop-entry : goal.invariant-loop-entry
 invariant-loop-entry l = record {
   kept : AreKept l.initial.lanes.items l.lanes.items;

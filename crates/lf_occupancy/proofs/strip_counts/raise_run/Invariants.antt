@@ -4,7 +4,7 @@ use Rattle.lf_occupancy.specs.Tallies.{IsMore}
 use Rattle.lf_occupancy.proofs.Changes.{IsBetween}
 use Rattle.lf_occupancy.proofs.strip_counts.raise_run.Given as goal
 
--- the strips passed count one more, and all have room for what they count
+-- the strips visited count one more, and all have room for what they count
 abbrev pub invariant-loop-n : goal.invariant-loop-n
 invariant-loop-n l = record {
   kept : AreKept l.initial.lanes.items l.lanes.items;

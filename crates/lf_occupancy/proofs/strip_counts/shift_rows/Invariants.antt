@@ -4,7 +4,8 @@ use Rattle.lf_occupancy.specs.Strips.{AreChanged, AreKept, IsReached, widened_st
 use Rattle.lf_occupancy.specs.Tallies.{IsShiftedAt}
 use Rattle.lf_occupancy.proofs.strip_counts.shift_rows.Given as goal
 
--- the strips of the rows passed count one box in place of the other, and all have room for what they count
+-- the strips of the rows visited count one box in place of the other, and all have room for what
+-- they count
 abbrev pub invariant-loop-entry : goal.invariant-loop-entry
 invariant-loop-entry l = record {
   kept : AreKept l.initial.lanes.items l.lanes.items;

@@ -4,7 +4,7 @@ use Rattle.lf_occupancy.specs.Tallies.{IsShiftedAt}
 use Rattle.lf_occupancy.proofs.Changes.{IsBetween}
 use Rattle.lf_occupancy.proofs.strip_counts.shift_run.Given as goal
 
--- the strips passed count one box in place of the other, and all have room for what they count
+-- the strips visited count one box in place of the other, and all have room for what they count
 abbrev pub invariant-loop-n : goal.invariant-loop-n
 invariant-loop-n l = record {
   kept : AreKept l.initial.lanes.items l.lanes.items;

@@ -4,7 +4,7 @@ use Rattle.lf_occupancy.specs.Lanes.{entries_in}
 use Rattle.lf_occupancy.proofs.Walking.{passed, taken}
 use Rattle.lf_occupancy.proofs.strip_marks.free_beside.Given as goal
 
--- what the entries passed leave free, and the rest of the range
+-- the free spans of the entries visited, and the remaining range
 abbrev pub invariant-loop-mark : goal.invariant-loop-mark
 invariant-loop-mark l =
     Frees l.range (taken l.padding (entries_in (get_or l.boxes l.id.team []) l.area l.marks) l.id.own) l.free.items l.rest

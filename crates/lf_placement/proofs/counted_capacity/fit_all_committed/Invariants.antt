@@ -5,7 +5,7 @@ use Rattle.lf_placement.specs.Steps.{KeepsMarks}
 use Rattle.lf_placement.proofs.Tallying.{HalfCommitted}
 use Rattle.lf_placement.proofs.counted_capacity.fit_all_committed.Given as goal
 
--- the teams passed are counted at their committed places
+-- the teams visited are counted at their committed places
 abbrev pub invariant-loop-team : goal.invariant-loop-team
 invariant-loop-team l = record {
   half : HalfCommitted l.frame l.cells (with_boxes l.occupancy []) l.team l.tally;

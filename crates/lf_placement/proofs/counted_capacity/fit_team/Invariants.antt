@@ -8,7 +8,7 @@ use Rattle.lf_placement.specs.Steps.{KeepsMarks}
 use Rattle.lf_placement.proofs.Tallying.{half_committed}
 use Rattle.lf_placement.proofs.counted_capacity.fit_team.Given as goal
 
--- the cells passed are counted at their committed places
+-- the cells visited are counted at their committed places
 abbrev pub invariant-loop-id : goal.invariant-loop-id
 invariant-loop-id l = record {
   own : Bounds (with_boxes l.fn.occupancy []) l.team (boxes_at l.frame (cells_of l.cells l.team) (places_of (cells_of l.cells l.team))) l.fn.tally

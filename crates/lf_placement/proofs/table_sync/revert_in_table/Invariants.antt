@@ -4,7 +4,7 @@ use Rattle.lf_placement.specs.Placings.{OtherCellsStay}
 use Rattle.lf_placement.specs.Steps.{moves_reverted}
 use Rattle.lf_placement.proofs.table_sync.revert_in_table.Given as goal
 
--- the moves that are left lead to where all of them led
+-- undoing the remaining moves gives the same cells as undoing all
 abbrev pub invariant-loop-at : goal.invariant-loop-at
 invariant-loop-at l = record {
   left : moves_reverted (take l.at l.moves) (cells_of l.cells l.team) ≡ moves_reverted l.fn.moves (cells_of l.fn.cells l.team);

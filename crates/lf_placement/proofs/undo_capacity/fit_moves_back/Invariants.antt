@@ -4,7 +4,7 @@ use Rattle.lf_undo.specs.Entries.{Places, moves_taken_back}
 use Rattle.lf_placement.specs.Placings.{BoundsAt, SameButRooms}
 use Rattle.lf_placement.proofs.undo_capacity.fit_moves_back.Given as goal
 
--- the moves that are left lead back to where all of them lead
+-- undoing the remaining moves gives the same places as undoing all
 abbrev pub invariant-loop-at : goal.invariant-loop-at
 invariant-loop-at l = record {
   left : moves_taken_back (take l.at l.moves) l.places ≡ moves_taken_back l.fn.moves l.fn.places;
