@@ -60,7 +60,7 @@ pub struct Component<'a> {
     offsets: PackedOffsets,
 }
 
-// A design may have a million components, so their size is fixed.
+// A design may have a million components, so the size of each is proved.
 const _: () = prove!(size_of::<Component>() == 48);
 
 impl<'a> Model for Component<'a> {

@@ -11,8 +11,8 @@ use lf_lex::{FaultNumber, Lexer, ReadError, Token, fault_at, is_token, keyword, 
 use lf_orient::Orient;
 use lf_units::{Point, Rect, Span, read_fixed};
 
-/// Returns the whole number of a token. `Err(BadNumber)` if it is no number from -2147483647 to
-/// 2147483647.
+/// Returns the whole number of a token. `Err(BadNumber)` if it is no whole number from -2147483647
+/// to 2147483647.
 fn dbu_of(token: &Token) -> Result<i64, ReadError>
     ensures read { MatchResult result (λ x. grammar.dbu_of (lexeme token.now) ≡ Ok x) (λ e. Fails e (grammar.dbu_of (lexeme token.now))) }
     ensures range { IfOk result (λ x. IsCoordinate x) }

@@ -42,7 +42,7 @@ pub fn statements_take_tokens()
 {}
 
 /// White space, comments and what follows do not affect how a row, a region, a group, a blockage or
-/// a component is read, except for a component's offsets.
+/// a component is read. The offsets of a component may differ.
 pub fn statements_read_alike()
     ensures row { ReadsAlike row }
     ensures region { ReadsAlike region }

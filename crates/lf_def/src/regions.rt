@@ -15,7 +15,8 @@ use lf_lex::{
 use lf_units::{Name, Rect, Sequence};
 use std::alloc::Global;
 
-/// The effect of a region on the components of its groups: its TYPE (LEF/DEF 5.8, DEF REGIONS).
+/// The TYPE of a region: what it demands of the components of its groups (LEF/DEF 5.8, DEF
+/// REGIONS).
 #[derive(Clone, Copy, Debug, PartialEq, Eq)]
 pub enum RegionKind {
     /// They are placed in it, and no other components are.

@@ -70,7 +70,8 @@ fn skip_from(lexer: &mut Lexer, token: &Token) -> Result<(), ReadError>
     }
 }
 
-/// Reads DESIGN after an END. `Err` if the text has no DESIGN statement.
+/// Reads DESIGN after an END. `Err(WrongEnd)` for another word, `Err(Unexpected)` for a quoted
+/// text, or if the text has no DESIGN statement.
 #[tactic(auto, unfolding(crate::specs::Document::end_design))]
 fn end_design(lexer: &mut Lexer, parts: &DocParts) -> Result<(), ReadError>
     ensures { Reads (λ x. x) result (grammar.end_design parts.now) lexer.old lexer.new }

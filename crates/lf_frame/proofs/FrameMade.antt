@@ -199,8 +199,8 @@ few_fences i a =
     let behind_rows = (first_nothing (a TooMany)).1 in
     few_kept frame_team is_fence i.limits.fences i.document.regions (none_of_name {breaks = IsFenceTooMany i.limits.fences} (first_nothing behind_rows).0)
 
--- The facts that a frame keeps of the core rows, the fences, the obstacles, the soft blockages and
--- the macros of an accepted design with this core site.
+-- The facts about the core rows, the fences, the obstacles, the soft blockages and the macros that
+-- a frame of an accepted design with this core site guarantees.
 pub record IsFrameKept (i : LoadInputs) (core : Site) : Type 0 where
   pub site_in_lef : IsLefSize core.size
   pub pitch_whole : IsPitch (units_in i) core.size (size_in_dbu (units_in i) core.size)

@@ -1,4 +1,4 @@
-//! What each refusal of loading finds.
+//! What each refusal of loading finds: the name of the first entry at fault, or `None`.
 
 ghost use Rattle.std.specs.Prelude.{◌≡◌, ◌≤◌, None, Some, IfOk, option_map, unwrap_or};
 ghost use Rattle.std.specs.Option.{option_copied};
@@ -72,7 +72,7 @@ pub(crate) fn no_units<'d>(
     }
 }
 
-/// Returns the site of the first row whose site no LEF text has.
+/// Returns the name of the site of the first row whose site no LEF text has.
 pub(crate) fn no_site<'d>(
     library: &Library,
     document: &'d DefDoc,
@@ -99,7 +99,7 @@ pub(crate) fn no_rows<'d>(
     }
 }
 
-/// Returns the first core row with numY other than 1.
+/// Returns the name of the first core row with numY other than 1.
 pub(crate) fn vertical_row<'d>(
     library: &Library,
     document: &'d DefDoc,
@@ -127,7 +127,7 @@ pub fn units_of(document: &DefDoc) -> u32
     }
 }
 
-/// Returns the first core row of several sites whose step is not the site's width.
+/// Returns the name of the first core row of several sites whose step is not the site's width.
 pub(crate) fn bad_step<'d>(
     library: &Library,
     document: &'d DefDoc,
@@ -145,7 +145,7 @@ pub(crate) fn bad_step<'d>(
     row_name(rows, first_bad_step(rows, core, &pitch))
 }
 
-/// Returns the first core row that is neither N, S, FN nor FS.
+/// Returns the name of the first core row that is neither N, S, FN nor FS.
 pub(crate) fn row_orient<'d>(
     library: &Library,
     document: &'d DefDoc,
@@ -160,8 +160,8 @@ pub(crate) fn row_orient<'d>(
     row_name(rows, first_turned(rows, core))
 }
 
-/// Returns the first core row that shares a point with an earlier one. `Err` if an allocation
-/// fails.
+/// Returns the name of the first core row that shares a point with an earlier one. `Err` if an
+/// allocation fails.
 pub(crate) fn rows_overlap<'d>(
     alloc: Global,
     library: &Library,
@@ -181,7 +181,7 @@ pub(crate) fn rows_overlap<'d>(
     Ok(row_name(rows, first))
 }
 
-/// Returns the macro of the component at this position, or `None`.
+/// Returns the name of the macro of the component at this position, or `None`.
 fn component_mac<'d>(components: &'d [Component], place: Option<usize>) -> Option<&'d [u8]>
     ensures { option_copied result ≡ option_map (λ c. c.mac) (at_place components.now place) }
 {
@@ -207,7 +207,7 @@ fn component_name<'d>(components: &'d [Component], place: Option<usize>) -> Opti
     }
 }
 
-/// Returns the macro of the first component whose macro no LEF text has.
+/// Returns the name of the macro of the first component whose macro no LEF text has.
 pub(crate) fn no_macro<'d>(
     faults: &MacroFaults,
     library: &Library,
@@ -220,7 +220,7 @@ pub(crate) fn no_macro<'d>(
     component_mac(document.components.as_slice(), faults.unknown)
 }
 
-/// Returns the macro of the first component whose macro has no size.
+/// Returns the name of the macro of the first component whose macro has no size.
 pub(crate) fn no_size<'d>(
     faults: &MacroFaults,
     library: &Library,
@@ -247,8 +247,8 @@ fn core_not_whole<'d>(library: &'d Library, document: &DefDoc, limits: &Limits) 
     }
 }
 
-/// Returns the site or macro whose size is not whole in database units: first the core site, then
-/// the macros of components.
+/// Returns the name of the site or macro whose size is not whole in database units: first the core
+/// site, then the macros of components.
 pub(crate) fn not_whole<'d>(
     faults: &MacroFaults,
     library: &'d Library,
@@ -264,7 +264,7 @@ pub(crate) fn not_whole<'d>(
     component_mac(document.components.as_slice(), faults.part_units)
 }
 
-/// Returns the first component that has the name of an earlier one.
+/// Returns the name of the first component that has the name of an earlier one.
 pub(crate) fn second_name<'d>(
     claims: &ClaimTable,
     library: &Library,
@@ -290,7 +290,7 @@ pub(crate) fn region_at<'d>(regions: &'d [Region], place: Option<usize>) -> Opti
     }
 }
 
-/// Returns the region of a group, or the empty name if it has no region.
+/// Returns the name of the region of a group, or the empty name if it has no region.
 fn group_region(group: &Group) -> &[u8]
     ensures { result.now ≡ region_name group.now }
 {
@@ -300,7 +300,7 @@ fn group_region(group: &Group) -> &[u8]
     }
 }
 
-/// Returns the region of the group at this position, or `None`.
+/// Returns the name of the region of the group at this position, or `None`.
 pub(crate) fn region_of_group<'d>(groups: &'d [Group], place: Option<usize>) -> Option<&'d [u8]>
     ensures { option_copied result ≡ option_map region_name (at_place groups.now place) }
 {
@@ -313,7 +313,8 @@ pub(crate) fn region_of_group<'d>(groups: &'d [Group], place: Option<usize>) -> 
     }
 }
 
-/// Returns the first fence that has the name of an earlier fence. `Err` if an allocation fails.
+/// Returns the name of the first fence that has the name of an earlier fence. `Err` if an
+/// allocation fails.
 pub(crate) fn second_region<'d>(
     alloc: Global,
     library: &Library,
@@ -327,8 +328,8 @@ pub(crate) fn second_region<'d>(
     Ok(region_at(regions, first))
 }
 
-/// Returns the region of the first group whose region has no REGIONS entry. `Err` if an allocation
-/// fails.
+/// Returns the name of the region of the first group whose region has no REGIONS entry. `Err` if an
+/// allocation fails.
 pub(crate) fn no_region<'d>(
     alloc: Global,
     library: &Library,
@@ -342,7 +343,7 @@ pub(crate) fn no_region<'d>(
     Ok(region_of_group(groups, first))
 }
 
-/// Returns the first fence named `-`.
+/// Returns the name of the first fence named `-`.
 pub(crate) fn team_name<'d>(
     library: &Library,
     document: &'d DefDoc,
@@ -354,7 +355,8 @@ pub(crate) fn team_name<'d>(
     region_at(regions, first_ground_name(regions))
 }
 
-/// Returns the first fence that shares a point with an earlier one. `Err` if an allocation fails.
+/// Returns the name of the first fence that shares a point with an earlier one. `Err` if an
+/// allocation fails.
 pub(crate) fn fences_overlap<'d>(
     alloc: Global,
     library: &Library,
@@ -368,8 +370,8 @@ pub(crate) fn fences_overlap<'d>(
     Ok(region_at(regions, first))
 }
 
-/// Returns the first movable component that groups of two different fences name. No two components
-/// may have the same name.
+/// Returns the name of the first movable component that groups of two different fences name. No two
+/// components may have the same name.
 pub(crate) fn two_fences<'d>(
     claims: &ClaimTable,
     library: &Library,
@@ -385,7 +387,7 @@ pub(crate) fn two_fences<'d>(
     component_name(components, first)
 }
 
-/// Returns the first core row beyond the limit.
+/// Returns the name of the first core row beyond the limit.
 fn rows_too_many<'d>(library: &Library, document: &'d DefDoc, limits: &Limits) -> Option<&'d [u8]>
     ensures { OfCore (inputs library.now document.now limits.now)
         (λ core. NameOfFirst (λ r. r.name) (IsRowTooMany core limits.now.rows) document.now.rows) (option_copied result) }
@@ -397,7 +399,7 @@ fn rows_too_many<'d>(library: &Library, document: &'d DefDoc, limits: &Limits) -
     row_name(rows, first_row_too_many(rows, core, limits.rows as usize))
 }
 
-/// Returns the first fence beyond the limit.
+/// Returns the name of the first fence beyond the limit.
 fn fences_too_many<'d>(document: &'d DefDoc, limits: &Limits) -> Option<&'d [u8]>
     ensures { NameOfFirst (λ r. r.name) (IsFenceTooMany limits.now.fences) document.now.regions (option_copied result) }
 {
@@ -408,7 +410,7 @@ fn fences_too_many<'d>(document: &'d DefDoc, limits: &Limits) -> Option<&'d [u8]
     )
 }
 
-/// Returns the first component beyond the limit.
+/// Returns the name of the first component beyond the limit.
 fn components_too_many<'d>(document: &'d DefDoc, limits: &Limits) -> Option<&'d [u8]>
     ensures { NameOfFirst (λ c. c.name) (IsComponentTooMany limits.now.components) document.now.components (option_copied result) }
 {
@@ -419,7 +421,7 @@ fn components_too_many<'d>(document: &'d DefDoc, limits: &Limits) -> Option<&'d 
     )
 }
 
-/// Returns the first core row that ends past the largest coordinate.
+/// Returns the name of the first core row that ends past the largest coordinate.
 fn row_too_far<'d>(library: &Library, document: &'d DefDoc, limits: &Limits) -> Option<&'d [u8]>
     ensures { OfPitch (inputs library.now document.now limits.now)
         (λ core pitch. NameOfFirst (λ r. r.name) (EndsTooFar core pitch) document.now.rows) (option_copied result) }
@@ -434,8 +436,9 @@ fn row_too_far<'d>(library: &Library, document: &'d DefDoc, limits: &Limits) -> 
     row_name(rows, first_too_far(rows, core, &pitch))
 }
 
-/// Returns the first entry beyond a limit: of core rows, then of fences, then of components.
-/// Otherwise returns the first core row that ends past the largest coordinate.
+/// Returns the name of the first entry beyond a limit: of core rows, then of fences, then of
+/// components. Otherwise returns the name of the first core row that ends past the largest
+/// coordinate.
 pub(crate) fn too_many<'d>(
     library: &Library,
     document: &'d DefDoc,

@@ -32,8 +32,8 @@ abbrev pub AreClaimsOf : List Region → List Group → List Component → List 
 AreClaimsOf regions groups components claims =
     (k : ℕ) (d : Component) → k < length components → IsClaimOf regions groups (slice_index_or components k d).name (claim_at claims k)
 
--- Holds if the table has the first component with the name of an earlier one, the claims on all
--- components if there is no such component, and the number of the ground team.
+-- Holds if the table has the first component with the name of an earlier one, and the number of the
+-- ground team. If there is no such component, it also has the claims on all components.
 pub record IsTableOf (regions : List Region) (groups : List Group) (components : List Component) (table : ClaimFacts) : Type 0 where
   pub second : FirstIs HasEarlierName components table.second
   pub claims : NoneBreaks HasEarlierName components → AreClaimsOf regions groups components table.claims

@@ -157,8 +157,8 @@ abbrev pub AreClaimsWhereDistinct : (List ℕ → ℕ → Type 0) → List Compo
 AreClaimsWhereDistinct claims components (Some told) = NoneBreaks HasEarlierName components × AreClaimsByName claims components told
 AreClaimsWhereDistinct claims components None = NoneBreaks HasEarlierName components → ⊥
 
--- Holds if the new claims are those of the old ones, by literal patterns, together with those of
--- the starred patterns of the index, whichever patterns those are.
+-- Holds if the new claims add those of the starred patterns of the index to the old claims, which
+-- are by literal patterns. This is for any such patterns.
 abbrev pub AddStarred : StarredPatterns → List Component → List Claim → List Claim → Type 0
 AddStarred index components old new =
     (literals : List Labelled) (starred : List FencePattern) → HasStarred index starred → length old ≡ length components

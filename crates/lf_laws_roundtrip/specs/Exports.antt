@@ -29,8 +29,8 @@ pub record IsAtPlaces (l m : Loaded) (places : List (Option Place)) : Type 0 whe
   pub cells : map unplaced m.cells ≡ map unplaced l.cells
   pub at_places : map (λ c. c.place) m.cells ≡ places
 
--- Holds if the text reads, its document is accepted with the same library and limits, and each
--- design loaded from it is the given one at the places.
+-- Holds if the text reads, and its document is accepted with the same library and limits. Each
+-- design loaded from it must be the given one at the places.
 pub record LoadsAtPlaces (i : LoadInputs) (l : Loaded) (places : List (Option Place)) (text : List ℕ) : Type 0 where
   pub again : Document
   pub read : document_of text ≡ Ok again

@@ -6,9 +6,14 @@ ghost use Rattle.lf_laws_roundtrip.specs.Moved.{AcceptedElsewhere, FrameStays, L
 ghost use Rattle.lf_laws_roundtrip.specs.ReadDocuments.{ReadIsSpelled};
 ghost use Rattle.lf_laws_roundtrip.specs.TeamDocument.{TeamTextReadsBack};
 
-/// The DEF text of a team reads back. Its document has the header, the team's fence as the only
-/// region, the group that binds the team's cells to the fence by their names, and the cells at
-/// their working places, in loading order. It has no rows and no blockages.
+/// The DEF text of a team reads back. Its document has:
+///
+/// - the header
+/// - the team's fence as the only region
+/// - the group that binds the team's cells to the fence by their names
+/// - the cells at their working places, in loading order
+///
+/// It has no rows and no blockages.
 ///
 /// A text must be able to spell the header, the fence and the cells. There are at most 4,000,000
 /// cells. A group's pattern cannot be `+`, so if the team has a fence, no cell of the team may have
@@ -28,9 +33,9 @@ pub fn moved_designs_load_alike()
     ensures loaded { LoadedElsewhere }
 {}
 
-/// The document of a DEF text is spelled as in a text. Its names are words other than a semicolon,
-/// its divider and brackets are quoted texts with their marks, and no group is bound to a region
-/// named by a parenthesis.
+/// The document of a DEF text is spelled as in a text. Its names are words other than a semicolon.
+/// Its divider and brackets are quoted texts with their marks. No group is bound to a region named
+/// by a parenthesis.
 pub fn read_documents_are_spelled()
     ensures { ReadIsSpelled }
 {}

@@ -6,9 +6,11 @@
 //! exported text of a design (`lf_write`). They say what `document_of` of `lf_def` makes of these
 //! texts and what loading then finds.
 //!
-//! A text can *spell* a document if each name is a word other than a semicolon, the divider and the
-//! brackets are quoted texts with their marks, and no group is bound to a region named by a
-//! parenthesis.
+//! A text can *spell* a document under three conditions:
+//!
+//! - each name is a word other than a semicolon
+//! - the divider and the brackets are quoted texts with their marks
+//! - no group is bound to a region named by a parenthesis
 //!
 //! Used by `lf_task_serve` and `lf_task_repair`.
 //!

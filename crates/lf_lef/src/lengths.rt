@@ -9,8 +9,8 @@ ghost use Rattle.lf_lef.specs.Lengths.{IsInRange, HasRange};
 use lf_lex::{FaultNumber, Lexer, ReadError, Token, fault_at, is_token, keyword, token};
 use lf_units::{Point, read_fixed};
 
-/// Returns the length of a token, in millionths of a micron. `Err(BadNumber)` if it is no such
-/// number, or its absolute value is above 1,000,000 microns.
+/// Returns the length of a token, in millionths of a micron. `Err(BadNumber)` if it is no number,
+/// is too fine, or is not from -1,000,000 to 1,000,000 microns.
 fn micros_of(token: &Token) -> Result<i64, ReadError>
     ensures read { MatchResult result (λ x. grammar.micros_of (lexeme token.now) ≡ Ok x)
         (λ e. Fails e (grammar.micros_of (lexeme token.now))) }

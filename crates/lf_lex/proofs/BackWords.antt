@@ -1,4 +1,4 @@
--- The shared words are read back, and skipping ends where it should.
+-- The shared words are read back, and skipping ends at the right token.
 use Rattle.std.proofs.Common.{◌≡◌, ◌≢◌, ℕ, ◌≤◌, Bool, true, false, ◌&&◌, List, [], ◌∷◌, ◌++◌, map, length, refl, ap, sym, ◌∙◌, arith}
 use Rattle.std.proofs.lemmas.List.{append-nil}
 use Rattle.std.specs.Prelude.{codes, not, nat_lt}

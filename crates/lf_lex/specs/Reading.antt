@@ -216,8 +216,9 @@ abbrev pub IsFault : ReadError → Type 0
 IsFault Memory = ⊥
 IsFault (Fault f) = Unit {0}
 
--- Holds if a function returned what the definition reads (its value seen by `view`) and took at
--- least one token, or if it failed as the definition does or for lack of memory.
+-- Holds if a function returned what the definition reads, with its value seen by `view`, and took
+-- at least one token. Also holds if it failed as the definition does, or because an allocation
+-- failed.
 abbrev pub Reads : {X Y : Type 0} → (X → Y) → Result X ReadError → Reader Y → Lexed → Lexed → Type 0
 Reads view (Ok x) reader old new = (reader old ≡ taken (view x) new) × (length new.tokens < length old.tokens)
 Reads view (Err e) reader old new = Fails e (reader old)

@@ -11,11 +11,11 @@ use std::alloc::{AllocError, AllocFailed};
 pub enum FaultNumber {
     /// A byte that no token may have.
     BadToken,
-    /// The text ends where a statement or word is still due.
+    /// The text ends although more is due.
     UnexpectedEnd,
     /// A token other than the one that is due.
     Unexpected,
-    /// A word that is no number, or a number too fine or too large.
+    /// A number is due, but the token is no number, or its number is too fine or out of range.
     BadNumber,
     /// A name after END other than the one that is due.
     WrongEnd,

@@ -114,7 +114,7 @@ other_part : (k n : ℕ) (names : List Labelled) → k ≢ n → names_of_part k
 other_part k n names other = none_kept (λ m. part_of m.name == n) (λ m. part_of m.name == k) names
     (λ m is. ne_eqb (part_of m.name) k (λ same. other (sym same ∙ eqb-true (part_of m.name) n is)))
 
--- The names of a later part are missing so far.
+-- The names of a later part are not in the list.
 not_yet : (n k : ℕ) (names : List Labelled) → n ≤ k → names_of_part k (parted n names) ≡ []
 not_yet zero k names later = refl
 not_yet (suc n) k names later =
@@ -122,7 +122,7 @@ not_yet (suc n) k names later =
     ∙ ap (λ ns. ns ++ names_of_part k (names_of_part n names)) (not_yet n k names (omega arith))
     ∙ other_part k n names (λ same. omega arith)
 
--- The names of an earlier part are present.
+-- The names of an earlier part are in the list.
 there : (n k : ℕ) (names : List Labelled) → k < n → names_of_part k (parted n names) ≡ names_of_part k names
 there zero k names below = absurd (omega arith)
 there (suc n) k names below = filter-append (λ m. part_of m.name == k) (parted n names) (names_of_part n names) ∙ by (there n k names) (grind arith)

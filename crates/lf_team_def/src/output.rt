@@ -5,7 +5,7 @@ ghost use Rattle.lf_team_def.specs.Output.{IsLengthOf, PutsText};
 
 use std::alloc::{AllocError, Global};
 
-/// A device that takes the bytes of a text, piece by piece.
+/// A sink for the bytes of a text, written piece by piece.
 ///
 /// A piece that cannot be taken is dropped, and so are all later ones. The caller that made the
 /// output checks for this at the end. `took` is what an implementation promises about the text that

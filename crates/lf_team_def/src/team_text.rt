@@ -92,9 +92,9 @@ fn put_groups<O: Output>(out: &mut O, frame: &Frame, cells: &CellTable, team: us
     }
 }
 
-/// Writes the DEF text of the team with this number: the header, its fence, its cells at their
-/// working places in loading order, and the group that binds them to the fence (LEF/DEF 5.8, DEF
-/// REGIONS, COMPONENTS and GROUPS). Allocates nothing.
+/// Writes the DEF text of the team with this number (LEF/DEF 5.8, DEF REGIONS, COMPONENTS and
+/// GROUPS). It has the header, the team's fence, its cells at their working places in loading
+/// order, and the group that binds them to the fence. Allocates nothing.
 ///
 /// The ground team has no REGIONS and no GROUPS section. A team without cells has no GROUPS
 /// section.

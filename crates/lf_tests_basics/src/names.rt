@@ -74,7 +74,7 @@ fn are_found(
     }
 }
 
-/// True if added names are found, and there is no result once one of them is in the list twice.
+/// True if added names are found, and there is no result after one of them was added twice.
 fn answer(
     alloc: Global,
     names: &mut PartitionedNames,

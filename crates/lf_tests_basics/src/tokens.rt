@@ -32,8 +32,8 @@ fn stops_at(lexer: &mut Lexer<'_>, fault: LexFault) -> bool {
         && matches!(lexer.next_token(), Err(last) if last == fault)
 }
 
-/// The text has a comment with quotation marks, an escaped mark in a quoted text, a semicolon
-/// inside a word, and a byte that no word may have.
+/// The text has a comment with quotation marks and an escaped mark in a quoted text. It also has a
+/// semicolon inside a word, and a byte that no word may have.
 #[test]
 fn gives_tokens_until_the_fault(rt: HostRuntime) {
     let mut lexer = Lexer::new(b"SIZE 0.2 # a ; \"b\n \"c \\\" d\"; x;y \x80");

@@ -54,7 +54,7 @@ fn fill<'a>(store: &mut UndoStore<&'a LocalHeap>, heap: &'a LocalHeap)
 enum Case {
     /// The room of one team's removed entry serves for another team's entry.
     RoomOfAnother,
-    /// Room can be reserved after an entry was removed, and is refused before.
+    /// Room is refused while the store is full, and can be reserved after an entry is removed.
     RoomMade,
     /// An entry that finds no room is returned, and the team's other entries are unchanged.
     NoRoom,
@@ -152,7 +152,7 @@ fn holds(alloc: Global, limit: usize, team: usize, case: Case) -> Result<bool, F
 }
 
 /// True if each of two removed entries leaves its room. They are removed while there is memory, and
-/// others are pushed when there is none.
+/// others are pushed when no memory is left.
 fn leave_their_rooms(alloc: Global) -> Result<bool, Fail> {
     let heap = LocalHeap::new(alloc, 8192)?;
     let mut store: UndoStore<&LocalHeap> = UndoStore::build(&heap, 2, 64)?;
@@ -172,8 +172,8 @@ fn leave_their_rooms(alloc: Global) -> Result<bool, Fail> {
 }
 
 /// Pushes an entry without moves onto the stack of each team from the third on, until there is no
-/// room for one more. Returns the last team that has an entry, or the second team if none of them
-/// has one.
+/// room for one more. Returns the last team that has an entry, or the second team if no team from
+/// the third on has one.
 fn fill_teams<'a>(store: &mut UndoStore<&'a LocalHeap>, heap: &'a LocalHeap) -> usize
     requires { length store.old.lists ≡ 16 }
     ensures teams { length store.new.lists ≡ 16 }
@@ -191,7 +191,7 @@ fn fill_teams<'a>(store: &mut UndoStore<&'a LocalHeap>, heap: &'a LocalHeap) -> 
 
 /// True if a team's removed entry leaves its room, even if another team, whose stack is at its
 /// limit, gets an entry then. Both happen while there is memory, and another entry is pushed when
-/// there is none.
+/// no memory is left.
 fn stays_at_the_limit(alloc: Global) -> Result<bool, Fail> {
     let heap = LocalHeap::new(alloc, 8192)?;
     let mut store: UndoStore<&LocalHeap> = UndoStore::build(&heap, 16, 1)?;

@@ -86,7 +86,7 @@ none_alike s s' e a = none_is s'.placement (ap (λ (z : ComponentParts). z.place
 due_alike : (s s' : ComponentParts) (due : Due) → s.due ≡ due → Alike s s' → s'.due ≡ due
 due_alike s s' due e a = ap (λ (z : ComponentParts). z.due) a ∙ e
 
--- The tokens of the new clause, if no clause was read before.
+-- The tokens of the new clause, if no earlier clause was read.
 new_clause : (given : Option Place) → HasPlace given → (s y : ComponentParts) → s.placement ≡ None → (rest : List PlainToken)
     → ((s' : ComponentParts) → Alike (behind_new given) s' → TurnsAt bare_parts component_token s' rest y)
     → (s' : ComponentParts) → Alike s s' → TurnsAt bare_parts component_token s' (map word_of (clause_words given) ++ rest) y

@@ -256,8 +256,8 @@ fn entry_of(clause: &Clause, others: &mut Vec<ShortClause>) -> Result<Option<Ent
     Ok(Some(Entry::Other(at)))
 }
 
-/// Returns the entry of the next clause. `None` if the clause or an earlier one needs more than 32
-/// bits. `Err` if an allocation fails.
+/// Returns the entry of the next clause. `None` if it or an earlier clause has no entry. `Err` if
+/// an allocation fails.
 fn next_entry(
     clause: &Clause,
     others: &mut Vec<ShortClause>,
