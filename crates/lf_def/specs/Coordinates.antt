@@ -43,7 +43,7 @@ point_rest l = do
   stop ← keyword (codes ")") y.rest
   taken (record { x = x.value; y = y.value }) stop.rest
 
--- ( x y ).
+-- ( x y )
 unfoldable pub point : Reader Point
 point l = do
   start ← keyword (codes "(") l
@@ -60,7 +60,7 @@ rect_rest l = do
   q ← point p.rest
   taken (rect_between p.value q.value) q.rest
 
--- ( x y ) ( x y ).
+-- ( x y ) ( x y )
 unfoldable pub rect : Reader Rect
 rect l = do
   start ← keyword (codes "(") l

@@ -42,7 +42,7 @@ EndsBefore text = (read : List Lexeme) (t : Lexeme) (unread : List Lexeme) (part
 
 -- The offsets of placement clauses.
 
--- ( x y ) orient.
+-- ( x y ) orient
 abbrev pub IsPlace : List Lexeme → Type 0
 IsPlace (start ∷ x ∷ y ∷ stop ∷ o ∷ []) = (is (codes "(") start ≡ true) × (is (codes ")") stop ≡ true) × ((orient : Orient) × (orient_of o ≡ Ok orient))
 IsPlace _ = ⊥

@@ -41,7 +41,7 @@ abbrev pub step_words : (ℤ → List ℕ) → Option Point → List (List ℕ)
 step_words print None = codes ";" ∷ []
 step_words print (Some p) = codes "STEP" ∷ print p.x ∷ print p.y ∷ codes ";" ∷ []
 
--- Name site x y orient DO numX BY numY [STEP sx sy] ;
+-- name site x y orient DO numX BY numY [STEP sx sy] ;
 abbrev pub row_words : (ℤ → List ℕ) → Row → List (List ℕ)
 row_words print r = r.name ∷ r.site ∷ print r.x ∷ print r.y ∷ orient_word r.orient ∷ codes "DO" ∷ print (pos r.sites_x) ∷ codes "BY" ∷ print (pos r.sites_y) ∷ step_words print r.step
 
@@ -61,7 +61,7 @@ abbrev pub rects_words : (ℤ → List ℕ) → List Rect → List (List ℕ) �
 rects_words print [] rest = rest
 rects_words print (r ∷ rs) rest = rect_words print r (rects_words print rs rest)
 
--- Name pt pt {pt pt} [+ TYPE FENCE | + TYPE GUIDE] ;
+-- name pt pt {pt pt} [+ TYPE FENCE | + TYPE GUIDE] ;
 abbrev pub region_words : (ℤ → List ℕ) → Region → List (List ℕ)
 region_words print r = r.name ∷ rects_words print r.rects (kind_words r.kind)
 
@@ -76,7 +76,7 @@ abbrev pub group_region_words : Option (List ℕ) → List (List ℕ)
 group_region_words None = codes ";" ∷ []
 group_region_words (Some n) = codes "+" ∷ codes "REGION" ∷ n ∷ codes ";" ∷ []
 
--- Name {pattern} [+ REGION name] ;
+-- name {pattern} [+ REGION name] ;
 abbrev pub group_words : Group → List (List ℕ)
 group_words g = g.name ∷ (g.patterns ++ group_region_words g.region)
 
@@ -111,7 +111,7 @@ abbrev pub placement_words : (ℤ → List ℕ) → Option PlacementClause → L
 placement_words print None = codes ";" ∷ []
 placement_words print (Some p) = codes "+" ∷ kind_word p.kind ∷ location_words print p.place
 
--- Name macro [+ FIXED pt orient | + COVER pt orient | + PLACED pt orient | + UNPLACED] ;
+-- name macro [+ FIXED pt orient | + COVER pt orient | + PLACED pt orient | + UNPLACED] ;
 abbrev pub component_words : (ℤ → List ℕ) → Component → List (List ℕ)
 component_words print c = c.name ∷ c.mac ∷ placement_words print c.placement
 
@@ -167,6 +167,6 @@ abbrev pub entries_words : {A : Type 0} → (A → List (List ℕ)) → List A �
 entries_words words [] rest = rest
 entries_words words (x ∷ xs) rest = codes "-" ∷ (words x ++ entries_words words xs rest)
 
--- Count ; entries END and the keyword.
+-- count ; entries END and the keyword
 abbrev pub section_words : {A : Type 0} → List ℕ → List ℕ → (A → List (List ℕ)) → List A → List (List ℕ)
 section_words keyword count words xs = count ∷ codes ";" ∷ entries_words words xs (codes "END" ∷ keyword ∷ [])

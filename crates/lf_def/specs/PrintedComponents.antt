@@ -62,7 +62,7 @@ printed_place Fixed place point = place
 printed_place Cover place point = place
 printed_place Placed place point = place
 
--- ( x y ) orient.
+-- ( x y ) orient
 abbrev pub place_words : (ℤ → List ℕ) → Option Location → List (List ℕ)
 place_words print None = []
 place_words print (Some p) = codes "(" ∷ print p.x ∷ print p.y ∷ codes ")" ∷ orient_word p.orient ∷ []
@@ -74,7 +74,7 @@ placement_tokens print None point rest = rest
 placement_tokens print (Some p) point rest = word_of (codes "+") ∷ word_of
     (kind_word p.kind) ∷ (map word_of (place_words print (printed_place p.kind p.place point)) ++ rest)
 
--- Name macro .. {+ ..} placement {+ ..} ;
+-- name macro .. {+ ..} placement {+ ..} ;
 abbrev pub entry_tokens : (ℤ → List ℕ) → PrintedComponent → List PlainToken
 entry_tokens print p =
     word_of p.component.name ∷ word_of p.component.mac ∷ (p.items ++ clauses_tokens p.before
@@ -85,7 +85,7 @@ abbrev pub entries_tokens : {A : Type 0} → (A → List PlainToken) → List A 
 entries_tokens tokens [] rest = rest
 entries_tokens tokens (x ∷ xs) rest = word_of (codes "-") ∷ (tokens x ++ entries_tokens tokens xs rest)
 
--- Count ; entries END COMPONENTS.
+-- count ; entries END COMPONENTS
 abbrev pub components_tokens : (ℤ → List ℕ) → List ℕ → List PrintedComponent → List PlainToken
 components_tokens print count ps =
     word_of count ∷ word_of (codes ";") ∷ entries_tokens (entry_tokens print) ps (word_of (codes "END") ∷ word_of (codes "COMPONENTS") ∷ [])

@@ -34,11 +34,11 @@ section_keywords =
 
 -- A skipped statement: its keyword, and the words and quoted texts up to its end.
 pub data Skipped : Type 0 where
-  -- Keyword .. ;
+  -- keyword .. ;
   to_its_semicolon : List ℕ → List PlainToken → Skipped
-  -- Keyword .. END keyword.
+  -- keyword .. END keyword
   to_its_end : List ℕ → List PlainToken → Skipped
-  -- BEGINEXT .. ENDEXT.
+  -- BEGINEXT .. ENDEXT
   extension : List PlainToken → Skipped
 
 abbrev pub skipped_tokens : Skipped → List PlainToken
@@ -73,7 +73,7 @@ pub data Part : Type 0 where
 abbrev pub quoted_of : List ℕ → PlainToken
 quoted_of text = record { text = text; kind = Quoted }
 
--- Keyword "text" ;
+-- keyword "text" ;
 abbrev pub quoted_tokens : List ℕ → List ℕ → List PlainToken
 quoted_tokens keyword text = word_of keyword ∷ quoted_of text ∷ word_of (codes ";") ∷ []
 

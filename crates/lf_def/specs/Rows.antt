@@ -21,7 +21,7 @@ step t l =
     if is (codes "STEP") t then (dbu l >>= λ x. dbu x.rest >>= λ y. token y.rest >>= λ u. row_end u.value u.rest >>= λ stop. taken (Some (record { x = x.value; y = y.value })) stop.rest)
     else (row_end t l >>= λ stop. taken None stop.rest)
 
--- NumX BY numY [STEP sx sy] and the end of the row, after DO.
+-- numX BY numY [STEP sx sy] and the end of the row, after DO.
 unfoldable pub sites : Reader Sites
 sites l = do
   x ← count 2147483647 l

@@ -71,7 +71,7 @@ quoted_front more rest closed =
     long [] ys = omega arith
     long (x ∷ xs) ys = omega (arith, long xs ys)
 
--- Keyword "text" ; on a line.
+-- keyword "text" ; on a line.
 pub quoted_line : (keyword q more rest : List ℕ) → is_word_text keyword ≡ true → q ≡ 34 ∷ more → quoted_len false more ≡ Some (length more)
     → read (line_of (keyword ∷ q ∷ (59 ∷ []) ∷ []) ++ rest) ≡ quoted_tokens keyword q ++ read rest
 quoted_line keyword q more rest word is closed =

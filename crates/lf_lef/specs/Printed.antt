@@ -44,7 +44,7 @@ size_words w h = codes "SIZE" ∷ w ∷ codes "BY" ∷ h ∷ codes ";" ∷ []
 abbrev pub origin_words : List ℕ → List ℕ → List (List ℕ)
 origin_words x y = codes "ORIGIN" ∷ x ∷ y ∷ codes ";" ∷ []
 
--- END name.
+-- END name
 abbrev pub end_words : List ℕ → List (List ℕ)
 end_words name = codes "END" ∷ name ∷ []
 
@@ -56,7 +56,7 @@ site_words name class symmetry w h = codes "SITE" ∷ name ∷ (class_words clas
 abbrev pub use_words : List ℕ → List (List ℕ)
 use_words use_word = codes "USE" ∷ use_word ∷ codes ";" ∷ []
 
--- PORT RECT x y x y ; END.
+-- PORT RECT x y x y ; END
 abbrev pub port_words : List ℕ → List ℕ → List ℕ → List ℕ → List (List ℕ)
 port_words x1 y1 x2 y2 = codes "PORT" ∷ codes "RECT" ∷ x1 ∷ y1 ∷ x2 ∷ y2 ∷ codes ";" ∷ codes "END" ∷ []
 

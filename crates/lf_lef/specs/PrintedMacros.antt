@@ -189,7 +189,7 @@ pub data MacroStatement : Type 0 where
   macro_pin : List ℕ → List PinStatement → MacroStatement
   -- OBS or DENSITY, statements of any words and quoted texts, END.
   macro_layers : Layers → List (List PlainToken) → MacroStatement
-  -- TIMING .. END TIMING.
+  -- TIMING .. END TIMING
   macro_timing : List PlainToken → MacroStatement
   -- Any other statement, up to its semicolon.
   macro_passed : List PlainToken → MacroStatement

@@ -4,7 +4,7 @@ use Rattle.std.specs.Fmt.{signed_decimal}
 use Rattle.lf_orient.specs.Words.{orient_word}
 use Rattle.lf_floorplan.specs.declared.place.Place.{Place}
 
--- ( x y ) orient.
+-- ( x y ) orient
 abbrev pub place_words : Place → List (List ℕ)
 place_words p = codes "(" ∷ signed_decimal p.x ∷ signed_decimal p.y ∷ codes ")" ∷ orient_word p.orient ∷ []
 
