@@ -34,8 +34,8 @@ fn put_placed<W: Write>(out: &mut W, at: &Location) -> io::Result<()>
     Ok(())
 }
 
-/// Writes the placement clause of a component at this location: `+ PLACED ( x y ) orient`, or `+
-/// UNPLACED`.
+/// Writes the placement clause of a component at this location: `+ PLACED ( x y ) orient`, or
+/// `+ UNPLACED`.
 fn put_location<W: Write>(out: &mut W, location: &Option<Location>) -> io::Result<()>
     ensures { OnOk result (Appends (W.contents out.old) (W.contents out.new) (joined (location_words location.now))) }
 {

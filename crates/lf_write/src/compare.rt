@@ -92,8 +92,8 @@ fn is_placed(bytes: &[u8], at: &Location) -> bool
     }
 }
 
-/// True if the bytes are the clause that is written for the location. Without a location that is `+
-/// UNPLACED`.
+/// True if the bytes are the clause that is written for the location. Without a location that is
+/// `+ UNPLACED`.
 pub(crate) fn is_clause_of(bytes: &[u8], location: &Option<Location>) -> bool
     ensures { result ≡ bytes_eq bytes.now (joined (location_words location.now)) }
 {

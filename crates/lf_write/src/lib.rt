@@ -1,8 +1,8 @@
 //! Writes a DEF text with components at the places that they are given; every other byte is
 //! unchanged.
 //!
-//! A component that is given another place than the document's gets a new placement clause, `+
-//! PLACED ( x y ) orient` or `+ UNPLACED`. It replaces the old clause (LEF/DEF 5.8, DEF
+//! A component that is given another place than the document's gets a new placement clause,
+//! `+ PLACED ( x y ) orient` or `+ UNPLACED`. It replaces the old clause (LEF/DEF 5.8, DEF
 //! COMPONENTS). `export` returns the text of a document. `KeptClauses` has what an export needs of
 //! the document, also after the document is dropped. `write_export` writes the text from it piece
 //! by piece.
