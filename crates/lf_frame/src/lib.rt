@@ -17,12 +17,12 @@
 //! - `loading`: a design from a library and a document
 //! - `laws`: a law on loading
 //!
-//! From `crates/lf_tests_support/src/designs.rt`:
+//! From `crates/lefence_bench/src/main.rt`:
 //!
 //! ```
-//! match load(alloc, library, document, limits) {
-//!     Ok(design) => Ok(design),
-//!     Err(_) => Err(Fail::from("a design")),
+//! match load(alloc, library, document, Limits::standard()) {
+//!     Ok(design) => Ok(counts_of(&design)),
+//!     Err(fault) => Err(fault),
 //! }
 //! ```
 #![tactic(auto)]

@@ -20,11 +20,12 @@
 //! - `read`: the reading functions: words, names, and what is skipped
 //! - `laws`: laws on the reading functions
 //!
-//! From `crates/lf_tests_basics/src/tokens.rt`:
+//! From `crates/lf_lef/src/sites.rt`:
 //!
 //! ```
-//! let mut lexer = Lexer::new(b"SIZE core a b ;\nx END y END core BEGINEXT ENDEXT z");
-//! assert!(rt; keyword(&mut lexer, b"SIZE").is_ok());
+//! let word = word(lexer)?;
+//! keyword(lexer, b";")?;
+//! Ok(word.text)
 //! ```
 #![tactic(auto)]
 
