@@ -1,4 +1,4 @@
--- What the kind of a placement clause says of a component.
+-- The kind of a component, by its placement clause.
 use Rattle.std.proofs.Common.{◌≡◌, Bool, Option, Some, None, ap}
 use Rattle.lf_def.specs.declared.components.PlacementClause.{PlacementClause}
 use Rattle.lf_def.specs.declared.components.PlacementKind.{PlacementKind}

@@ -1,4 +1,4 @@
--- Which tokens a component is, and which of them its placement clause.
+-- The tokens of a component, and the tokens of its placement clause among them.
 use Rattle.std.proofs.Common.{◌≡◌, ◌⊎◌, ℕ, zero, suc, Bool, true, false, ◌&&◌, ◌||◌, cond, List, [], ◌∷◌, ◌++◌, ℤ, Option, Some, None, Result, Ok, Err, inl}
 use Rattle.std.proofs.Common.{inr, refl, sym, ap, ◌∙◌}
 use Rattle.std.specs.Prelude.{codes}
@@ -30,7 +30,7 @@ use Rattle.lf_lex.proofs.Splicing.{and_true}
 not_both : true ≡ false → ⊥
 not_both e = cc
 
--- what a chain that gave a value has gone through
+-- The steps of a chain of readers that gave a value.
 pub bind_ok : {A B : Type 0} (o : Result A ReadFault) (k : A → Result B ReadFault) (y : B) → (o >>= k) ≡ Ok y → (x : A) × (o ≡ Ok x) × (k x ≡ Ok y)
 bind_ok (Ok x) k y e = (x, refl, e)
 bind_ok (Err q) k y e = absurd cc
@@ -83,7 +83,7 @@ point_ok l m p e =
       c1.2,
     )
 
--- the tokens of a place after its first parenthesis
+-- The tokens of a place after its first parenthesis.
 pub record PlaceRun (l m : Lexed) (p : LocatedPlace) : Type 0 where
   pub x : Lexeme
   pub y : Lexeme
@@ -113,7 +113,7 @@ located_ok l m p e =
       stop = ap (λ (z : LocatedPlace). z.stop) d.0;
     }
 
--- the tokens of a placement after its word
+-- The tokens of a placement after its word.
 pub record MoreRun (plus : ℕ) (t : Lexeme) (l m : Lexed) (p : PlacementClause) : Type 0 where
   pub more : List Lexeme
   pub whole : l ≡ with_tokens more m
@@ -157,7 +157,7 @@ unplaced_ok plus t l m p u e =
 text_is : (w : List ℕ) (t : Lexeme) → is w t ≡ true → t.text ≡ w
 text_is w t h = (bytes_eq-Decides t.text w).0 h
 
--- a token has not the bytes of two words
+-- A token does not have the bytes of two different words.
 not_two : (v w : List ℕ) (t : Lexeme) → bytes_eq v w ≡ false → is v t ≡ true → is w t ≡ true → ⊥
 not_two v w t other h k = let e : bytes_eq v w ≡ true = rw (text_is v t h) at k in absurd (not_both (sym e ∙ other))
 
@@ -181,9 +181,9 @@ unfolding only_placement
 only_ok None plus t l m p w e = placement_ok plus t l m p w e
 only_ok (Some first) plus t l m p w e = absurd cc
 
--- What is known of a component's tokens so far.
+-- Facts about the tokens of a component that were read so far.
 
--- the tokens end with a plus
+-- The tokens end with a plus.
 pub record EndsPlus (r : List Lexeme) (plus : ℕ) : Type 0 where
   pub front : List Lexeme
   pub last : Lexeme
@@ -191,7 +191,7 @@ pub record EndsPlus (r : List Lexeme) (plus : ℕ) : Type 0 where
   pub last_is : is (codes "+") last ≡ true
   pub start : plus ≡ last.start
 
--- the tokens end with a placement clause that has no place yet
+-- The tokens end with a placement clause that has no place so far.
 pub record EndsBare (r : List Lexeme) (placement : Option PlacementClause) : Type 0 where
   pub front : List Lexeme
   pub plus : Lexeme
@@ -208,7 +208,7 @@ pub record Known (r : List Lexeme) (s : ComponentParts) : Type 0 where
   pub plus : s.due ≡ Keyword → EndsPlus r s.plus
   pub bare : s.due ≡ Separator → s.point ≡ true → EndsBare r s.placement
 
--- the clause stands among more tokens too
+-- The clause is also among more tokens at the end.
 wider : (r : List Lexeme) (more : List Lexeme) (p : Option PlacementClause) → HasClause r p → HasClause (r ++ more) p
 wider r more None h = tt
 wider r more (Some p) h =
@@ -221,7 +221,7 @@ wider r more (Some p) h =
       is = h.is;
     }
 
--- one turn: what was taken, and what is known then
+-- One turn: the tokens that it takes, and the facts after it.
 pub record Step (r : List Lexeme) (l m : Lexed) (s : ComponentParts) : Type 0 where
   pub run : List Lexeme
   pub whole : l ≡ with_tokens run m
@@ -266,7 +266,7 @@ keyword_not_separator e = cc
 separator_not_keyword : Separator ≡ Keyword → ⊥
 separator_not_keyword e = cc
 
--- a token that is skipped
+-- A token that is skipped.
 passed : (r : List Lexeme) (l m n : Lexed) (s : ComponentParts) (u : Lexeme) → Known r s → (s.due ≡ Keyword → ⊥) → (s.due ≡ Separator → ⊥) → l ≡ with_token u n
     → n ≡ m → Step r l m s
 passed r l m n s u k no_keyword no_separator w e =
@@ -446,7 +446,7 @@ token_turn r l m s t k e =
     let a = token_ok l _ _ e in
     from_turn (is (codes ";") a.0) (is (codes "+") a.0) r l m a.1 s a.0 t k a.2 refl refl a.3
 
--- the tokens up to the semicolon
+-- The tokens up to the semicolon.
 record Ended (r : List Lexeme) (l m : Lexed) (s : ComponentParts) : Type 0 where
   pub front : List Lexeme
   pub last : Lexeme
@@ -494,7 +494,7 @@ all_turns (suc n) r l m s y k e =
     turns_by n r l m y a.0.value a.0.rest (token_turn r l a.0.rest s a.0.value k a.1)
     (λ r' k' f. all_turns n r' a.0.rest m a.0.value.state y k' f) a.0.value.more refl a.2
 
--- the clause stands among more tokens too
+-- The clause is also among more tokens at the front.
 deeper : (more r : List Lexeme) (p : Option PlacementClause) → HasClause r p → HasClause (more ++ r) p
 deeper more r None h = tt
 deeper more r (Some p) h = record {

@@ -1,4 +1,5 @@
--- The statements of DEF take a run of tokens, and read alike from tokens that differ in their places alone.
+-- The statements of DEF take a run of tokens, and read alike from tokens that differ only in their
+-- places.
 use Rattle.std.proofs.Common.{◌≡◌, ℕ, Bool, true, false, ◌&&◌, cond, List, [], ◌∷◌, ◌++◌, ℤ, pos, negsuc, length, Option, Some, None, Result, Ok, refl, ap, sym}
 use Rattle.std.proofs.Common.{◌∙◌}
 use Rattle.std.specs.Prelude.{codes, not, nat_lt, nat_le}
@@ -214,14 +215,14 @@ row_follows =
 
 -- Sections.
 
--- one entry more is alike, where the list and the entry are
+-- One more entry is alike, if the list and the entry are.
 abbrev pub Grows : {A B C : Type 0} → (A → B) → (List A → C) → Type 0
 Grows bare bare_list = (xs xs' : List _) (x x' : _) → bare_list xs' ≡ bare_list xs → bare x' ≡ bare x → bare_list (xs' ++ x' ∷ []) ≡ bare_list (xs ++ x ∷ [])
 
 pub same_grows : {A : Type 0} → Grows {A = A} same same
 same_grows xs xs' x x' e f = rw (e, f) refl
 
--- an entry or the end of a section, of which the first token was read
+-- An entry or the end of a section, given its first token.
 unfoldable pub entry_from : {A : Type 0} → List ℕ → Reader A → List A → Lexeme → Reader (Turn (List A))
 entry_from due entry s t l =
     cond (is (codes "-") t) (entry l >>= λ e. taken (turn (s ++ e.value ∷ []) true) e.rest)

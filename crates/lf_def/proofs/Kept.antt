@@ -1,4 +1,4 @@
--- What stands after a component, a statement or the end of the design is ignored in it.
+-- What follows a component, a statement or the end of the design does not affect it.
 use Rattle.std.proofs.Common.{◌≡◌, ℕ, ◌&&◌, List, ◌∷◌, ◌++◌, length, take, Option, Some, None, Result, refl, sym, ap, ◌∙◌}
 use Rattle.std.specs.Prelude.{codes, nat_lt}
 use Rattle.lf_lex.specs.declared.fault.ReadFault.{ReadFault}
@@ -137,7 +137,7 @@ statement_local s = local_bind token _ token_local (λ t. statement_from_local s
 pub statements_local : (s : DocParts) → Local (block statement s)
 statements_local s = local_block statement statement_local statement_goes s
 
--- What stands after END DESIGN.
+-- The tokens after END DESIGN.
 
 pub ends_before : (text : List ℕ) → EndsBefore text
 ends_before text read t after parts e h bytes =

@@ -1,11 +1,11 @@
--- Reading takes a run of tokens, and what stands after the run is ignored.
+-- Reading takes a run of tokens, and ignores what follows the run.
 use Rattle.std.proofs.Common.{◌≡◌, ℕ, zero, suc, ◌<◌, Bool, true, false, cond, List, [], ◌∷◌, ◌++◌, length, Result, Ok, Err, refl, sym, ap, ◌∙◌, arith}
 use Rattle.lf_lex.specs.declared.fault.ReadFault.{ReadFault}
 use Rattle.lf_lex.specs.Tokens.{Lexed, Lexeme, with_tokens}
 use Rattle.lf_lex.specs.Reading.{◌>>=◌, Reader, ReadValue, Turn, Statement, taken, turn, token, first_of, behind, statements, block}
 use Rattle.lf_lex.proofs.Runs.{Follows, Goes, same, left, ok_is, with_both, length_both}
 
--- the run that was taken, whatever stands after
+-- The run that was taken, whatever follows.
 pub record Takes {A : Type 0} (reader : Reader A) (l m : Lexed) (x : A) : Type 0 where
   pub run : List Lexeme
   pub whole : l ≡ with_tokens run m
@@ -14,7 +14,7 @@ pub record Takes {A : Type 0} (reader : Reader A) (l m : Lexed) (x : A) : Type 0
 abbrev pub Local : {A : Type 0} → Reader A → Type 0
 Local reader = (l m : Lexed) (x : _) → reader l ≡ taken x m → Takes reader l m x
 
--- what reads alike from alike tokens reads the same from the same ones
+-- A reader that reads alike from alike tokens reads the same from the same tokens.
 pub local_of : {A : Type 0} (reader : Reader A) → Follows same reader reader → Local reader
 local_of reader f l m x e =
     let r = f l m x e in
@@ -61,7 +61,7 @@ first_local (t ∷ ts) l m x w e =
 pub token_local : Local token
 token_local l m x e = first_local l.tokens l m x refl e
 
--- Statement after statement.
+-- Blocks of statements.
 
 pub record TurnsTake {S : Type 0} (statement : Statement S) (s : S) (l m : Lexed) (y : S) : Type 0 where
   pub run : List Lexeme

@@ -9,7 +9,7 @@ use Rattle.lf_def.proofs.Clauses.{bind_ok, token_ok, if_ok}
 
 -- Pieces of a text.
 
--- from the first byte of one token to the last of another
+-- The bytes from the first byte of one token to the last byte of another.
 abbrev pub piece : List ℕ → Lexeme → Lexeme → List ℕ
 piece text t u = take (u.stop - t.start) (drop t.start text)
 
@@ -34,7 +34,7 @@ last_is text t u s w =
     ap (λ (n : ℕ). drop n (piece text t u)) from ∙ ap (λ (n : ℕ). drop before (take n (drop t.start text))) whole ∙ drop-take before len (drop t.start text)
     ∙ ap (λ (z : List ℕ). take len z) (drop-drop before t.start text) ∙ ap (λ (n : ℕ). take len (drop n text)) start ∙ sym s.3.2
 
--- Names that are read one after the other.
+-- Names that are read in order.
 
 word_ok : (l m : Lexed) (t : Lexeme) → word l ≡ taken t m → l ≡ with_token t m
 unfolding word

@@ -1,4 +1,5 @@
--- Components and whole texts read alike from tokens that differ in their places alone, but for the places that components have.
+-- Components and whole texts read alike from tokens that differ only in their places, except for
+-- the places of components.
 use Rattle.std.proofs.Common.{◌≡◌, ℕ, Bool, true, false, ◌&&◌, ◌||◌, List, [], ◌∷◌, ◌++◌, map, Option, Some, None, refl, ap, sym, ◌∙◌}
 use Rattle.std.specs.Prelude.{codes, not, is_some}
 use Rattle.std.specs.Str.{bytes_eq}
@@ -82,7 +83,7 @@ only_follows None None plus plus' t t' a e = placement_follows plus plus' t t' e
 only_follows None (Some y) plus plus' t t' a e = absurd cc
 only_follows (Some x) first' plus plus' t t' a e = fault placement_without_places _ _
 
--- what is known of a component, without places
+-- The parts of a component so far, without places.
 abbrev pub bare_parts : ComponentParts → ComponentParts
 bare_parts s = record { placement = option_map placement_without_places s.placement; due = s.due; point = s.point; plus = 0; semicolon = 0 }
 
@@ -202,7 +203,7 @@ components_grow xs xs' x x' e f =
     map-append without_places xs' (x' ∷ []) ∙ ap (λ (z : List Component). z ++ without_places x' ∷ []) e
     ∙ ap (λ (z : Component). map without_places xs ++ z ∷ []) f ∙ sym (map-append without_places xs (x ∷ []))
 
--- what is known of a text, without the places of its components
+-- The parts of a text so far, without the places of its components.
 abbrev pub bare_doc : DocParts → DocParts
 bare_doc s = record s { components = bare_list s.components }
 
@@ -241,7 +242,7 @@ end_design_follows s =
     (fault same _ _)
     (choose same (is_some s.header.design) (is_some s.header.design) _ _ _ _ refl (pure same tt tt refl) (fault same _ _))))
 
--- only the header counts for the end of the design
+-- Only the header matters for the end of the design.
 end_design_of : (s s' : DocParts) (l : Lexed) → s'.header ≡ s.header → end_design s' l ≡ end_design s l
 unfolding end_design
 end_design_of s s' l e = ap (λ (h : HeaderParts). end_design (record s { header = h }) l) e

@@ -1,4 +1,5 @@
--- Printed rows and sections are what a text says, after any statements that are skipped.
+-- Printed rows and sections read back as the whole document of a text, after any skipped
+-- statements.
 use Rattle.std.proofs.Common.{◌≡◌, ◌≢◌, ℕ, true, List, [], ◌∷◌, ◌++◌, All, map, ℤ, Some, Ok, refl, ap, sym, ◌∙◌, subst}
 use Rattle.std.specs.Prelude.{codes, IsSome}
 use Rattle.std.specs.List.{list_all}
@@ -20,7 +21,7 @@ use Rattle.lf_def.specs.Printed.{WritesNumbers, IsWord, IsPrintedRow, IsPrintedR
 use Rattle.lf_def.specs.PrintedTexts.{Skipped, IsSkipped, Part, passed_over, design_is, one_row, regions_section, groups_section, components_section, blockages_section, text_tokens, IsPrintedPart, with_parts, document_with, BeginsWith, ReadsApartFromOffsets, design_named, after_skipped, ReadsBackInTexts, ComponentsReadBackInTexts}
 use Rattle.lf_def.proofs.PrintedTexts.{parts_read_back}
 
--- what a text says once its DESIGN is known
+-- The parts of a text after its DESIGN.
 abbrev named_parts : List ℕ → DocParts
 named_parts n = record no_parts { header = record no_header { design = Some n } }
 
@@ -28,7 +29,7 @@ passed_adds_nothing : (ps : List Skipped) (qs : List Part) (d : DocParts) → wi
 passed_adds_nothing [] qs d = refl
 passed_adds_nothing (p ∷ ps) qs d = passed_adds_nothing ps qs d
 
--- what is skipped adds nothing before DESIGN and after it
+-- Skipped statements add nothing in front of DESIGN and after it.
 behind_is : (before : List Skipped) (n : List ℕ) (between : List Skipped) (parts : List Part) → with_parts no_parts (after_skipped before n between parts) ≡ with_parts (named_parts n) parts
 behind_is before n between parts = passed_adds_nothing before (design_is n ∷ (map passed_over between ++ parts)) no_parts ∙ passed_adds_nothing between parts (named_parts n)
 
@@ -37,7 +38,7 @@ behind_printed before n between parts hb hm hn hp =
     All-append IsPrintedPart (map passed_over before) (design_is n ∷ (map passed_over between ++ parts)) (All-map IsPrintedPart passed_over before hb)
     (All-cons IsPrintedPart (design_is n) (map passed_over between ++ parts) hn (All-append IsPrintedPart (map passed_over between) parts (All-map IsPrintedPart passed_over between hm) hp))
 
--- what a text of these parts says, where d is what they say after DESIGN
+-- The document of a text with these parts, if they give d after DESIGN.
 says_behind : (print : ℤ → List ℕ) → WritesNumbers print → (before : List Skipped) (n : List ℕ) (between : List Skipped) (parts : List Part) (d : DocParts) → All IsSkipped before → All IsSkipped between → IsWord n → All IsPrintedPart parts
     → with_parts (named_parts n) parts ≡ d → IsSome d.header.design → (text : List ℕ) → BeginsWith text (text_tokens print (after_skipped before n between parts)) → ReadsApartFromOffsets text (document_with d)
 says_behind print writes before n between parts d hb hm hn hp e named text begins =
@@ -49,7 +50,7 @@ no_components : (cs : List Component) → map without_places cs ≡ [] → cs �
 no_components [] e = refl
 no_components (c ∷ cs) e = absurd cc
 
--- where there are no components, none has a place
+-- Without components there are no places.
 exactly : (text : List ℕ) (d : Document) → d.components ≡ [] → ReadsApartFromOffsets text d → document_of text ≡ Ok d
 exactly text d none says =
     let read : says.0 ≡ d.components = no_components says.0 (says.2 ∙ ap (λ (z : List Component). map without_places z) none) ∙ sym none in
@@ -86,6 +87,6 @@ blockages_behind print writes count other bs h before between n hb hm hn text be
     exactly text (record (design_named n) { blockages = bs }) refl
     (says_behind print writes before n between (blockages_section count bs ∷ []) (record (named_parts n) { blockages = bs }) hb hm hn (one_part (blockages_section count bs) (other, h)) refl refl text begins)
 
--- words with one space between, and a line feed
+-- Words with one space between, and a line feed.
 pub words_begin : (words : List (List ℕ)) (rest : List ℕ) → list_all is_word_text words ≡ true → BeginsWith (joined words ++ 10 ∷ rest) (map word_of words)
 words_begin words rest h = (plains (tokens_from 0 0 1 (10 ∷ rest)), joined_front 0 1 words (10 ∷ rest) h refl)

@@ -82,7 +82,7 @@ no_word : (soft : Bool) → Back same (blockage_token (parts_at soft false [] Ke
 no_word true f = f
 no_word false f = f
 
--- where a rectangle may stand
+-- Holds if a rectangle may follow.
 abbrev TakesRect : Due → Type 0
 TakesRect Keyword = ⊥
 TakesRect _ = Unit {0}

@@ -1,4 +1,4 @@
--- Printed components read back, with whatever is skipped in their entries.
+-- Printed components read back, with anything that is skipped in their entries.
 use Rattle.std.proofs.Common.{◌≡◌, ◌≢◌, ℕ, Bool, true, false, ◌&&◌, ◌||◌, List, [], ◌∷◌, ◌++◌, All, map, ℤ, Option, Some, None, refl, ap, ◌∙◌, arith}
 use Rattle.std.specs.Prelude.{codes, IfSome}
 use Rattle.std.specs.Option.{option_map}
@@ -29,11 +29,11 @@ use Rattle.lf_def.proofs.Places.{located_bare, bare_parts, parts_at, component_a
 use Rattle.lf_def.proofs.PrintedEntries.{name_back}
 use Rattle.lf_def.proofs.PrintedPlaces.{located_at, located_back, placement_at, is_unplaced, clause_at, stops, none_is}
 
--- a statement is like another where they differ in places alone
+-- Holds if the states differ only in places.
 abbrev Alike : ComponentParts → ComponentParts → Type 0
 Alike s s' = bare_parts s' ≡ bare_parts s
 
--- from each state like this one the tokens lead to that
+-- Holds if the tokens lead from each state like the first to a state like the second.
 abbrev Leads : ComponentParts → List PlainToken → ComponentParts → Type 0
 Leads s ps y = (s' : ComponentParts) → Alike s s' → TurnsAt bare_parts component_token s' ps y
 
@@ -48,7 +48,7 @@ no_stop u t h e = is_of (codes ";") u t e ∙ not_eq u.text (codes ";") h.stop
 no_plus : (u : PlainToken) (t : Lexeme) → IsInner u → plain t ≡ u → is (codes "+") t ≡ false
 no_plus u t h e = is_of (codes "+") u t e ∙ not_eq u.text (codes "+") h.plus
 
--- where such tokens are skipped
+-- Holds if tokens like these are skipped.
 abbrev Passes : Due → Type 0
 Passes due = (parts : ComponentParts) (t : Lexeme) (l : Lexed) → component_part due parts t l ≡ continues parts l
 
@@ -80,7 +80,7 @@ inner_leads s y passes (u ∷ us) vs h next s' a =
     at_more bare_parts component_token s' s y (u ∷ []) (us ++ vs) (omega arith) (inner_back s s' passes a u (All-head IsInner u us h)) (λ s1 a1.
     inner_leads s y passes us vs (All-tail IsInner u us h) next s1 a1)
 
--- Clauses that are skipped.
+-- Skipped clauses.
 
 plus_back : (s s' : ComponentParts) → Alike s s' → BackAt (turn_bare bare_parts) (component_token s') (word_of (codes "+") ∷ [])
     (turn (record s { due = Keyword }) true)
@@ -102,7 +102,7 @@ no_placement u t h e =
     (is_of (codes "FIXED") u t e ∙ not_eq u.text (codes "FIXED") (h Fixed)) (is_of (codes "COVER") u t e ∙ not_eq u.text (codes "COVER") (h Cover))
     (is_of (codes "PLACED") u t e ∙ not_eq u.text (codes "PLACED") (h Placed)) (is_of (codes "UNPLACED") u t e ∙ not_eq u.text (codes "UNPLACED") (h Unplaced))
 
--- the first word of a clause that is skipped
+-- The first word of a skipped clause.
 word_back : (s s' : ComponentParts) → s.due ≡ Keyword → Alike s s' → (u : PlainToken) → IsInner u → ((kind : PlacementKind) → u.text ≢ kind_word kind)
     → BackAt (turn_bare bare_parts) (component_token s') (u ∷ []) (turn (record s { due = Rest }) true)
 unfolding component_token component_from component_part clause
@@ -115,7 +115,7 @@ word_back s s' due a u h other =
     (at_no (turn_bare bare_parts) (is_placement_word t) _ _ [] y (no_placement u t other e)
     (back_pure (turn_bare bare_parts) y (turn (record s' { due = Rest }) true) (ap (λ (z : ComponentParts). turn (record z { due = Rest }) true) a))))))
 
--- what is known after clauses that are skipped
+-- The state after skipped clauses.
 abbrev behind_clauses : ComponentParts → List (List PlainToken) → ComponentParts
 behind_clauses s [] = s
 behind_clauses s ([] ∷ cs) = behind_clauses (record s { due = Keyword }) cs
@@ -138,7 +138,7 @@ clauses_lead ((t ∷ ts) ∷ cs) h s y rest next s' a =
     inner_leads in_clause y rest_passes ts (clauses_tokens cs rest) (All-tail IsInner t ts one.1) (λ s3 a3.
     clauses_lead cs (All-tail IsOtherClause (t ∷ ts) cs h) in_clause y rest next s3 a3) s2 a2))
 
--- such clauses leave the placement
+-- Skipped clauses leave the placement unchanged.
 same_behind : (cs : List (List PlainToken)) (s : ComponentParts) → (behind_clauses s cs).placement ≡ s.placement
 same_behind [] s = refl
 same_behind ([] ∷ cs) s = same_behind cs (record s { due = Keyword })
@@ -162,7 +162,7 @@ clause_leads print writes kind p h s y none rest next s' a =
     at_more bare_parts component_token s1 (placed_state kind p) y front rest (omega arith)
     (clause_at print writes kind p h s1 (none_alike due_word s1 none a1) (due_alike due_word s1 Keyword refl a1)) next)
 
--- the point of UNPLACED
+-- The point of UNPLACED.
 
 abbrev behind_point : ComponentParts
 behind_point = parts_at (Some (placement_at Unplaced None)) Separator false
@@ -190,7 +190,7 @@ point_back print writes p h s a =
     turn (record s { placement = option_map (up_to_stop q.stop) s.placement; point = false }) true)
     behind (located_at p) y (located_back print writes p h) (λ q eq. ap (λ (z : ComponentParts). turn z true) (point_taken s q a)))))))
 
--- what is known after the placement clause
+-- The state after the placement clause.
 abbrev behind_unplaced : Option Location → ComponentParts
 behind_unplaced None = placed_state Unplaced None
 behind_unplaced (Some p) = behind_point
@@ -230,7 +230,7 @@ placement_leads : (print : ℤ → List ℕ) → WritesNumbers print → (p : Op
 placement_leads print writes None point h hp s y none rest next = next
 placement_leads print writes (Some p) point h hp s y none rest next = kind_leads print writes p.kind p.place point h hp s y none rest next
 
--- the placement that is known then is that of the component
+-- The placement in that state is that of the component.
 unplaced_is : (place point : Option Location) → HasPlace Unplaced place
     → option_map placement_without_places (behind_unplaced point).placement ≡ Some (placement_at Unplaced place)
 unplaced_is None None h = refl
@@ -304,7 +304,7 @@ entry_back print writes p h =
     (entry_leads print writes p h no_component refl)) (λ s es.
     component_is p h n k s en ek es)))
 
--- a printed component reads back, places apart
+-- A printed component reads back, except for places.
 pub entry_reads_back : (print : ℤ → List ℕ) → WritesNumbers print → (p : PrintedComponent) → IsPrintedEntry p
     → EntryReadsBack (entry_tokens print p) p.component
 entry_reads_back print writes p h tokens e l = let a = entry_back print writes p h tokens e in (a.value, a.takes l, a.alike)

@@ -29,7 +29,7 @@ use Rattle.lf_def.proofs.Following.{point_at}
 pub name_back : (n : List ℕ) → IsWord n → Back plain name (n ∷ []) (token_with n)
 name_back n h = short_name_back n h.other h.name.short
 
--- where no places are left out it is the value itself
+-- If no places are left out, the value itself is read.
 pub reads_back : {A : Type 0} (reader : Reader A) (ws : List (List ℕ)) (x : A) → Back same reader ws x → ReadsBack reader ws x
 reads_back reader ws x f p e l = let a = f p e in a.takes l ∙ ap (λ (z : _). taken z l) a.alike
 
@@ -115,7 +115,7 @@ end_back : (t : Lexeme) → plain t ≡ word_of (codes ";") → Back same (row_e
 unfolding row_end
 end_back t e = back_yes same (is (codes ";") t) _ _ [] tt (is_at (codes ";") (codes ";") t e) (back_pure same tt tt refl)
 
--- the words of a step after the first of them
+-- The words of a step after the first of them.
 step_back : (print : ℤ → List ℕ) → WritesNumbers print → (s : Option Point) → IfSome s (λ p. HasCoordinates p)
     → (k : ReadValue Lexeme → Result (ReadValue Sites) ReadFault) (y : Sites)
     → ((t : Lexeme) (ws : List (List ℕ)) → Back same (step t) ws s → Back same (λ l. k (left t l)) ws y) → Back same (λ l. token l >>= k) (step_words print s) y

@@ -30,7 +30,7 @@ use Rattle.lf_def.specs.Printed.{IsPattern, IsRegionName, IsPrintedGroup}
 use Rattle.lf_lex.proofs.Back.{Back, TurnsBack, back_pure, back_bind, back_first, back_yes, back_no, back_given, token_with, turns_last, turns_more, block_back}
 use Rattle.lf_def.proofs.PrintedEntries.{name_back, rect_back, rect_rest_back}
 
--- a turn, and the turns after it, where no places are left out
+-- A turn, and the turns after it, if no places are left out.
 pub then_turns : {S : Type 0} (statement : Statement S) (s s1 y : S) (w : List ℕ) (ws vs : List (List ℕ)) → Back same (statement s) (w ∷ ws) (turn s1 true)
     → TurnsBack same statement s1 vs y → TurnsBack same statement s (w ∷ (ws ++ vs)) y
 then_turns statement s s1 y w ws vs f g = turns_more same statement s s1 y w ws vs f (λ s1' e. rw e g)

@@ -1,4 +1,4 @@
--- Whole numbers as std prints them are read as what they are.
+-- Whole numbers as std prints them are read back.
 use Rattle.std.proofs.Common.{◌≡◌, ℕ, suc, ◌+◌, ◌<◌, ◌≤◌, Bool, true, false, cond, List, [], ◌∷◌, take, drop, length, ℤ, pos, negsuc, Result, Ok, Err, refl, ap, ◌∙◌, arith}
 use Rattle.std.specs.Prelude.{◌==◌, nat_lt, decimal}
 use Rattle.std.specs.Int.{IsInRange}
@@ -62,7 +62,7 @@ digits_are_word : (ds : List ℕ) → AllDigits 10 ds → 0 < length ds → is_w
 digits_are_word [] d some = absurd (omega arith)
 digits_are_word (c ∷ ds) d some = let h = digit_from_value c d.0 in rw (no_hash c h, no_quote c h) (digits_are_bytes (c ∷ ds) d)
 
--- The number that a sign and digits write.
+-- The number that a sign and digits denote.
 
 abbrev fixed_parts : Bool → List ℕ → List ℕ → Result ℤ NumberFault
 fixed_parts negative whole fraction = cond (is_number whole fraction) (digits_fixed negative whole fraction 0 2147483647) (Err NotANumber)
@@ -97,7 +97,7 @@ reads : (text : List ℕ) (negative : Bool) (ds : List ℕ) (n : ℕ) → withou
 reads text negative ds n rest sign d some e h =
     ap (λ (z : List ℕ). fixed_rest (starts_with_minus text) z) rest ∙ ap (λ (z : Bool). fixed_rest z ds) sign ∙ rest_is negative ds d ∙ parts_are negative ds n d some e h
 
--- decimal numbers are a way of writing coordinates
+-- Decimal numbers denote coordinates that read back.
 pub decimals_are_read : WritesNumbers signed_decimal
 decimals_are_read (pos n) h =
     let small : n ≤ 2147483647 = omega (arith, ints, h.high) in
@@ -109,7 +109,7 @@ decimals_are_read (negsuc n) h =
     let k = decimal_is_IsNumeral (suc n) (omega arith) in
     reads (45 ∷ decimal (suc n)) true (decimal (suc n)) (suc n) refl refl k.0.1 k.0.0 k.1 small
 
--- and each of them is a word
+-- Each decimal number is a word.
 pub decimals_are_words : (x : ℤ) → IsCoordinate x → is_word_text (signed_decimal x) ≡ true
 decimals_are_words (pos n) h =
     let small : n ≤ 2147483647 = omega (arith, ints, h.high) in

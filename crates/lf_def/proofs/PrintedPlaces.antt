@@ -1,4 +1,4 @@
--- Printed components read back, but for where they stand; and printed blockages.
+-- Printed components read back, except for their offsets. Printed blockages read back.
 use Rattle.std.proofs.Common.{◌≡◌, ℕ, Bool, true, false, ◌||◌, List, [], ◌∷◌, ◌++◌, ℤ, Option, Some, None, refl, ap, sym, ◌∙◌, subst}
 use Rattle.std.specs.Prelude.{codes, IfSome}
 use Rattle.std.specs.Str.{bytes_eq}
@@ -184,7 +184,7 @@ clause_turns print writes kind p h =
     turns_last bare_parts component_token s2 (parts_at (Some (placement_at kind p)) Separator (is_unplaced kind)) (codes ";" ∷ [])
     (stops s2 (parts_at (Some (placement_at kind p)) Separator (is_unplaced kind)) e2)))
 
--- what is known after the clause of a component
+-- The state after the clause of a component.
 abbrev known_of : Option PlacementClause → ComponentParts
 known_of None = no_component
 known_of (Some p) = parts_at (Some (placement_at p.kind p.place)) Separator (is_unplaced p.kind)
@@ -221,6 +221,6 @@ component_back print writes c h =
     (placement_turns print writes c.placement h.placement)) (λ s es.
     back_pure without_places c (record { name = n.text; mac = k.text; placement = s.placement; semicolon = s.semicolon }) (component_is c n k s en ek es)))))
 
--- a printed component reads back, places apart
+-- A printed component reads back, except for places.
 pub component_reads_back : (print : ℤ → List ℕ) → WritesNumbers print → (c : Component) → IsPrintedComponent c → ComponentReadsBack (component_words print c) c
 component_reads_back print writes c h p e l = let a = component_back print writes c h p e in (a.value, a.takes l, a.alike)

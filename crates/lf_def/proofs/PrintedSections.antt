@@ -17,7 +17,7 @@ use Rattle.lf_lex.proofs.Back.{BackAt, Back, TurnsAt, TurnsBack, back_pure, back
 use Rattle.lf_lex.proofs.Back.{at_more, at_block, turns_last, block_back}
 use Rattle.lf_def.proofs.PrintedLists.{then_turns}
 
--- words that are skipped, up to a semicolon
+-- Words that are skipped, up to a semicolon.
 pub passed_back : (ws : List (List ℕ)) → All (λ w. w ≢ codes ";") ws → TurnsBack same passed_token tt (ws ++ codes ";" ∷ []) tt
 unfolding passed_token
 passed_back [] h = turns_last same passed_token tt tt (codes ";" ∷ [])
@@ -69,7 +69,7 @@ entries_turns bare bare_list grows due own entry tokens value P f (x ∷ xs) s s
     subst (λ (z : List _). TurnsAt bare_list (entry_or_end due entry) s1 behind z) there
     (entries_turns bare bare_list grows due own entry tokens value P f xs (s ++ value x ∷ []) s1 (All-tail P x xs h) e1))
 
--- a section after its keyword
+-- A section after its keyword.
 pub section_at : {A B C X : Type 0} (bare : A → B) (bare_list : List A → C) → Grows bare bare_list → (due : List ℕ) → bytes_eq due due ≡ true
     → (entry : Reader A)
     (tokens : X → List PlainToken) (value : X → A) (P : X → Type 0) → ((x : X) → P x → BackAt bare entry (tokens x) (value x))

@@ -42,7 +42,7 @@ use Rattle.lf_def.proofs.PrintedPlaces.{component_back}
 use Rattle.lf_def.proofs.PrintedBlockages.{blockages_back}
 use Rattle.lf_def.proofs.PrintedSections.{section_at, section_back}
 
--- a statement that reads a value, and makes of it what is known then
+-- A statement that reads a value and adds it to the state.
 part_back : {A B H : Type 0} (bareA : A → B) (r : Reader A) (f : A → H) (g : H → DocParts) (s : DocParts) (u : PlainToken) (vs : List PlainToken) (x : A) (y : DocParts)
     → ((t : Lexeme) (l : Lexed) → plain t ≡ u → statement_from s t l ≡ ((r l >>= λ v. taken (f v.value) v.rest) >>= λ new. continues (g new.value) new.rest))
     → ((x' : A) → bareA x' ≡ bareA x → bare_doc (g (f x')) ≡ bare_doc y) → BackAt bareA r vs x
@@ -54,12 +54,12 @@ part_back bareA r f g s u vs x y is_read alike back =
     (at_map bareA (λ (h : _). bare_doc (g h)) r f vs x (f x) back (λ x' ex. alike x' ex ∙ sym (alike x refl)))
     (λ h eh. ap (λ (z : DocParts). turn z true) (eh ∙ alike x refl))))
 
--- what a statement says follows from the bytes of its first token
+-- The reader of a statement follows from the bytes of its first token.
 by_bytes : (s : DocParts) (t : Lexeme) (l : Lexed) (u : PlainToken) → plain t ≡ u
     → statement_from s t l ≡ statement_from s (record t { text = u.text; kind = u.kind }) l
 by_bytes s t l u e = ap (λ (p : PlainToken). statement_from s (record t { text = p.text; kind = p.kind }) l) e
 
--- Statements that are skipped.
+-- Skipped statements.
 
 abbrev ReadsBy : List ℕ → Reader (Unit {0}) → Type 0
 ReadsBy w r = (s : DocParts) (t : Lexeme) (l : Lexed) → plain t ≡ word_of w
@@ -89,7 +89,7 @@ each_statement =
       ),
     )
 
--- the keyword of a section, which is read up to END and the keyword
+-- The keyword of a section that is skipped up to END and the keyword.
 record ToEnd (w : List ℕ) : Type 0 where
   pub reads : ReadsBy w (to_end w)
   pub own : bytes_eq w w ≡ true
@@ -261,7 +261,7 @@ more_alike cs s s' a =
     ∙ ap (λ (z : DocParts). record z { components = z.components ++ map without_places cs }) a
     ∙ ap (λ (z : List Component). record s { components = z }) (sym (map-append without_places s.components cs))
 
--- places are ignored in what a part adds
+-- Places do not affect what a part adds.
 with_alike : (p : Part) (s s' : DocParts) → bare_doc s' ≡ bare_doc s → bare_doc (with_part s' p) ≡ bare_doc (with_part s p)
 with_alike (passed_over p) s s' a = a
 with_alike (version_is v) s s' a = ap (λ (z : DocParts). with_part z (version_is v)) a

@@ -1,4 +1,4 @@
--- The components of a document stand in its text in their order, one after the other.
+-- The components of a document are in its text in order, without overlap.
 use Rattle.std.proofs.Common.{◌≡◌, ℕ, zero, suc, ◌+◌, ◌-◌, ◌≤◌, ◌<◌, Bool, true, false, cond, List, [], ◌∷◌, ◌++◌, length, take, drop, Option, Some, None, Result, Err, refl, sym, ap, ◌∙◌, arith, min}
 use Rattle.std.specs.Prelude.{codes}
 use Rattle.std.proofs.lemmas.Slice.Eq.{bytes_eq-Decides}
@@ -27,7 +27,7 @@ use Rattle.lf_def.proofs.Local.{Local, local_of}
 use Rattle.lf_def.proofs.Clauses.{bind_ok, token_ok, components_stand}
 use Rattle.lf_def.proofs.Same.{said}
 
--- the place after a run of tokens
+-- The place after a run of tokens.
 behind_run : ℕ → List Lexeme → ℕ
 behind_run at [] = at
 behind_run at (t ∷ ts) = behind_run t.stop ts
@@ -42,7 +42,7 @@ unfolding behind_run
 last_behind stop t [] h = h
 last_behind stop t (u ∷ us) h = last_behind stop u us h
 
--- a clause among the tokens from one place on and up to another
+-- A clause among the tokens lies between the offsets of these tokens.
 clause_stands : (text : List ℕ) (at : ℕ) (tokens ts : List Lexeme) (p : PlacementClause) → ClauseAmong tokens p → AreSlices text at (tokens ++ ts) → (at ≤ p.start) × (p.start < p.stop) × (p.stop ≤ behind_run at tokens)
 unfolding behind_run
 clause_stands text at tokens ts p c h =
@@ -65,7 +65,7 @@ clause_within : (text : List ℕ) (at to : ℕ) (tokens ts : List Lexeme) (p : O
 clause_within text at to tokens ts None c h le = tt
 clause_within text at to tokens ts (Some p) c h le = let r = clause_stands text at tokens ts p c h in (r.0, r.1, omega (arith, r.2, le))
 
--- a semicolon stands within the text
+-- A semicolon lies within the text.
 semicolon_within : (text : List ℕ) (t : Lexeme) → is (codes ";") t ≡ true → t.text ≡ take (t.stop - t.start) (drop t.start text) → t.start < length text
 semicolon_within text t e h =
     let one : t.text ≡ codes ";" = (bytes_eq-Decides t.text (codes ";")).0 e in
@@ -114,7 +114,7 @@ one_more : (from high at to : ℕ) (cs : List Component) (c : Component) → Ris
 one_more from high at to [] c h le s k e = (omega (arith, h, le, s), later_clause from at c.semicolon c.placement (omega (arith, h, le)) k, e)
 one_more from high at to (d ∷ cs) c h le s k e = (h.0, h.1, one_more (d.semicolon + 1) high at to cs c h.2 le s k e)
 
--- what is known where tokens are left: the components that were read stand before them
+-- The fact while tokens are left: the components that were read lie in front of them.
 record Read (text : List ℕ) (m : Lexed) (cs : List Component) : Type 0 where
   pub high : ℕ
   pub at : ℕ
@@ -191,7 +191,7 @@ components_read text l m s y k e =
 
 -- The statements of a text.
 
--- a statement that says nothing of components
+-- A statement that adds no component.
 other : {A : Type 0} (reader : Reader A) (text : List ℕ) (l m : Lexed) (s s' : DocParts) (k : A → DocParts) → Local reader → ((x : A) → (k x).components ≡ s.components) → Read text l s.components
     → (reader l >>= λ x. taken (k x.value) x.rest) ≡ taken s' m → Read text m s'.components
 other reader text l m s s' k local kept r e =

@@ -1,4 +1,4 @@
--- Texts whose tokens have the same bytes say the same, places apart.
+-- Texts whose tokens have the same bytes give the same document, except for places.
 use Rattle.std.proofs.Common.{◌≡◌, ℕ, List, map, Result, Ok, Err, refl, sym, ap, ◌∙◌}
 use Rattle.lf_lex.specs.declared.fault.ReadFault.{ReadFault}
 use Rattle.lf_lex.specs.Tokens.{Lexed, Lexeme, plain, with_tokens, tokens_of}
@@ -21,7 +21,7 @@ document_at s = record {
       s.blockages;
 }
 
--- where reading a text gives a document, its statements were read
+-- If reading a text gives a document, its statements were read.
 pub record Said (r : Result (ReadValue DocParts) ReadFault) (d : Document) : Type 0 where
   pub parts : DocParts
   pub rest : Lexed

@@ -9,23 +9,25 @@ use Rattle.lf_def.specs.declared.blockages.Blockage.{Blockage}
 use Rattle.lf_def.specs.declared.blockages.BlockageParts.{BlockageParts}
 use Rattle.lf_def.specs.Coordinates.{rect}
 
--- one more rectangle, after RECT
+-- Adds a rectangle, after RECT.
 unfoldable pub with_rect : BlockageParts → Reader (Turn BlockageParts)
 with_rect parts l = do
   r ← rect l
   continues (record parts { rects = parts.rects ++ r.value ∷ []; due = Item }) r.rest
 
--- the word of a clause: SOFT and PARTIAL are noted
+-- Records the word of a clause, if it is SOFT or PARTIAL.
 abbrev pub noted : BlockageParts → Lexeme → BlockageParts
 noted parts t = record parts { soft = parts.soft || is (codes "SOFT") t; partial = parts.partial || is (codes "PARTIAL") t; due = Rest }
 
--- A token of a blockage that is no separator: what follows a clause's word is skipped up to RECT.
+-- The part of a blockage that begins with a token, which is no separator. What follows the word of
+-- a clause is skipped up to RECT.
 unfoldable pub blockage_part : Due → BlockageParts → Lexeme → Reader (Turn BlockageParts)
 blockage_part Keyword parts t l = continues (noted parts t) l
 blockage_part Rest parts t l = if is (codes "RECT") t then with_rect parts l else continues parts l
 blockage_part _ parts t l = if is (codes "RECT") t then with_rect parts l else fault_at Unexpected t.line
 
--- a token of a blockage and what it takes with it: a semicolon is the last, and a plus begins a clause
+-- The part of a blockage that begins with a token. A semicolon is the last, and a plus begins a
+-- clause.
 unfoldable pub blockage_from : BlockageParts → Lexeme → Reader (Turn BlockageParts)
 blockage_from parts t l =
     if is (codes ";") t then finishes parts l
@@ -43,7 +45,7 @@ no_blockage = record { soft = false; partial = false; rects = []; due = Item }
 abbrev pub blockage_of : BlockageParts → Blockage
 blockage_of parts = record { soft = parts.soft; partial = parts.partial; rects = parts.rects }
 
--- a blockage after its minus, or none if it blocks a layer
+-- A blockage after its minus, or `None` if it blocks a layer.
 unfoldable pub blockage : Reader (Option Blockage)
 blockage l = do
   t ← token l
@@ -55,7 +57,7 @@ abbrev pub with_blockage : List Blockage → Option Blockage → List Blockage
 with_blockage known None = known
 with_blockage known (Some b) = known ++ b ∷ []
 
--- - entry .. ; or END BLOCKAGES
+-- The minus and an entry, or END BLOCKAGES.
 unfoldable pub blockage_or_end : Statement (List Blockage)
 blockage_or_end known l = do
   t ← token l
@@ -63,7 +65,7 @@ blockage_or_end known l = do
       else if is (codes "END") t.value then (end_name (codes "BLOCKAGES") t.rest >>= λ stop. finishes known stop.rest)
       else fault_at Unexpected t.value.line
 
--- BLOCKAGES count ; entries END BLOCKAGES, after its keyword
+-- BLOCKAGES count ; entries END BLOCKAGES, after its keyword.
 unfoldable pub blockages : List Blockage → Reader (List Blockage)
 blockages known l = do
   start ← to_semicolon l

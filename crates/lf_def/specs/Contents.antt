@@ -1,4 +1,4 @@
--- What a document contains besides its text.
+-- The contents of a document without its text.
 use Rattle.lf_def.specs.declared.document.DefDoc.{DefDoc}
 use Rattle.lf_def.specs.Document.{Document}
 

@@ -1,4 +1,5 @@
--- Coordinates, points, rectangles, counts and orientations of DEF. Coordinates are whole database units.
+-- Coordinates, points, rectangles, counts and orientations of DEF. Coordinates are whole database
+-- units.
 use Rattle.std.specs.Prelude.{ℕ, nat_le, ◌&&◌, ℤ, pos, negsuc, Result, Ok, codes, if◌then◌else◌}
 use Rattle.std.specs.Int.{int_min, int_max}
 use Rattle.lf_units.specs.declared.geometry.Point.{Point}
@@ -11,11 +12,11 @@ use Rattle.lf_lex.specs.declared.fault.ReadFault.{ReadFault}
 use Rattle.lf_lex.specs.Tokens.{Lexeme}
 use Rattle.lf_lex.specs.Reading.{◌>>=◌, Reader, taken, fault_at, token, is, keyword, or_bad_number}
 
--- the whole number that the token writes, from -2147483647 to 2147483647
+-- The whole number of a token, from -2147483647 to 2147483647.
 abbrev pub dbu_of : Lexeme → Result ℤ ReadFault
 dbu_of t = or_bad_number (fixed_of t.text 0 2147483647) t.line
 
--- a coordinate
+-- A coordinate.
 unfoldable pub dbu : Reader ℤ
 dbu l = do
   t ← token l
@@ -26,7 +27,7 @@ abbrev pub up_to : ℕ → ℤ → ℕ → Result ℕ ReadFault
 up_to most (pos n) line = if nat_le 1 n && nat_le n most then Ok n else fault_at BadNumber line
 up_to most (negsuc n) line = fault_at BadNumber line
 
--- a whole number from 1 to the largest one
+-- A whole number from 1 to the largest one.
 unfoldable pub count : ℕ → Reader ℕ
 count most l = do
   t ← token l
@@ -34,7 +35,7 @@ count most l = do
   n ← up_to most x t.value.line
   taken n t.rest
 
--- x y ) after the first parenthesis
+-- x y ) after the first parenthesis.
 unfoldable pub point_rest : Reader Point
 point_rest l = do
   x ← dbu l
@@ -48,11 +49,11 @@ point l = do
   start ← keyword (codes "(") l
   point_rest start.rest
 
--- the rectangle with these two opposite corners
+-- The rectangle with these two opposite corners.
 abbrev pub rect_between : Point → Point → Rect
 rect_between p q = record { x1 = int_min p.x q.x; y1 = int_min p.y q.y; x2 = int_max p.x q.x; y2 = int_max p.y q.y }
 
--- x y ) ( x y ) after the first parenthesis: any two opposite corners
+-- x y ) ( x y ) after the first parenthesis: any two opposite corners.
 unfoldable pub rect_rest : Reader Rect
 rect_rest l = do
   p ← point_rest l
@@ -65,7 +66,7 @@ rect l = do
   start ← keyword (codes "(") l
   rect_rest start.rest
 
--- the orientation that the token names
+-- The orientation that the token names.
 abbrev pub orient_of : Lexeme → Result Orient ReadFault
 orient_of t =
     if is (codes "N") t then Ok N

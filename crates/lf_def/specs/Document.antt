@@ -22,7 +22,7 @@ use Rattle.lf_def.specs.Groups.{groups}
 use Rattle.lf_def.specs.Components.{components}
 use Rattle.lf_def.specs.Blockages.{blockages}
 
--- what a text says, each list in the order of the text
+-- The contents of a text, each list in the order of the text.
 pub record Document : Type 0 where
   pub header : Header
   pub rows : List Row
@@ -31,22 +31,22 @@ pub record Document : Type 0 where
   pub components : List Component
   pub blockages : List Blockage
 
--- sections that are skipped to END and their keyword (DEF PROPERTYDEFINITIONS, VIAS, STYLES, NONDEFAULTRULES, PINS,
--- PINPROPERTIES, SLOTS, FILLS, SPECIALNETS, NETS, SCANCHAINS)
+-- True for sections that are skipped up to END and their keyword (DEF PROPERTYDEFINITIONS, VIAS,
+-- STYLES, NONDEFAULTRULES, PINS, PINPROPERTIES, SLOTS, FILLS, SPECIALNETS, NETS, SCANCHAINS).
 abbrev pub is_skipped_section : Lexeme → Bool
 is_skipped_section t =
     is (codes "PROPERTYDEFINITIONS") t || is (codes "VIAS") t || is (codes "STYLES") t || is (codes "NONDEFAULTRULES") t || is (codes "PINS") t || is
     (codes "PINPROPERTIES") t
     || is (codes "SLOTS") t || is (codes "FILLS") t || is (codes "SPECIALNETS") t || is (codes "NETS") t || is (codes "SCANCHAINS") t
 
--- statements that are skipped to their semicolon (DEF TRACKS, GCELLGRID, HISTORY, TECHNOLOGY, DIEAREA, COMPONENTMASKSHIFT,
--- NAMESCASESENSITIVE)
+-- True for statements that are skipped up to their semicolon (DEF TRACKS, GCELLGRID, HISTORY,
+-- TECHNOLOGY, DIEAREA, COMPONENTMASKSHIFT, NAMESCASESENSITIVE).
 abbrev pub is_skipped_statement : Lexeme → Bool
 is_skipped_statement t =
     is (codes "TRACKS") t || is (codes "GCELLGRID") t || is (codes "HISTORY") t || is (codes "TECHNOLOGY") t || is (codes "DIEAREA") t || is
     (codes "COMPONENTMASKSHIFT") t || is (codes "NAMESCASESENSITIVE") t
 
--- a statement that is skipped, after its first token; any other word begins no statement
+-- Skips a statement, after its first token. Any other word begins no statement.
 unfoldable pub passed_from : Lexeme → Reader (Unit {0})
 passed_from t l =
     if is_skipped_section t then to_end t.text l
@@ -55,7 +55,7 @@ passed_from t l =
     else if kind_is_word t.kind then fault_at UnknownStatement t.line
     else fault_at Unexpected t.line
 
--- DESIGN after an END (DEF END DESIGN): a DESIGN statement must precede it
+-- DESIGN after an END (DEF END DESIGN). A DESIGN statement must precede it.
 unfoldable pub end_design : DocParts → Reader (Unit {0})
 end_design parts l = do
   t ← token l
@@ -64,7 +64,7 @@ end_design parts l = do
       else if is_some parts.header.design then taken tt t.rest
       else fault_at Unexpected t.value.line
 
--- a row or a section, after its keyword, or a statement that is skipped
+-- A row or a section, after its keyword, or a skipped statement.
 unfoldable pub body_statement : DocParts → Lexeme → Reader DocParts
 body_statement parts t l =
     if is (codes "ROW") t then (with_row parts.rows l >>= λ s. taken (record parts { rows = s.value }) s.rest)
@@ -74,7 +74,7 @@ body_statement parts t l =
     else if is (codes "BLOCKAGES") t then (blockages parts.blockages l >>= λ s. taken (record parts { blockages = s.value }) s.rest)
     else (passed_from t l >>= λ stop. taken parts stop.rest)
 
--- a statement of the text, after its first token
+-- A statement of the text, after its first token.
 unfoldable pub statement_from : DocParts → Lexeme → Reader (Turn DocParts)
 statement_from parts t l =
     if is (codes "END") t then (end_design parts l >>= λ stop. finishes parts stop.rest)
@@ -89,7 +89,7 @@ statement parts l = do
 abbrev pub no_parts : DocParts
 no_parts = record { header = no_header; rows = []; regions = []; groups = []; components = []; blockages = [] }
 
--- what the statements of a text up to END DESIGN say, or the first fault
+-- The statements of a text up to END DESIGN, or the first fault.
 abbrev pub parts_of : List ℕ → Result DocParts ReadFault
 parts_of text = value_of (block statement no_parts (tokens_of text))
 
@@ -106,15 +106,15 @@ document_from (Ok parts) =
     })
 document_from (Err e) = Err e
 
--- The document that a text is, or the text's first fault.
+-- The document of a text, or the text's first fault.
 abbrev pub document_of : List ℕ → Result Document ReadFault
 document_of text = document_from (parts_of text)
 
--- a document is what its text says
+-- Holds if the document is what its text says.
 abbrev pub IsReadFrom : List ℕ → Header → List Row → List Region → List Group → List Component → List Blockage → Type 0
 IsReadFrom text header rows regions groups components blockages =
     document_of text ≡ Ok (record { header = header; rows = rows; regions = regions; groups = groups; components = components; blockages = blockages })
 
--- the fault of a reader: that of the text with its line, or a failed allocation
+-- Holds if the fault is that of the text, with its line, or a failed allocation.
 abbrev pub Refuses : LoadFault → Result Document ReadFault → Type 0
 Refuses fault reading = (fault ≡ load_fault_of Memory) ⊎ ((first : ReadFault) × (reading ≡ Err first) × (fault ≡ load_fault_of (Fault first)))

@@ -9,27 +9,29 @@ use Rattle.lf_def.specs.declared.groups.Group.{Group}
 use Rattle.lf_def.specs.declared.groups.GroupParts.{GroupParts}
 use Rattle.lf_def.specs.Entries.{section, name_of}
 
--- one more pattern
+-- Adds a pattern.
 unfoldable pub with_pattern : GroupParts → Lexeme → Reader (Turn GroupParts)
 with_pattern parts t l = do
   pattern ← name_of t
   continues (record parts { patterns = parts.patterns ++ pattern ∷ [] }) l
 
--- REGION name after its word: the first counts; a parenthesis is no name
+-- REGION name after its word. The first one counts. A parenthesis is no name.
 unfoldable pub with_region : GroupParts → Reader (Turn GroupParts)
 with_region parts l = do
   n ← name l
   if is (codes "(") n.value then fault_at Unexpected n.value.line
       else continues (record parts { region = first_counts parts.region n.value.text; due = Separator }) n.rest
 
--- a token of a group that is no separator: patterns come first, REGION is read, and other clauses are skipped
+-- The part of a group that begins with a token, which is no separator. Patterns come first, REGION
+-- is read, and other clauses are skipped.
 unfoldable pub group_part : Due → GroupParts → Lexeme → Reader (Turn GroupParts)
 group_part Item parts t l = with_pattern parts t l
 group_part Keyword parts t l = if is (codes "REGION") t then with_region parts l else continues (record parts { due = Rest }) l
 group_part Rest parts t l = continues parts l
 group_part Separator parts t l = fault_at Unexpected t.line
 
--- a token of a group and what it takes with it: a semicolon is the last, and a plus begins a clause
+-- The part of a group that begins with a token. A semicolon is the last, and a plus begins a
+-- clause.
 unfoldable pub group_from : GroupParts → Lexeme → Reader (Turn GroupParts)
 group_from parts t l =
     if is (codes ";") t then finishes parts l
@@ -44,13 +46,13 @@ group_token parts l = do
 abbrev pub no_group : GroupParts
 no_group = record { patterns = []; region = None; due = Item }
 
--- a group after its minus
+-- A group after its minus.
 unfoldable pub group : Reader Group
 group l = do
   n ← name l
   parts ← block group_token no_group n.rest
   taken (record { name = n.value.text; patterns = parts.value.patterns; region = parts.value.region }) parts.rest
 
--- GROUPS count ; entries END GROUPS, after its keyword
+-- GROUPS count ; entries END GROUPS, after its keyword.
 abbrev pub groups : List Group → Reader (List Group)
 groups known l = section (codes "GROUPS") group known l

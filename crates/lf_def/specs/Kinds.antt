@@ -1,4 +1,5 @@
--- Which regions are fences, and which components are FIXED, COVER, or teams' to move (DEF REGIONS, COMPONENTS).
+-- Regions that are fences, and components that are FIXED, COVER or movable by teams (DEF REGIONS,
+-- COMPONENTS).
 use Rattle.std.specs.Prelude.{Bool, true, false, not, ◌&&◌, Option, Some, None}
 use Rattle.lf_def.specs.declared.regions.Region.{Region}
 use Rattle.lf_def.specs.declared.regions.RegionKind.{RegionKind}
@@ -13,7 +14,7 @@ is_fence_kind (Some Fence) = true
 is_fence_kind (Some Guide) = false
 is_fence_kind None = false
 
--- the region is a fence: its TYPE is FENCE
+-- True if the region is a fence: its TYPE is FENCE.
 abbrev pub is_fence : Region → Bool
 is_fence r = is_fence_kind r.kind
 
@@ -29,7 +30,7 @@ is_cover_kind Cover = true
 is_cover_kind Placed = false
 is_cover_kind Unplaced = false
 
--- its placement clause is of this kind; a component without one is of none
+-- True if there is a placement clause of this kind.
 abbrev pub has_kind : (PlacementKind → Bool) → Option PlacementClause → Bool
 has_kind is_kind None = false
 has_kind is_kind (Some p) = is_kind p.kind
@@ -40,6 +41,6 @@ is_fixed c = has_kind is_fixed_kind c.placement
 abbrev pub is_cover : Component → Bool
 is_cover c = has_kind is_cover_kind c.placement
 
--- a component that teams may move: neither FIXED nor COVER
+-- True if teams may move the component: it is neither FIXED nor COVER.
 abbrev pub is_movable : Component → Bool
 is_movable c = not (is_fixed c) && not (is_cover c)

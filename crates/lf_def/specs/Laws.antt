@@ -22,18 +22,20 @@ without_places c = record { name = c.name; mac = c.mac; placement = option_map p
 abbrev pub document_without_places : Document → Document
 document_without_places d = record d { components = map without_places d.components }
 
--- A component takes some of the tokens, and from tokens with the same texts the same component is read, but for its offsets.
+-- Holds if a component takes a run of tokens, and tokens with the same texts give the same
+-- component, except for its offsets.
 abbrev pub ComponentReadsAlike : Type 0
 ComponentReadsAlike = (l m : Lexed) (c : Component) → component l ≡ taken c m
     → (run : List Lexeme) × (l ≡ with_tokens run m)
     × ((same : List Lexeme) → map plain same ≡ map plain run → (behind : Lexed) → (again : Component) × (component (with_tokens same behind) ≡ taken again behind) × (without_places again ≡ without_places c))
 
--- Texts whose tokens have the same bytes say the same, but for offsets.
+-- Holds if texts whose tokens have the same bytes give the same document, except for offsets.
 abbrev pub ReadsTheSame : List ℕ → List ℕ → Type 0
 ReadsTheSame a b = map plain (tokens_of a).tokens ≡ map plain (tokens_of b).tokens → (d : Document) → document_of a ≡ Ok d
     → (again : Document) × (document_of b ≡ Ok again) × (document_without_places again ≡ document_without_places d)
 
--- If the statements of a text leave tokens unread, any bytes may replace those from the first of these on.
+-- Holds if any bytes may replace those from the first unread token on, when the statements of the
+-- text leave tokens unread.
 abbrev pub EndsBefore : List ℕ → Type 0
 EndsBefore text = (read : List Lexeme) (t : Lexeme) (unread : List Lexeme) (parts : DocParts) → (tokens_of text).tokens ≡ read ++ t ∷ unread
     → block statement no_parts (tokens_of text) ≡ taken parts (behind (t ∷ unread) (tokens_of text)) → (bytes : List ℕ) → document_of (take t.start text ++ bytes) ≡ document_of text
@@ -45,13 +47,13 @@ abbrev pub IsPlace : List Lexeme → Type 0
 IsPlace (start ∷ x ∷ y ∷ stop ∷ o ∷ []) = (is (codes "(") start ≡ true) × (is (codes ")") stop ≡ true) × ((orient : Orient) × (orient_of o ≡ Ok orient))
 IsPlace _ = ⊥
 
--- the last of these tokens ends at this offset
+-- Holds if the last of these tokens ends at this offset.
 abbrev pub LastEnds : ℕ → Lexeme → List Lexeme → Type 0
 LastEnds stop t [] = t.stop ≡ stop
 LastEnds stop t (u ∷ us) = LastEnds stop u us
 
--- The tokens of a placement clause: its plus, its word, and a place, which UNPLACED may lack. The clause extends from the first
--- byte of its plus to the last byte of its last token.
+-- The tokens of a placement clause: its plus, its word, and a place, which UNPLACED may lack. The
+-- clause extends from the first byte of its plus to the last byte of its last token.
 pub record IsClause (p : PlacementClause) (clause : List Lexeme) : Type 0 where
   pub plus : Lexeme
   pub word : Lexeme
@@ -63,7 +65,7 @@ pub record IsClause (p : PlacementClause) (clause : List Lexeme) : Type 0 where
   pub start : p.start ≡ plus.start
   pub stop : LastEnds p.stop word more
 
--- the clause is among these tokens
+-- Holds if the clause is among these tokens.
 pub record ClauseAmong (tokens : List Lexeme) (p : PlacementClause) : Type 0 where
   pub before : List Lexeme
   pub clause : List Lexeme
@@ -71,12 +73,13 @@ pub record ClauseAmong (tokens : List Lexeme) (p : PlacementClause) : Type 0 whe
   pub whole : tokens ≡ before ++ (clause ++ after)
   pub is : IsClause p clause
 
--- the same for the clause of a component, if it has one
+-- Holds if the component has no placement clause, or its clause is among these tokens.
 abbrev pub HasClause : List Lexeme → Option PlacementClause → Type 0
 HasClause tokens None = Unit {0}
 HasClause tokens (Some p) = ClauseAmong tokens p
 
--- A component's tokens: its placement clause is among them, and its semicolon is the last.
+-- Holds if these are the tokens of the component: its placement clause is among them, and its
+-- semicolon is the last.
 pub record IsComponentOf (tokens : List Lexeme) (c : Component) : Type 0 where
   pub front : List Lexeme
   pub last : Lexeme
@@ -88,16 +91,17 @@ pub record IsComponentOf (tokens : List Lexeme) (c : Component) : Type 0 where
 abbrev pub ComponentsHaveClauses : Type 0
 ComponentsHaveClauses = (l m : Lexed) (c : Component) → component l ≡ taken c m → (run : List Lexeme) × (l ≡ with_tokens run m) × IsComponentOf run c
 
--- a placement clause within these offsets
+-- Holds if the placement clause, if any, is within these offsets.
 abbrev pub ClauseWithin : ℕ → ℕ → Option PlacementClause → Type 0
 ClauseWithin from to None = Unit {0}
 ClauseWithin from to (Some p) = (from ≤ p.start) × (p.start < p.stop) × (p.stop ≤ to)
 
--- components one after the other, within these offsets, each with its clause before its semicolon
+-- Holds if the components are in order within these offsets, without overlap, each with its clause
+-- in front of its semicolon.
 abbrev pub Rising : ℕ → ℕ → List Component → Type 0
 Rising from to [] = from ≤ to
 Rising from to (c ∷ cs) = (from ≤ c.semicolon) × ClauseWithin from c.semicolon c.placement × Rising (c.semicolon + 1) to cs
 
--- The components of a document are in its text in their order.
+-- Holds if the components of the text's document are in the text in order.
 abbrev pub ComponentsRise : List ℕ → Type 0
 ComponentsRise text = (d : Document) → document_of text ≡ Ok d → Rising 0 (length text) d.components

@@ -1,4 +1,4 @@
--- Printed DEF texts: the words that write a value, with white space between.
+-- Printed DEF texts: the words of a value, with white space between.
 use Rattle.std.specs.Prelude.{◌≡◌, ◌≢◌, ℕ, List, [], ◌∷◌, ◌++◌, All, IfSome, map, ℤ, pos, Bool, true, false, Option, Some, None, Ok, codes}
 use Rattle.lf_units.specs.declared.geometry.Point.{Point}
 use Rattle.lf_units.specs.declared.geometry.Rect.{Rect}
@@ -22,16 +22,16 @@ use Rattle.lf_def.specs.Ranges.{IsCoordinate, IsRow, IsRect, IsLocation}
 use Rattle.lf_def.specs.Components.{component}
 use Rattle.lf_def.specs.Laws.{without_places}
 
--- a way of writing numbers that reads back for each coordinate
+-- Holds if each coordinate that is printed like this reads back.
 abbrev pub WritesNumbers : (ℤ → List ℕ) → Type 0
 WritesNumbers print = (x : ℤ) → IsCoordinate x → fixed_of (print x) 0 2147483647 ≡ Ok x
 
--- a name other than a semicolon
+-- A name other than a semicolon.
 pub record IsWord (n : List ℕ) : Type 0 where
   pub name : IsName n
   pub other : n ≢ codes ";"
 
--- ( x1 y1 ) ( x2 y2 ): the lower left corner, and the upper right one
+-- ( x1 y1 ) ( x2 y2 ): the lower left corner, then the upper right one.
 abbrev pub rect_words : (ℤ → List ℕ) → Rect → List (List ℕ) → List (List ℕ)
 rect_words print r rest = codes "(" ∷ print r.x1 ∷ print r.y1 ∷ codes ")" ∷ codes "(" ∷ print r.x2 ∷ print r.y2 ∷ codes ")" ∷ rest
 
@@ -80,12 +80,12 @@ group_region_words (Some n) = codes "+" ∷ codes "REGION" ∷ n ∷ codes ";" �
 abbrev pub group_words : Group → List (List ℕ)
 group_words g = g.name ∷ (g.patterns ++ group_region_words g.region)
 
--- a pattern is not a plus
+-- A pattern is not a plus.
 pub record IsPattern (p : List ℕ) : Type 0 where
   pub word : IsWord p
   pub other : p ≢ codes "+"
 
--- the name of a region is not a parenthesis
+-- The name of a region is not a parenthesis.
 pub record IsRegionName (n : List ℕ) : Type 0 where
   pub word : IsWord n
   pub other : n ≢ codes "("
@@ -115,7 +115,7 @@ placement_words print (Some p) = codes "+" ∷ kind_word p.kind ∷ location_wor
 abbrev pub component_words : (ℤ → List ℕ) → Component → List (List ℕ)
 component_words print c = c.name ∷ c.mac ∷ placement_words print c.placement
 
--- UNPLACED has no place, and the others have one
+-- Holds if UNPLACED has no place, or another kind has one.
 abbrev pub HasPlace : PlacementKind → Option Location → Type 0
 HasPlace Unplaced None = Unit {0}
 HasPlace Unplaced (Some p) = ⊥
@@ -148,21 +148,21 @@ blockage_words print b = codes "PLACEMENT" ∷ soft_words b.soft (partial_words 
 abbrev pub IsPrintedBlockage : Blockage → Type 0
 IsPrintedBlockage b = All IsRect b.rects
 
--- Tokens with these bytes read as this value, whatever follows them.
+-- Holds if tokens with these bytes read as this value, whatever follows.
 abbrev pub ReadsBack : {A : Type 0} → Reader A → List (List ℕ) → A → Type 0
 ReadsBack reader words x = (tokens : List Lexeme) → map plain tokens ≡ map word_of words → (behind : Lexed) → reader (with_tokens tokens behind) ≡ taken x behind
 
--- the same for a component, but for its offsets
+-- The same for a component, except for its offsets.
 abbrev pub ComponentReadsBack : List (List ℕ) → Component → Type 0
 ComponentReadsBack words c = (tokens : List Lexeme) → map plain tokens ≡ map word_of words → (behind : Lexed)
     → (read : Component) × (component (with_tokens tokens behind) ≡ taken read behind) × (without_places read ≡ without_places c)
 
--- the same for a list of components
+-- The same for a list of components.
 abbrev pub ComponentsReadBack : Reader (List Component) → List (List ℕ) → List Component → Type 0
 ComponentsReadBack reader words cs = (tokens : List Lexeme) → map plain tokens ≡ map word_of words → (behind : Lexed)
     → (read : List Component) × (reader (with_tokens tokens behind) ≡ taken read behind) × (map without_places read ≡ map without_places cs)
 
--- each entry after its minus
+-- Each entry after its minus.
 abbrev pub entries_words : {A : Type 0} → (A → List (List ℕ)) → List A → List (List ℕ) → List (List ℕ)
 entries_words words [] rest = rest
 entries_words words (x ∷ xs) rest = codes "-" ∷ (words x ++ entries_words words xs rest)

@@ -1,4 +1,5 @@
--- Printed components with all that their entries may hold besides a placement clause (DEF COMPONENTS).
+-- Printed components with all that their entries may have besides a placement clause (DEF
+-- COMPONENTS).
 use Rattle.std.specs.Prelude.{◌≡◌, ◌≢◌, ℕ, List, [], ◌∷◌, ◌++◌, All, IfSome, map, ℤ, Option, Some, None, codes}
 use Rattle.lf_lex.specs.Tokens.{Lexed, Lexeme, PlainToken, plain, with_tokens}
 use Rattle.lf_lex.specs.Reading.{Reader, taken}
@@ -14,25 +15,27 @@ use Rattle.lf_def.specs.Ranges.{IsLocation}
 use Rattle.lf_orient.specs.Words.{orient_word}
 use Rattle.lf_def.specs.Printed.{kind_word, IsPrintedComponent}
 
--- a component, and what its entry holds besides
+-- A component, and the other contents of its entry.
 pub record PrintedComponent : Type 0 where
   pub component : Component
-  -- words and quoted texts before the first clause
+  -- Words and quoted texts in front of the first clause.
   pub items : List PlainToken
-  -- clauses that are skipped, each after its plus: those before the placement clause, and those after it
+  -- Skipped clauses, each after its plus: those in front of the placement clause, and those after
+  -- it.
   pub before : List (List PlainToken)
   pub after : List (List PlainToken)
-  -- the point and the orientation after UNPLACED, if they are printed
+  -- The point and the orientation after UNPLACED, if they are printed.
   pub point : Option Location
 
 -- What is skipped.
 
--- a word or a quoted text that neither ends the entry nor begins a clause
+-- Holds if the word or quoted text neither ends the entry nor begins a clause.
 pub record IsInner (t : PlainToken) : Type 0 where
   pub stop : t.text ≢ codes ";"
   pub plus : t.text ≢ codes "+"
 
--- a clause after its plus whose first word names no placement; a plus alone is one too
+-- Holds for a clause, after its plus, whose first word names no placement. A plus alone is such a
+-- clause too.
 abbrev pub IsOtherClause : List PlainToken → Type 0
 IsOtherClause [] = Unit {0}
 IsOtherClause (t ∷ ts) = ((kind : PlacementKind) → t.text ≢ kind_word kind) × All IsInner (t ∷ ts)
@@ -46,12 +49,13 @@ pub record IsPrintedEntry (p : PrintedComponent) : Type 0 where
 
 -- What is printed.
 
--- + .., and then the rest
+-- + .., and then the rest.
 abbrev pub clauses_tokens : List (List PlainToken) → List PlainToken → List PlainToken
 clauses_tokens [] rest = rest
 clauses_tokens (c ∷ cs) rest = word_of (codes "+") ∷ (c ++ clauses_tokens cs rest)
 
--- the place in a placement clause: that of the component, or the point after UNPLACED, which is ignored
+-- The place in a placement clause: that of the component, or the point after UNPLACED, which is
+-- ignored.
 abbrev pub printed_place : PlacementKind → Option Location → Option Location → Option Location
 printed_place Unplaced place point = point
 printed_place Fixed place point = place
@@ -63,7 +67,8 @@ abbrev pub place_words : (ℤ → List ℕ) → Option Location → List (List �
 place_words print None = []
 place_words print (Some p) = codes "(" ∷ print p.x ∷ print p.y ∷ codes ")" ∷ orient_word p.orient ∷ []
 
--- [+ FIXED pt orient | + COVER pt orient | + PLACED pt orient | + UNPLACED [pt orient]], and then the rest
+-- [+ FIXED pt orient | + COVER pt orient | + PLACED pt orient | + UNPLACED [pt orient]], and then
+-- the rest.
 abbrev pub placement_tokens : (ℤ → List ℕ) → Option PlacementClause → Option Location → List PlainToken → List PlainToken
 placement_tokens print None point rest = rest
 placement_tokens print (Some p) point rest = word_of (codes "+") ∷ word_of
@@ -75,7 +80,7 @@ entry_tokens print p =
     word_of p.component.name ∷ word_of p.component.mac ∷ (p.items ++ clauses_tokens p.before
     (placement_tokens print p.component.placement p.point (clauses_tokens p.after (word_of (codes ";") ∷ []))))
 
--- each entry after its minus, and then the rest
+-- Each entry after its minus, and then the rest.
 abbrev pub entries_tokens : {A : Type 0} → (A → List PlainToken) → List A → List PlainToken → List PlainToken
 entries_tokens tokens [] rest = rest
 entries_tokens tokens (x ∷ xs) rest = word_of (codes "-") ∷ (tokens x ++ entries_tokens tokens xs rest)
@@ -88,12 +93,12 @@ components_tokens print count ps =
 abbrev pub component_of : PrintedComponent → Component
 component_of p = p.component
 
--- These tokens read as the component, but for its offsets, whatever follows them.
+-- Holds if these tokens read as the component, except for its offsets, whatever follows.
 abbrev pub EntryReadsBack : List PlainToken → Component → Type 0
 EntryReadsBack printed c = (tokens : List Lexeme) → map plain tokens ≡ printed → (behind : Lexed)
     → (read : Component) × (component (with_tokens tokens behind) ≡ taken read behind) × (without_places read ≡ without_places c)
 
--- the same for a list of components
+-- The same for a list of components.
 abbrev pub EntriesReadBack : Reader (List Component) → List PlainToken → List Component → Type 0
 EntriesReadBack reader printed cs = (tokens : List Lexeme) → map plain tokens ≡ printed → (behind : Lexed)
     → (read : List Component) × (reader (with_tokens tokens behind) ≡ taken read behind) × (map without_places read ≡ map without_places cs)

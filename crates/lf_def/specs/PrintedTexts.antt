@@ -19,20 +19,20 @@ use Rattle.lf_def.specs.Printed.{IsWord, row_words, IsPrintedRow, region_words, 
 use Rattle.lf_def.specs.Printed.{IsPrintedComponent, blockage_words, IsPrintedBlockage, section_words}
 use Rattle.lf_def.specs.PrintedComponents.{PrintedComponent, IsPrintedEntry, components_tokens, component_of}
 
--- Statements that are skipped.
+-- Skipped statements.
 
--- the keywords of statements that are skipped to their semicolon
+-- The keywords of statements that are skipped up to their semicolon.
 abbrev pub statement_keywords : List (List ℕ)
 statement_keywords = codes "TRACKS" ∷ codes "GCELLGRID" ∷ codes "HISTORY" ∷ codes "TECHNOLOGY" ∷ codes "DIEAREA" ∷ codes "COMPONENTMASKSHIFT" ∷ codes
     "NAMESCASESENSITIVE" ∷ []
 
--- the keywords of sections that are skipped to END and their keyword
+-- The keywords of sections that are skipped up to END and their keyword.
 abbrev pub section_keywords : List (List ℕ)
 section_keywords =
     codes "PROPERTYDEFINITIONS" ∷ codes "VIAS" ∷ codes "STYLES" ∷ codes "NONDEFAULTRULES" ∷ codes "PINS" ∷ codes "PINPROPERTIES" ∷ codes "SLOTS" ∷ codes
     "FILLS" ∷ codes "SPECIALNETS" ∷ codes "NETS" ∷ codes "SCANCHAINS" ∷ []
 
--- a statement that is skipped: its keyword, and the words and quoted texts up to its end
+-- A skipped statement: its keyword, and the words and quoted texts up to its end.
 pub data Skipped : Type 0 where
   -- keyword .. ;
   to_its_semicolon : List ℕ → List PlainToken → Skipped
@@ -46,7 +46,7 @@ skipped_tokens (to_its_semicolon keyword between) = word_of keyword ∷ (between
 skipped_tokens (to_its_end keyword between) = word_of keyword ∷ (between ++ word_of (codes "END") ∷ word_of keyword ∷ [])
 skipped_tokens (extension between) = word_of (codes "BEGINEXT") ∷ (between ++ word_of (codes "ENDEXT") ∷ [])
 
--- the keyword is one of those, and the statement does not end before its end
+-- Holds if the keyword is that of a skipped statement, and the statement has no earlier end.
 abbrev pub IsSkipped : Skipped → Type 0
 IsSkipped (to_its_semicolon keyword between) = Contains statement_keywords keyword × OccurNowhere (codes ";" ∷ []) between
 IsSkipped (to_its_end keyword between) = Contains section_keywords keyword × OccurNowhere (codes "END" ∷ keyword ∷ []) between
@@ -54,7 +54,7 @@ IsSkipped (extension between) = OccurNowhere (codes "ENDEXT" ∷ []) between
 
 -- Parts of a text.
 
--- a statement or a section of a text; each section has a count, which is ignored
+-- A statement or a section of a text. Each section has a count, which is ignored.
 pub data Part : Type 0 where
   passed_over : Skipped → Part
   version_is : List ℕ → Part
@@ -69,7 +69,7 @@ pub data Part : Type 0 where
   components_with_others : List ℕ → List PrintedComponent → Part
   blockages_section : List ℕ → List Blockage → Part
 
--- a quoted text, with its marks
+-- A quoted text, with its marks.
 abbrev pub quoted_of : List ℕ → PlainToken
 quoted_of text = record { text = text; kind = Quoted }
 
@@ -91,12 +91,12 @@ part_tokens print (components_section count cs) = map word_of (codes "COMPONENTS
 part_tokens print (components_with_others count ps) = word_of (codes "COMPONENTS") ∷ components_tokens print count ps
 part_tokens print (blockages_section count bs) = map word_of (codes "BLOCKAGES" ∷ section_words (codes "BLOCKAGES") count (blockage_words print) bs)
 
--- the parts one after the other, and END DESIGN
+-- The parts in order, and END DESIGN.
 abbrev pub text_tokens : (ℤ → List ℕ) → List Part → List PlainToken
 text_tokens print [] = map word_of (codes "END" ∷ codes "DESIGN" ∷ [])
 text_tokens print (p ∷ ps) = part_tokens print p ++ text_tokens print ps
 
--- a part that can be printed
+-- Holds if the part can be printed.
 abbrev pub IsPrintedPart : Part → Type 0
 IsPrintedPart (passed_over p) = IsSkipped p
 IsPrintedPart (version_is v) = v ≢ codes ";"
@@ -111,7 +111,8 @@ IsPrintedPart (components_section count cs) = (count ≢ codes ";") × All IsPri
 IsPrintedPart (components_with_others count ps) = (count ≢ codes ";") × All IsPrintedEntry ps
 IsPrintedPart (blockages_section count bs) = (count ≢ codes ";") × All IsPrintedBlockage bs
 
--- what a part adds: of each statement of the header the first counts, and lists are appended
+-- Adds the contents of a part. The first of each statement of the header counts, and lists are
+-- appended.
 abbrev pub with_part : DocParts → Part → DocParts
 with_part d (passed_over p) = d
 with_part d (version_is v) = record d { header = record d.header { version = first_counts d.header.version v } }
@@ -130,7 +131,7 @@ abbrev pub with_parts : DocParts → List Part → DocParts
 with_parts d [] = d
 with_parts d (p ∷ ps) = with_parts (with_part d p) ps
 
--- the document of these parts
+-- The document of these parts.
 abbrev pub document_with : DocParts → Document
 document_with d = record {
   header = header_of d.header;
@@ -145,36 +146,39 @@ document_with d = record {
 abbrev pub printed_document : List Part → Document
 printed_document parts = document_with (with_parts no_parts parts)
 
--- Reading them back.
+-- Reading printed texts back.
 
--- the first tokens of the text are these, with any white space and comments between them and anything after
+-- Holds if these are the first tokens of the text, with any white space and comments between them
+-- and anything after.
 abbrev pub BeginsWith : List ℕ → List PlainToken → Type 0
 BeginsWith text tokens = (rest : List PlainToken) × (map plain (tokens_of text).tokens ≡ tokens ++ rest)
 
--- the text says this, but for the offsets of its components
+-- Holds if this is the document of the text, except for the offsets of its components.
 abbrev pub ReadsApartFromOffsets : List ℕ → Document → Type 0
 ReadsApartFromOffsets text d = (read : List Component) × (document_of text ≡ Ok (record d { components = read }))
     × (map without_places read ≡ map without_places d.components)
 
--- Any text that begins with these parts, DESIGN among them, and END DESIGN says what they say.
+-- Holds if any text that begins with these parts, DESIGN among them, and END DESIGN gives the
+-- document of these parts.
 abbrev pub PartsReadBack : (ℤ → List ℕ) → List Part → Type 0
 PartsReadBack print parts = All IsPrintedPart parts → IsSome (with_parts no_parts parts).header.design → (text : List ℕ)
     → BeginsWith text (text_tokens print parts) → ReadsApartFromOffsets text (printed_document parts)
 
--- a design of that name, and nothing else
+-- The document of a design with this name, and nothing else.
 abbrev pub design_named : List ℕ → Document
 design_named n = record { header = header_of (record no_header { design = Some n }); rows = []; regions = []; groups = []; components = []; blockages = [] }
 
--- DESIGN, with skipped statements before and after it, and then these parts
+-- DESIGN, with skipped statements in front of it and after it, and then these parts.
 abbrev pub after_skipped : List Skipped → List ℕ → List Skipped → List Part → List Part
 after_skipped before n between parts = map passed_over before ++ design_is n ∷ (map passed_over between ++ parts)
 
--- After any skipped statements, and with anything after END DESIGN, these parts say this of the design.
+-- Holds if these parts give this document of the design, after any skipped statements and with
+-- anything after END DESIGN.
 abbrev pub ReadsBackInTexts : (ℤ → List ℕ) → List Part → (Document → Document) → Type 0
 ReadsBackInTexts print parts said = (before between : List Skipped) (n : List ℕ) → All IsSkipped before → All IsSkipped between → IsWord n
     → (text : List ℕ) → BeginsWith text (text_tokens print (after_skipped before n between parts)) → document_of text ≡ Ok (said (design_named n))
 
--- the same for components, but for their offsets
+-- The same for components, except for their offsets.
 abbrev pub ComponentsReadBackInTexts : (ℤ → List ℕ) → List ℕ → List Component → Type 0
 ComponentsReadBackInTexts print count cs = (before between : List Skipped) (n : List ℕ) → All IsSkipped before → All IsSkipped between → IsWord n
     → (text : List ℕ) → BeginsWith text (text_tokens print (after_skipped before n between (components_section count cs ∷ [])))

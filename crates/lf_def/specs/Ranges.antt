@@ -1,4 +1,4 @@
--- The ranges and bounds of what a DEF text says.
+-- The ranges of the numbers and names of a DEF text.
 use Rattle.std.specs.Prelude.{ℕ, ◌≤◌, ◌<◌, length, All, IfSome, ℤ, pos, negsuc, ◌≤ℤ◌}
 use Rattle.lf_units.specs.declared.geometry.Point.{Point}
 use Rattle.lf_units.specs.declared.geometry.Rect.{Rect}
@@ -14,7 +14,7 @@ use Rattle.lf_def.specs.declared.components.PlacementClause.{PlacementClause}
 use Rattle.lf_def.specs.declared.blockages.Blockage.{Blockage}
 use Rattle.lf_def.specs.declared.doc_parts.DocParts.{DocParts}
 
--- a coordinate is from -2147483647 to 2147483647
+-- Holds if the coordinate is from -2147483647 to 2147483647.
 pub record IsCoordinate (x : ℤ) : Type 0 where
   pub low : negsuc 2147483646 ≤ℤ x
   pub high : x ≤ℤ pos 2147483647
@@ -23,7 +23,7 @@ pub record HasCoordinates (p : Point) : Type 0 where
   pub x : IsCoordinate p.x
   pub y : IsCoordinate p.y
 
--- a rectangle has its lower left corner before its upper right one
+-- A rectangle: its lower left corner comes first, then its upper right one.
 pub record IsRect (r : Rect) : Type 0 where
   pub x1 : IsCoordinate r.x1
   pub y1 : IsCoordinate r.y1
@@ -32,12 +32,12 @@ pub record IsRect (r : Rect) : Type 0 where
   pub across : r.x1 ≤ℤ r.x2
   pub up : r.y1 ≤ℤ r.y2
 
--- a count is from 1 to the largest one
+-- Holds if the count is from 1 to the largest one.
 pub record IsCount (most n : ℕ) : Type 0 where
   pub some : 1 ≤ n
   pub few : n ≤ most
 
--- the design's name is one of a text; UNITS, if given, is from 1 to 20000
+-- A header: the design has a name, and UNITS, if given, is from 1 to 20000.
 pub record IsHeader (h : Header) : Type 0 where
   pub design : IsName h.design
   pub units : IfSome h.units (λ n. IsCount 20000 n)
@@ -51,7 +51,7 @@ pub record IsRow (r : Row) : Type 0 where
   pub sites_y : IsCount 2147483647 r.sites_y
   pub step : IfSome r.step (λ p. HasCoordinates p)
 
--- a region has at least one rectangle
+-- A region, with at least one rectangle.
 pub record IsRegion (r : Region) : Type 0 where
   pub name : IsName r.name
   pub rects : All IsRect r.rects
@@ -76,12 +76,12 @@ pub record IsComponent (c : Component) : Type 0 where
 pub record IsBlockage (b : Blockage) : Type 0 where
   pub rects : All IsRect b.rects
 
--- what was read of a group so far
+-- The ranges of the parts of a group that were read so far.
 pub record AreGroupParts (g : GroupParts) : Type 0 where
   pub patterns : All IsName g.patterns
   pub region : IfSome g.region (λ n. IsName n)
 
--- what was read of a text so far
+-- The ranges of the parts of a text that were read so far.
 pub record AreParts (p : DocParts) : Type 0 where
   pub design : IfSome p.header.design (λ n. IsName n)
   pub units : IfSome p.header.units (λ n. IsCount 20000 n)

@@ -14,31 +14,33 @@ use Rattle.lf_def.specs.declared.regions.RegionParts.{RegionParts}
 use Rattle.lf_def.specs.Coordinates.{rect, rect_rest}
 use Rattle.lf_def.specs.Entries.{section}
 
--- the type that the token names
+-- The type that the token names.
 abbrev pub kind_of : Lexeme → Result RegionKind ReadFault
 kind_of t = if is (codes "FENCE") t then Ok Fence else if is (codes "GUIDE") t then Ok Guide else fault_at Unexpected t.line
 
--- one more rectangle
+-- Adds a rectangle.
 unfoldable pub with_rect : RegionParts → Reader (Turn RegionParts)
 with_rect parts l = do
   r ← rect_rest l
   continues (record parts { rects = parts.rects ++ r.value ∷ [] }) r.rest
 
--- TYPE FENCE or TYPE GUIDE after its word: the first counts
+-- TYPE FENCE or TYPE GUIDE after its word. The first one counts.
 unfoldable pub with_kind : RegionParts → Reader (Turn RegionParts)
 with_kind parts l = do
   t ← token l
   kind ← kind_of t.value
   continues (record parts { kind = first_counts parts.kind kind; due = Separator }) t.rest
 
--- a token of a region that is no separator: rectangles come first, TYPE is read, and other clauses are skipped
+-- The part of a region that begins with a token, which is no separator. Rectangles come first, TYPE
+-- is read, and other clauses are skipped.
 unfoldable pub region_part : Due → RegionParts → Lexeme → Reader (Turn RegionParts)
 region_part Item parts t l = if is (codes "(") t then with_rect parts l else fault_at Unexpected t.line
 region_part Keyword parts t l = if is (codes "TYPE") t then with_kind parts l else continues (record parts { due = Rest }) l
 region_part Rest parts t l = continues parts l
 region_part Separator parts t l = fault_at Unexpected t.line
 
--- a token of a region and what it takes with it: a semicolon is the last, and a plus begins a clause
+-- The part of a region that begins with a token. A semicolon is the last, and a plus begins a
+-- clause.
 unfoldable pub region_from : RegionParts → Lexeme → Reader (Turn RegionParts)
 region_from parts t l =
     if is (codes ";") t then finishes parts l
@@ -53,7 +55,7 @@ region_token parts l = do
 abbrev pub first_rect : Rect → RegionParts
 first_rect r = record { kind = None; rects = r ∷ []; due = Item }
 
--- a region after its minus
+-- A region after its minus.
 unfoldable pub region : Reader Region
 region l = do
   n ← name l
@@ -61,6 +63,6 @@ region l = do
   parts ← block region_token (first_rect r.value) r.rest
   taken (record { name = n.value.text; kind = parts.value.kind; rects = parts.value.rects }) parts.rest
 
--- REGIONS count ; entries END REGIONS, after its keyword
+-- REGIONS count ; entries END REGIONS, after its keyword.
 abbrev pub regions : List Region → Reader (List Region)
 regions known l = section (codes "REGIONS") region known l

@@ -8,20 +8,20 @@ use Rattle.lf_def.specs.declared.rows.Row.{Row}
 use Rattle.lf_def.specs.declared.rows.Sites.{Sites}
 use Rattle.lf_def.specs.Coordinates.{dbu, count, orient_of}
 
--- the end of a row, after its first token: its properties are skipped
+-- The end of a row, after its first token. Its properties are skipped.
 unfoldable pub row_end : Lexeme → Reader (Unit {0})
 row_end t l =
     if is (codes ";") t then taken tt l
     else if is (codes "+") t then to_semicolon l
     else fault_at Unexpected t.line
 
--- [STEP sx sy] and the end of the row, after its first token
+-- [STEP sx sy] and the end of the row, after its first token.
 unfoldable pub step : Lexeme → Reader (Option Point)
 step t l =
     if is (codes "STEP") t then (dbu l >>= λ x. dbu x.rest >>= λ y. token y.rest >>= λ u. row_end u.value u.rest >>= λ stop. taken (Some (record { x = x.value; y = y.value })) stop.rest)
     else (row_end t l >>= λ stop. taken None stop.rest)
 
--- numX BY numY [STEP sx sy] and the end of the row, after DO
+-- numX BY numY [STEP sx sy] and the end of the row, after DO.
 unfoldable pub sites : Reader Sites
 sites l = do
   x ← count 2147483647 l
@@ -34,13 +34,14 @@ sites l = do
 abbrev pub one_site : Sites
 one_site = record { x = 1; y = 1; step = None }
 
--- [DO numX BY numY [STEP sx sy]] and the end of the row, after its first token; without DO it is one site
+-- [DO numX BY numY [STEP sx sy]] and the end of the row, after its first token. Without DO the row
+-- has one site.
 unfoldable pub sites_from : Lexeme → Reader Sites
 sites_from t l =
     if is (codes "DO") t then sites l
     else (row_end t l >>= λ stop. taken one_site stop.rest)
 
--- a row after its keyword
+-- A row after its keyword.
 unfoldable pub row : Reader Row
 row l = do
   n ← name l
@@ -53,7 +54,7 @@ row l = do
   s ← sites_from u.value u.rest
   taken (record { name = n.value.text; site = site.value.text; x = x.value; y = y.value; orient = orient; sites_x = s.value.x; sites_y = s.value.y; step = s.value.step }) s.rest
 
--- one row more, after its keyword
+-- One more row, after its keyword.
 unfoldable pub with_row : List Row → Reader (List Row)
 with_row rows l = do
   r ← row l

@@ -1,4 +1,4 @@
--- What a component says, and what it is stored as.
+-- The contents of a component, and how they are stored.
 use Rattle.std.specs.Prelude.{ℕ, ℤ, ◌<◌, List, Option, Some, None}
 use Rattle.lf_orient.specs.declared.Orient.{Orient}
 use Rattle.lf_def.specs.declared.components.Location.{Location}
@@ -8,45 +8,46 @@ use Rattle.lf_def.specs.declared.offsets.Offsets.{Offsets}
 use Rattle.lf_def.specs.declared.offsets.Kept.{Kept}
 use Rattle.lf_def.specs.declared.offsets.Kept.TheVariants.{Near, Far}
 
--- the names of a component and of its macro, and the kind and the place of its placement clause
+-- The names of a component and of its macro, and the kind and the place of its placement clause.
 pub record ComponentWords : Type 0 where
   pub name : List ℕ
   pub mac : List ℕ
   pub kind : Option PlacementKind
   pub place : Option Location
 
--- A component (DEF COMPONENTS): its name, its macro's, its placement clause, and the offset of its semicolon.
+-- A component (DEF COMPONENTS): its name, its macro's name, its placement clause, and the offset of
+-- its semicolon.
 pub record ComponentFacts : Type 0 where
   pub name : List ℕ
   pub mac : List ℕ
   pub placement : Option PlacementClause
   pub semicolon : ℕ
 
--- the place at these coordinates, if there is an orientation
+-- The place at these coordinates, if there is an orientation.
 abbrev pub place_from : ℤ → ℤ → Option Orient → Option Location
 place_from x y None = None
 place_from x y (Some orient) = Some (record { x = x; y = y; orient = orient })
 
--- the placement clause with this place and these offsets, if there is one
+-- The placement clause with this place and these offsets, if there is a kind.
 abbrev pub placement_from : Option PlacementKind → Option Location → ℕ → ℕ → Option PlacementClause
 placement_from None place start stop = None
 placement_from (Some kind) place start stop = Some (record { kind = kind; place = place; start = start; stop = stop })
 
--- the kind of a placement clause, if there is one
+-- The kind of a placement clause, if there is one.
 abbrev pub kind_of : Option PlacementClause → Option PlacementKind
 kind_of None = None
 kind_of (Some clause) = Some clause.kind
 
--- the offsets that are kept like this
+-- The offsets that are stored in this form.
 abbrev pub offsets_of : Kept → Offsets
 offsets_of (Near start stop semicolon) = record { start = start; stop = stop; semicolon = semicolon }
 offsets_of (Far offsets) = offsets.value
 
--- the offset has 32 bits
+-- Holds if the offset fits into 32 bits.
 abbrev pub IsNear : ℕ → Type 0
 IsNear offset = offset < 4294967296
 
--- each of the offsets has 32 bits
+-- Holds if each of the offsets fits into 32 bits.
 pub record AreNear (offsets : Offsets) : Type 0 where
   pub start : IsNear offsets.start
   pub stop : IsNear offsets.stop

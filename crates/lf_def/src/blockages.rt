@@ -18,15 +18,16 @@ use std::alloc::Global;
 /// A placement blockage (LEF/DEF 5.8, DEF BLOCKAGES), in database units.
 #[derive(Drop)]
 pub struct Blockage {
-    /// Whether it has a SOFT clause.
+    /// True if it has a SOFT clause.
     pub soft: bool,
-    /// Whether it has a PARTIAL clause.
+    /// True if it has a PARTIAL clause.
     pub partial: bool,
-    /// Its rectangles in the order of the text, each with its lower left corner before its upper right one.
+    /// The rectangles in the order of the text. Each has its lower left corner first, then its
+    /// upper right corner.
     pub rects: Sequence<Rect>,
 }
 
-/// What was read of a blockage so far.
+/// The parts of a blockage that were read so far.
 #[derive(Drop)]
 pub struct BlockageParts {
     pub soft: bool,
@@ -35,7 +36,7 @@ pub struct BlockageParts {
     pub due: Due,
 }
 
-/// One more rectangle, after RECT.
+/// Reads one more rectangle, after RECT.
 #[tactic(auto, unfolding(crate::specs::Blockages::with_rect))]
 fn with_rect(lexer: &mut Lexer, parts: &mut BlockageParts) -> Result<bool, ReadError>
     requires rects { All IsRect parts.old.rects }
@@ -48,7 +49,7 @@ fn with_rect(lexer: &mut Lexer, parts: &mut BlockageParts) -> Result<bool, ReadE
     Ok(true)
 }
 
-/// Notes the word of a clause: SOFT and PARTIAL.
+/// Records the word of a clause, if it is SOFT or PARTIAL.
 fn note(parts: &mut BlockageParts, word: &Token)
     requires rects { All IsRect parts.old.rects }
     ensures parts { parts.new ≡ grammar.noted parts.old (lexeme word.now) }
@@ -59,7 +60,8 @@ fn note(parts: &mut BlockageParts, word: &Token)
     parts.due = Due::Rest;
 }
 
-/// A token of a blockage that is no separator, and what it takes with it; returns whether more follow.
+/// Reads the part of a blockage that begins with this token, which is no separator. Returns whether
+/// more parts follow.
 #[tactic(auto, unfolding(crate::specs::Blockages::blockage_part))]
 fn blockage_part(
     lexer: &mut Lexer,
@@ -92,7 +94,7 @@ fn blockage_part(
     }
 }
 
-/// A token of a blockage, and what it takes with it; returns whether more follow.
+/// Reads the part of a blockage that begins with this token. Returns whether more parts follow.
 #[tactic(auto, unfolding(crate::specs::Blockages::blockage_from))]
 fn blockage_from(
     lexer: &mut Lexer,
@@ -113,7 +115,7 @@ fn blockage_from(
     }
 }
 
-/// The tokens of a placement blockage after PLACEMENT, up to its `;`.
+/// Reads the tokens of a placement blockage after PLACEMENT, up to its `;`.
 #[derive(Drop)]
 struct BlockageTokens;
 
@@ -131,7 +133,7 @@ impl Block for BlockageTokens {
     }
 }
 
-/// The state of a placement blockage after PLACEMENT.
+/// Returns the state of a placement blockage after PLACEMENT.
 fn no_blockage(alloc: Global) -> BlockageParts
     ensures parts { result ≡ grammar.no_blockage }
     ensures rects { All IsRect result.rects }
@@ -144,7 +146,7 @@ fn no_blockage(alloc: Global) -> BlockageParts
     }
 }
 
-/// A blockage after its minus; none if it blocks a layer.
+/// Reads a blockage, after its minus. Returns `None` if it blocks a layer.
 #[tactic(auto, unfolding(crate::specs::Blockages::blockage))]
 fn read_blockage(alloc: Global, lexer: &mut Lexer) -> Result<Option<Blockage>, ReadError>
     ensures read { Reads (λ b. b) result grammar.blockage lexer.old lexer.new }
@@ -167,7 +169,7 @@ fn read_blockage(alloc: Global, lexer: &mut Lexer) -> Result<Option<Blockage>, R
     }))
 }
 
-/// The entries of a BLOCKAGES section, up to its END.
+/// Reads the entries of a BLOCKAGES section, up to its END.
 #[derive(Drop)]
 struct BlockageEntries {
     alloc: Global,
@@ -201,7 +203,7 @@ impl Block for BlockageEntries {
     }
 }
 
-/// A BLOCKAGES section after its keyword: its blockages are appended.
+/// Reads a BLOCKAGES section, after its keyword, and appends its placement blockages.
 #[tactic(auto, unfolding(crate::specs::Blockages::blockages))]
 pub(crate) fn blockages(
     alloc: Global,

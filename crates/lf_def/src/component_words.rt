@@ -1,4 +1,5 @@
-//! The words of a component: its names, borrowed from its text, and what its placement clause says.
+//! The words of a component: its names, borrowed from its text, and the kind and place of its
+//! placement clause.
 
 ghost use Rattle.std.specs.Prelude.{◌≡◌, [], ◌∷◌, Some, None};
 ghost use Rattle.lf_lex.specs.Tokens.{lexeme, AreSlices, AreWithin};
@@ -10,16 +11,17 @@ use lf_lex::Token;
 use lf_orient::Orient;
 use std::marker::Model;
 
-/// The name of a component and that of its macro, as one piece of the text, which begins with the one and ends with the
-/// other; and the kind and the place of its placement clause. Upper and lower case of names differ.
+/// The names of a component and of its macro, and the kind and the place of its placement clause.
+/// The names are one piece of the text, which begins with the first and ends with the second. Upper
+/// and lower case of names differ.
 #[derive(Drop)]
 pub struct ComponentNames<'a> {
     bytes: &'a [u8],
     name_len: u16,
     mac_len: u16,
-    /// None if there is no clause.
+    /// `None` without a placement clause.
     kind: Option<PlacementKind>,
-    /// None if there is no place.
+    /// `None` without a place.
     orient: Option<Orient>,
     x: i32,
     y: i32,
@@ -51,7 +53,7 @@ fn place(x: i32, y: i32, orient: Option<Orient>) -> Option<Location>
 }
 
 impl<'a> ComponentNames<'a> {
-    /// These two names of a text, with no placement clause.
+    /// Returns these two names of a text, with no placement clause.
     pub(crate) fn new(text: &'a [u8], name: &Token<'a>, mac: &Token<'a>) -> Self
         requires slices { AreSlices text.now 0 (lexeme name.now ∷ lexeme mac.now ∷ []) }
         requires within { AreWithin text.now (lexeme name.now ∷ lexeme mac.now ∷ []) }
@@ -73,7 +75,7 @@ impl<'a> ComponentNames<'a> {
         }
     }
 
-    /// The names with this kind and this place in a placement clause.
+    /// Returns the names with this kind and this place in a placement clause.
     pub(crate) fn placed(self, kind: PlacementKind, place: Option<Location>) -> Self
         ensures { result ≡ record { name = self.entry.name; mac = self.entry.mac; kind = Some kind; place = place } }
     {
@@ -99,28 +101,28 @@ impl<'a> ComponentNames<'a> {
         }
     }
 
-    /// The component's name.
+    /// Returns the component's name.
     pub(crate) fn name(&self) -> &[u8]
         ensures { result.now ≡ self.now.name }
     {
         &self.bytes[..self.name_len as usize]
     }
 
-    /// The macro's name.
+    /// Returns the macro's name.
     pub(crate) fn macro_name(&self) -> &[u8]
         ensures { result.now ≡ self.now.mac }
     {
         &self.bytes[self.bytes.len() - self.mac_len as usize..]
     }
 
-    /// The kind of the placement clause, if there is one.
+    /// Returns the kind of the placement clause, or `None` without one.
     pub(crate) fn kind(&self) -> Option<PlacementKind>
         ensures { result ≡ self.now.kind }
     {
         self.kind
     }
 
-    /// The place that the clause gives, if it gives one.
+    /// Returns the place in the placement clause, or `None` if it has no place.
     pub(crate) fn place(&self) -> Option<Location>
         ensures { result ≡ self.now.place }
     {

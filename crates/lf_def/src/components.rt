@@ -22,7 +22,7 @@ use std::alloc::{AllocError, Global};
 use std::marker::Model;
 use std::mem::size_of;
 
-/// What a placement clause says (LEF/DEF 5.8, DEF COMPONENTS).
+/// The kind of a placement clause (LEF/DEF 5.8, DEF COMPONENTS).
 #[derive(Clone, Copy, Debug, PartialEq, Eq)]
 pub enum PlacementKind {
     Fixed,
@@ -43,7 +43,7 @@ pub struct Location {
 #[derive(Clone, Copy, Debug, PartialEq, Eq)]
 pub struct PlacementClause {
     pub kind: PlacementKind,
-    /// The component's place; none for UNPLACED, whose point is ignored.
+    /// The component's place. `None` for UNPLACED, whose point is ignored.
     pub place: Option<Location>,
     /// The offset of its `+` in the text.
     pub start: usize,
@@ -51,15 +51,16 @@ pub struct PlacementClause {
     pub stop: usize,
 }
 
-/// A component (LEF/DEF 5.8, DEF COMPONENTS), whose names are borrowed from its text. A contract sees its name, its macro's
-/// name, its placement clause with the offsets, and the offset of its `;`.
+/// A component (LEF/DEF 5.8, DEF COMPONENTS), whose names are borrowed from its text. A contract
+/// sees its name, its macro's name, its placement clause with the offsets, and the offset of its
+/// `;`.
 #[derive(Drop)]
 pub struct Component<'a> {
     words: ComponentNames<'a>,
     offsets: PackedOffsets,
 }
 
-// Designs of a million components are held to their memory.
+// A design may have a million components, so the size of each is proved.
 const _: () = prove!(size_of::<Component>() == 48);
 
 impl<'a> Model for Component<'a> {
@@ -75,7 +76,8 @@ impl<'a> Model for Component<'a> {
     } };
 }
 
-/// The placement clause of this kind, with this place and these offsets, if there is a kind.
+/// Returns the placement clause of this kind, with this place and these offsets. `None` if there is
+/// no kind.
 fn clause_of(
     kind: Option<PlacementKind>,
     place: Option<Location>,
@@ -95,7 +97,8 @@ fn clause_of(
 }
 
 impl<'a> Component<'a> {
-    /// The component of these names, with this placement clause and a `;` at this offset.
+    /// Returns the component with these names, this placement clause and a `;` at this offset.
+    /// `Err` if an allocation fails.
     fn new(
         alloc: Global,
         names: ComponentNames<'a>,
@@ -131,28 +134,29 @@ impl<'a> Component<'a> {
         }
     }
 
-    /// Its name.
+    /// Returns the component's name.
     pub fn name(&self) -> &[u8]
         ensures { result.now ≡ self.now.name }
     {
         self.words.name()
     }
 
-    /// The name of its macro.
+    /// Returns the name of its macro.
     pub fn macro_name(&self) -> &[u8]
         ensures { result.now ≡ self.now.mac }
     {
         self.words.macro_name()
     }
 
-    /// The kind of its placement clause, if it has one.
+    /// Returns the kind of its placement clause, or `None` without one.
     pub fn kind(&self) -> Option<PlacementKind>
         ensures { result ≡ kind_of self.now.placement }
     {
         self.words.kind()
     }
 
-    /// Its placement clause with the offsets; a component without one is unplaced.
+    /// Returns its placement clause with the offsets. `None` without a clause: the component is
+    /// then unplaced.
     pub fn placement(&self) -> Option<PlacementClause>
         ensures { result ≡ self.now.placement }
     {
@@ -160,7 +164,7 @@ impl<'a> Component<'a> {
         clause_of(self.words.kind(), self.words.place(), &offsets)
     }
 
-    /// The offset of its `;` in the text.
+    /// Returns the offset of its `;` in the text.
     pub fn semicolon(&self) -> usize
         ensures { result ≡ self.now.semicolon }
     {
@@ -168,16 +172,16 @@ impl<'a> Component<'a> {
     }
 }
 
-/// What was read of a component so far.
+/// The parts of a component that were read so far.
 #[derive(Clone, Copy, Debug, PartialEq, Eq)]
 pub struct ComponentParts {
     pub placement: Option<PlacementClause>,
     pub due: Due,
-    /// Whether the point of UNPLACED may follow here.
+    /// True if the point of UNPLACED may follow here.
     pub point: bool,
     /// The offset of the last `+`.
     pub plus: usize,
-    /// The offset of the `;`, once it is read.
+    /// The offset of the `;`, after it was read.
     pub semicolon: usize,
 }
 
@@ -188,7 +192,7 @@ pub struct LocatedPlace {
     pub stop: usize,
 }
 
-/// A coordinate of a component.
+/// Returns a coordinate of a component in 32 bits.
 fn narrow(x: i64) -> i32
     requires { IsCoordinate x }
     ensures { result ≡ x }
@@ -196,7 +200,7 @@ fn narrow(x: i64) -> i32
     x as i32
 }
 
-/// `x y ) orient` after the first parenthesis.
+/// Reads `x y ) orient`, after the first parenthesis.
 #[tactic(auto, unfolding(crate::specs::Components::located_rest))]
 fn located_rest(lexer: &mut Lexer) -> Result<LocatedPlace, ReadError>
     ensures read { Reads (λ p. p) result grammar.located_rest lexer.old lexer.new }
@@ -216,7 +220,7 @@ fn located_rest(lexer: &mut Lexer) -> Result<LocatedPlace, ReadError>
     })
 }
 
-/// `( x y ) orient` after FIXED, COVER or PLACED.
+/// Reads `( x y ) orient`, after FIXED, COVER or PLACED.
 #[tactic(auto, unfolding(crate::specs::Components::placed))]
 fn placed(lexer: &mut Lexer, kind: PlacementKind, plus: usize) -> Result<PlacementClause, ReadError>
     ensures read { Reads (λ p. p) result (grammar.placed kind plus) lexer.old lexer.new }
@@ -232,7 +236,7 @@ fn placed(lexer: &mut Lexer, kind: PlacementKind, plus: usize) -> Result<Placeme
     })
 }
 
-/// Whether the token begins a placement clause.
+/// True if the token begins a placement clause.
 fn is_placement_word(token: &Token) -> bool
     ensures { result ≡ grammar.is_placement_word (lexeme token.now) }
 {
@@ -242,7 +246,7 @@ fn is_placement_word(token: &Token) -> bool
         || is_token(b"UNPLACED", token)
 }
 
-/// A placement clause, after its plus and its word.
+/// Reads a placement clause, after its plus and its word.
 #[tactic(auto, unfolding(crate::specs::Components::placement))]
 fn read_placement(
     lexer: &mut Lexer,
@@ -268,7 +272,8 @@ fn read_placement(
     }
 }
 
-/// Keeps the only placement clause: a second one is Unexpected.
+/// Reads a placement clause, after its plus and its word. `Err(Unexpected)` if it is the second
+/// one.
 #[tactic(auto, unfolding(crate::specs::Components::only_placement))]
 fn only_placement(
     lexer: &mut Lexer,
@@ -285,7 +290,7 @@ fn only_placement(
     }
 }
 
-/// A clause, after its plus and its word.
+/// Reads a clause, after its plus and its word.
 #[tactic(auto, unfolding(crate::specs::Components::clause))]
 fn clause(lexer: &mut Lexer, parts: &mut ComponentParts, word: &Token) -> Result<bool, ReadError>
     requires range { IfSome parts.old.placement (λ p. IsPlacement p) }
@@ -303,7 +308,7 @@ fn clause(lexer: &mut Lexer, parts: &mut ComponentParts, word: &Token) -> Result
     Ok(true)
 }
 
-/// The point and the orientation of UNPLACED, after the first parenthesis.
+/// Reads the point and the orientation of UNPLACED, after the first parenthesis.
 #[tactic(auto, unfolding(crate::specs::Components::unplaced_point))]
 fn unplaced_point(lexer: &mut Lexer, parts: &mut ComponentParts) -> Result<bool, ReadError>
     requires range { IfSome parts.old.placement (λ p. IsPlacement p) }
@@ -318,7 +323,8 @@ fn unplaced_point(lexer: &mut Lexer, parts: &mut ComponentParts) -> Result<bool,
     Ok(true)
 }
 
-/// A token of a component that is no separator, and what it takes with it; returns whether more follow.
+/// Reads the part of a component that begins with this token, which is no separator. Returns
+/// whether more parts follow.
 #[tactic(auto, unfolding(crate::specs::Components::component_part))]
 fn component_part(
     lexer: &mut Lexer,
@@ -343,7 +349,7 @@ fn component_part(
     }
 }
 
-/// A token of a component, and what it takes with it; returns whether more follow.
+/// Reads the part of a component that begins with this token. Returns whether more parts follow.
 #[tactic(auto, unfolding(crate::specs::Components::component_from))]
 fn component_from(
     lexer: &mut Lexer,
@@ -366,7 +372,7 @@ fn component_from(
     }
 }
 
-/// The tokens of a component after its macro, up to its `;`.
+/// Reads the tokens of a component after its macro, up to its `;`.
 #[derive(Drop)]
 struct ComponentTokens;
 
@@ -384,7 +390,7 @@ impl Block for ComponentTokens {
     }
 }
 
-/// The state of a component after its macro.
+/// Returns the state of a component after its macro.
 fn no_component() -> ComponentParts
     ensures { result ≡ grammar.no_component }
 {
@@ -397,7 +403,7 @@ fn no_component() -> ComponentParts
     }
 }
 
-/// A component after its minus.
+/// Reads a component, after its minus.
 #[tactic(auto, unfolding(crate::specs::Components::component))]
 fn read_component<'a>(alloc: Global, lexer: &mut Lexer<'a>) -> Result<Component<'a>, ReadError>
     ensures read { Reads (λ c. c) result grammar.component lexer.old lexer.new }
@@ -412,7 +418,7 @@ fn read_component<'a>(alloc: Global, lexer: &mut Lexer<'a>) -> Result<Component<
     Ok(Component::new(alloc, names, parts.placement, parts.semicolon)?)
 }
 
-/// An entry, or END COMPONENTS; returns whether more follow.
+/// Reads an entry, or END COMPONENTS. Returns whether more entries follow.
 #[tactic(auto, unfolding(crate::specs::Entries::entry_or_end))]
 fn component_or_end<'a>(
     alloc: Global,
@@ -436,7 +442,8 @@ fn component_or_end<'a>(
     Err(fault_at(FaultNumber::Unexpected, token.line))
 }
 
-/// The entries of a section, and its END. They borrow the text, so this loop does not use `read_block`.
+/// Reads the entries of a section, and its END. Components borrow the text, so this loop does not
+/// use `read_block`.
 fn component_entries<'a>(
     alloc: Global,
     lexer: &mut Lexer<'a>,
@@ -450,7 +457,7 @@ fn component_entries<'a>(
     Ok(())
 }
 
-/// A COMPONENTS section after its keyword: its components are appended.
+/// Reads a COMPONENTS section, after its keyword, and appends its components.
 #[tactic(auto, unfolding(crate::specs::Entries::section))]
 pub(crate) fn components<'a>(
     alloc: Global,

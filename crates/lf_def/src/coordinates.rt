@@ -11,7 +11,8 @@ use lf_lex::{FaultNumber, Lexer, ReadError, Token, fault_at, is_token, keyword, 
 use lf_orient::Orient;
 use lf_units::{Point, Rect, Span, read_fixed};
 
-/// The whole number that a token writes, else BadNumber.
+/// Returns the whole number of a token. `Err(BadNumber)` if it is no whole number from -2147483647
+/// to 2147483647.
 fn dbu_of(token: &Token) -> Result<i64, ReadError>
     ensures read { MatchResult result (λ x. grammar.dbu_of (lexeme token.now) ≡ Ok x) (λ e. Fails e (grammar.dbu_of (lexeme token.now))) }
     ensures range { IfOk result (λ x. IsCoordinate x) }
@@ -22,7 +23,7 @@ fn dbu_of(token: &Token) -> Result<i64, ReadError>
     }
 }
 
-/// A coordinate.
+/// Reads a coordinate.
 #[tactic(auto, unfolding(crate::specs::Coordinates::dbu))]
 pub(crate) fn dbu(lexer: &mut Lexer) -> Result<i64, ReadError>
     ensures read { Reads (λ x. x) result grammar.dbu lexer.old lexer.new }
@@ -32,7 +33,7 @@ pub(crate) fn dbu(lexer: &mut Lexer) -> Result<i64, ReadError>
     dbu_of(&token)
 }
 
-/// The number if it is from 1 to the largest one, else BadNumber.
+/// Returns the number. `Err(BadNumber)` if it is not from 1 to `most`.
 fn up_to(most: u32, value: i64, line: usize) -> Result<u32, ReadError>
     ensures read { MatchResult result (λ n. grammar.up_to most value line ≡ Ok n) (λ e. Fails e (grammar.up_to most value line)) }
     ensures range { IfOk result (λ n. IsCount most n) }
@@ -43,7 +44,7 @@ fn up_to(most: u32, value: i64, line: usize) -> Result<u32, ReadError>
     Ok(value as u32)
 }
 
-/// A whole number from 1 to the largest one.
+/// Reads a whole number from 1 to `most`.
 #[tactic(auto, unfolding(crate::specs::Coordinates::count))]
 pub(crate) fn count(lexer: &mut Lexer, most: u32) -> Result<u32, ReadError>
     ensures read { Reads (λ n. n) result (grammar.count most) lexer.old lexer.new }
@@ -54,7 +55,7 @@ pub(crate) fn count(lexer: &mut Lexer, most: u32) -> Result<u32, ReadError>
     up_to(most, value, token.line)
 }
 
-/// `x y )` after the first parenthesis.
+/// Reads `x y )`, after the first parenthesis.
 #[tactic(auto, unfolding(crate::specs::Coordinates::point_rest))]
 pub(crate) fn point_rest(lexer: &mut Lexer) -> Result<Point, ReadError>
     ensures read { Reads (λ p. p) result grammar.point_rest lexer.old lexer.new }
@@ -66,7 +67,7 @@ pub(crate) fn point_rest(lexer: &mut Lexer) -> Result<Point, ReadError>
     Ok(Point { x, y })
 }
 
-/// `( x y )`.
+/// Reads `( x y )`.
 #[tactic(auto, unfolding(crate::specs::Coordinates::point))]
 fn point(lexer: &mut Lexer) -> Result<Point, ReadError>
     ensures read { Reads (λ p. p) result grammar.point lexer.old lexer.new }
@@ -76,7 +77,7 @@ fn point(lexer: &mut Lexer) -> Result<Point, ReadError>
     point_rest(lexer)
 }
 
-/// The lesser and the greater of two numbers.
+/// Returns the span from the lesser to the greater of two numbers.
 fn between(a: i64, b: i64) -> Span
     requires a { IsCoordinate a }
     requires b { IsCoordinate b }
@@ -91,7 +92,7 @@ fn between(a: i64, b: i64) -> Span
     }
 }
 
-/// The rectangle with these two opposite corners.
+/// Returns the rectangle with these two opposite corners.
 fn rect_between(p: &Point, q: &Point) -> Rect
     requires first { HasCoordinates p.now }
     requires second { HasCoordinates q.now }
@@ -108,7 +109,7 @@ fn rect_between(p: &Point, q: &Point) -> Rect
     }
 }
 
-/// `x y ) ( x y )` after the first parenthesis.
+/// Reads `x y ) ( x y )`, after the first parenthesis.
 #[tactic(auto, unfolding(crate::specs::Coordinates::rect_rest))]
 pub(crate) fn rect_rest(lexer: &mut Lexer) -> Result<Rect, ReadError>
     ensures read { Reads (λ r. r) result grammar.rect_rest lexer.old lexer.new }
@@ -119,7 +120,7 @@ pub(crate) fn rect_rest(lexer: &mut Lexer) -> Result<Rect, ReadError>
     Ok(rect_between(&corner, &opposite))
 }
 
-/// `( x y ) ( x y )`.
+/// Reads `( x y ) ( x y )`.
 #[tactic(auto, unfolding(crate::specs::Coordinates::rect))]
 pub(crate) fn rect(lexer: &mut Lexer) -> Result<Rect, ReadError>
     ensures read { Reads (λ r. r) result grammar.rect lexer.old lexer.new }
@@ -129,7 +130,7 @@ pub(crate) fn rect(lexer: &mut Lexer) -> Result<Rect, ReadError>
     rect_rest(lexer)
 }
 
-/// The orientation that a token names, else Unexpected.
+/// Returns the orientation that a token names. `Err(Unexpected)` if it names no orientation.
 pub(crate) fn orient_of(token: &Token) -> Result<Orient, ReadError>
     ensures { MatchResult result (λ o. grammar.orient_of (lexeme token.now) ≡ Ok o) (λ e. Fails e (grammar.orient_of (lexeme token.now))) }
 {

@@ -1,4 +1,4 @@
-//! What was read of a text so far.
+//! The statements of a text that were read so far.
 
 use crate::blockages::Blockage;
 use crate::components::Component;
@@ -8,7 +8,7 @@ use crate::regions::Region;
 use crate::rows::Row;
 use lf_units::Sequence;
 
-/// What the statements read so far say.
+/// The contents of the statements that were read so far.
 #[derive(Drop)]
 pub struct DocParts<'a> {
     pub header: HeaderParts,

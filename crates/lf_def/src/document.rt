@@ -1,4 +1,4 @@
-//! What a DEF text says.
+//! The contents of a DEF text.
 
 ghost use Rattle.std.specs.Prelude.{All};
 ghost use Rattle.std.proofs.Props.{props};
@@ -13,10 +13,12 @@ use crate::regions::Region;
 use crate::rows::Row;
 use lf_units::Sequence;
 
-/// What a DEF text says of placement, each list in the order of the text, with the text itself.
+/// The contents of a DEF text that concern placement, each list in the order of the text, with the
+/// text itself.
 ///
-/// Only reading a text makes a document: its fields are what its text says by the grammar. Coordinates are from
-/// -2147483647 to 2147483647; names have at most 1,024 bytes, each from 33 to 126.
+/// Only the reader makes a document, so its fields are what its text says by the grammar.
+/// Coordinates are from -2147483647 to 2147483647. Names have at most 1,024 bytes, each from 33 to
+/// 126.
 pub struct DefDoc<'a> {
     /// The whole text.
     pub text: &'a [u8],
@@ -35,7 +37,8 @@ pub struct DefDoc<'a> {
     pub ghost blockages_range: { All IsBlockage blockages } by { Prim.hlevel props },
 }
 
-/// (Written out: the proof of a function that lets one go does not take it apart.)
+/// Written by hand: with a derived `drop`, the proof of every function that drops a document would
+/// unfold it.
 impl Drop for DefDoc<'_> {
     fn drop(self) {
         let DefDoc {

@@ -17,14 +17,14 @@ use std::alloc::Global;
 #[derive(Drop)]
 pub struct Group {
     pub name: Name,
-    /// Patterns of component names, in the order of the text; a `*` that is not directly after a
+    /// Patterns of component names, in the order of the text. A `*` that is not directly after a
     /// backslash matches any run of bytes.
     pub patterns: Sequence<Name>,
-    /// The region of the first REGION clause, if there is one.
+    /// The region of the first REGION clause, or `None` without REGION.
     pub region: Option<Name>,
 }
 
-/// What was read of a group so far.
+/// The parts of a group that were read so far.
 #[derive(Drop)]
 pub struct GroupParts {
     pub patterns: Sequence<Name>,
@@ -32,7 +32,7 @@ pub struct GroupParts {
     pub due: Due,
 }
 
-/// One more pattern.
+/// Adds one more pattern.
 #[tactic(auto, unfolding(crate::specs::Groups::with_pattern))]
 fn with_pattern(
     alloc: Global,
@@ -51,7 +51,7 @@ fn with_pattern(
     Ok(true)
 }
 
-/// A REGION clause after its word.
+/// Reads a REGION clause, after its word.
 #[tactic(auto, unfolding(crate::specs::Groups::with_region))]
 fn with_region(alloc: Global, lexer: &mut Lexer, parts: &mut GroupParts) -> Result<bool, ReadError>
     requires names { AreGroupParts parts.old }
@@ -67,7 +67,8 @@ fn with_region(alloc: Global, lexer: &mut Lexer, parts: &mut GroupParts) -> Resu
     Ok(true)
 }
 
-/// A token of a group that is no separator, and what it takes with it; returns whether more follow.
+/// Reads the part of a group that begins with this token, which is no separator. Returns whether
+/// more parts follow.
 #[tactic(auto, unfolding(crate::specs::Groups::group_part))]
 fn group_part(
     alloc: Global,
@@ -95,7 +96,7 @@ fn group_part(
     }
 }
 
-/// A token of a group, and what it takes with it; returns whether more follow.
+/// Reads the part of a group that begins with this token. Returns whether more parts follow.
 #[tactic(auto, unfolding(crate::specs::Groups::group_from))]
 fn group_from(
     alloc: Global,
@@ -118,7 +119,7 @@ fn group_from(
     }
 }
 
-/// The tokens of a group after its name, up to its `;`.
+/// Reads the tokens of a group after its name, up to its `;`.
 #[derive(Drop)]
 struct GroupTokens {
     alloc: Global,
@@ -138,7 +139,7 @@ impl Block for GroupTokens {
     }
 }
 
-/// The state of a group after its name.
+/// Returns the state of a group after its name.
 fn no_group(alloc: Global) -> GroupParts
     ensures parts { result ≡ grammar.no_group }
     ensures names { AreGroupParts result }
@@ -168,7 +169,7 @@ impl Entry for Group {
     }
 }
 
-/// A GROUPS section after its keyword: its groups are appended.
+/// Reads a GROUPS section, after its keyword, and appends its groups.
 pub(crate) fn groups(
     alloc: Global,
     lexer: &mut Lexer,

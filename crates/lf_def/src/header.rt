@@ -15,22 +15,22 @@ use lf_lex::{
 use lf_units::Name;
 use std::alloc::{AllocError, Global};
 
-/// What the statements of the header say (LEF/DEF 5.8, DEF VERSION, DIVIDERCHAR, BUSBITCHARS, DESIGN and UNITS): the
-/// first of each, its token unchanged.
+/// The statements of the header (LEF/DEF 5.8, DEF VERSION, DIVIDERCHAR, BUSBITCHARS, DESIGN and
+/// UNITS): the first of each, its token unchanged.
 #[derive(Drop)]
 pub struct Header {
-    /// `5.8` if no statement says it.
+    /// The version, or `5.8` without VERSION.
     pub version: Name,
-    /// With its quotation marks; `"/"` if no statement says it.
+    /// The divider with its quotation marks, or `"/"` without DIVIDERCHAR.
     pub divider: Name,
-    /// With its quotation marks; `"[]"` if no statement says it.
+    /// The bus brackets with their quotation marks, or `"[]"` without BUSBITCHARS.
     pub brackets: Name,
     pub design: Name,
-    /// Database units per micron, from 1 to 20000; none without UNITS.
+    /// Database units per micron, from 1 to 20000. `None` without UNITS.
     pub units: Option<u32>,
 }
 
-/// What was read of the header so far.
+/// The statements of the header that were read so far.
 #[derive(Drop)]
 pub struct HeaderParts {
     pub version: Option<Name>,
@@ -40,7 +40,7 @@ pub struct HeaderParts {
     pub units: Option<u32>,
 }
 
-/// `VERSION v ;` after its keyword.
+/// Reads `VERSION v ;`, after its keyword.
 #[tactic(auto, unfolding(crate::specs::Header::version))]
 fn version<'a>(lexer: &mut Lexer<'a>) -> Result<&'a [u8], ReadError>
     ensures { Reads (λ v. v.now) result grammar.version lexer.old lexer.new }
@@ -50,7 +50,7 @@ fn version<'a>(lexer: &mut Lexer<'a>) -> Result<&'a [u8], ReadError>
     Ok(version.text)
 }
 
-/// `DIVIDERCHAR "c" ;` or `BUSBITCHARS "cc" ;` after its keyword.
+/// Reads `DIVIDERCHAR "c" ;` or `BUSBITCHARS "cc" ;`, after its keyword.
 #[tactic(auto, unfolding(crate::specs::Header::quoted))]
 fn quoted<'a>(lexer: &mut Lexer<'a>) -> Result<&'a [u8], ReadError>
     ensures { Reads (λ q. q.now) result grammar.quoted lexer.old lexer.new }
@@ -63,7 +63,7 @@ fn quoted<'a>(lexer: &mut Lexer<'a>) -> Result<&'a [u8], ReadError>
     Ok(token.text)
 }
 
-/// `DESIGN name ;` after its keyword.
+/// Reads `DESIGN name ;`, after its keyword.
 #[tactic(auto, unfolding(crate::specs::Header::design))]
 fn design<'a>(lexer: &mut Lexer<'a>) -> Result<&'a [u8], ReadError>
     ensures read { Reads (λ n. n.now) result grammar.design lexer.old lexer.new }
@@ -74,7 +74,7 @@ fn design<'a>(lexer: &mut Lexer<'a>) -> Result<&'a [u8], ReadError>
     Ok(name.text)
 }
 
-/// `UNITS DISTANCE MICRONS n ;` after its keyword.
+/// Reads `UNITS DISTANCE MICRONS n ;`, after its keyword.
 #[tactic(auto, unfolding(crate::specs::Header::units))]
 fn units(lexer: &mut Lexer) -> Result<u32, ReadError>
     ensures read { Reads (λ n. n) result grammar.units lexer.old lexer.new }
@@ -87,7 +87,7 @@ fn units(lexer: &mut Lexer) -> Result<u32, ReadError>
     Ok(units)
 }
 
-/// Whether the token begins a statement of the header.
+/// True if the token begins a statement of the header.
 pub(crate) fn is_header(token: &Token) -> bool
     ensures { result ≡ grammar.is_header (lexeme token.now) }
 {
@@ -98,7 +98,7 @@ pub(crate) fn is_header(token: &Token) -> bool
         || is_token(b"UNITS", token)
 }
 
-/// A statement of the header, after its keyword.
+/// Reads a statement of the header, after its keyword.
 #[tactic(auto, unfolding(crate::specs::Header::header_statement))]
 pub(crate) fn header_statement(
     alloc: Global,
@@ -131,7 +131,7 @@ pub(crate) fn header_statement(
     Ok(())
 }
 
-/// The state of the header before its first statement.
+/// Returns the state of the header in front of its first statement.
 pub(crate) fn no_header() -> HeaderParts
     ensures { result ≡ grammar.no_header }
 {
@@ -144,7 +144,7 @@ pub(crate) fn no_header() -> HeaderParts
     }
 }
 
-/// The text, or its default if there is none.
+/// Returns the text, or its default if there is no text. `Err` if an allocation fails.
 fn text_or(alloc: Global, text: Option<Name>, without: &[u8]) -> Result<Name, AllocError>
     ensures { IfOk result (λ t. t ≡ unwrap_or text without.now) }
 {
@@ -154,7 +154,7 @@ fn text_or(alloc: Global, text: Option<Name>, without: &[u8]) -> Result<Name, Al
     }
 }
 
-/// The header that the statements describe.
+/// Returns the header that the statements describe. `Err` if an allocation fails.
 pub(crate) fn header_of(alloc: Global, parts: HeaderParts) -> Result<Header, AllocError>
     requires design { IfSome parts.design (λ n. IsName n) }
     requires units { IfSome parts.units (λ n. IsCount 20000 n) }

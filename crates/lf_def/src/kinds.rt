@@ -1,4 +1,4 @@
-//! The fences, and the components that teams may move.
+//! Fences, and the components that teams may move.
 
 ghost use Rattle.std.specs.Prelude.{◌≡◌};
 ghost use Rattle.lf_def.specs.Kinds.{is_fence as is_fence_region, is_cover as is_cover_component, is_fixed as is_fixed_component};
@@ -7,7 +7,7 @@ ghost use Rattle.lf_def.specs.Kinds.{is_movable as is_movable_component};
 use crate::components::{Component, PlacementKind};
 use crate::regions::{Region, RegionKind};
 
-/// Whether the component is FIXED (LEF/DEF 5.8, DEF COMPONENTS).
+/// True if the component is FIXED (LEF/DEF 5.8, DEF COMPONENTS).
 #[tactic(auto, using(crate::proofs::ClauseKinds::says_by))]
 pub fn is_fixed(component: &Component) -> bool
     ensures { result ≡ is_fixed_component component.now }
@@ -21,7 +21,7 @@ pub fn is_fixed(component: &Component) -> bool
     }
 }
 
-/// Whether the component is COVER (LEF/DEF 5.8, DEF COMPONENTS).
+/// True if the component is COVER (LEF/DEF 5.8, DEF COMPONENTS).
 #[tactic(auto, using(crate::proofs::ClauseKinds::says_by))]
 pub fn is_cover(component: &Component) -> bool
     ensures { result ≡ is_cover_component component.now }
@@ -35,7 +35,7 @@ pub fn is_cover(component: &Component) -> bool
     }
 }
 
-/// Whether teams may move the component: it is neither FIXED nor COVER.
+/// True if teams may move the component: it is neither FIXED nor COVER.
 #[tactic(auto, using(crate::proofs::ClauseKinds::says_by))]
 pub fn is_movable(component: &Component) -> bool
     ensures { result ≡ is_movable_component component.now }
@@ -47,7 +47,7 @@ pub fn is_movable(component: &Component) -> bool
     }
 }
 
-/// Whether the region's TYPE is FENCE (LEF/DEF 5.8, DEF REGIONS).
+/// True if the region's TYPE is FENCE (LEF/DEF 5.8, DEF REGIONS).
 pub fn is_fence(region: &Region) -> bool
     ensures { result ≡ is_fence_region region.now }
 {

@@ -27,7 +27,8 @@ ghost use Rattle.lf_def.specs.PrintedTexts.{Part, one_row, regions_section, grou
 ghost use Rattle.lf_def.specs.PrintedTexts.{PartsReadBack, ReadsBackInTexts, ComponentsReadBackInTexts};
 ghost use Rattle.lf_def.specs.Laws.{ComponentReadsAlike, ReadsTheSame, EndsBefore, ComponentsHaveClauses, ComponentsRise};
 
-/// Each statement, entry and token after which more follow takes a token, so every block reaches its end or a fault.
+/// Each statement, entry and token after which more follow takes a token, so every block reaches
+/// its end or a fault.
 pub fn statements_take_tokens()
     ensures text { TakesTokens statement }
     ensures regions { TakesTokens (entry_or_end (codes "REGIONS") region) }
@@ -40,8 +41,8 @@ pub fn statements_take_tokens()
     ensures blockage { TakesTokens blockage_token }
 {}
 
-/// White space, comments and what follows do not affect what a row, a region, a group, a blockage or a component says,
-/// but for a component's offsets.
+/// White space, comments and what follows do not affect how a row, a region, a group, a blockage or
+/// a component is read. The offsets of a component may differ.
 pub fn statements_read_alike()
     ensures row { ReadsAlike row }
     ensures region { ReadsAlike region }
@@ -50,20 +51,21 @@ pub fn statements_read_alike()
     ensures component { ComponentReadsAlike }
 {}
 
-/// Texts that differ in white space and comments alone say the same, but for the offsets of components.
+/// Texts that differ only in white space and comments give the same document, except for the
+/// offsets of components.
 pub fn the_same_tokens_say_the_same()
     ensures { (a b : List ℕ) → ReadsTheSame a b }
 {}
 
-/// What follows END DESIGN is ignored: if reading a text leaves tokens unread, any bytes may replace those from the
-/// first of these on.
+/// Nothing after END DESIGN counts. If reading a text leaves tokens unread, any bytes may replace
+/// those from the first unread token on.
 pub fn nothing_behind_end_design_counts()
     ensures { (text : List ℕ) → EndsBefore text }
 {}
 
-/// A printed row, region, group, component or blockage reads back, however its numbers are written and with anything
-/// after it; a component but for its offsets, also if its entry has skipped words, quoted texts and clauses, or a point
-/// after UNPLACED.
+/// A printed row, region, group, component or blockage reads back, however its numbers are written
+/// and whatever follows. The offsets of a component may differ. A component's entry may also have
+/// skipped words, quoted texts and clauses, or a point after UNPLACED.
 pub fn printed_entries_read_back()
     ensures row { (print : ℤ → List ℕ) → WritesNumbers print → (r : Row) → IsPrintedRow r → ReadsBack row (row_words print r) r }
     ensures region { (print : ℤ → List ℕ) → WritesNumbers print → (r : Region) → IsPrintedRegion r → ReadsBack region (region_words print r) r }
@@ -76,20 +78,21 @@ pub fn printed_entries_read_back()
         → ReadsBack blockage (blockage_words print b) (Some b) }
 {}
 
-/// The placement clause of a component extends from the first byte of its `+` to the last byte of its last token: the
-/// orientation, or UNPLACED if no point follows. The offset of its `;` is that of its last token.
+/// The placement clause of a component extends from the first byte of its `+` to the last byte of
+/// its last token. That token is the orientation, or UNPLACED if no point follows. The offset of
+/// the component's `;` is that of its last token.
 pub fn clauses_stand_in_components()
     ensures { ComponentsHaveClauses }
 {}
 
-/// The components of a document are in its text in their order, one after the other: the clause of each before its own
-/// `;`, and after the `;` of the component before it.
+/// The components of a document are in its text in order, without overlap. The clause of each is in
+/// front of its own `;`, and after the `;` of the previous component.
 pub fn components_rise()
     ensures { (text : List ℕ) → ComponentsRise text }
 {}
 
-/// A printed REGIONS, GROUPS, COMPONENTS or BLOCKAGES section reads back as its list, after the entries of earlier
-/// sections, whatever its count; components but for their offsets.
+/// A printed REGIONS, GROUPS, COMPONENTS or BLOCKAGES section reads back as its list, after the
+/// entries of earlier sections, whatever its count. The offsets of components may differ.
 pub fn printed_sections_read_back()
     ensures regions { (print : ℤ → List ℕ) → WritesNumbers print → (count : List ℕ) → count ≢ codes ";"
         → (new known : List Region) → All IsPrintedRegion new
@@ -109,14 +112,16 @@ pub fn printed_sections_read_back()
         → ReadsBack (blockages known) (section_words (codes "BLOCKAGES") count (blockage_words print) new) (known ++ new) }
 {}
 
-/// A printed text reads back: statements and sections in any order, DESIGN and any skipped ones among them, say what
-/// they say, each list in the order of the text. White space, comments and what follows END DESIGN are ignored.
+/// A printed text reads back. Its statements and sections may be in any order, with DESIGN and any
+/// skipped ones among them. Each list has the order of the text. White space, comments and what
+/// follows END DESIGN are ignored.
 pub fn printed_texts_read_back()
     ensures { (print : ℤ → List ℕ) → WritesNumbers print → (parts : List Part) → PartsReadBack print parts }
 {}
 
-/// Printed rows, or a printed REGIONS, GROUPS, COMPONENTS or BLOCKAGES section, are all that a text says, alone and
-/// after any skipped statements; components but for their offsets. What follows END DESIGN is ignored.
+/// A text of printed rows, or of a printed REGIONS, GROUPS, COMPONENTS or BLOCKAGES section, reads
+/// back as these alone, with or without skipped statements in front. The offsets of components may
+/// differ. What follows END DESIGN is ignored.
 pub fn printed_lists_read_back_in_texts()
     ensures rows { (print : ℤ → List ℕ) → WritesNumbers print → (new : List Row) → All IsPrintedRow new
         → ReadsBackInTexts print (map one_row new) (λ d. record d { rows = new }) }
@@ -131,13 +136,14 @@ pub fn printed_lists_read_back_in_texts()
         (λ d. record d { blockages = new }) }
 {}
 
-/// A text may be printed with one space between its words and a line feed after them, and with any bytes after that:
-/// its first tokens are these words.
+/// A text may be printed with one space between its words, a line feed after them, and any bytes
+/// after that. Its first tokens are these words.
 pub fn printed_words_are_read()
     ensures { (words : List (List ℕ)) (rest : List ℕ) → list_all is_word_text words ≡ true → BeginsWith (joined words ++ 10 ∷ rest) (map word_of words) }
 {}
 
-/// Decimal numbers, as the standard library writes them, are a way of writing coordinates, and each of them is a word.
+/// Decimal numbers, as the standard library writes them, denote coordinates that read back. Each of
+/// them is a word.
 pub fn decimal_numbers_are_read()
     ensures numbers { WritesNumbers signed_decimal }
     ensures words { (x : ℤ) → IsCoordinate x → is_word_text (signed_decimal x) ≡ true }

@@ -1,16 +1,42 @@
 //! Reads the parts of DEF 5.8 texts that placement needs, by the grammar in `specs/`.
 //!
-//! These are the header, rows, regions, groups, components and placement blockages; components come with the offsets of
-//! their placement clauses and of their `;`, so that a text can be written again with other places. Other sections and
-//! statements of DEF are skipped. Lengths and coordinates are in database units.
+//! These parts are the header, rows, regions, groups, components and placement blockages.
+//! Components come with the offsets of their placement clauses and of their `;`, so a text can be
+//! written again with other places. Other sections and statements of DEF are skipped. Lengths and
+//! coordinates are in database units.
 //!
-//! A `DefDoc` keeps that it is what its text says. A contract sees of a `Component` its two names, its placement clause with
-//! the offsets, and the offset of its `;`.
+//! The fields of a `DefDoc` are always what its text says. A contract sees of a `Component` its two
+//! names, its placement clause with the offsets, and the offset of its `;`.
+//!
+//! Used by most other crates.
+//!
+//! Modules, in reading order:
+//!
+//! - `coordinates`: coordinates, points, rectangles, counts and orientations
+//! - `header`: VERSION, DIVIDERCHAR, BUSBITCHARS, DESIGN and UNITS
+//! - `rows`: rows of placement sites
+//! - `section`: what all sections share: entries and their clauses
+//! - `regions`: fences and guides
+//! - `groups`: groups of components, and their regions
+//! - `offsets`: the offsets of a component, in few bytes
+//! - `component_words`: the words of a component, borrowed from its text
+//! - `components`: components, with the offsets of their placement clauses
+//! - `blockages`: placement blockages
+//! - `doc_parts`: the statements that were read so far
+//! - `statements`: the statements of a text, up to END DESIGN
+//! - `document`: the document of a DEF text
+//! - `read`: the reader of a DEF text
+//! - `kinds`: fences, and the components that teams may move
+//! - `laws`: laws on the grammar
+//! - `built_in`: a small DEF text for tests
+//!
+//! From `crates/lf_tests_basics/src/def_texts.rt`:
 //!
 //! ```
-//! let doc = read_def(Global, DEMO_DEF)?;
-//! let first = &doc.components.as_slice()[0];
-//! first.placement(); // None: `- a1 INV + SOURCE DIST ;` has no placement clause
+//! match read_def(alloc, text) {
+//!     Ok(document) => Some(document.components.len()),
+//!     Err(_) => None,
+//! }
 //! ```
 #![tactic(auto)]
 

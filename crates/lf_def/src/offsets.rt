@@ -6,17 +6,17 @@ ghost use Rattle.lf_def.specs.Stored.{AreNear, IsNear, offsets_of};
 use std::alloc::{AllocError, Global};
 use std::marker::Model;
 
-/// Where a component's placement clause and its `;` are in the text.
+/// The offsets of a component's placement clause and its `;` in the text.
 #[derive(Clone, Copy, Debug, PartialEq, Eq)]
 pub struct Offsets {
-    /// The offset of the clause's `+`; 0 if there is no clause.
+    /// The offset of the clause's `+`, or 0 if there is no clause.
     pub start: usize,
-    /// The offset after the clause's last token; 0 if there is no clause.
+    /// The offset after the clause's last token, or 0 if there is no clause.
     pub stop: usize,
     pub semicolon: usize,
 }
 
-/// How offsets are kept: those that all have 32 bits in place, others on the heap.
+/// The storage of offsets: in place if each fits into 32 bits, otherwise on the heap.
 #[derive(Drop)]
 enum Kept {
     Near {
@@ -27,7 +27,7 @@ enum Kept {
     Far(Box<Offsets>),
 }
 
-/// Offsets in 16 bytes, and 24 on the heap if one of them takes more than 32 bits.
+/// Offsets in 16 bytes, with 24 more on the heap if one of them needs more than 32 bits.
 #[derive(Drop)]
 pub struct PackedOffsets {
     kept: Kept,
@@ -42,7 +42,7 @@ impl Model for PackedOffsets {
     ghost view = { λ p. offsets_of p.kept };
 }
 
-/// The offset in 32 bits, if it has no more.
+/// Returns the offset in 32 bits, or `None` if it needs more.
 fn short(offset: usize) -> Option<u32>
     ensures some { IfSome result (λ short. short ≡ offset) }
     ensures none { IfNone result (¬ IsNear offset) }
@@ -50,7 +50,7 @@ fn short(offset: usize) -> Option<u32>
     u32::try_from(offset).ok()
 }
 
-/// The offsets in place, if each has 32 bits.
+/// Returns the offsets in place, or `None` if one of them needs more than 32 bits.
 fn near(offsets: &Offsets) -> Option<Kept>
     ensures some { IfSome result (λ kept. offsets_of kept ≡ offsets.now) }
     ensures none { IfNone result (¬ AreNear offsets.now) }
@@ -63,7 +63,8 @@ fn near(offsets: &Offsets) -> Option<Kept>
 }
 
 impl PackedOffsets {
-    /// These offsets. Only those that do not all have 32 bits take memory.
+    /// Returns the packed offsets. Allocates only if one of them needs more than 32 bits. `Err` if
+    /// that allocation fails.
     pub(crate) fn new(alloc: Global, offsets: Offsets) -> Result<Self, AllocError>
         ensures ok { IfOk result (λ packed. packed ≡ offsets) }
         ensures memory { IfErr result (λ _. ¬ AreNear offsets) }
@@ -75,7 +76,7 @@ impl PackedOffsets {
         Ok(PackedOffsets { kept })
     }
 
-    /// The offsets.
+    /// Returns the offsets.
     pub(crate) fn get(&self) -> Offsets
         ensures { result ≡ self.now }
     {

@@ -1,4 +1,4 @@
-//! Reading a DEF text.
+//! The reader of a DEF text.
 
 ghost use Rattle.std.specs.Prelude.{◌≡◌, Ok, IfOk, IfErr};
 ghost use Rattle.lf_lex.specs.Reading.{Fails};
@@ -11,7 +11,7 @@ use crate::statements::read_statements;
 use lf_lex::{LoadFault, ReadError};
 use std::alloc::Global;
 
-/// The document that a text is.
+/// Returns the document of a text.
 fn document<'a>(alloc: Global, text: &'a [u8]) -> Result<DefDoc<'a>, ReadError>
     ensures text { IfOk result (λ doc. doc.text.now ≡ text.now) }
     ensures ok { IfOk result (λ doc. document_of text.now ≡ Ok (contents doc)) }
@@ -30,14 +30,16 @@ fn document<'a>(alloc: Global, text: &'a [u8]) -> Result<DefDoc<'a>, ReadError>
     })
 }
 
-/// Reads a DEF text up to its END DESIGN: the header, and rows, regions, groups, components and placement blockages in
-/// the order of the text. Other sections and statements of DEF are skipped. Unless an allocation fails, this succeeds iff the
-/// text is DEF by the grammar in `specs/`; the document is then what the grammar makes of it.
+/// Reads a DEF text up to its END DESIGN: the header, and rows, regions, groups, components and
+/// placement blockages in the order of the text. Other sections and statements of DEF are skipped.
+/// Unless an allocation fails, this succeeds if and only if the text is DEF by the grammar in
+/// `specs/`. The document is then what the grammar makes of the text.
 ///
-/// The error is the first fault in the order of the tokens, with its line: BadToken, UnexpectedEnd, Unexpected,
-/// BadNumber, WrongEnd, UnknownStatement or TooMany; or OutOfMemory, without a line, if an allocation fails.
+/// `Err` is the first fault in the order of the tokens, with its line: BadToken, UnexpectedEnd,
+/// Unexpected, BadNumber, WrongEnd, UnknownStatement or TooMany. It is OutOfMemory, without a line,
+/// if an allocation fails.
 ///
-/// An offset may have any size: a component with one of 2^32 or more takes 24 bytes more.
+/// An offset may have any size. A component with an offset of 2^32 or more takes 24 bytes more.
 pub fn read_def<'a>(alloc: Global, text: &'a [u8]) -> Result<DefDoc<'a>, LoadFault<'a>>
     ensures text { IfOk result (λ doc. doc.text.now ≡ text.now) }
     ensures ok { IfOk result (λ doc. document_of text.now ≡ Ok (contents doc)) }

@@ -15,10 +15,11 @@ use lf_lex::{
 use lf_units::{Name, Rect, Sequence};
 use std::alloc::Global;
 
-/// What the TYPE of a region demands of its groups' components (LEF/DEF 5.8, DEF REGIONS).
+/// The TYPE of a region: what it demands of the components of its groups (LEF/DEF 5.8, DEF
+/// REGIONS).
 #[derive(Clone, Copy, Debug, PartialEq, Eq)]
 pub enum RegionKind {
-    /// They are placed in it, and no others are.
+    /// They are placed in it, and no other components are.
     Fence,
     /// They should be placed in it.
     Guide,
@@ -28,14 +29,14 @@ pub enum RegionKind {
 #[derive(Drop)]
 pub struct Region {
     pub name: Name,
-    /// The first TYPE, if there is one.
+    /// The first TYPE, or `None` without TYPE.
     pub kind: Option<RegionKind>,
-    /// Its rectangles in the order of the text, one or more, each with its lower left corner before its upper right
-    /// one. They may overlap.
+    /// The rectangles in the order of the text, one or more. Each has its lower left corner first,
+    /// then its upper right corner. They may overlap.
     pub rects: Sequence<Rect>,
 }
 
-/// What was read of a region so far.
+/// The parts of a region that were read so far.
 #[derive(Drop)]
 pub struct RegionParts {
     pub kind: Option<RegionKind>,
@@ -43,7 +44,7 @@ pub struct RegionParts {
     pub due: Due,
 }
 
-/// The type that a token names, else Unexpected.
+/// Returns the type that a token names. `Err(Unexpected)` if it names no type.
 fn kind_of(token: &Token) -> Result<RegionKind, ReadError>
     ensures { MatchResult result (λ k. grammar.kind_of (lexeme token.now) ≡ Ok k) (λ e. Fails e (grammar.kind_of (lexeme token.now))) }
 {
@@ -56,7 +57,7 @@ fn kind_of(token: &Token) -> Result<RegionKind, ReadError>
     }
 }
 
-/// One more rectangle, after its first parenthesis.
+/// Reads one more rectangle, after its first parenthesis.
 #[tactic(auto, unfolding(crate::specs::Regions::with_rect))]
 fn with_rect(lexer: &mut Lexer, parts: &mut RegionParts) -> Result<bool, ReadError>
     requires rects { All IsRect parts.old.rects }
@@ -70,7 +71,7 @@ fn with_rect(lexer: &mut Lexer, parts: &mut RegionParts) -> Result<bool, ReadErr
     Ok(true)
 }
 
-/// A TYPE clause after its word.
+/// Reads a TYPE clause, after its word.
 #[tactic(auto, unfolding(crate::specs::Regions::with_kind))]
 fn with_kind(lexer: &mut Lexer, parts: &mut RegionParts) -> Result<bool, ReadError>
     requires rects { All IsRect parts.old.rects }
@@ -86,7 +87,8 @@ fn with_kind(lexer: &mut Lexer, parts: &mut RegionParts) -> Result<bool, ReadErr
     Ok(true)
 }
 
-/// A token of a region that is no separator, and what it takes with it; returns whether more follow.
+/// Reads the part of a region that begins with this token, which is no separator. Returns whether
+/// more parts follow.
 #[tactic(auto, unfolding(crate::specs::Regions::region_part))]
 fn region_part(lexer: &mut Lexer, parts: &mut RegionParts, token: &Token) -> Result<bool, ReadError>
     requires rects { All IsRect parts.old.rects }
@@ -116,7 +118,7 @@ fn region_part(lexer: &mut Lexer, parts: &mut RegionParts, token: &Token) -> Res
     }
 }
 
-/// A token of a region, and what it takes with it; returns whether more follow.
+/// Reads the part of a region that begins with this token. Returns whether more parts follow.
 #[tactic(auto, unfolding(crate::specs::Regions::region_from))]
 fn region_from(lexer: &mut Lexer, parts: &mut RegionParts, token: &Token) -> Result<bool, ReadError>
     requires rects { All IsRect parts.old.rects }
@@ -135,7 +137,7 @@ fn region_from(lexer: &mut Lexer, parts: &mut RegionParts, token: &Token) -> Res
     }
 }
 
-/// The tokens of a region after its first rectangle, up to its `;`.
+/// Reads the tokens of a region after its first rectangle, up to its `;`.
 #[derive(Drop)]
 struct RegionTokens;
 
@@ -153,7 +155,7 @@ impl Block for RegionTokens {
     }
 }
 
-/// The state of a region after its first rectangle.
+/// Returns the state of a region after its first rectangle. `Err` if an allocation fails.
 fn first_rect(alloc: Global, rect: Rect) -> Result<RegionParts, ReadError>
     requires rect { IsRect rect }
     ensures parts { IfOk result (λ parts. parts ≡ grammar.first_rect rect) }
@@ -189,7 +191,7 @@ impl Entry for Region {
     }
 }
 
-/// A REGIONS section after its keyword: its regions are appended.
+/// Reads a REGIONS section, after its keyword, and appends its regions.
 pub(crate) fn regions(
     alloc: Global,
     lexer: &mut Lexer,

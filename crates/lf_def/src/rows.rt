@@ -25,11 +25,11 @@ pub struct Row {
     pub x: i64,
     pub y: i64,
     pub orient: Orient,
-    /// How many sites it has across, numX; 1 without DO.
+    /// The number of sites across, numX. It is 1 without DO.
     pub sites_x: u32,
-    /// How many sites it has up, numY; 1 without DO.
+    /// The number of sites up, numY. It is 1 without DO.
     pub sites_y: u32,
-    /// The steps across and up from site to site, if it has STEP.
+    /// The steps across and up from site to site. `None` without STEP.
     pub step: Option<Point>,
 }
 
@@ -41,7 +41,7 @@ pub struct Sites {
     pub step: Option<Point>,
 }
 
-/// The end of a row, after its first token.
+/// Reads the end of a row, after its first token.
 #[tactic(auto, unfolding(crate::specs::Rows::row_end))]
 fn row_end(lexer: &mut Lexer, token: &Token) -> Result<(), ReadError>
     ensures { ReadsOn (λ x. x) result (grammar.row_end (lexeme token.now)) lexer.old lexer.new }
@@ -55,7 +55,7 @@ fn row_end(lexer: &mut Lexer, token: &Token) -> Result<(), ReadError>
     }
 }
 
-/// `[STEP sx sy]` and the end of a row, after its first token.
+/// Reads `[STEP sx sy]` and the end of a row, after its first token.
 #[tactic(auto, unfolding(crate::specs::Rows::step))]
 fn step(lexer: &mut Lexer, first: &Token) -> Result<Option<Point>, ReadError>
     ensures read { ReadsOn (λ s. s) result (grammar.step (lexeme first.now)) lexer.old lexer.new }
@@ -73,7 +73,7 @@ fn step(lexer: &mut Lexer, first: &Token) -> Result<Option<Point>, ReadError>
     }
 }
 
-/// `numX BY numY [STEP sx sy]` and the end of a row, after DO.
+/// Reads `numX BY numY [STEP sx sy]` and the end of a row, after DO.
 #[tactic(auto, unfolding(crate::specs::Rows::sites))]
 fn read_sites(lexer: &mut Lexer) -> Result<Sites, ReadError>
     ensures read { Reads (λ s. s) result grammar.sites lexer.old lexer.new }
@@ -89,7 +89,7 @@ fn read_sites(lexer: &mut Lexer) -> Result<Sites, ReadError>
     Ok(Sites { x, y, step })
 }
 
-/// `[DO numX BY numY [STEP sx sy]]` and the end of a row, after its first token.
+/// Reads `[DO numX BY numY [STEP sx sy]]` and the end of a row, after its first token.
 #[tactic(auto, unfolding(crate::specs::Rows::sites_from))]
 fn sites_from(lexer: &mut Lexer, token: &Token) -> Result<Sites, ReadError>
     ensures read { ReadsOn (λ s. s) result (grammar.sites_from (lexeme token.now)) lexer.old lexer.new }
@@ -109,7 +109,7 @@ fn sites_from(lexer: &mut Lexer, token: &Token) -> Result<Sites, ReadError>
     }
 }
 
-/// A row after its keyword.
+/// Reads a row, after its keyword.
 #[tactic(auto, unfolding(crate::specs::Rows::row))]
 pub(crate) fn read_row(alloc: Global, lexer: &mut Lexer) -> Result<Row, ReadError>
     ensures read { Reads (λ r. r) result grammar.row lexer.old lexer.new }

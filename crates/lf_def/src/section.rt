@@ -1,4 +1,5 @@
-//! What the sections of DEF share: entries that begin with a minus, and clauses that begin with a plus.
+//! What the sections of DEF share: entries that begin with a minus, and clauses that begin with a
+//! plus.
 
 ghost use Rattle.std.specs.Prelude.{◌≡◌, Ok, All, IfOk, OnOk, OnErr, MatchResult};
 ghost use Rattle.lf_lex.specs.Tokens.{lexeme, IsSpelled};
@@ -13,20 +14,21 @@ use lf_units::{Name, Sequence};
 use std::alloc::{AllocError, Global};
 use std::marker::PhantomData;
 
-/// What is due in an entry besides `;` and `+`.
+/// The kind of token that is due in an entry, besides `;` and `+`.
 #[derive(Clone, Copy, Debug, PartialEq, Eq)]
 pub enum Due {
-    /// What precedes the first clause: points of a region, patterns of a group.
+    /// A token in front of the first clause: a point of a region, a pattern of a group.
     Item,
     /// The word of a clause, directly after its `+`.
     Keyword,
-    /// The rest of a clause that is skipped.
+    /// A token of the rest of a clause, which is skipped.
     Rest,
-    /// Nothing else: the clause was read to its end.
+    /// No other token: the clause was read to its end.
     Separator,
 }
 
-/// Whether the token is a name or a pattern, else Unexpected or TooMany.
+/// Checks that the token is a name or a pattern. `Err(Unexpected)` if it is not, `Err(TooMany)` if
+/// it is longer than 1,024 bytes.
 pub(crate) fn check_name(token: &Token) -> Result<(), ReadError>
     requires spelled { IsSpelled (lexeme token.now) }
     ensures read { MatchResult result (λ _. grammar.name_of (lexeme token.now) ≡ Ok (lexeme token.now).text)
@@ -42,7 +44,8 @@ pub(crate) fn check_name(token: &Token) -> Result<(), ReadError>
     Ok(())
 }
 
-/// The first of several names or texts counts.
+/// Sets `first` to the text unless an earlier statement set it. `Err` if an allocation fails;
+/// `first` is then unchanged.
 pub(crate) fn keep_first(
     alloc: Global,
     first: &mut Option<Name>,
@@ -57,21 +60,21 @@ pub(crate) fn keep_first(
     Ok(())
 }
 
-/// What the entries of a section are.
+/// An entry of a section.
 pub(crate) trait Entry: Sized + Drop {
-    // An entry after its minus.
+    // The reader of an entry, after its minus.
     ghost entry: { Reader Self };
 
-    // What each entry keeps.
+    // The property that each entry has.
     ghost keeps: { Self → Type 0 };
 
-    /// Reads an entry after its minus.
+    /// Reads an entry, after its minus.
     fn read(alloc: Global, lexer: &mut Lexer) -> Result<Self, ReadError>
         ensures read { Reads (λ e. e) result entry lexer.old lexer.new }
         ensures range { IfOk result (λ e. keeps e) };
 }
 
-/// The entries of the section of that keyword, up to its END.
+/// Reads the entries of the section with this keyword, up to its END.
 #[derive(Drop)]
 struct Entries<'k, E> {
     alloc: Global,
@@ -102,7 +105,7 @@ impl<'k, E: Entry> Block for Entries<'k, E> {
     }
 }
 
-/// A section after its keyword: its entries are appended.
+/// Reads a section, after its keyword, and appends its entries.
 #[tactic(auto, unfolding(crate::specs::Entries::section))]
 pub(crate) fn section<E: Entry>(
     alloc: Global,

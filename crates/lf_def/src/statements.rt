@@ -21,7 +21,7 @@ use lf_lex::{
 use lf_units::Sequence;
 use std::alloc::Global;
 
-/// Whether the token begins a section that is skipped to END and its keyword.
+/// True if the token begins a section that is skipped up to END and its keyword.
 fn is_skipped_section(token: &Token) -> bool
     ensures { result ≡ grammar.is_skipped_section (lexeme token.now) }
 {
@@ -38,7 +38,7 @@ fn is_skipped_section(token: &Token) -> bool
         || is_token(b"SCANCHAINS", token)
 }
 
-/// Whether the token begins a statement that is skipped to its semicolon.
+/// True if the token begins a statement that is skipped up to its semicolon.
 fn is_skipped_statement(token: &Token) -> bool
     ensures { result ≡ grammar.is_skipped_statement (lexeme token.now) }
 {
@@ -51,7 +51,8 @@ fn is_skipped_statement(token: &Token) -> bool
         || is_token(b"NAMESCASESENSITIVE", token)
 }
 
-/// A statement that is skipped, after its first token.
+/// Skips a statement, after its first token. `Err(UnknownStatement)` if the token is a word that
+/// begins no statement, `Err(Unexpected)` if it is a quoted text.
 #[tactic(auto, unfolding(crate::specs::Document::passed_from))]
 fn skip_from(lexer: &mut Lexer, token: &Token) -> Result<(), ReadError>
     ensures { ReadsOn (λ x. x) result (grammar.passed_from (lexeme token.now)) lexer.old lexer.new }
@@ -69,7 +70,8 @@ fn skip_from(lexer: &mut Lexer, token: &Token) -> Result<(), ReadError>
     }
 }
 
-/// DESIGN after an END.
+/// Reads DESIGN after an END. `Err(WrongEnd)` for another word, `Err(Unexpected)` for a quoted
+/// text, or if the text has no DESIGN statement.
 #[tactic(auto, unfolding(crate::specs::Document::end_design))]
 fn end_design(lexer: &mut Lexer, parts: &DocParts) -> Result<(), ReadError>
     ensures { Reads (λ x. x) result (grammar.end_design parts.now) lexer.old lexer.new }
@@ -88,7 +90,7 @@ fn end_design(lexer: &mut Lexer, parts: &DocParts) -> Result<(), ReadError>
     }
 }
 
-/// A row after its keyword: it is appended.
+/// Reads a row, after its keyword, and appends it.
 #[tactic(auto, unfolding(crate::specs::Rows::with_row))]
 fn add_row(alloc: Global, lexer: &mut Lexer, rows: &mut Sequence<Row>) -> Result<(), ReadError>
     requires range { All IsRow rows.old }
@@ -100,7 +102,7 @@ fn add_row(alloc: Global, lexer: &mut Lexer, rows: &mut Sequence<Row>) -> Result
     Ok(())
 }
 
-/// A row or a section, after its keyword, or a statement that is skipped.
+/// Reads a row or a section, after its keyword, or skips a statement.
 #[tactic(auto, unfolding(crate::specs::Document::body_statement))]
 fn body_statement<'a>(
     alloc: Global,
@@ -127,7 +129,7 @@ fn body_statement<'a>(
     }
 }
 
-/// A statement of the text, after its first token; returns whether more follow.
+/// Reads a statement of the text, after its first token. Returns whether more statements follow.
 #[tactic(auto, unfolding(crate::specs::Document::statement_from))]
 fn statement_from<'a>(
     alloc: Global,
@@ -165,7 +167,7 @@ fn statement<'a>(
     statement_from(alloc, lexer, parts, &first)
 }
 
-/// The state before the first statement.
+/// Returns the state in front of the first statement.
 fn no_parts<'a>(alloc: Global) -> DocParts<'a>
     ensures parts { result ≡ grammar.no_parts }
     ensures range { AreParts result }
@@ -180,7 +182,7 @@ fn no_parts<'a>(alloc: Global) -> DocParts<'a>
     }
 }
 
-/// The statements of a text up to END DESIGN.
+/// Reads the statements of a text up to END DESIGN.
 pub(crate) fn read_statements<'a>(alloc: Global, text: &'a [u8]) -> Result<DocParts<'a>, ReadError>
     ensures ok { IfOk result (λ parts. grammar.parts_of text.now ≡ Ok parts) }
     ensures fault { IfErr result (λ e. Fails e (grammar.parts_of text.now)) }

@@ -1,4 +1,4 @@
--- What holds of a design in which no refusal finds anything.
+-- Facts about a design in which no refusal finds anything.
 use Rattle.std.proofs.Common.{◌≡◌, ℕ, zero, suc, ℤ, pos, ◌*ℤ◌, ◌≤◌, ◌<ℤ◌, ◌⊎◌, inl, inr, Bool, true, false, List, [], ◌∷◌, get_or, Option, None, Some, Bor, refl, arith}
 use Rattle.std.specs.Prelude.{All, IsSome, IsSomeAnd, IfSome, MatchOption, cond, is_some, int_lt, slice_get}
 use Rattle.std.specs.Option.{option_copied}
@@ -25,7 +25,7 @@ use Rattle.lf_frame.specs.Loads.{IsSizedIn, FixedIsSized, AreInRange}
 use Rattle.lf_frame_checks.proofs.CoreLemmas.{pitch_of_core, above}
 use Rattle.lf_frame_checks.proofs.Gathered.{none_of_name}
 
--- there is a core site
+-- There is a core site.
 pub core_there : (i : LoadInputs) → IsAccepted i → IsSome (core_in i)
 core_there i a = by (core_in i) (a NoRows)
   where
@@ -37,7 +37,7 @@ pub lent_there : (lent : Option (Bor Site)) {found : Option Site} → option_cop
 lent_there None {found} same there = rw (← same) at there
 lent_there (Some s) {found} same there = refl
 
--- what is found of the core site
+-- What is found of the core site.
 pub of_core : (i : LoadInputs) (core : Site) (finds : Site → Finding) → core_in i ≡ Some core → OfCore i finds None → finds core None
 of_core i core finds is h = rw is at h
 
@@ -51,7 +51,7 @@ pub first_nothing : {A B : Type 0} → (A × B) ⊎ (IsSome {T = List ℕ} None 
 first_nothing (inl both) = both
 first_nothing (inr some) = absurd (false≢true some.0)
 
--- the core site's size is not other than whole
+-- The core site's size is whole in database units.
 pub core_whole : (i : LoadInputs) (core : Site) → core_in i ≡ Some core → IsAccepted i → (IsWholeSize (units_in i) core.size → ⊥) → ⊥
 core_whole i core is a not_whole =
     let found : CoreHasPartUnits i core None = of_core i core (CoreHasPartUnits i) is (first_nothing (a NotWhole)).0 in
@@ -101,7 +101,7 @@ sized_macro units (Some m) some few range has whole =
       whole = pitch_of_core units m.size some few range.size is (whole_size units m.size whole);
     }
 
--- the macro of a component other than COVER has a size that is whole in database units
+-- The macro of a component other than COVER has a size that is whole in database units.
 pub macros_sized : (i : LoadInputs) → AreInRange i → IsAccepted i →
     All (λ c. is_cover c ≡ false → IfSome (macro_named i.library c.mac) (IsSizedIn (units_in i))) i.document.components
 macros_sized i range a k d within uncovered =
@@ -112,7 +112,7 @@ macros_sized i range a k d within uncovered =
     (place_stands IsMacro i.library.macros (position_of (macro_names i.library.macros) c.mac) range.macros)
     (λ h. has (uncovered, h)) (λ h. whole (uncovered, h))
 
--- a FIXED component is not COVER
+-- A FIXED component is not COVER.
 fixed_uncovered : (c : Component) → is_fixed c ≡ true → is_cover c ≡ false
 fixed_uncovered c = by c.placement
   where

@@ -1,4 +1,4 @@
--- Loading answers the same for inputs that differ in where movable components stand alone.
+-- Loading returns the same for inputs that differ only in the places of movable components.
 use Rattle.std.proofs.Common.{◌≡◌, ℕ, ◌+◌, inl, inr, Bool, true, false, List, [], ◌∷◌, ◌++◌, map, Option, None, Some, refl, sym, ◌∙◌, ap, subst}
 use Rattle.std.specs.Prelude.{filter_map, flat_map, MatchOption, option_map}
 use Rattle.std.specs.Option.{option_and_then}
@@ -32,11 +32,11 @@ use Rattle.lf_frame.specs.Alike.{without_movable_place, AreAlike, FindAlike, Acc
 use Rattle.lf_frame.proofs.AlikeEntries.{Same, SameAll, settled_without, name_same, mac_same, movable_same, name_alike, no_macro_respects, no_size_respects}
 use Rattle.lf_frame.proofs.AlikeEntries.{part_units_respects, earlier_name_respects, claimed_twice_respects, too_many_respects}
 
--- the inputs with these components
+-- The inputs with these components.
 abbrev pub with_components : LoadInputs → List Component → LoadInputs
 with_components i cs = record i { document = record i.document { components = cs } }
 
--- inputs that are alike differ in their components alone
+-- Inputs that are alike differ only in their components.
 but_components : (i j : LoadInputs) → AreAlike i j → i ≡ with_components j i.document.components
 but_components i j alike = λ d. record {
   library = alike.library d;
@@ -54,7 +54,7 @@ but_components i j alike = λ d. record {
 components_alike : (i j : LoadInputs) → AreAlike i j → map without_places i.document.components ≡ map without_places j.document.components
 components_alike i j alike = ap (λ d. d.components) alike.document
 
--- components whose positions alone differ are the same
+-- Components that differ only in their positions are the same.
 pub same_without : (xs ys : List Component) → map without_places xs ≡ map without_places ys → SameAll xs ys
 same_without xs ys same = sym (of_map xs) ∙ ap (map without_movable_place) same ∙ of_map ys
   where
@@ -62,7 +62,7 @@ same_without xs ys same = sym (of_map xs) ∙ ap (map without_movable_place) sam
     of_map [] = refl
     of_map (c ∷ cs) = rw (settled_without c, of_map cs)
 
--- what the one finding is, the other is too
+-- Holds if whatever the first finding is, the second is too.
 abbrev Carries : Finding → Finding → Type 0
 Carries one other = (found : Option (List ℕ)) → one found → other found
 
@@ -90,7 +90,7 @@ core_units_same i xs ys found = by (core_in i)
     by None h = h
     by (Some core) h = record { whole = h.whole; part = h.part }
 
--- what a refusal finds does not turn on where movable components stand
+-- What a refusal finds does not depend on the places of movable components.
 pub finds_same : (i : LoadInputs) (xs ys : List Component) → SameAll xs ys → (n : FaultNumber) →
     Carries (Finds (with_components i xs) n) (Finds (with_components i ys) n)
 finds_same i xs ys same NoUnits = λ found h. h
@@ -187,7 +187,7 @@ frame_same i xs ys same f is = record {
   limits = is.limits;
 }
 
--- cells that fit the movable ones of some components fit those of the same components
+-- Cells that fit the movable ones of some components fit those of the same components.
 pub cells_same : (kept : Component → Component) → ((a b : Component) → kept a ≡ kept b → Same a b) → (P Q : ℕ × Component → Cell → Type 0) →
     ((k : ℕ) (a b : Component) (c : Cell) → kept a ≡ kept b → P (k, a) c → Q (k, b) c) →
     (k : ℕ) (xs ys : List Component) → map kept xs ≡ map kept ys → (cells : List Cell) → AllZip P (movables_from k xs) cells
@@ -210,7 +210,7 @@ cells_same kept alike P Q made k (a ∷ xs) (b ∷ ys) same cells zip =
     by true is movable one (c ∷ cs) zip rest = let pair = rw is at zip in rw (movable, is) (made k a b c one pair.0, rest cs pair.1)
     by false is movable one cells zip rest = rw (movable, is) (rest cells (rw is at zip))
 
--- Positions alone.
+-- Only positions.
 
 one_without : (a b : Component) → without_places a ≡ without_places b → Same a b
 one_without a b same = sym (settled_without a) ∙ ap without_movable_place same ∙ settled_without b

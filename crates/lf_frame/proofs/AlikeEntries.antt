@@ -1,4 +1,5 @@
--- Lists of components that differ in where the movable ones stand alone: the same entry is the first to break a rule.
+-- Lists of components that differ only in the places of the movable ones: the same entry is the
+-- first to break a rule.
 use Rattle.std.proofs.Common.{◌≡◌, ℕ, ◌<◌, Bool, false, List, [], ◌∷◌, length, map, take, get_or, Option, None, Some, refl, sym, ◌∙◌, ap, subst, arith}
 use Rattle.std.specs.Prelude.{slice_get, option_map, IsSomeAnd}
 use Rattle.std.proofs.lemmas.List.{take-map, get_or-map, length-map}
@@ -21,15 +22,15 @@ use Rattle.lf_frame_checks.specs.Findings.{NameOfFirst}
 use Rattle.lf_frame.specs.Alike.{without_movable_place}
 use Rattle.lf_units.proofs.Any.{name_of_any, any_of_name}
 
--- they are the same component, but that a movable one may stand elsewhere
+-- Holds if the components are the same, except for the place of a movable one.
 abbrev pub Same : Component → Component → Type 0
 Same a b = without_movable_place a ≡ without_movable_place b
 
--- they are the same components, but that the movable ones may stand elsewhere
+-- Holds if the components are the same, except for the places of movable ones.
 abbrev pub SameAll : List Component → List Component → Type 0
 SameAll xs ys = map without_movable_place xs ≡ map without_movable_place ys
 
--- What is said of every component is said of every one that is the same.
+-- A fact about every component holds of every component that is the same.
 
 abbrev settled_placement : Option PlacementClause → Option PlacementClause
 settled_placement p = (without_movable_place (record { name = []; mac = []; placement = p; semicolon = 0 })).placement
@@ -46,7 +47,7 @@ says_settled is_kind placed unplaced (Some p) = by p.kind p.place p.start p.stop
     by Placed place start stop = sym placed
     by Unplaced place start stop = sym unplaced
 
--- a component whose positions are left out is the same
+-- A component without its positions is the same.
 pub settled_without : (c : Component) → without_movable_place (without_places c) ≡ without_movable_place c
 settled_without c = by c.placement
   where
@@ -77,7 +78,7 @@ cover_same a b same = sym (says_settled is_cover_kind refl refl a.placement) ∙
 pub movable_same : (a b : Component) → Same a b → is_movable a ≡ is_movable b
 movable_same a b same = rw (fixed_same a b same, cover_same a b same)
 
--- Of lists that are the same, the same stands at each place.
+-- Lists that are the same have the same component at each place.
 
 pub length_same : (xs ys : List Component) → SameAll xs ys → length xs ≡ length ys
 length_same xs ys same = sym (length-map xs without_movable_place) ∙ ap length same ∙ length-map ys without_movable_place
@@ -90,7 +91,7 @@ entry_same xs ys k d same within =
     let there : k < length xs = omega (arith, length_same xs ys same) in
     sym (get_or-map without_movable_place xs k d d there) ∙ ap (λ l. get_or l k d) same ∙ get_or-map without_movable_place ys k d d within
 
--- the names that components have
+-- The names of components.
 names_same : (name_of : Component → List ℕ) → ((c : Component) → name_of (without_movable_place c) ≡ name_of c) → (xs ys : List Component) → SameAll xs ys →
     map name_of xs ≡ map name_of ys
 names_same name_of without xs ys same = of_map xs ∙ ap (map name_of) same ∙ sym (of_map ys)
@@ -99,7 +100,7 @@ names_same name_of without xs ys same = of_map xs ∙ ap (map name_of) same ∙ 
     of_map [] = refl
     of_map (c ∷ cs) = rw (without c, of_map cs)
 
--- the places of movable components do not affect whether an entry breaks the rule
+-- Holds if the places of movable components do not affect whether an entry breaks the rule.
 abbrev pub Respects : (List Component → Component → Type 0) → Type 0
 Respects breaks = (xs ys : List Component) (a b : Component) → SameAll xs ys → Same a b → breaks xs a → breaks ys b
 
@@ -108,7 +109,7 @@ broken_same : (breaks : List Component → Component → Type 0) → Respects br
 broken_same breaks respects xs ys same k d within = respects (take k xs) (take k ys) (get_or xs k d) (get_or ys k d) (take_same xs ys k same)
     (entry_same xs ys k d same within)
 
--- the same entry is the first to break the rule
+-- The same entry is the first to break the rule.
 first_alike : (breaks : List Component → Component → Type 0) → Respects breaks → (xs ys : List Component) → SameAll xs ys → (place : Option ℕ) →
     FirstIs breaks xs place → FirstIs breaks ys place
 first_alike breaks respects xs ys same None none = λ k d within broken.
@@ -130,7 +131,7 @@ named_alike name_of without xs ys same None = refl
 named_alike name_of without xs ys same (Some n) =
     sym (slice_get-map name_of xs n) ∙ ap (λ l. slice_get l n) (names_same name_of without xs ys same) ∙ slice_get-map name_of ys n
 
--- the first component that breaks a rule has the same name
+-- The first component that breaks a rule has the same name.
 pub name_alike : (name_of : Component → List ℕ) → ((c : Component) → name_of (without_movable_place c) ≡ name_of c) → (breaks : List Component → Component → Type 0) →
     Respects breaks →
     (xs ys : List Component) → SameAll xs ys → (found : Option (List ℕ)) → NameOfFirst name_of breaks xs found → NameOfFirst name_of breaks ys found
@@ -140,7 +141,7 @@ name_alike name_of without breaks respects xs ys same found n = record {
   name = n.name ∙ named_alike name_of without xs ys same n.place;
 }
 
--- Where movable components stand is ignored in any rule for components.
+-- No rule for components depends on the places of movable components.
 
 pub no_macro_respects : (library : Contents) → Respects (HasNoMacro library)
 no_macro_respects library xs ys a b all same h = (sym (cover_same a b same) ∙ h.0, subst (λ m. macro_named library m ≡ None) (mac_same a b same) h.1)

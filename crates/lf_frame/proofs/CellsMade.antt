@@ -1,4 +1,4 @@
--- The cells of the movable components, one after the other.
+-- The cells of the movable components, in order.
 use Rattle.std.proofs.Common.{◌≡◌, ◌≢◌, ◌⊎◌, inl, inr, ℕ, zero, suc, ◌+◌, ◌<◌, ◌≤◌, true, false, List, [], ◌∷◌, ◌++◌, length, get_or, take, drop, refl, sym, ap, ◌∙◌, subst, length-take-le, arith}
 use Rattle.std.specs.Prelude.{All, Option, None, option_map, unwrap_or}
 use Rattle.std.specs.List.{AllZip}
@@ -19,7 +19,7 @@ use Rattle.lf_frame_checks.specs.MacroTables.{macro_of, macros_of, macro_at}
 use Rattle.lf_frame_checks.specs.Findings.{LoadInputs}
 use Rattle.lf_frame.specs.Loads.{movables, movables_from, IsCellOf}
 
--- what the table of macros has at its number is the macro of a component
+-- The macro of a component is what the table of macros has at its number.
 pub macro_read : (library : Contents) (components : List Component) (macros : List (Option ℕ)) (k : ℕ) (c : Component) → macros ≡ macros_of library components →
     k < length components → c ≡ get_or components k c → macro_at macros k ≡ macro_of library c
 macro_read library components macros k c made within is =
@@ -29,14 +29,16 @@ macro_read library components macros k c made within is =
     ∙ ap (option_map (macro_of library)) (slice_get_read components (length components) k c refl within is)
     )
 
--- what the table of claims has there is its team, unless two fences claim it
+-- The team of a component is what the table of claims has at its number, unless two fences claim
+-- it.
 pub team_read : (regions : List Region) (groups : List Group) (components : List Component) (table : ClaimFacts) (k : ℕ) (c : Component) (team : ℕ) →
     FindsTeam table k team → IsTableOf regions groups components table → NoneBreaks HasEarlierName components → k < length components →
     c ≡ get_or components k c → (HasTwoFences regions groups c.name → ⊥) → IsTeamOf regions groups c.name team
 team_read regions groups components table k c team tells of differ within is once =
     tells regions groups components of differ c (slice_get_read components (length components) k c refl within is) once
 
--- whatever cells the components from this one on have, after these they are the cells of all
+-- Holds if these cells, followed by the cells of the components from this one on, are the cells of
+-- all.
 abbrev pub GoesOn : LoadInputs → List Component → ℕ → List Cell → Type 0
 GoesOn i components k cells = (more : List Cell) → AllZip (IsCellOf i) (movables_from k (drop k components)) more → AllZip (IsCellOf i) (movables components) (cells ++ more)
 
@@ -61,13 +63,13 @@ all_made i components k cells past before =
     let whole : cells ++ [] ≡ cells = grind (arith, common_steps) in
     rw whole at (before [] (rw nothing tt))
 
--- a component before this one has the name
+-- An earlier component has the name.
 pub record IsEarlier (components : List Component) (k : ℕ) (name : List ℕ) : Type 0 where
   pub place : ℕ
   pub before : place < k
   pub named : (e : Component) → (get_or components place e).name ≡ name
 
--- the names of these cells are those of components before this one
+-- The names of these cells are those of earlier components.
 abbrev pub AreEarlier : List Component → ℕ → List Cell → Type 0
 AreEarlier components k cells = (m : ℕ) (d : Cell) → m < length cells → IsEarlier components k (get_or cells m d).name
 
@@ -107,7 +109,7 @@ one_earlier components k c cells cell within is name early m d inside =
           })
     ]
 
--- so the name of this component is new
+-- The name of this component is new.
 pub is_new : (components : List Component) (k : ℕ) (c : Component) (cells : List Cell) → NoneBreaks HasEarlierName components → k < length components →
     c ≡ get_or components k c → AreEarlier components k cells → All (λ d. d.name ≢ c.name) cells
 is_new components k c cells none within is early m d inside same =

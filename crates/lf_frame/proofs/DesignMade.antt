@@ -38,7 +38,7 @@ use Rattle.lf_frame.specs.Loads.{IsSizedIn, AreInRange, IsFrameOf, movables, Can
 use Rattle.lf_frame_checks.proofs.Gathered.{none_of_name}
 use Rattle.lf_frame.proofs.Accepted.{first_nothing, macros_sized}
 
--- what holds of each entry holds of the one that belongs to it
+-- A fact about each entry holds of the one that belongs to it.
 all_right : {A B : Type 0} {R : A → B → Type 0} (P : A → Type 0) (Q : B → Type 0) (xs : List A) (ys : List B) → AllZip R xs ys →
     ((x : A) (y : B) → P x → R x y → Q y) → All P xs → All Q ys
 all_right P Q [] [] zip each all = All-nil Q
@@ -65,12 +65,12 @@ pairs_right {A} {B} {R} P Q d xs ys zip each pairs i j e below within =
     at (x ∷ xs) (y ∷ ys) zero zip within = zip.0
     at (x ∷ xs) (y ∷ ys) (suc k) zip within = at xs ys k zip.1 (omega arith)
 
--- what holds of each component holds of it with its position
+-- A fact about each component holds of it with its position.
 all_numbered : (P : Component → Type 0) (n : ℕ) (cs : List Component) → All P cs → All (λ e. P e.1) (enumerate_from n cs)
 all_numbered P n [] all = All-nil (λ e. P e.1)
 all_numbered P n (c ∷ cs) all = All-cons (λ e. P e.1) (n, c) (enumerate_from (n + 1) cs) (All-head P c cs all) (all_numbered P (n + 1) cs (All-tail P c cs all))
 
--- a movable component is not COVER
+-- A movable component is not COVER.
 uncovered : (c : Component) → is_movable c ≡ true → is_cover c ≡ false
 uncovered c movable = by (is_cover c) (and_parts (not (is_fixed c)) (not (is_cover c)) movable).1
   where
@@ -86,7 +86,7 @@ placed : (macros : List Macro) (place : Option ℕ) → IsSome (Rattle.lf_frame_
 placed macros None there = there
 placed macros (Some k) there = refl
 
--- a movable component of an accepted design can be a cell
+-- A movable component of an accepted design can be a cell.
 pub can_be_cells : (i : LoadInputs) → IsAccepted i → All (λ c. is_movable c ≡ true → CanBeCell i c) i.document.components
 can_be_cells i a k d within movable =
     let c : Component = get_or i.document.components k d in
@@ -108,7 +108,7 @@ name_printed name is = record { short = is.short; printed = λ k d within. print
 position_within : (names : List (List ℕ)) (name : List ℕ) (place : ℕ) → position_of names name ≡ Some place → place < length names
 position_within names name place is = (position-Some (Rattle.std.specs.Str.bytes_eq name) names place [] is).0
 
--- the number of a team is at most that of the fences
+-- The number of a team is at most the number of fences.
 pub team_within : (regions : List Region) (groups : List Group) (name : List ℕ) (team : ℕ) → IsTeamOf regions groups name team → team ≤ length (fences regions)
 team_within regions groups name team (inl one) =
     let within : team < length (fence_names regions) = position_within (fence_names regions) one.fence team one.place in
@@ -116,14 +116,14 @@ team_within regions groups name team (inl one) =
     omega (arith, same)
 team_within regions groups name team (inr ground) = omega (arith, ground.1)
 
--- the position of a macro is less than the number of macros
+-- The position of a macro is less than the number of macros.
 pub macro_within : (macros : List Macro) (name : List ℕ) (place : ℕ) → position_of (macro_names macros) name ≡ Some place → place < length macros
 macro_within macros name place is =
     let many : length (macro_names macros) ≡ length macros = grind (arith, common_steps) in
     let within : place < length (macro_names macros) = position_within (macro_names macros) name place is in
     omega (arith, many)
 
--- what is asked of an entry
+-- The conditions on an entry.
 abbrev IsEntry : LoadInputs → ℕ × Component → Type 0
 IsEntry i e = IsComponent e.1 × ((is_movable e.1 ≡ true) × (is_cover e.1 ≡ false → IfSome (macro_named i.library e.1.mac) (IsSizedIn (units_in i))))
 
@@ -175,7 +175,7 @@ apart i a j k d below within =
     let none = none_of_name {breaks = HasEarlierName} (a SecondName) k d.1 behind in
     rw (first, second) ((λ same. none (j, get_or i.document.components j d.1, grind (arith, common_steps), grind (arith, common_steps, get_or_default i.document.components j (get_or i.document.components j d.1) d.1), same)), omega arith)
 
--- there are at most as many components as the limit
+-- The number of components is at most the limit.
 pub few : (i : LoadInputs) → IsAccepted i → length i.document.components ≤ i.limits.components
 few i a =
     let behind_rows = (first_nothing (a TooMany)).1 in

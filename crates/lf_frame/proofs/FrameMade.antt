@@ -119,7 +119,7 @@ fixed_at units macros m at range known sized = record {
   box = refl;
 }
 
--- the macro of a name is one of the library's
+-- The macro with a name is one of the library's.
 macro_known : (library : Contents) (name : List ℕ) (m : Macro) → macro_named library name ≡ Some m → Contains library.macros m
 macro_known library name m is = by (position_of (macro_names library.macros) name) is
   where
@@ -179,7 +179,7 @@ soft_in_def i range =
 macros_in_lef : (macros : List Macro) → All IsMacro macros → All (λ m. IsLefSize m.size × IsLefSize m.origin) macros
 macros_in_lef macros range = All-weaker IsMacro (λ m. IsLefSize m.size × IsLefSize m.origin) (λ m is. (lef_size m.size is.size, lef_size m.origin is.origin)) macros range
 
--- no row ends too far
+-- No row ends too far right.
 near_rows : (i : LoadInputs) (core : Site) → core_in i ≡ Some core → IsWholeSize (units_in i) core.size → IsAccepted i →
     NoneBreaks (EndsTooFar core (size_in_dbu (units_in i) core.size)) i.document.rows
 near_rows i core is whole a =
@@ -187,20 +187,20 @@ near_rows i core is whole a =
     let behind_fences = (first_nothing behind_rows).1 in
     none_of_name (of_pitch i core (λ s pitch. NameOfFirst (λ r. r.name) (EndsTooFar s pitch) i.document.rows) is whole (first_nothing behind_fences).1)
 
--- there are at most as many rows of core sites as the limit
+-- The number of core rows is at most the limit.
 few_rows : (i : LoadInputs) (core : Site) → core_in i ≡ Some core → IsAccepted i → length (map frame_row (filter (is_core_row core) i.document.rows)) ≤ i.limits.rows
 few_rows i core is a =
     few_kept frame_row (is_core_row core) i.limits.rows i.document.rows
     (none_of_name (of_core i core (λ s. NameOfFirst (λ r. r.name) (IsRowTooMany s i.limits.rows) i.document.rows) is (first_nothing (a TooMany)).0))
 
--- nor are there more fences than their limit
+-- The number of fences is at most the limit.
 pub few_fences : (i : LoadInputs) → IsAccepted i → length (map frame_team (fences i.document.regions)) ≤ i.limits.fences
 few_fences i a =
     let behind_rows = (first_nothing (a TooMany)).1 in
     few_kept frame_team is_fence i.limits.fences i.document.regions (none_of_name {breaks = IsFenceTooMany i.limits.fences} (first_nothing behind_rows).0)
 
--- what a frame keeps of the rows that are of core sites, the fences, the obstacles, the soft blockages and the macros of an accepted
--- design with this core site
+-- The facts about the core rows, the fences, the obstacles, the soft blockages and the macros that
+-- a frame of an accepted design with this core site guarantees.
 pub record IsFrameKept (i : LoadInputs) (core : Site) : Type 0 where
   pub site_in_lef : IsLefSize core.size
   pub pitch_whole : IsPitch (units_in i) core.size (size_in_dbu (units_in i) core.size)

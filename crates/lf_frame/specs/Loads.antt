@@ -1,4 +1,4 @@
--- What loading returns: the frame, and the movable cells with their teams.
+-- The result of loading: the frame, and the movable cells with their teams.
 use Rattle.std.specs.Prelude.{◌≡◌, ℕ, cond, true, ◌||◌, ◌&&◌, not, List, [], ◌++◌, map, filter, filter_map, flat_map, Option, Some, None, option_map, IfSome, IsSome, pos, ◌<ℤ◌, All}
 use Rattle.std.specs.List.{AllZip, enumerate_from}
 use Rattle.std.specs.Option.{option_and_then}
@@ -26,7 +26,7 @@ use Rattle.lf_frame_checks.specs.Loading.{macro_named, is_core_row, frame_row}
 use Rattle.lf_frame_claims.specs.Refusals.{HasTwoFences}
 use Rattle.lf_frame_checks.specs.Findings.{LoadInputs, units_in, core_in, IsAccepted}
 
--- the header of the document, with its database units per micron
+-- The header of the document, with its database units per micron.
 abbrev pub header_in : LoadInputs → Header
 header_in i = record {
   version = i.document.header.version;
@@ -36,46 +36,46 @@ header_in i = record {
   units = units_in i;
 }
 
--- a fence as the frame has it
+-- A fence in the form of the frame.
 abbrev pub frame_team : Region → Team
 frame_team r = record { name = r.name; rects = r.rects }
 
--- the location of a component; none if it is unplaced
+-- The location of a component, or `None` if it is unplaced.
 abbrev pub location : Component → Option Location
 location c = option_and_then (λ p. p.place) c.placement
 
--- the macro's size is whole in database units and above 0 both ways
+-- Holds if the macro's size is whole in database units and both lengths are above 0.
 pub record IsSizedIn (units : ℕ) (m : Macro) : Type 0 where
   pub wide : pos 0 <ℤ m.size.x
   pub high : pos 0 <ℤ m.size.y
   pub whole : IsPitch units m.size (size_in_dbu units m.size)
 
--- the macro of a FIXED component has such a size
+-- Holds if the macro of a FIXED component has such a size.
 abbrev pub FixedIsSized : Contents → ℕ → Component → Type 0
 FixedIsSized library units c = is_fixed c ≡ true → IfSome (macro_named library c.mac) (IsSizedIn units)
 
--- the box of a FIXED component: that of its macro at its place
+-- The box of a FIXED component: that of its macro at its place.
 abbrev pub fixed_box : Contents → ℕ → Component → Option Rect
 fixed_box library units c =
     cond (is_fixed c) (option_and_then (λ p. option_map (λ m. box_at (turned (size_in_dbu units m.size) p.orient) p.x p.y) (macro_named library c.mac)) (location c)) None
 
--- the rectangles of a placement blockage that is neither SOFT nor PARTIAL
+-- The rectangles of a placement blockage that is neither SOFT nor PARTIAL.
 abbrev pub blocked : Blockage → List Rect
 blocked b = cond (b.soft || b.partial) [] b.rects
 
--- the rectangles of a placement blockage that is SOFT and not PARTIAL
+-- The rectangles of a placement blockage that is SOFT and not PARTIAL.
 abbrev pub softly_blocked : Blockage → List Rect
 softly_blocked b = cond (b.soft && not b.partial) b.rects []
 
--- the obstacles: the boxes of FIXED components, and then the rectangles of blockages
+-- The obstacles: the boxes of FIXED components, and then the rectangles of blockages.
 abbrev pub obstacles_in : LoadInputs → List Rect
 obstacles_in i = filter_map (fixed_box i.library (units_in i)) i.document.components ++ flat_map blocked i.document.blockages
 
--- the rectangles of the soft blockages
+-- The rectangles of the soft blockages.
 abbrev pub soft_in : LoadInputs → List Rect
 soft_in i = flat_map softly_blocked i.document.blockages
 
--- the ranges that texts keep of names, lengths and coordinates
+-- The ranges that texts guarantee for names, lengths and coordinates.
 pub record AreInRange (i : LoadInputs) : Type 0 where
   pub units : IsLimit (units_in i) 20000
   pub sites : All IsSite i.library.sites
@@ -85,7 +85,7 @@ pub record AreInRange (i : LoadInputs) : Type 0 where
   pub components : All IsComponent i.document.components
   pub blockages : All IsBlockage i.document.blockages
 
--- the frame of these inputs
+-- Holds if this is the frame of these inputs.
 pub record IsFrameOf (i : LoadInputs) (f : Frame) : Type 0 where
   pub site : core_in i ≡ Some f.site
   pub rows : f.rows ≡ map frame_row (filter (is_core_row f.site) i.document.rows)
@@ -96,24 +96,25 @@ pub record IsFrameOf (i : LoadInputs) (f : Frame) : Type 0 where
   pub header : f.header ≡ header_in i
   pub limits : f.limits ≡ i.limits
 
--- the movable ones of these components, the first of which has this position among all
+-- The movable ones of these components, with their positions. The first component has this
+-- position.
 abbrev pub movables_from : ℕ → List Component → List (ℕ × Component)
 movables_from first components = filter (λ e. is_movable e.1) (enumerate_from first components)
 
--- the movable components, each with its position among all components
+-- The movable components, each with its position among all components.
 abbrev pub movables : List Component → List (ℕ × Component)
 movables components = movables_from 0 components
 
--- a LEF text has the macro of the component, and no two fences claim it
+-- Holds if a LEF text has the macro of the component, and no two fences claim the component.
 pub record CanBeCell (i : LoadInputs) (c : Component) : Type 0 where
   pub mac : IsSome (position_of (macro_names i.library.macros) c.mac)
   pub once : HasTwoFences i.document.regions i.document.groups c.name → ⊥
 
--- a place as the document has it
+-- A place in the form of the document.
 abbrev pub as_location : Place → Location
 as_location p = record { x = p.x; y = p.y; orient = p.orient }
 
--- the cell of a movable component
+-- Holds if this is the cell of a movable component.
 pub record IsCellOf (i : LoadInputs) (entry : ℕ × Component) (c : Cell) : Type 0 where
   pub name : c.name ≡ entry.1.name
   pub team : IsTeamOf i.document.regions i.document.groups entry.1.name c.team
@@ -121,7 +122,8 @@ pub record IsCellOf (i : LoadInputs) (entry : ℕ × Component) (c : Cell) : Typ
   pub place : option_map as_location c.place ≡ location entry.1
   pub component : c.component ≡ entry.0
 
--- the design of these inputs: no refusal finds anything, and its frame and its cells, in the order of the text, are these
+-- Holds if this is the design of these inputs: no refusal finds anything, and its frame and its
+-- cells, in the order of the text, are those of the inputs.
 pub record IsLoadedFrom (i : LoadInputs) (l : Loaded) : Type 0 where
   pub accepted : IsAccepted i
   pub frame : IsFrameOf i l.frame

@@ -21,7 +21,7 @@ use lf_frame_claims::ClaimTable;
 use lf_lef::Library;
 use std::alloc::{AllocError, Global};
 
-/// The component's place; none if it is unplaced.
+/// Returns the component's place, or `None` if it is unplaced.
 fn place_of(component: &Component) -> Option<Place>
     requires { IsComponent component.now }
     ensures { option_map as_location result ≡ location_of component.now }
@@ -32,7 +32,7 @@ fn place_of(component: &Component) -> Option<Place>
     }
 }
 
-/// The number in 32 bits.
+/// Returns the number in 32 bits.
 fn in_32_bits(number: usize) -> u32
     requires { number ≤ 4000000 }
     ensures { result ≡ number }
@@ -40,7 +40,7 @@ fn in_32_bits(number: usize) -> u32
     number as u32
 }
 
-/// The cell of a movable component of that team, macro and number, without its name.
+/// Returns the cell of a movable component with this team, macro and number, without its name.
 fn cell_of(team: usize, mac: usize, number: usize, component: &Component) -> UnnamedCell
     requires few_teams { team ≤ 1024 }
     requires few_macros { mac < 1000000 }
@@ -60,7 +60,8 @@ fn cell_of(team: usize, mac: usize, number: usize, component: &Component) -> Unn
     }
 }
 
-/// The cells of the movable components, in the order of the text.
+/// Returns the cells of the movable components, in the order of the text. `Err` if an allocation
+/// fails.
 pub(crate) fn movable_cells(
     alloc: Global,
     claims: &ClaimTable,

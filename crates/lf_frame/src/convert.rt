@@ -1,4 +1,4 @@
-//! What a frame copies from the library and the document.
+//! The parts of a frame that are copied from the library and the document.
 
 ghost use Rattle.std.specs.Prelude.{◌≡◌, ℕ, ◌++◌, ◌∷◌, [], true, false, Some, None, IfOk, IfSome, OnOk, OnErr, All, map, filter};
 ghost use Rattle.std.specs.Prelude.{filter_map, flat_map, unwrap_or, option_map};
@@ -24,7 +24,7 @@ fn copy_name(alloc: Global, name: &Name) -> Result<Name, AllocError>
     Name::from_slice(alloc, name.as_bytes())
 }
 
-/// A copy of the core site.
+/// Returns a copy of the core site. `Err` if an allocation fails.
 pub(crate) fn copy_site(alloc: Global, site: &Site) -> Result<Site, AllocError>
     ensures { IfOk result (λ copy. copy ≡ site.now) }
 {
@@ -48,7 +48,7 @@ fn copy_macro(alloc: Global, mac: &Macro) -> Result<Macro, AllocError>
     })
 }
 
-/// Copies of all macros.
+/// Returns copies of all macros. `Err` if an allocation fails.
 pub(crate) fn copy_macros(alloc: Global, macros: &[Macro]) -> Result<Sequence<Macro>, AllocError>
     ensures { IfOk result (λ copies. copies ≡ macros.now) }
 {
@@ -59,7 +59,8 @@ pub(crate) fn copy_macros(alloc: Global, macros: &[Macro]) -> Result<Sequence<Ma
     Ok(copies)
 }
 
-/// The header of the document with its database units per micron.
+/// Returns the header of the document with its database units per micron. `Err` if an allocation
+/// fails.
 pub(crate) fn copy_header(
     alloc: Global,
     header: &DefHeader,
@@ -76,7 +77,7 @@ pub(crate) fn copy_header(
     })
 }
 
-/// A coordinate of a row.
+/// Returns a coordinate of a row in 32 bits.
 fn narrow(coordinate: i64) -> i32
     requires { IsCoordinate coordinate }
     ensures { result ≡ coordinate }
@@ -84,7 +85,7 @@ fn narrow(coordinate: i64) -> i32
     coordinate as i32
 }
 
-/// A row as the frame has it.
+/// Returns a row in the form of the frame. `Err` if an allocation fails.
 fn frame_row(alloc: Global, row: &DefRow) -> Result<Row, AllocError>
     requires { IsRow row.now }
     ensures { IfOk result (λ r. r ≡ frame_row_of row.now) }
@@ -98,7 +99,7 @@ fn frame_row(alloc: Global, row: &DefRow) -> Result<Row, AllocError>
     })
 }
 
-/// The rows of core sites, in the order of the text.
+/// Returns the core rows, in the order of the text. `Err` if an allocation fails.
 pub(crate) fn core_rows(
     alloc: Global,
     rows: &[DefRow],
@@ -116,14 +117,14 @@ pub(crate) fn core_rows(
     Ok(heeded)
 }
 
-/// A copy of the rectangles.
+/// Returns a copy of the rectangles. `Err` if an allocation fails.
 fn copy_rects(alloc: Global, rects: &[Rect]) -> Result<Sequence<Rect>, AllocError>
     ensures { IfOk result (λ copies. copies ≡ rects.now) }
 {
     Ok(Sequence::from_vec(Vec::from_slice(alloc, rects)?))
 }
 
-/// A fence as the frame has it.
+/// Returns a fence in the form of the frame. `Err` if an allocation fails.
 fn frame_team(alloc: Global, region: &Region) -> Result<Team, AllocError>
     ensures { IfOk result (λ team. team ≡ frame_team_of region.now) }
 {
@@ -133,7 +134,7 @@ fn frame_team(alloc: Global, region: &Region) -> Result<Team, AllocError>
     })
 }
 
-/// The fences, in the order of the text.
+/// Returns the fences, in the order of the text. `Err` if an allocation fails.
 pub(crate) fn fence_teams(alloc: Global, regions: &[Region]) -> Result<Sequence<Team>, AllocError>
     ensures { IfOk result (λ teams. teams ≡ map frame_team_of (fences regions.now)) }
 {
@@ -146,7 +147,7 @@ pub(crate) fn fence_teams(alloc: Global, regions: &[Region]) -> Result<Sequence<
     Ok(teams)
 }
 
-/// The component's location; none if it is unplaced.
+/// Returns the component's location, or `None` if it is unplaced.
 pub(crate) fn location(component: &Component) -> Option<Location>
     ensures is { result ≡ location_of component.now }
 {
@@ -156,7 +157,7 @@ pub(crate) fn location(component: &Component) -> Option<Location>
     }
 }
 
-/// A place of the document.
+/// Returns the location of a component as a place.
 pub(crate) fn place_at(at: &Location) -> Place
     requires { IsLocation at.now }
     ensures { as_location result ≡ at.now }
@@ -164,7 +165,7 @@ pub(crate) fn place_at(at: &Location) -> Place
     Place::new(at.x, at.y, at.orient)
 }
 
-/// The box of the macro at the location.
+/// Returns the box of the macro at the location, in database units.
 fn box_of(mac: &Macro, at: &Location, units: u32) -> Rect
     requires range { IsLocation at.now }
     requires sized { IsSizedIn units mac.now }
@@ -173,7 +174,7 @@ fn box_of(mac: &Macro, at: &Location, units: u32) -> Rect
     macro_box(&mac.size, units, &place_at(at))
 }
 
-/// The box of a FIXED component.
+/// Returns the box of a FIXED component. `None` if it is not FIXED.
 fn fixed_box(library: &Library, component: &Component, units: u32) -> Option<Rect>
     requires range { IsComponent component.now }
     requires sized { FixedIsSized library.now units component.now }
@@ -191,7 +192,8 @@ fn fixed_box(library: &Library, component: &Component, units: u32) -> Option<Rec
     Some(box_of(mac, &at, units))
 }
 
-/// The boxes of the FIXED components, in the order of the text.
+/// Returns the boxes of the FIXED components, in the order of the text. `Err` if an allocation
+/// fails.
 pub(crate) fn fixed_boxes(
     alloc: Global,
     library: &Library,
@@ -254,7 +256,8 @@ fn push_soft(blockage: &Blockage, soft: &mut Sequence<Rect>) -> Result<(), Alloc
     push_rects(blockage.rects.as_slice(), soft)
 }
 
-/// The rectangles of the placement blockages that are SOFT and not PARTIAL, in the order of the text.
+/// Returns the rectangles of the placement blockages that are SOFT and not PARTIAL, in the order of
+/// the text. `Err` if an allocation fails.
 pub(crate) fn soft_rects(
     alloc: Global,
     blockages: &[Blockage],

@@ -2,8 +2,9 @@
 
 ghost use Rattle.lf_frame.specs.Alike.{AcceptedAlike, FindAlike, LoadedAlike, RefusedAlike};
 
-/// Loading ignores where components and their placement clauses are in the DEF text: texts that differ in these
-/// positions alone are refused alike, and a design of one is a design of the other.
+/// Loading ignores the positions of components and their placement clauses in the DEF text. Texts
+/// that differ only in these positions are refused alike, and a design of one is a design of the
+/// other.
 pub fn positions_play_no_part()
     ensures findings { FindAlike }
     ensures accepted { AcceptedAlike }

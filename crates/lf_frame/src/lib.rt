@@ -1,15 +1,29 @@
-//! Loading a design: the frame, which every team sees and no command changes, and the movable cells.
+//! Loading a design: the frame, which every team sees and no command changes, and the movable
+//! cells.
 //!
-//! A design is accepted iff no refusal of `lf_frame_checks` finds anything. The frame is then that of the texts, and the cells are
-//! the movable components in the order of the DEF text, each in the team whose groups claim it, or in the ground team.
+//! A design is accepted if and only if no refusal of `lf_frame_checks` finds anything. The frame is
+//! then that of the texts. The cells are the movable components in the order of the DEF text. The
+//! team of a cell is the one whose groups claim it, or the ground team.
 //!
 //! Most public items of `lf_floorplan` can be named from here too.
 //!
+//! Used by `lf_laws_roundtrip`, `lf_laws_slice_texts`, `lf_task_designs`, `lf_task_files`,
+//! `lf_task_serve` and `lf_app`.
+//!
+//! Modules, in reading order:
+//!
+//! - `convert`: what a frame copies from the library and the document
+//! - `cells`: the movable cells of an accepted design
+//! - `loading`: a design from a library and a document
+//! - `laws`: a law on loading
+//!
+//! From `crates/lefence_bench/src/main.rt`:
+//!
 //! ```
-//! let mut library = Library::new(Global);
-//! read_lef(&mut library, DEMO_LEF)?;
-//! let document = read_def(Global, DEMO_DEF)?;
-//! let loaded = load(Global, &library, &document, Limits::standard())?;
+//! match load(alloc, library, document, Limits::standard()) {
+//!     Ok(design) => Ok(counts_of(&design)),
+//!     Err(fault) => Err(fault),
+//! }
 //! ```
 #![tactic(auto)]
 

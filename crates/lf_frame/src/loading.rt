@@ -25,7 +25,7 @@ use lf_lex::{LoadFault, ReadError};
 use lf_units::{Rect, Sequence};
 use std::alloc::{AllocError, Global};
 
-/// What the types of the library and the document keep.
+/// The ranges that the types of the library and the document guarantee.
 fn ranges_kept(library: &Library, document: &DefDoc, limits: &Limits)
     ensures { AreInRange (inputs library.now document.now limits.now) }
 {
@@ -34,7 +34,8 @@ fn ranges_kept(library: &Library, document: &DefDoc, limits: &Limits)
     let _ = units_of(document);
 }
 
-/// The boxes of FIXED components, and the rectangles of blockages.
+/// Returns the boxes of FIXED components, and then the rectangles of blockages. `Err` if an
+/// allocation fails.
 fn obstacles_of(
     alloc: Global,
     library: &Library,
@@ -50,7 +51,8 @@ fn obstacles_of(
     Ok(obstacles)
 }
 
-/// The frame of a library and a document in which no refusal finds anything.
+/// Returns the frame of a library and a document in which no refusal finds anything. `Err` if an
+/// allocation fails.
 fn frame_of(
     alloc: Global,
     library: &Library,
@@ -77,7 +79,7 @@ fn frame_of(
     })
 }
 
-/// The design of this frame and these cells.
+/// Returns the design of this frame and these cells.
 fn loaded_from(frame: Frame, cells: LoadedCells) -> Loaded
     requires { MakeDesign frame cells }
     ensures frame { result.frame ≡ frame }
@@ -86,7 +88,8 @@ fn loaded_from(frame: Frame, cells: LoadedCells) -> Loaded
     Loaded { frame, cells }
 }
 
-/// The design of a library and a document in which no refusal finds anything.
+/// Returns the design of a library and a document in which no refusal finds anything. `Err` if an
+/// allocation fails.
 fn accepted_design(
     alloc: Global,
     claims: &ClaimTable,
@@ -106,7 +109,8 @@ fn accepted_design(
     Ok(loaded_from(frame, cells))
 }
 
-/// The claims on the names of all components, by all groups of the document.
+/// Returns the claims on the names of all components, by all groups of the document. `Err` if an
+/// allocation fails.
 fn claims_of(alloc: Global, document: &DefDoc) -> Result<ClaimTable, AllocError>
     ensures { IfOk result (λ claims. IsTableOf document.now.regions document.now.groups document.now.components claims) }
 {
@@ -118,22 +122,31 @@ fn claims_of(alloc: Global, document: &DefDoc) -> Result<ClaimTable, AllocError>
     )
 }
 
-/// The fault for a failed allocation.
+/// Returns the fault for a failed allocation.
 fn out_of_memory<'d>() -> LoadFault<'d>
     ensures { result ≡ load_fault_of Memory }
 {
     ReadError::Memory.into_load_fault()
 }
 
-/// Loads the design of a library of LEF texts and the document of a DEF text, within the limits. Unless an allocation fails,
-/// this succeeds iff no refusal finds anything.
+/// Loads the design of a library of LEF texts and the document of a DEF text, within the limits.
+/// Unless an allocation fails, this succeeds if and only if no refusal finds anything.
 ///
-/// `Err` is the refusal of least number, from 7 on, that finds an entry, with the name of the first that it finds in the
-/// order of the DEF text: the design for NoUnits and NoRows; a site for NoSite; a row for VerticalRow, BadStep, RowOrient
-/// and RowsOverlap; a macro for NoMacro and NoSize; the core site or a macro for NotWhole; a component for SecondName and
-/// TwoFences; a region for SecondRegion, NoRegion, TeamName and FencesOverlap; for TooMany the first row, region or
-/// component beyond a limit, or a row that ends past x 2147483647. OutOfMemory, which names nothing, may replace any
-/// answer. The name is borrowed from the document or the library.
+/// `Err` is the refusal of the least number, from 7 on, that finds an entry. Its name is that of
+/// the first entry that it finds in the order of the DEF text:
+///
+/// - NoUnits, NoRows: the design
+/// - NoSite: a site
+/// - VerticalRow, BadStep, RowOrient, RowsOverlap: a row
+/// - NoMacro, NoSize: a macro
+/// - NotWhole: the core site or a macro
+/// - SecondName, TwoFences: a component
+/// - SecondRegion, NoRegion, TeamName, FencesOverlap: a region
+/// - TooMany: the first row, region or component beyond a limit, or a row that ends past x
+///   2147483647
+///
+/// `Err(OutOfMemory)`, without a name, may replace any result. The name is borrowed from the
+/// document or the library.
 pub fn load<'d>(
     alloc: Global,
     library: &'d Library,

@@ -1,4 +1,4 @@
--- The core site has a size, and its size in database units is one of a frame's rows.
+-- The core site has a size, and its size in database units fits the rows of a frame.
 use Rattle.std.proofs.Common.{◌≡◌, ℕ, ℤ, pos, negsuc, ◌*◌, ◌*ℤ◌, ◌≤◌, ◌<◌, ◌<ℤ◌, Bool, true, false, List, [], ◌∷◌, length, map, get_or, Option, Some, None, refl, sym, ap, ◌∙◌, arith}
 use Rattle.std.specs.Prelude.{filter, slice_get, unwrap_or}
 use Rattle.std.specs.Str.{bytes_eq}
@@ -28,7 +28,7 @@ sized : (found : Option Site) → is_core found ≡ true → IfSome found (λ s.
 sized None is = tt
 sized (Some s) is = (and_parts s.core (has_size s.size) is).1
 
--- the site of the first row of core sites has a size
+-- The site of the first core row has a size.
 pub core_sized : (library : Contents) (rows : List Row) → IfSome (core_site library rows) (λ s. has_size s.size ≡ true)
 core_sized library [] = tt
 core_sized library (r ∷ rs) = by (is_core (site_named library r.site)) refl (core_sized library rs)
@@ -41,7 +41,7 @@ core_sized library (r ∷ rs) = by (is_core (site_named library r.site)) refl (c
 pub above : (x : ℤ) → int_lt (pos 0) x ≡ true → pos 0 <ℤ x
 above x is = grind (arith, ints)
 
--- a length above 0 is above 0 in database units
+-- A length above 0 is above 0 in database units.
 positive_length : (units : ℕ) (micros dbu : ℤ) → 1 ≤ units → pos 0 <ℤ micros → IsLength units micros dbu → pos 0 <ℤ dbu
 positive_length units (pos m) dbu some more e =
     let least : 1 * 1 ≤ m * units = mul-le 1 1 m units (omega (arith, ints)) some in
@@ -62,13 +62,13 @@ pitch_of_core units size some few range is whole =
       y_small = small_length units size.y (in_dbu units size.y) few range.y.high whole.up;
     }
 
--- what holds of a site holds of the site that is lent
+-- A fact about a site holds of the site that is borrowed.
 pub of_lent : (lent : Option (Bor Site)) {found : Option Site} → IfSome found (λ s. has_size s.size ≡ true) → option_copied lent ≡ found →
     IfSome lent (λ s. has_size s.now.size ≡ true)
 of_lent None {found} is same = tt
 of_lent (Some s) {found} is same = rw (← same) at is
 
--- the site that is found has the name
+-- The site that is found has the name.
 site_bears : (sites : List Site) (name : List ℕ) (place : Option ℕ) (s : Site) → place ≡ position_of (site_names sites) name → at_place sites place ≡ Some s →
     s.name ≡ name
 site_bears sites name None s is found = absurd (none-some s found)
@@ -81,7 +81,7 @@ site_bears sites name (Some k) s is found =
     read_at : (xs : List Site) (k : ℕ) (x : Site) → slice_get xs k ≡ Some x → get_or xs k x ≡ x
     read_at xs k x e = sym (unwrap_or-slice_get xs k x) ∙ ap (λ o. unwrap_or o x) e
 
--- the row of the core site is of core sites, so there is a row of core sites
+-- The row of the core site is a core row, so there is a core row.
 pub core_heeded : (library : Contents) (rows : List Row) (core : Site) → core_site library rows ≡ Some core →
     0 < length (map frame_row (filter (is_core_row core) rows))
 core_heeded library [] core is = absurd (none-some core is)

@@ -1,4 +1,4 @@
--- What holds of entries holds of what is gathered from them.
+-- A fact about entries holds of the values gathered from them.
 use Rattle.std.proofs.Common.{◌≡◌, ◌⊎◌, inl, inr, ℕ, zero, suc, ◌+◌, ◌<◌, ◌≤◌, cond, subst, Bool, true, false, List, [], ◌∷◌, length, map, take, get_or, Option, None, Some, refl, arith}
 use Rattle.std.specs.Prelude.{filter, filter_map, flat_map, slice_get, option_map, All, Any, AllPairs, IfSome}
 use Rattle.std.proofs.lemmas.Grind.{common_steps}
@@ -17,7 +17,7 @@ inside name_of [] k within e = omega arith
 inside name_of (x ∷ xs) zero within e = none-some (name_of x) e
 inside name_of (x ∷ xs) (suc k) within e = inside name_of xs k (omega arith) e
 
--- where no name is found, no entry breaks the rule
+-- If no name is found, no entry breaks the rule.
 pub none_of_name : {A : Type 0} {name_of : A → List ℕ} {breaks : List A → A → Type 0} {entries : List A} → NameOfFirst name_of breaks entries None →
     NoneBreaks breaks entries
 none_of_name {A} {name_of} {breaks} {entries} n = by n.place n.first n.name
@@ -26,7 +26,7 @@ none_of_name {A} {name_of} {breaks} {entries} n = by n.place n.first n.name
     by None first name = first
     by (Some k) first name = absurd (inside name_of entries k first.within name)
 
--- no entry that passes the test breaks the rule with an earlier one that does
+-- No entry that passes the test breaks the rule with an earlier one that passes.
 pub pairs_from_none : {A : Type 0} (p : A → Bool) (Q : A → A → Type 0) (entries : List A) →
     NoneBreaks (λ earlier x. (p x ≡ true) × Any (λ e. (p e ≡ true) × Q e x) earlier) entries → AllPairs (λ a b. p a ≡ true → p b ≡ true → Q a b → ⊥) entries
 pairs_from_none p Q entries none i j d below within is_a is_b q =
@@ -34,7 +34,7 @@ pairs_from_none p Q entries none i j d below within is_a is_b q =
     let there : get_or (take j entries) i (get_or entries i d) ≡ get_or entries i d = grind (arith, common_steps, get_or_default entries i (get_or entries i d) d) in
     none j d within (is_b, (i, get_or entries i d, early, there, (is_a, q)))
 
--- what is gathered from the entries that pass the test
+-- The values gathered from the entries that pass the test.
 pub all_kept : {A B : Type 0} (P : B → Type 0) (f : A → B) (p : A → Bool) (xs : List A) → All (λ x. p x ≡ true → P (f x)) xs → All P (map f (filter p xs))
 all_kept P f p [] all = All-nil P
 all_kept P f p (x ∷ xs) all = by (p x) refl (All-head (λ x. p x ≡ true → P (f x)) x xs all) (all_kept P f p xs (All-tail (λ x. p x ≡ true → P (f x)) x xs all))
@@ -102,7 +102,8 @@ few_passed p limit d xs none (suc n) within =
     let next : n + 1 ≡ suc n = omega arith in
     subst (λ (m : ℕ). length (filter p (take m xs)) ≤ limit) next (one_more p limit n d xs none (omega arith) (few_passed p limit d xs none n (omega arith)))
 
--- where no entry that passes the test has so many of those before it, no more than so many pass
+-- At most `limit` entries pass the test, if no passing entry has that number of passing entries in
+-- front of it.
 pub few_kept : {A B : Type 0} (f : A → B) (p : A → Bool) (limit : ℕ) (xs : List A) →
     NoneBreaks (λ earlier x. (p x ≡ true) × (limit ≤ length (filter p earlier))) xs → length (map f (filter p xs)) ≤ limit
 few_kept f p limit [] none = omega arith

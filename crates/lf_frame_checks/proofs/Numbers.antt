@@ -36,6 +36,6 @@ number_back OutOfMemory = refl
 one_number : (m n : FaultNumber) → number_of m ≡ number_of n → m ≡ n
 one_number m n same = sym (number_back m) ∙ ap numbered same ∙ number_back n
 
--- no refusal below the number finds anything
+-- Holds if no refusal below the number finds anything.
 abbrev pub NoneBelow : LoadInputs → ℕ → Type 0
 NoneBelow i number = (n : FaultNumber) → number_of n < number → Finds i n None

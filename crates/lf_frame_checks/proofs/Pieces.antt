@@ -40,7 +40,7 @@ pieces_meet a b some_a some_b not_a not_b =
       above = less _ _ (λ h. not_a (inr h));
     })
 
--- pieces that share a point have points, and none ends before the other
+-- Pieces that share a point have points, and neither ends before the other.
 pub record PiecesPass (a b : SweepRect) : Type 0 where
   pub some_first : EndsBefore a a → ⊥
   pub some_second : EndsBefore b b → ⊥
@@ -66,11 +66,12 @@ clash_turned a b h = record {
   point = record { x = h.point.x; y = h.point.y; in_first = h.point.in_second; in_second = h.point.in_first };
 }
 
--- pieces that begin above a piece share no point with it
+-- Pieces that begin above a piece share no point with it.
 pub none_above : (a b : SweepRect) → a.top ≤ℤ b.bottom → Clash a b → ⊥
 none_above a b above h = (pieces_pass a b h.point).first (inr above)
 
--- of pieces that rise none clashes with a piece that ends below one of them, where none before that one does
+-- In a rising list, no piece clashes with a piece that ends below one of them, if no earlier one
+-- does.
 pub none_behind : (a : SweepRect) (pieces : List SweepRect) (n : ℕ) (e : SweepRect) → n < length pieces → Rise pieces → a.top ≤ℤ (get_or pieces n e).bottom →
     ((k : ℕ) (d : SweepRect) → k < n → Clash a (get_or pieces k d) → ⊥) → ClashesWithNone a pieces
 none_behind a pieces n e within rise above before k d inside clash =
@@ -93,7 +94,7 @@ rise_behind pieces n rise i j d below within =
     let lower : n + i < n + j = omega arith in
     rw (get_or-drop n pieces i d, get_or-drop n pieces j d) (rise (n + i) (n + j) d lower inside)
 
--- a piece that clashes with none after it
+-- A piece that clashes with no piece after it.
 pub none_later : (a : SweepRect) (pieces : List SweepRect) (n : ℕ) → ClashesWithNone a (drop n pieces) → (k : ℕ) (d : SweepRect) → n ≤ k → k < length pieces →
     Clash a (get_or pieces k d) → ⊥
 none_later a pieces n none k d from within clash =
@@ -102,7 +103,7 @@ none_later a pieces n none k d from within clash =
     let same : get_or (drop n pieces) (k - n) d ≡ get_or pieces k d = get_or-drop n pieces (k - n) d ∙ ap (λ m. get_or pieces m d) place in
     none (k - n) d inside (rw same clash)
 
--- none of the first n pieces clashes with a later one
+-- No piece of the first n clashes with a later one.
 abbrev pub NoneFrom : List SweepRect → ℕ → Type 0
 NoneFrom pieces n = (k j : ℕ) (d : SweepRect) → k < n → k < j → j < length pieces → Clash (get_or pieces k d) (get_or pieces j d) → ⊥
 
@@ -139,7 +140,7 @@ permuted xs ys moved none =
     All-permutation (λ a. ClashesWithNone a ys) xs ys moved
     (All-weaker (λ a. ClashesWithNone a xs) (λ a. ClashesWithNone a ys) (λ a h. All-permutation (λ b. Clash a b → ⊥) xs ys moved h) xs none)
 
--- pieces clash alike in any order
+-- The order of the pieces does not affect whether they clash.
 pub none_in_any_order : (xs ys : List SweepRect) → IsPermutation xs ys → NoneClash ys ↔ NoneClash xs
 none_in_any_order xs ys moved = (permuted ys xs (IsPermutation-sym xs ys moved), permuted xs ys moved)
 
@@ -151,7 +152,7 @@ rise_of_sorted pieces sorted i j d below within =
     not_below (get_or pieces i d).bottom (get_or pieces j d).bottom
     (sorted_far (λ a b. is_lt (int_cmp a.bottom b.bottom)) (ranks_by int_cmp_total (λ p. p.bottom)) pieces sorted i j d (omega arith) within)
 
--- the pieces of the first n entries are in the list
+-- The pieces of the first n entries are in the list.
 abbrev pub HoldBelow : {A : Type 0} → (ℕ → A → List SweepRect) → List A → ℕ → List SweepRect → Type 0
 HoldBelow {A} own entries n pieces = (k : ℕ) (d : A) → k < n → All (Contains pieces) (own k (get_or entries k d))
 
@@ -172,7 +173,7 @@ hold_more own entries n x pieces after within is grown before k d below =
           rw (grown, last, ← same) (own_held pieces (own n x))
     ]
 
--- pieces of two entries that share no point
+-- Pieces of two entries that share no point.
 pub apart_of_none : (pieces : List SweepRect) (j k : ℕ) (a b : Rect) → NoneClash pieces → Contains pieces (piece_of j a) → Contains pieces (piece_of k b) → j < k →
     SharesPoint a b → ⊥
 apart_of_none pieces j k a b none first second earlier meet =
@@ -186,7 +187,7 @@ held_row core pitch k r pieces heeded h =
     let one : row_pieces core pitch k r ≡ piece_of k (row_area pitch (frame_row r)) ∷ [] = ap (λ t. if t then piece_of k (row_area pitch (frame_row r)) ∷ [] else []) heeded in
     All-head (Contains pieces) (piece_of k (row_area pitch (frame_row r))) [] (rw one at h)
 
--- where no pieces clash, no row shares a point with an earlier one
+-- If no pieces clash, no row shares a point with an earlier one.
 pub rows_apart : (core : Site) (pitch : Point) (rows : List Row) (pieces : List SweepRect) → ArePiecesOf (row_pieces core pitch) rows pieces → NoneClash pieces →
     NoneBreaks (OverlapsEarlierRow core pitch) rows
 rows_apart core pitch rows pieces held none k d within broken =
@@ -208,7 +209,7 @@ held_rect k r rect pieces fence h m within is =
     let one : Contains pieces (get_or (map (λ a. piece_of k a) r.rects) m (piece_of k rect)) = held m (piece_of k rect) inside in
     rw (here, is) at one
 
--- where no pieces clash, no fence shares a point with an earlier one
+-- If no pieces clash, no fence shares a point with an earlier one.
 pub fences_apart : (regions : List Region) (pieces : List SweepRect) → ArePiecesOf fence_pieces regions pieces → NoneClash pieces →
     NoneBreaks OverlapsEarlierFence regions
 fences_apart regions pieces held none k d within broken =

@@ -1,4 +1,5 @@
--- A point lies in rectangles of two lists iff a rectangle of one shares a point with one of the other.
+-- A point lies in rectangles of two lists if and only if a rectangle of one shares a point with one
+-- of the other.
 use Rattle.std.proofs.Common.{◌≡◌, ℕ, ◌+◌, ◌<◌, ◌⊎◌, inl, inr, List, length, get_or, arith}
 use Rattle.std.proofs.lemmas.List.{get_or_default}
 use Rattle.std.specs.Prelude.{Any}
@@ -23,7 +24,7 @@ rects_of_point first second p = (
   (p.in_second.0, p.in_second.1, p.in_second.2, p.in_second.3, record { x = p.x; y = p.y; in_first = p.in_first.4; in_second = p.in_second.4 }),
 )
 
--- one more element that has not P
+-- One more element that does not have P.
 pub none_next : {A : Type 0} (P : A → Type 0) (xs : List A) (n : ℕ) (e : A) → n < length xs → (P (get_or xs n e) → ⊥) →
     ((k : ℕ) (d : A) → k < n → P (get_or xs k d) → ⊥) → (k : ℕ) (d : A) → k < n + 1 → P (get_or xs k d) → ⊥
 none_next P xs n e within not before k d below p =

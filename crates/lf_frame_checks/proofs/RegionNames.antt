@@ -1,4 +1,4 @@
--- The names of regions: a table of them all, and the groups whose region is not among them.
+-- The names of regions: a table of all of them, and the groups whose region is not among them.
 use Rattle.std.proofs.Common.{◌≡◌, ℕ, ◌+◌, ◌<◌, inl, inr, List, [], ◌∷◌, ◌++◌, length, take, get_or, sym, ◌∙◌, ap}
 use Rattle.std.specs.Prelude.{All, Contains, IsSomeAnd, Option, Some, None}
 use Rattle.std.proofs.lemmas.List.{map-append}
@@ -15,7 +15,7 @@ use Rattle.lf_frame_checks.specs.Refusals.{HasNoRegion}
 use Rattle.lf_frame_claims.proofs.Named.{take_one_more}
 use Rattle.lf_units.proofs.Any.{name_of_any, any_of_name, any_here}
 
--- a table with one name more
+-- A table with one more name.
 pub same_more : (names after others : List (List ℕ)) (name : List ℕ) (added : Added) → AddsName names name added after → HoldSameNames names others →
     HoldSameNames after (others ++ name ∷ [])
 same_more names after others name (New at) (absent, last, is) same = record {
@@ -43,7 +43,7 @@ pub region_names_more : (regions : List Region) (n : ℕ) (r : Region) → n < l
     region_names (take n regions) ++ r.name ∷ [] ≡ region_names (take (n + 1) regions)
 region_names_more regions n r within is = sym (ap region_names (take_one_more regions n r within is) ∙ map-append (λ q. q.name) (take n regions) (r ∷ []))
 
--- a group's region is outside the names of the regions iff no region has its name
+-- A group's region is outside the names of the regions if and only if no region has its name.
 pub outside_of : (regions : List Region) (names : List (List ℕ)) (g : Group) → HoldSameNames names (region_names regions) → HasNoRegion regions [] g →
     IsOutside names g
 outside_of regions names g same h = by g.region h

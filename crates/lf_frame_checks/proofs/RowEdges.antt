@@ -1,4 +1,4 @@
--- Two rows share a point iff their edges say so.
+-- Two rows share a point if and only if their edges overlap.
 use Rattle.std.proofs.Common.{◌≡◌, ℕ, ℤ, pos, negsuc, ◌*◌, ◌+ℤ◌, ◌*ℤ◌, ◌≤◌, ◌<ℤ◌, ◌≤ℤ◌, ◌⊎◌, inl, inr, Bool, true, false, not, refl, arith}
 use Rattle.std.proofs.lemmas.Int.{ints}
 use Rattle.std.proofs.lemmas.Nat.{mul-le}
@@ -46,7 +46,7 @@ rows_meet pitch a b wide high some_a some_b h1 h2 h3 h4 =
       above = less _ _ h2;
     })
 
--- what the edges of two rows say where they share a point
+-- The order of the edges of two rows that share a point.
 pub record RowsPass (pitch : Point) (a b : Row) : Type 0 where
   pub below : (b.y +ℤ pitch.y) ≤ℤ a.y → ⊥
   pub above : (a.y +ℤ pitch.y) ≤ℤ b.y → ⊥

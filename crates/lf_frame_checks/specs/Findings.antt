@@ -1,4 +1,4 @@
--- What each refusal of loading finds, and which one loading returns.
+-- What each refusal of loading finds, and which refusal loading returns.
 use Rattle.std.specs.Prelude.{◌≡◌, ◌⊎◌, ℕ, ◌<◌, List, [], Option, Some, None, IsSome, is_some, cond, unwrap_or, option_map, MatchOption}
 use Rattle.std.specs.Option.{option_copied}
 use Rattle.lf_units.specs.declared.geometry.Point.{Point}
@@ -23,62 +23,65 @@ use Rattle.lf_frame_checks.specs.Refusals.{HasNoSite, IsVertical, HasBadStep, Is
 use Rattle.lf_frame_checks.specs.Refusals.{HasEarlierFenceName, HasNoRegion, HasGroundName, OverlapsEarlierFence, IsRowTooMany, IsFenceTooMany}
 use Rattle.lf_frame_checks.specs.Refusals.{IsComponentTooMany, EndsTooFar}
 
--- what a design is loaded from: the library of the LEF texts, the document of the DEF text, and the limits
+-- The inputs of loading: the library of the LEF texts, the document of the DEF text, and the
+-- limits.
 pub record LoadInputs : Type 0 where
   pub library : Contents
   pub document : Document
   pub limits : Limits
 
--- the inputs made of these
+-- The inputs made of these.
 abbrev pub inputs : Contents → DefDoc → Limits → LoadInputs
 inputs library document limits = record { library = library; document = contents document; limits = limits }
 
--- the database units per micron; 1 for a document without UNITS, which is refused
+-- The database units per micron. 1 for a document without UNITS, which is refused.
 abbrev pub units_in : LoadInputs → ℕ
 units_in i = unwrap_or i.document.header.units 1
 
--- the core site of a design
+-- The core site of a design.
 abbrev pub core_in : LoadInputs → Option Site
 core_in i = core_site i.library i.document.rows
 
--- what a refusal finds: a name, or nothing
+-- What a refusal finds: a name, or nothing.
 abbrev pub Finding : Type 1
 Finding = Option (List ℕ) → Type 0
 
--- the name of the first entry that breaks the rule, or nothing
+-- Holds if this is the name of the first entry that breaks the rule, or `None` if no entry does.
 pub record NameOfFirst {A : Type 0} (name_of : A → List ℕ) (breaks : List A → A → Type 0) (entries : List A) (found : Option (List ℕ)) : Type 0 where
   pub place : Option ℕ
   pub first : FirstIs breaks entries place
   pub name : found ≡ option_map name_of (at_place entries place)
 
--- what the first finds; if that is nothing, what the second finds
+-- What the first finds. If that is nothing, what the second finds.
 abbrev pub FirstOf : Finding → Finding → Finding
 FirstOf first second found = (first None × second found) ⊎ (IsSome found × first found)
 
--- what is found with the core site; nothing without one, as NoRows comes first
+-- What is found with the core site. Nothing without a core site, since NoRows comes first.
 abbrev pub OfCore : LoadInputs → (Site → Finding) → Finding
 OfCore i finds found = MatchOption (core_in i) (found ≡ None) (λ core. finds core found)
 
--- what is found with the core site's size in database units; nothing if it is not whole in them
+-- What is found with the core site's size in database units. Nothing if the size is not whole in
+-- them.
 pub record WhereWhole (i : LoadInputs) (core : Site) (finds : Finding) (found : Option (List ℕ)) : Type 0 where
   pub whole : IsWholeSize (units_in i) core.size → finds found
   pub part : (IsWholeSize (units_in i) core.size → ⊥) → found ≡ None
 
--- what is found with the core site and its size in database units
+-- What is found with the core site and its size in database units.
 abbrev pub OfPitch : LoadInputs → (Site → Point → Finding) → Finding
 OfPitch i finds = OfCore i (λ core. WhereWhole i core (finds core (size_in_dbu (units_in i) core.size)))
 
--- the core site's size is not whole in database units
+-- Holds if the name of the core site is found when its size is not whole in database units, and
+-- nothing otherwise.
 pub record CoreHasPartUnits (i : LoadInputs) (core : Site) (found : Option (List ℕ)) : Type 0 where
   pub whole : IsWholeSize (units_in i) core.size → found ≡ None
   pub part : (IsWholeSize (units_in i) core.size → ⊥) → found ≡ Some core.name
 
--- the region of a group
+-- The region of a group.
 abbrev pub region_name : Group → List ℕ
 region_name g = unwrap_or g.region []
 
--- what the refusal of this number finds (LEF SITE, MACRO; DEF UNITS, ROW, REGIONS, GROUPS, COMPONENTS); the numbers of readers,
--- and OutOfMemory, find nothing
+-- What the refusal with this number finds (LEF SITE, MACRO; DEF UNITS, ROW, REGIONS, GROUPS,
+-- COMPONENTS). The faults of readers and OutOfMemory find nothing.
 abbrev pub Finds : LoadInputs → FaultNumber → Finding
 Finds i NoUnits = λ found. found ≡ cond (is_some i.document.header.units) None (Some i.document.header.design)
 Finds i NoSite = NameOfFirst (λ r. r.site) (HasNoSite i.library) i.document.rows
@@ -109,7 +112,7 @@ Finds i WrongEnd = λ found. found ≡ None
 Finds i UnknownStatement = λ found. found ≡ None
 Finds i OutOfMemory = λ found. found ≡ None
 
--- the number of a refusal, from 1 to 24
+-- The number of a refusal, from 1 to 24.
 abbrev pub number_of : FaultNumber → ℕ
 number_of BadToken = 1
 number_of UnexpectedEnd = 2
@@ -136,16 +139,17 @@ number_of TwoFences = 22
 number_of TooMany = 23
 number_of OutOfMemory = 24
 
--- no refusal finds anything
+-- Holds if no refusal finds anything.
 abbrev pub IsAccepted : LoadInputs → Type 0
 IsAccepted i = (n : FaultNumber) → Finds i n None
 
--- this refusal finds the name, and none of a lesser number finds anything
+-- Holds if this refusal finds the name, and no refusal of a lesser number finds anything.
 pub record IsRefused (i : LoadInputs) (number : FaultNumber) (name : List ℕ) : Type 0 where
   pub finds : Finds i number (Some name)
   pub least : (n : FaultNumber) → number_of n < number_of number → Finds i n None
 
--- the fault that loading returns: a refusal's number and the name that it finds, without a line
+-- Holds if this is the fault that loading returns: a refusal's number and the name that it finds,
+-- without a line.
 pub record IsFault (i : LoadInputs) (fault : LoadFault) : Type 0 where
   pub name : List ℕ
   pub named : option_copied fault.name ≡ Some name

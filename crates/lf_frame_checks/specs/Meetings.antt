@@ -1,4 +1,4 @@
--- Which fences a refused fence or component meets (DEF REGIONS, GROUPS).
+-- The fences with which a refused fence or component conflicts (DEF REGIONS, GROUPS).
 use Rattle.std.specs.Prelude.{◌≡◌, ◌≢◌, ◌&&◌, ℕ, true, List, Option, Some, None, MatchOption, bytes_eq}
 use Rattle.std.specs.Option.{option_copied}
 use Rattle.std.specs.List.{find}
@@ -13,47 +13,49 @@ use Rattle.lf_frame_checks.specs.declared.conflicts.FenceConflict.{FenceConflict
 use Rattle.lf_frame_checks.specs.Refusals.{SharePoint}
 use Rattle.lf_frame_checks.specs.Findings.{NameOfFirst, region_name}
 
--- the names of fences that a fault is about: one, two or none
+-- The names of the fences that a fault is about: one, two or none.
 pub record Conflict : Type 0 where
   pub first : Option (List ℕ)
   pub second : Option (List ℕ)
 
--- the names that are lent
+-- The names, as values.
 abbrev pub conflict_in : FenceConflict → Conflict
 conflict_in fences = record { first = option_copied fences.first; second = option_copied fences.second }
 
 abbrev pub no_fence : Conflict
 no_fence = record { first = None; second = None }
 
--- the first fence of that name
+-- The first fence with this name.
 abbrev pub fence_named : List Region → List ℕ → Option Region
 fence_named regions name = find (λ r. is_fence r && bytes_eq r.name name) regions
 
--- a fence of another name shares a point with the fence
+-- Holds if a fence of another name shares a point with the fence.
 abbrev pub OverlapsFence : Region → List Region → Region → Type 0
 OverlapsFence fence earlier r = (is_fence r ≡ true) × (r.name ≢ fence.name) × SharePoint r.rects fence.rects
 
--- the name of the first other fence that shares a point with the fence of this name
+-- Holds if this is the name of the first other fence that shares a point with the fence of this
+-- name.
 abbrev pub IsOverlappedBy : List Region → List ℕ → Option (List ℕ) → Type 0
 IsOverlappedBy regions name found =
     MatchOption (fence_named regions name) (found ≡ None) (λ fence. NameOfFirst (λ r. r.name) (OverlapsFence fence) regions found)
 
--- the group is bound to a fence other than this one, and names the component
+-- Holds if the group is bound to a fence other than `told`, and names the component.
 abbrev pub ClaimsBut : List Region → List ℕ → Option (List ℕ) → List Group → Group → Type 0
 ClaimsBut regions name told earlier g = (fence : List ℕ) × Claims regions g name fence × (told ≢ Some fence)
 
--- the first fence that claims the component, and the first other that does, in the order of the groups
+-- The first fence that claims the component, and the first other fence that does, in the order of
+-- the groups.
 pub record AreClaimers (regions : List Region) (groups : List Group) (name : List ℕ) (met : Conflict) : Type 0 where
   pub first : NameOfFirst region_name (ClaimsBut regions name None) groups met.first
   pub second : NameOfFirst region_name (ClaimsBut regions name met.first) groups met.second
 
--- what a refusal of this number meets, which finds this name: of FencesOverlap the fence that the one found shares a point with, of
--- TwoFences those that claim the component
+-- The fences with which the entry that this refusal finds conflicts: for FencesOverlap the fence
+-- that overlaps it, for TwoFences the fences that claim the component.
 abbrev pub ConflictsBy : List Region → List Group → FaultNumber → List ℕ → Conflict → Type 0
 ConflictsBy regions groups FencesOverlap name met = IsOverlappedBy regions name met.first × (met.second ≡ None)
 ConflictsBy regions groups TwoFences name met = AreClaimers regions groups name met
 ConflictsBy regions groups _ name met = met ≡ no_fence
 
--- what a fault of loading meets
+-- The fences with which the entry in a fault of loading conflicts.
 abbrev pub ConflictsWith : List Region → List Group → LoadFault → Conflict → Type 0
 ConflictsWith regions groups fault met = MatchOption fault.name (met ≡ no_fence) (λ name. ConflictsBy regions groups fault.number name.now met)

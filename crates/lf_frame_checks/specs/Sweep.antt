@@ -11,43 +11,44 @@ use Rattle.lf_def.specs.Kinds.{is_fence}
 use Rattle.lf_frame_checks.specs.Loading.{is_core_row, frame_row}
 use Rattle.lf_frame_checks.specs.declared.sweep.SweepRect.{SweepRect}
 
--- the points of a piece
+-- The points of a piece.
 abbrev pub piece_area : SweepRect → Rect
 piece_area p = record { x1 = p.left; y1 = p.bottom; x2 = p.right; y2 = p.top }
 
--- the piece of an entry that has these points
+-- The piece of an entry with these points.
 abbrev pub piece_of : ℕ → Rect → SweepRect
 piece_of entry area = record { entry = entry; left = area.x1; right = area.x2; bottom = area.y1; top = area.y2 }
 
--- the first piece ends at the left of the second, or below it; a piece without points ends before itself
+-- Holds if the first piece ends left of the second, or below it. A piece without points ends before
+-- itself.
 abbrev pub EndsBefore : SweepRect → SweepRect → Type 0
 EndsBefore a b = (a.right ≤ℤ b.left) ⊎ (a.top ≤ℤ b.bottom)
 
--- two pieces of different entries share a point
+-- Holds if the pieces are of different entries and share a point.
 pub record Clash (a b : SweepRect) : Type 0 where
   pub entries : a.entry ≢ b.entry
   pub point : SharesPoint (piece_area a) (piece_area b)
 
--- the piece clashes with none of the list
+-- Holds if the piece clashes with no piece of the list.
 abbrev pub ClashesWithNone : SweepRect → List SweepRect → Type 0
 ClashesWithNone a pieces = All (λ b. Clash a b → ⊥) pieces
 
--- no two pieces of the list clash
+-- Holds if no two pieces of the list clash.
 abbrev pub NoneClash : List SweepRect → Type 0
 NoneClash pieces = All (λ a. ClashesWithNone a pieces) pieces
 
--- no piece begins below an earlier one
+-- Holds if no piece begins below an earlier one.
 abbrev pub Rise : List SweepRect → Type 0
 Rise pieces = AllPairs (λ a b. a.bottom ≤ℤ b.bottom) pieces
 
--- the pieces of a row: all of it, if it is one of core sites
+-- The pieces of a row: all of it, if it is a core row.
 abbrev pub row_pieces : Site → Point → ℕ → Row → List SweepRect
 row_pieces core pitch number r = if is_core_row core r then piece_of number (row_area pitch (frame_row r)) ∷ [] else []
 
--- the pieces of a region: its rectangles, if it is a fence
+-- The pieces of a region: its rectangles, if it is a fence.
 abbrev pub fence_pieces : ℕ → Region → List SweepRect
 fence_pieces number r = if is_fence r then map (λ rect. piece_of number rect) r.rects else []
 
--- each piece of each entry is in the list
+-- Holds if each piece of each entry is in the list.
 abbrev pub ArePiecesOf : {A : Type 0} → (ℕ → A → List SweepRect) → List A → List SweepRect → Type 0
 ArePiecesOf {A} own entries pieces = (k : ℕ) (d : A) → k < length entries → All (Contains pieces) (own k (slice_index_or entries k d))

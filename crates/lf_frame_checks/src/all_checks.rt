@@ -1,4 +1,4 @@
-//! The refusal of the least number.
+//! The refusal of the least number that finds an entry.
 
 ghost use Rattle.std.specs.Prelude.{◌≡◌, ◌≤◌, ◌<◌, Some, None, IfOk, MatchOption};
 ghost use Rattle.std.specs.Option.{option_copied};
@@ -31,7 +31,7 @@ const FIRST: u8 = 7;
 /// The number after the last of loading's refusals.
 const END: u8 = 24;
 
-/// The refusal of that number.
+/// Returns the refusal with this number.
 fn numbered(number: u8) -> FaultNumber
     requires least { 7 ≤ number }
     requires most { number < 24 }
@@ -58,7 +58,8 @@ fn numbered(number: u8) -> FaultNumber
     }
 }
 
-/// What the refusal finds: the name of the first entry at fault, or none.
+/// Returns the name of the first entry at fault by this refusal, or `None` if it finds nothing.
+/// `Err` if an allocation fails.
 fn finding<'d>(
     alloc: Global,
     claims: &ClaimTable,
@@ -101,8 +102,9 @@ fn finding<'d>(
     }
 }
 
-/// The refusal of the least number that finds an entry, with the name of the first entry that it finds; none iff no refusal
-/// finds anything. The claims and the macros must be those of the document's components. `Err` if an allocation fails.
+/// Returns the refusal of the least number that finds an entry, with the name of the first entry
+/// that it finds. `None` if and only if no refusal finds anything. The claims and the macros must
+/// be those of the document's components. `Err` if an allocation fails.
 pub fn first_finding<'d>(
     alloc: Global,
     claims: &ClaimTable,

@@ -15,7 +15,7 @@ use lf_floorplan::Macro;
 use lf_lef::Library;
 use lf_units::{Point, micros_to_dbu};
 
-/// The macro of that number in the library; none iff there is no number.
+/// Returns the macro with this number in the library. `None` if and only if there is no number.
 fn macro_numbered(library: &Library, number: Option<usize>) -> Option<&Macro>
     ensures macro_is { option_copied result ≡ at_place library.now.macros number }
     ensures range { IfSome result (λ m. HasRange m.now.size) }
@@ -23,7 +23,7 @@ fn macro_numbered(library: &Library, number: Option<usize>) -> Option<&Macro>
     library.macros().get(number?)
 }
 
-/// The macro of that name; none iff there is none.
+/// Returns the macro with this name. `None` if and only if there is no such macro.
 pub fn macro_named<'l>(library: &'l Library, name: &[u8]) -> Option<&'l Macro>
     ensures macro_is { option_copied result ≡ named_macro library.now name.now }
     ensures range { IfSome result (λ m. HasRange m.now.size) }
@@ -31,14 +31,14 @@ pub fn macro_named<'l>(library: &'l Library, name: &[u8]) -> Option<&'l Macro>
     macro_numbered(library, library.find_macro(name))
 }
 
-/// Whether both lengths are above 0.
+/// True if both lengths are above 0.
 pub(crate) fn has_size(size: &Point) -> bool
     ensures { result ≡ is_size size.now }
 {
     0 < size.x && 0 < size.y
 }
 
-/// Whether the length is whole in database units.
+/// True if the length is whole in database units.
 fn is_whole(micros: i64, units: u32) -> bool
     requires least { 1 ≤ units }
     requires most { units ≤ 20000 }
@@ -48,7 +48,7 @@ fn is_whole(micros: i64, units: u32) -> bool
     micros_to_dbu(micros, units).is_some()
 }
 
-/// Whether both lengths are whole in database units.
+/// True if both lengths are whole in database units.
 pub(crate) fn is_whole_size(size: &Point, units: u32) -> bool
     requires least { 1 ≤ units }
     requires most { units ≤ 20000 }
@@ -61,7 +61,7 @@ pub(crate) fn is_whole_size(size: &Point, units: u32) -> bool
     is_whole(size.y, units)
 }
 
-/// What is wrong with a component's macro.
+/// The faults of a component's macro.
 #[derive(Clone, Copy)]
 struct MacroFault {
     unknown: bool,
@@ -69,8 +69,9 @@ struct MacroFault {
     part_units: bool,
 }
 
-/// The first components other than COVER whose macro is in no LEF text, has no SIZE with both lengths above 0, and has
-/// a size that is not whole in database units.
+/// The first components other than COVER whose macro is unknown, has no size, or has a size that is
+/// not whole. `unknown`: no LEF text has the macro. `sizeless`: no SIZE with both lengths above 0.
+/// `part_units`: the size is not whole in database units.
 #[derive(Clone, Copy)]
 pub struct MacroFaults {
     pub unknown: Option<usize>,
@@ -78,7 +79,7 @@ pub struct MacroFaults {
     pub part_units: Option<usize>,
 }
 
-/// What is wrong with the component's macro, which has that number in the library.
+/// Returns the faults of the component's macro, which has this number in the library.
 fn macro_fault(
     component: &Component,
     number: Option<usize>,
@@ -110,7 +111,7 @@ fn macro_fault(
     fault
 }
 
-/// The first number so far, given whether this one counts.
+/// Returns the first number so far, given whether this number counts.
 fn first_so_far(first: Option<usize>, number: usize, counts: bool) -> Option<usize>
     ensures { result ≡ first_of first number counts }
 {
@@ -120,7 +121,7 @@ fn first_so_far(first: Option<usize>, number: usize, counts: bool) -> Option<usi
     }
 }
 
-/// The first components whose macros are at fault, of each kind.
+/// Returns the first components whose macros are at fault, for each kind of fault.
 pub(crate) fn macro_faults(
     components: &[Component],
     macros: &MacroTable,
@@ -148,7 +149,7 @@ pub(crate) fn macro_faults(
     }
 }
 
-/// The first component beyond the limit.
+/// Returns the number of the first component beyond the limit, or `None`.
 pub(crate) fn first_component_too_many(components: &[Component], limit: usize) -> Option<usize>
     ensures { FirstIs (IsComponentTooMany limit) components.now result }
 {

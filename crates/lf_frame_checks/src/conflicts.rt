@@ -1,4 +1,4 @@
-//! The fences that a refused fence or component meets.
+//! The fences with which a refused fence or component conflicts.
 
 ghost use Rattle.std.specs.Prelude.{[], ◌≡◌, ◌↔◌, true, Any, IsTrue, None};
 ghost use Rattle.std.specs.Option.{option_copied};
@@ -14,12 +14,13 @@ use lf_def::{DefDoc, Group, Region, is_fence};
 use lf_lex::{FaultNumber, LoadFault};
 use lf_names::Pattern;
 
-/// The names of the fences that a fault of loading is about, besides the name that it gives.
+/// The names of the fences that a fault of loading is about, besides the name in the fault.
 #[derive(Clone, Copy)]
 pub struct FenceConflict<'d> {
-    /// Of FencesOverlap the fence that the given one meets, of TwoFences the first that claims the component.
+    /// For FencesOverlap the fence that overlaps the one in the fault. For TwoFences the first
+    /// fence that claims the component.
     pub first: Option<&'d [u8]>,
-    /// Of TwoFences the other fence that claims it.
+    /// For TwoFences the other fence that claims the component.
     pub second: Option<&'d [u8]>,
 }
 
@@ -29,7 +30,7 @@ const NO_FENCE: FenceConflict<'static> = FenceConflict {
     second: None,
 };
 
-/// The first fence of that name.
+/// Returns the first fence with this name, or `None`.
 fn fence_named<'d>(regions: &'d [Region], name: &[u8]) -> Option<&'d Region>
     ensures { option_copied result ≡ named_fence regions.now name.now }
 {
@@ -38,14 +39,15 @@ fn fence_named<'d>(regions: &'d [Region], name: &[u8]) -> Option<&'d Region>
         .find(|region| is_fence(region) && region.name.is(name))
 }
 
-/// Whether the region is a fence of another name that shares a point with the fence.
+/// True if the region is a fence of another name that shares a point with the fence.
 fn meets(fence: &Region, region: &Region) -> bool
     ensures { IsTrue result ↔ OverlapsFence fence.now [] region.now }
 {
     is_fence(region) && !region.name.is(fence.name.as_bytes()) && do_regions_meet(region, fence)
 }
 
-/// The first fence of another name that shares a point with this one.
+/// Returns the number of the first fence of another name that shares a point with this one, or
+/// `None`.
 fn first_met(regions: &[Region], fence: &Region) -> Option<usize>
     ensures { FirstIs (OverlapsFence fence.now) regions.now result }
 {
@@ -57,7 +59,8 @@ fn first_met(regions: &[Region], fence: &Region) -> Option<usize>
     None
 }
 
-/// The name of the first other fence that shares a point with the fence of that name.
+/// Returns the name of the first other fence that shares a point with the fence of this name, or
+/// `None`.
 fn met_by<'d>(regions: &'d [Region], name: &[u8]) -> Option<&'d [u8]>
     ensures { IsOverlappedBy regions.now name.now (option_copied result) }
 {
@@ -67,7 +70,7 @@ fn met_by<'d>(regions: &'d [Region], name: &[u8]) -> Option<&'d [u8]>
     region_at(regions, first_met(regions, fence))
 }
 
-/// Whether the name matches a pattern of the group.
+/// True if the name matches a pattern of the group.
 fn is_named_by(group: &Group, name: &[u8]) -> bool
     ensures { IsTrue result ↔ NamedBy group.now name.now }
 {
@@ -78,7 +81,7 @@ fn is_named_by(group: &Group, name: &[u8]) -> bool
         .any(|pattern| Pattern::new(pattern.as_bytes()).matches(name))
 }
 
-/// Whether a fence has that name.
+/// True if a fence has this name.
 fn has_fence(regions: &[Region], name: &[u8]) -> bool
     ensures { IsTrue result ↔ Any (λ r. (is_fence_region r ≡ true) × (r.name ≡ name.now)) regions.now }
 {
@@ -87,7 +90,7 @@ fn has_fence(regions: &[Region], name: &[u8]) -> bool
         .any(|region| is_fence(region) && region.name.is(name))
 }
 
-/// Whether the group binds the name to a fence other than this one.
+/// True if the group binds the name to a fence other than `told`.
 fn claims_but(regions: &[Region], name: &[u8], told: Option<&[u8]>, group: &Group) -> bool
     ensures { IsTrue result ↔ ClaimsBut regions.now name.now (option_copied told.entry) [] group.now }
 {
@@ -99,7 +102,8 @@ fn claims_but(regions: &[Region], name: &[u8], told: Option<&[u8]>, group: &Grou
         && is_named_by(group, name)
 }
 
-/// The first group that binds the name to a fence other than this one.
+/// Returns the number of the first group that binds the name to a fence other than `told`, or
+/// `None`.
 fn first_claiming(
     regions: &[Region],
     groups: &[Group],
@@ -116,7 +120,7 @@ fn first_claiming(
     None
 }
 
-/// The first fence other than this one to which a group binds the name.
+/// Returns the first fence other than `told` to which a group binds the name, or `None`.
 fn claimer<'d>(document: &'d DefDoc, name: &[u8], told: Option<&[u8]>) -> Option<&'d [u8]>
     ensures { NameOfFirst region_name (ClaimsBut document.now.regions name.now (option_copied told.entry)) document.now.groups (option_copied result) }
 {
@@ -125,7 +129,7 @@ fn claimer<'d>(document: &'d DefDoc, name: &[u8], told: Option<&[u8]>) -> Option
     region_of_group(groups, first)
 }
 
-/// The first two fences to which groups bind the name.
+/// Returns the first two fences to which groups bind the name.
 fn claimers<'d>(document: &'d DefDoc, name: &[u8]) -> FenceConflict<'d>
     ensures { AreClaimers document.now.regions document.now.groups name.now (conflict_in result) }
 {
@@ -136,7 +140,7 @@ fn claimers<'d>(document: &'d DefDoc, name: &[u8]) -> FenceConflict<'d>
     }
 }
 
-/// The fences that a fault of loading the document is about, besides the name that it gives.
+/// Returns the fences that a fault of loading the document is about, besides the name in the fault.
 pub fn conflicting_fences<'d>(document: &'d DefDoc, fault: &LoadFault<'_>) -> FenceConflict<'d>
     ensures { ConflictsWith document.now.regions document.now.groups fault.now (conflict_in result) }
 {

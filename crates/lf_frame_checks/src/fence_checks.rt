@@ -17,7 +17,8 @@ use lf_names::NameTable;
 use lf_units::Rect;
 use std::alloc::{AllocError, Global};
 
-/// Whether the region is a fence whose name is in the table; a fence's new name is added.
+/// Adds the name of a fence to the table. Returns true if the table has the name already. Returns
+/// false and adds nothing if the region is not a fence. `Err` if an allocation fails.
 fn is_second_fence(names: &mut NameTable, region: &Region) -> Result<bool, AllocError>
     ensures second { IfOk result (λ second. IsTrue second → (is_fence_region region.now ≡ true) × Contains names.old region.now.name) }
     ensures first { IfOk result (λ second. IsFalse second → is_fence_region region.now ≡ true → Contains names.old region.now.name → ⊥) }
@@ -30,7 +31,8 @@ fn is_second_fence(names: &mut NameTable, region: &Region) -> Result<bool, Alloc
     Ok(!new)
 }
 
-/// The first fence that has an earlier fence's name.
+/// Returns the number of the first fence that has the name of an earlier fence, or `None`. `Err` if
+/// an allocation fails.
 pub(crate) fn first_second_fence(
     alloc: Global,
     regions: &[Region],
@@ -46,14 +48,14 @@ pub(crate) fn first_second_fence(
     Ok(None)
 }
 
-/// Whether the region is a fence named `-`.
+/// True if the region is a fence named `-`.
 fn bears_ground_name(region: &Region) -> bool
     ensures { IsTrue result ↔ HasGroundName [] region.now }
 {
     is_fence(region) && region.name.is(b"-")
 }
 
-/// The first fence named `-`.
+/// Returns the number of the first fence named `-`, or `None`.
 pub(crate) fn first_ground_name(regions: &[Region]) -> Option<usize>
     ensures { FirstIs HasGroundName regions.now result }
 {
@@ -65,7 +67,7 @@ pub(crate) fn first_ground_name(regions: &[Region]) -> Option<usize>
     None
 }
 
-/// The names of the regions.
+/// Returns the names of the regions. `Err` if an allocation fails.
 fn region_names(alloc: Global, regions: &[Region]) -> Result<NameTable, AllocError>
     ensures { IfOk result (λ names. HoldSameNames names (region_names_of regions.now)) }
 {
@@ -76,7 +78,7 @@ fn region_names(alloc: Global, regions: &[Region]) -> Result<NameTable, AllocErr
     Ok(names)
 }
 
-/// Whether the group has a region that is not in the table.
+/// True if the group has a region that is not in the table.
 fn is_outside(group: &Group, names: &NameTable) -> bool
     ensures { IsTrue result ↔ IsOutside names.now group.now }
 {
@@ -86,7 +88,8 @@ fn is_outside(group: &Group, names: &NameTable) -> bool
     }
 }
 
-/// The first group whose region is in no REGIONS entry.
+/// Returns the number of the first group whose region has no REGIONS entry, or `None`. `Err` if an
+/// allocation fails.
 pub(crate) fn first_without_region(
     alloc: Global,
     groups: &[Group],
@@ -103,14 +106,14 @@ pub(crate) fn first_without_region(
     Ok(None)
 }
 
-/// Whether the rectangle shares a point with one of the list.
+/// True if the rectangle shares a point with one of the list.
 fn meets_rect(rect: &Rect, others: &[Rect]) -> bool
     ensures { IsTrue result ↔ Any (λ b. SharesPoint rect.now b) others.now }
 {
     others.iter().any(|other| rect.overlaps(other))
 }
 
-/// Whether a rectangle of the one list shares a point with one of the other.
+/// True if a rectangle of one list shares a point with one of the other.
 fn do_rects_meet(first: &[Rect], second: &[Rect]) -> bool
     ensures { IsTrue result ↔ Any (λ a. Any (λ b. SharesPoint a b) second.now) first.now }
 {
@@ -122,14 +125,14 @@ fn do_rects_meet(first: &[Rect], second: &[Rect]) -> bool
     false
 }
 
-/// Whether a point lies in rectangles of both regions.
+/// True if a point lies in rectangles of both regions.
 pub(crate) fn do_regions_meet(first: &Region, second: &Region) -> bool
     ensures { IsTrue result ↔ SharePoint first.now.rects second.now.rects }
 {
     do_rects_meet(first.rects.as_slice(), second.rects.as_slice())
 }
 
-/// Whether a fence of the list shares a point with the region.
+/// True if a fence of the list shares a point with the region.
 fn meets_one_of(region: &Region, earlier: &[Region]) -> bool
     ensures { IsTrue result ↔ Any (λ e. (is_fence_region e ≡ true) × SharePoint e.rects region.now.rects) earlier.now }
 {
@@ -141,7 +144,8 @@ fn meets_one_of(region: &Region, earlier: &[Region]) -> bool
     false
 }
 
-/// The first fence that shares a point with an earlier fence, found by comparing all pairs.
+/// Returns the number of the first fence that shares a point with an earlier fence, or `None`.
+/// Compares all pairs.
 fn fence_overlap_by_pairs(regions: &[Region]) -> Option<usize>
     ensures { FirstIs OverlapsEarlierFence regions.now result }
 {
@@ -153,7 +157,7 @@ fn fence_overlap_by_pairs(regions: &[Region]) -> Option<usize>
     None
 }
 
-/// The rectangle as a piece of the sweep.
+/// Returns the rectangle as a piece of the sweep.
 fn rect_piece(number: usize, rect: &Rect) -> SweepRect
     ensures { result ≡ piece_of number rect.now }
 {
@@ -190,7 +194,7 @@ fn push_region(
     Ok(())
 }
 
-/// The rectangles of all fences as pieces of the sweep.
+/// Returns the rectangles of all fences as pieces of the sweep. `Err` if an allocation fails.
 fn fence_pieces(alloc: Global, regions: &[Region]) -> Result<Vec<SweepRect>, AllocError>
     ensures { IfOk result (λ pieces. ArePiecesOf fence_pieces_of regions.now pieces.items) }
 {
@@ -201,8 +205,9 @@ fn fence_pieces(alloc: Global, regions: &[Region]) -> Result<Vec<SweepRect>, All
     Ok(pieces)
 }
 
-/// The first fence that shares a point with an earlier fence. Takes the time of a sort if there is none and few
-/// rectangles overlap in y.
+/// Returns the number of the first fence that shares a point with an earlier fence, or `None`.
+/// Takes the time of a sort if there is no such fence and few rectangles overlap in y. `Err` if an
+/// allocation fails.
 pub(crate) fn first_fence_overlap(
     alloc: Global,
     regions: &[Region],
@@ -216,7 +221,7 @@ pub(crate) fn first_fence_overlap(
     Ok(fence_overlap_by_pairs(regions))
 }
 
-/// The first fence beyond the limit.
+/// Returns the number of the first fence beyond the limit, or `None`.
 pub(crate) fn first_fence_too_many(regions: &[Region], limit: usize) -> Option<usize>
     ensures { FirstIs (IsFenceTooMany limit) regions.now result }
 {

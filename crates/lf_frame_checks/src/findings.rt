@@ -1,4 +1,4 @@
-//! What each refusal of loading finds.
+//! What each refusal of loading finds: the name of the first entry at fault, or `None`.
 
 ghost use Rattle.std.specs.Prelude.{◌≡◌, ◌≤◌, None, Some, IfOk, option_map, unwrap_or};
 ghost use Rattle.std.specs.Option.{option_copied};
@@ -31,7 +31,7 @@ use lf_lef::Library;
 use lf_units::{Point, micros_to_dbu};
 use std::alloc::{AllocError, Global};
 
-/// The name of the row at that position.
+/// Returns the name of the row at this position, or `None`.
 fn row_name<'d>(rows: &'d [Row], place: Option<usize>) -> Option<&'d [u8]>
     ensures { option_copied result ≡ option_map (λ r. r.name) (at_place rows.now place) }
 {
@@ -44,7 +44,7 @@ fn row_name<'d>(rows: &'d [Row], place: Option<usize>) -> Option<&'d [u8]>
     }
 }
 
-/// The name of the site of the row at that position.
+/// Returns the name of the site of the row at this position, or `None`.
 fn row_site<'d>(rows: &'d [Row], place: Option<usize>) -> Option<&'d [u8]>
     ensures { option_copied result ≡ option_map (λ r. r.site) (at_place rows.now place) }
 {
@@ -57,7 +57,7 @@ fn row_site<'d>(rows: &'d [Row], place: Option<usize>) -> Option<&'d [u8]>
     }
 }
 
-/// The design's name, if the document has no UNITS.
+/// Returns the design's name, if the document has no UNITS.
 pub(crate) fn no_units<'d>(
     library: &Library,
     document: &'d DefDoc,
@@ -72,7 +72,7 @@ pub(crate) fn no_units<'d>(
     }
 }
 
-/// The site of the first row whose site is in no LEF text.
+/// Returns the name of the site of the first row whose site no LEF text has.
 pub(crate) fn no_site<'d>(
     library: &Library,
     document: &'d DefDoc,
@@ -84,7 +84,7 @@ pub(crate) fn no_site<'d>(
     row_site(rows, first_without_site(rows, library))
 }
 
-/// The design's name, if there is no core site.
+/// Returns the design's name, if there is no core site.
 pub(crate) fn no_rows<'d>(
     library: &Library,
     document: &'d DefDoc,
@@ -99,7 +99,7 @@ pub(crate) fn no_rows<'d>(
     }
 }
 
-/// The first row of core sites with numY other than 1.
+/// Returns the name of the first core row with numY other than 1.
 pub(crate) fn vertical_row<'d>(
     library: &Library,
     document: &'d DefDoc,
@@ -114,7 +114,8 @@ pub(crate) fn vertical_row<'d>(
     row_name(rows, first_vertical(rows, core))
 }
 
-/// The database units per micron; 1 if the document has no UNITS and is refused.
+/// Returns the database units per micron. Returns 1 if the document has no UNITS; it is then
+/// refused.
 pub fn units_of(document: &DefDoc) -> u32
     ensures units { result ≡ unwrap_or document.now.header.units 1 }
     ensures least { 1 ≤ result }
@@ -126,7 +127,7 @@ pub fn units_of(document: &DefDoc) -> u32
     }
 }
 
-/// The first row of several core sites whose step is not the site's width.
+/// Returns the name of the first core row of several sites whose step is not the site's width.
 pub(crate) fn bad_step<'d>(
     library: &Library,
     document: &'d DefDoc,
@@ -144,7 +145,7 @@ pub(crate) fn bad_step<'d>(
     row_name(rows, first_bad_step(rows, core, &pitch))
 }
 
-/// The first row of core sites that is neither N, S, FN nor FS.
+/// Returns the name of the first core row that is neither N, S, FN nor FS.
 pub(crate) fn row_orient<'d>(
     library: &Library,
     document: &'d DefDoc,
@@ -159,7 +160,8 @@ pub(crate) fn row_orient<'d>(
     row_name(rows, first_turned(rows, core))
 }
 
-/// The first row of core sites that shares a point with an earlier one.
+/// Returns the name of the first core row that shares a point with an earlier one. `Err` if an
+/// allocation fails.
 pub(crate) fn rows_overlap<'d>(
     alloc: Global,
     library: &Library,
@@ -179,7 +181,7 @@ pub(crate) fn rows_overlap<'d>(
     Ok(row_name(rows, first))
 }
 
-/// The macro of the component at that position.
+/// Returns the name of the macro of the component at this position, or `None`.
 fn component_mac<'d>(components: &'d [Component], place: Option<usize>) -> Option<&'d [u8]>
     ensures { option_copied result ≡ option_map (λ c. c.mac) (at_place components.now place) }
 {
@@ -192,7 +194,7 @@ fn component_mac<'d>(components: &'d [Component], place: Option<usize>) -> Optio
     }
 }
 
-/// The name of the component at that position.
+/// Returns the name of the component at this position, or `None`.
 fn component_name<'d>(components: &'d [Component], place: Option<usize>) -> Option<&'d [u8]>
     ensures { option_copied result ≡ option_map (λ c. c.name) (at_place components.now place) }
 {
@@ -205,7 +207,7 @@ fn component_name<'d>(components: &'d [Component], place: Option<usize>) -> Opti
     }
 }
 
-/// The macro of the first component whose macro is in no LEF text.
+/// Returns the name of the macro of the first component whose macro no LEF text has.
 pub(crate) fn no_macro<'d>(
     faults: &MacroFaults,
     library: &Library,
@@ -218,7 +220,7 @@ pub(crate) fn no_macro<'d>(
     component_mac(document.components.as_slice(), faults.unknown)
 }
 
-/// The macro of the first component whose macro has no size.
+/// Returns the name of the macro of the first component whose macro has no size.
 pub(crate) fn no_size<'d>(
     faults: &MacroFaults,
     library: &Library,
@@ -231,7 +233,7 @@ pub(crate) fn no_size<'d>(
     component_mac(document.components.as_slice(), faults.sizeless)
 }
 
-/// The core site's name, if its size is not whole in database units.
+/// Returns the core site's name, if its size is not whole in database units.
 fn core_not_whole<'d>(library: &'d Library, document: &DefDoc, limits: &Limits) -> Option<&'d [u8]>
     ensures { OfCore (inputs library.now document.now limits.now) (CoreHasPartUnits (inputs library.now document.now limits.now)) (option_copied result) }
 {
@@ -245,7 +247,8 @@ fn core_not_whole<'d>(library: &'d Library, document: &DefDoc, limits: &Limits) 
     }
 }
 
-/// The site or macro whose size is not whole in database units: the core site, then macros of components.
+/// Returns the name of the site or macro whose size is not whole in database units: first the core
+/// site, then the macros of components.
 pub(crate) fn not_whole<'d>(
     faults: &MacroFaults,
     library: &'d Library,
@@ -261,7 +264,7 @@ pub(crate) fn not_whole<'d>(
     component_mac(document.components.as_slice(), faults.part_units)
 }
 
-/// The first component that has an earlier one's name.
+/// Returns the name of the first component that has the name of an earlier one.
 pub(crate) fn second_name<'d>(
     claims: &ClaimTable,
     library: &Library,
@@ -274,7 +277,7 @@ pub(crate) fn second_name<'d>(
     component_name(document.components.as_slice(), claims.first_duplicate())
 }
 
-/// The name of the region at that position.
+/// Returns the name of the region at this position, or `None`.
 pub(crate) fn region_at<'d>(regions: &'d [Region], place: Option<usize>) -> Option<&'d [u8]>
     ensures { option_copied result ≡ option_map (λ r. r.name) (at_place regions.now place) }
 {
@@ -287,7 +290,7 @@ pub(crate) fn region_at<'d>(regions: &'d [Region], place: Option<usize>) -> Opti
     }
 }
 
-/// The region of a group.
+/// Returns the name of the region of a group, or the empty name if it has no region.
 fn group_region(group: &Group) -> &[u8]
     ensures { result.now ≡ region_name group.now }
 {
@@ -297,7 +300,7 @@ fn group_region(group: &Group) -> &[u8]
     }
 }
 
-/// The region of the group at that position.
+/// Returns the name of the region of the group at this position, or `None`.
 pub(crate) fn region_of_group<'d>(groups: &'d [Group], place: Option<usize>) -> Option<&'d [u8]>
     ensures { option_copied result ≡ option_map region_name (at_place groups.now place) }
 {
@@ -310,7 +313,8 @@ pub(crate) fn region_of_group<'d>(groups: &'d [Group], place: Option<usize>) -> 
     }
 }
 
-/// The first fence that has an earlier fence's name.
+/// Returns the name of the first fence that has the name of an earlier fence. `Err` if an
+/// allocation fails.
 pub(crate) fn second_region<'d>(
     alloc: Global,
     library: &Library,
@@ -324,7 +328,8 @@ pub(crate) fn second_region<'d>(
     Ok(region_at(regions, first))
 }
 
-/// The region of the first group whose region is in no REGIONS entry.
+/// Returns the name of the region of the first group whose region has no REGIONS entry. `Err` if an
+/// allocation fails.
 pub(crate) fn no_region<'d>(
     alloc: Global,
     library: &Library,
@@ -338,7 +343,7 @@ pub(crate) fn no_region<'d>(
     Ok(region_of_group(groups, first))
 }
 
-/// The first fence named `-`.
+/// Returns the name of the first fence named `-`.
 pub(crate) fn team_name<'d>(
     library: &Library,
     document: &'d DefDoc,
@@ -350,7 +355,8 @@ pub(crate) fn team_name<'d>(
     region_at(regions, first_ground_name(regions))
 }
 
-/// The first fence that shares a point with an earlier one.
+/// Returns the name of the first fence that shares a point with an earlier one. `Err` if an
+/// allocation fails.
 pub(crate) fn fences_overlap<'d>(
     alloc: Global,
     library: &Library,
@@ -364,7 +370,8 @@ pub(crate) fn fences_overlap<'d>(
     Ok(region_at(regions, first))
 }
 
-/// The first movable component that groups of two different fences name, if no two components have one name.
+/// Returns the name of the first movable component that groups of two different fences name. No two
+/// components may have the same name.
 pub(crate) fn two_fences<'d>(
     claims: &ClaimTable,
     library: &Library,
@@ -380,7 +387,7 @@ pub(crate) fn two_fences<'d>(
     component_name(components, first)
 }
 
-/// The first row of core sites beyond the limit.
+/// Returns the name of the first core row beyond the limit.
 fn rows_too_many<'d>(library: &Library, document: &'d DefDoc, limits: &Limits) -> Option<&'d [u8]>
     ensures { OfCore (inputs library.now document.now limits.now)
         (λ core. NameOfFirst (λ r. r.name) (IsRowTooMany core limits.now.rows) document.now.rows) (option_copied result) }
@@ -392,7 +399,7 @@ fn rows_too_many<'d>(library: &Library, document: &'d DefDoc, limits: &Limits) -
     row_name(rows, first_row_too_many(rows, core, limits.rows as usize))
 }
 
-/// The first fence beyond the limit.
+/// Returns the name of the first fence beyond the limit.
 fn fences_too_many<'d>(document: &'d DefDoc, limits: &Limits) -> Option<&'d [u8]>
     ensures { NameOfFirst (λ r. r.name) (IsFenceTooMany limits.now.fences) document.now.regions (option_copied result) }
 {
@@ -403,7 +410,7 @@ fn fences_too_many<'d>(document: &'d DefDoc, limits: &Limits) -> Option<&'d [u8]
     )
 }
 
-/// The first component beyond the limit.
+/// Returns the name of the first component beyond the limit.
 fn components_too_many<'d>(document: &'d DefDoc, limits: &Limits) -> Option<&'d [u8]>
     ensures { NameOfFirst (λ c. c.name) (IsComponentTooMany limits.now.components) document.now.components (option_copied result) }
 {
@@ -414,7 +421,7 @@ fn components_too_many<'d>(document: &'d DefDoc, limits: &Limits) -> Option<&'d 
     )
 }
 
-/// The first row of core sites that ends past the largest coordinate.
+/// Returns the name of the first core row that ends past the largest coordinate.
 fn row_too_far<'d>(library: &Library, document: &'d DefDoc, limits: &Limits) -> Option<&'d [u8]>
     ensures { OfPitch (inputs library.now document.now limits.now)
         (λ core pitch. NameOfFirst (λ r. r.name) (EndsTooFar core pitch) document.now.rows) (option_copied result) }
@@ -429,8 +436,9 @@ fn row_too_far<'d>(library: &Library, document: &'d DefDoc, limits: &Limits) -> 
     row_name(rows, first_too_far(rows, core, &pitch))
 }
 
-/// The first entry beyond a limit: of rows of core sites, fences and components; then the first row that ends too far
-/// right.
+/// Returns the name of the first entry beyond a limit: of core rows, then of fences, then of
+/// components. Otherwise returns the name of the first core row that ends past the largest
+/// coordinate.
 pub(crate) fn too_many<'d>(
     library: &Library,
     document: &'d DefDoc,

@@ -1,14 +1,33 @@
 //! The refusals of loading: why a design cannot be loaded, and the first of these reasons.
 //!
-//! A refusal is one of the faults 7 to 23 of `lf_lex`: NoUnits to TooMany. Each *finds* a name, by the first entry of the DEF
-//! text that is at fault, or nothing; a design is accepted iff none finds anything. The *core site* is that of the first row
-//! whose site has CLASS CORE and a SIZE with both lengths above 0; rows of other sites play no part but in NoSite.
+//! A refusal is one of the faults 7 to 23 of `lf_lex`: NoUnits to TooMany. A refusal *finds* the
+//! name of the first entry of the DEF text that is at fault, or nothing. A design is accepted if
+//! and only if no refusal finds anything. The *core site* is the site of the first row whose site
+//! has CLASS CORE and a SIZE with both lengths above 0. Rows of other sites are ignored, except in
+//! NoSite.
+//!
+//! Used by `lf_frame`, `lf_laws_roundtrip`, `lf_laws_slice_texts` and `lf_task_designs`.
+//!
+//! Modules, in reading order:
+//!
+//! - `macro_numbers`: the macro of each component
+//! - `sweep`: a sweep that finds whether pieces of two entries share a point
+//! - `row_checks`: the refusals for rows
+//! - `pitch`: the core site and its size
+//! - `fence_checks`: the refusals for regions and groups
+//! - `component_checks`: the refusals for components
+//! - `findings`: what each refusal finds
+//! - `all_checks`: the refusal of the least number that finds an entry
+//! - `conflicts`: the fences with which a refused fence or component conflicts
+//!
+//! From `crates/lf_frame/src/loading.rt`:
 //!
 //! ```
-//! let claims = claim_table(Global, components, groups, regions)?; // those of the document
-//! let macros = macro_table(Global, components, &library)?;
-//! let found = first_finding(Global, &claims, &macros, &library, &document, &limits)?;
-//! // None, or Some(LoadFault { number: FaultNumber::NoMacro, line: None, name: Some(b"INVX9") })
+//! match first_finding(alloc, &claims, &macros, library, document, &limits) {
+//!     Ok(Some(fault)) => return Err(fault),
+//!     Ok(None) => {}
+//!     Err(_) => return Err(out_of_memory()),
+//! }
 //! ```
 #![tactic(auto)]
 

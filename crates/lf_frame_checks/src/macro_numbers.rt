@@ -9,10 +9,10 @@ use std::alloc::{AllocError, Global};
 use std::marker::Model;
 use std::mem::size_of;
 
-/// The number of a macro, or none, in 32 bits. Contracts see the option.
+/// The number of a macro, or `None`, in 32 bits. A contract sees the option.
 #[derive(Clone, Copy)]
 struct MacroNumber {
-    /// 0 if there is none, and else one more than the number.
+    /// 0 for `None`, otherwise one more than the number.
     code: u32,
 }
 
@@ -32,7 +32,8 @@ impl Model for MacroNumber {
 
 const _: () = prove!(size_of::<MacroNumber>() == 4);
 
-/// The macro of each component, looked up once: its number in the library, or none if no LEF text has it. Contracts see these.
+/// The macro of each component, looked up once: its number in the library, or `None` if no LEF text
+/// has it. A contract sees the list of these.
 #[derive(Drop)]
 pub struct MacroTable {
     numbers: Vec<MacroNumber>,
@@ -47,7 +48,7 @@ impl Model for MacroTable {
 }
 
 impl MacroNumber {
-    /// The same number in 32 bits.
+    /// Returns the same number in 32 bits.
     fn new(number: Option<usize>) -> Self
         requires { IfSome number (λ n. n ≤ 1000000) }
         ensures { result ≡ number }
@@ -60,7 +61,7 @@ impl MacroNumber {
         }
     }
 
-    /// The same number in as many bits as it may take.
+    /// Returns the same number in its full form.
     fn long(&self) -> Option<usize>
         ensures { result ≡ self.now }
     {
@@ -71,7 +72,7 @@ impl MacroNumber {
     }
 }
 
-/// The number of the component's macro in the library.
+/// Returns the number of the component's macro in the library.
 fn number_of(component: &Component, library: &Library) -> MacroNumber
     ensures { result ≡ macro_of library.now component.now }
 {
@@ -79,7 +80,7 @@ fn number_of(component: &Component, library: &Library) -> MacroNumber
     MacroNumber::new(library.find_macro(component.macro_name()))
 }
 
-/// The table of these components. `Err` if an allocation fails.
+/// Returns the table of these components. `Err` if an allocation fails.
 pub fn macro_table(
     alloc: Global,
     components: &[Component],
@@ -95,7 +96,8 @@ pub fn macro_table(
 }
 
 impl MacroTable {
-    /// The macro of the component of that number; none if no LEF text has it, or there is no such component.
+    /// Returns the macro of the component with this number. `None` if no LEF text has it, or if
+    /// there is no such component.
     pub fn macro_at(&self, number: usize) -> Option<usize>
         ensures { result ≡ macro_at_number self.now number }
     {

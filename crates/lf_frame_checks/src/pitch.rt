@@ -14,7 +14,8 @@ use lf_floorplan::{Site, size_in_units};
 use lf_lef::Library;
 use lf_units::Point;
 
-/// The size of a core site in database units: above 0 both ways, and within the largest length of LEF.
+/// The size of a core site in database units. Both lengths are above 0 and within the largest
+/// length of LEF.
 #[derive(Clone, Copy, Debug)]
 pub struct Pitch {
     pub size: Point,
@@ -24,7 +25,8 @@ pub struct Pitch {
     pub ghost low: { size.y ≤ℤ pos 20000000000 },
 }
 
-/// The core site, with lengths in the range of LEF and above 0; none if no row has one.
+/// Returns the core site, with lengths in the range of LEF and above 0. `None` if no row has such a
+/// site.
 pub fn sized_core_site<'l>(library: &'l Library, rows: &[Row]) -> Option<&'l Site>
     ensures core { option_copied result ≡ core_site_of library.now rows.now }
     ensures range { IfSome result (λ s. HasRange s.now.size) }
@@ -33,8 +35,9 @@ pub fn sized_core_site<'l>(library: &'l Library, rows: &[Row]) -> Option<&'l Sit
     core_site(library, rows)
 }
 
-/// The size of a core site in database units, of which a micron has 1 to 20,000; none iff it is not whole in them. The site
-/// is as `sized_core_site` gives it.
+/// Returns the size of a core site in database units, given 1 to 20,000 database units per micron.
+/// `None` if and only if the size is not whole in them. The site must be as `sized_core_site`
+/// returns it.
 pub fn core_pitch(core: &Site, units: u32) -> Option<Pitch>
     requires least { 1 ≤ units }
     requires most { units ≤ 20000 }

@@ -21,7 +21,7 @@ use lf_lef::Library;
 use lf_orient::row_rail;
 use std::alloc::{AllocError, Global};
 
-/// The site of that name; none if there is none.
+/// Returns the site with this name, or `None` if there is no such site.
 pub(crate) fn site_named<'l>(library: &'l Library, name: &[u8]) -> Option<&'l Site>
     ensures site { option_copied result ≡ site_named library.now name.now }
     ensures range { IfSome result (λ s. HasRange s.now.size) }
@@ -29,7 +29,7 @@ pub(crate) fn site_named<'l>(library: &'l Library, name: &[u8]) -> Option<&'l Si
     library.sites().get(library.find_site(name)?)
 }
 
-/// Whether the row's site has CLASS CORE and a SIZE with both lengths above 0.
+/// True if the row's site has CLASS CORE and a SIZE with both lengths above 0.
 fn has_core_site(row: &Row, library: &Library) -> bool
     ensures { result ≡ is_core (site_named library.now row.now.site) }
 {
@@ -39,14 +39,15 @@ fn has_core_site(row: &Row, library: &Library) -> bool
     }
 }
 
-/// The first row whose site has CLASS CORE and a SIZE with both lengths above 0.
+/// Returns the first row whose site has CLASS CORE and a SIZE with both lengths above 0, or `None`.
 fn core_row<'d>(rows: &'d [Row], library: &Library) -> Option<&'d Row>
     ensures { option_copied result ≡ core_row_of library.now rows.now }
 {
     rows.iter().find(|row| has_core_site(row, library))
 }
 
-/// The core site: that of the first row whose site has CLASS CORE and a SIZE with both lengths above 0.
+/// Returns the core site: that of the first row whose site has CLASS CORE and a SIZE with both
+/// lengths above 0. `None` if there is no such row.
 pub(crate) fn core_site<'l>(library: &'l Library, rows: &[Row]) -> Option<&'l Site>
     ensures core { option_copied result ≡ core_site_of library.now rows.now }
     ensures range { IfSome result (λ s. HasRange s.now.size) }
@@ -57,14 +58,14 @@ pub(crate) fn core_site<'l>(library: &'l Library, rows: &[Row]) -> Option<&'l Si
     }
 }
 
-/// Whether the row's site is in no LEF text.
+/// True if no LEF text has the row's site.
 fn has_no_site(row: &Row, library: &Library) -> bool
     ensures { IsTrue result ↔ HasNoSite library.now [] row.now }
 {
     site_named(library, row.site.as_bytes()).is_none()
 }
 
-/// The first row whose site is in no LEF text.
+/// Returns the number of the first row whose site no LEF text has, or `None`.
 pub(crate) fn first_without_site(rows: &[Row], library: &Library) -> Option<usize>
     ensures { FirstIs (HasNoSite library.now) rows.now result }
 {
@@ -76,21 +77,21 @@ pub(crate) fn first_without_site(rows: &[Row], library: &Library) -> Option<usiz
     None
 }
 
-/// Whether the row is one of core sites.
+/// True if the row is a core row: its site is the core site.
 pub fn is_core_row(row: &Row, core: &Site) -> bool
     ensures { result ≡ is_heeded_row core.now row.now }
 {
     row.site.is(core.name.as_bytes())
 }
 
-/// Whether the row is one of core sites and its numY is not 1.
+/// True if the row is a core row whose numY is not 1.
 fn is_vertical(row: &Row, core: &Site) -> bool
     ensures { IsTrue result ↔ IsVertical core.now [] row.now }
 {
     is_core_row(row, core) && row.sites_y != 1
 }
 
-/// The first row of core sites whose numY is not 1.
+/// Returns the number of the first core row whose numY is not 1, or `None`.
 pub(crate) fn first_vertical(rows: &[Row], core: &Site) -> Option<usize>
     ensures { FirstIs (IsVertical core.now) rows.now result }
 {
@@ -102,7 +103,7 @@ pub(crate) fn first_vertical(rows: &[Row], core: &Site) -> Option<usize>
     None
 }
 
-/// Whether the row has several sites, which are core sites, and its step is not their width.
+/// True if the row is a core row of several sites whose step is not the width of its site.
 fn has_bad_step(row: &Row, core: &Site, pitch: &Pitch) -> bool
     ensures { IsTrue result ↔ HasBadStep core.now pitch.now.size [] row.now }
 {
@@ -112,7 +113,8 @@ fn has_bad_step(row: &Row, core: &Site, pitch: &Pitch) -> bool
     }
 }
 
-/// The first row of several core sites whose step is not the site's width.
+/// Returns the number of the first core row of several sites whose step is not the site's width, or
+/// `None`.
 pub(crate) fn first_bad_step(rows: &[Row], core: &Site, pitch: &Pitch) -> Option<usize>
     ensures { FirstIs (HasBadStep core.now pitch.now.size) rows.now result }
 {
@@ -124,14 +126,14 @@ pub(crate) fn first_bad_step(rows: &[Row], core: &Site, pitch: &Pitch) -> Option
     None
 }
 
-/// Whether the row is one of core sites and neither N, S, FN nor FS.
+/// True if the row is a core row that is neither N, S, FN nor FS.
 fn is_turned(row: &Row, core: &Site) -> bool
     ensures { IsTrue result ↔ IsSideways core.now [] row.now }
 {
     is_core_row(row, core) && row_rail(row.orient).is_none()
 }
 
-/// The first row of core sites that is neither N, S, FN nor FS.
+/// Returns the number of the first core row that is neither N, S, FN nor FS, or `None`.
 pub(crate) fn first_turned(rows: &[Row], core: &Site) -> Option<usize>
     ensures { FirstIs (IsSideways core.now) rows.now result }
 {
@@ -143,7 +145,7 @@ pub(crate) fn first_turned(rows: &[Row], core: &Site) -> Option<usize>
     None
 }
 
-/// The first row of core sites beyond the limit.
+/// Returns the number of the first core row beyond the limit, or `None`.
 pub(crate) fn first_row_too_many(rows: &[Row], core: &Site, limit: usize) -> Option<usize>
     ensures { FirstIs (IsRowTooMany core.now limit) rows.now result }
 {
@@ -159,14 +161,14 @@ pub(crate) fn first_row_too_many(rows: &[Row], core: &Site, limit: usize) -> Opt
     None
 }
 
-/// The width of all sites of a row, which may exceed 64 bits.
+/// Returns the width of all sites of a row in database units, which may exceed 64 bits.
 fn full_width(row: &Row, pitch: &Pitch) -> i128
     ensures { result ≡ pos row.now.sites_x *ℤ pitch.now.size.x }
 {
     i128::from(row.sites_x) * i128::from(pitch.size.x)
 }
 
-/// The x at which the row ends, which may exceed 64 bits.
+/// Returns the x at which the row ends, which may exceed 64 bits.
 fn right_edge(row: &Row, pitch: &Pitch) -> i128
     requires row { IsRow row.now }
     ensures { result ≡ (row_area pitch.now.size (frame_row row.now)).x2 }
@@ -174,7 +176,7 @@ fn right_edge(row: &Row, pitch: &Pitch) -> i128
     i128::from(row.x) + full_width(row, pitch)
 }
 
-/// Whether the row's upper edge is at or below the other's lower one.
+/// True if the row's upper edge is at or below the other's lower edge.
 fn is_below(row: &Row, other: &Row, pitch: &Pitch) -> bool
     requires row { IsRow row.now }
     ensures { IsTrue result ↔ ((row.now.y +ℤ pitch.now.size.y) ≤ℤ other.now.y) }
@@ -182,7 +184,7 @@ fn is_below(row: &Row, other: &Row, pitch: &Pitch) -> bool
     row.y + pitch.size.y <= other.y
 }
 
-/// Whether the row ends at or before the x at which the other begins.
+/// True if the row ends at the x at which the other begins, or left of it.
 fn ends_before(row: &Row, other: &Row, pitch: &Pitch) -> bool
     requires row { IsRow row.now }
     ensures { IsTrue result ↔ ((row_area pitch.now.size (frame_row row.now)).x2 ≤ℤ other.now.x) }
@@ -190,7 +192,7 @@ fn ends_before(row: &Row, other: &Row, pitch: &Pitch) -> bool
     right_edge(row, pitch) <= i128::from(other.x)
 }
 
-/// Whether the two rows share a point.
+/// True if the two rows share a point.
 fn do_rows_meet(first: &Row, second: &Row, pitch: &Pitch) -> bool
     requires first { IsRow first.now }
     requires second { IsRow second.now }
@@ -208,7 +210,7 @@ fn do_rows_meet(first: &Row, second: &Row, pitch: &Pitch) -> bool
     !ends_before(first, second, pitch)
 }
 
-/// Whether a row of core sites in the list shares a point with this one.
+/// True if a core row of the list shares a point with this row.
 fn meets_one_of(row: &Row, earlier: &[Row], core: &Site, pitch: &Pitch) -> bool
     requires row { IsRow row.now }
     requires each { All IsRow earlier.now }
@@ -223,7 +225,8 @@ fn meets_one_of(row: &Row, earlier: &[Row], core: &Site, pitch: &Pitch) -> bool
     false
 }
 
-/// The first row of core sites that shares a point with an earlier one, found by comparing all pairs.
+/// Returns the number of the first core row that shares a point with an earlier one, or `None`.
+/// Compares all pairs.
 fn row_overlap_by_pairs(rows: &[Row], core: &Site, pitch: &Pitch) -> Option<usize>
     requires each { All IsRow rows.now }
     ensures { FirstIs (OverlapsEarlierRow core.now pitch.now.size) rows.now result }
@@ -236,7 +239,7 @@ fn row_overlap_by_pairs(rows: &[Row], core: &Site, pitch: &Pitch) -> Option<usiz
     None
 }
 
-/// The row as a piece of the sweep.
+/// Returns the row as a piece of the sweep.
 fn row_piece(number: usize, row: &Row, pitch: &Pitch) -> SweepRect
     requires row { IsRow row.now }
     ensures { result ≡ piece_of number (row_area pitch.now.size (frame_row row.now)) }
@@ -250,7 +253,7 @@ fn row_piece(number: usize, row: &Row, pitch: &Pitch) -> SweepRect
     }
 }
 
-/// Appends the row as a piece, if it is one of core sites.
+/// Appends the row as a piece, if it is a core row.
 fn push_row(
     pieces: &mut Vec<SweepRect>,
     number: usize,
@@ -267,7 +270,7 @@ fn push_row(
     Ok(())
 }
 
-/// The rows of core sites as pieces of the sweep.
+/// Returns the core rows as pieces of the sweep. `Err` if an allocation fails.
 fn row_pieces(
     alloc: Global,
     rows: &[Row],
@@ -284,8 +287,9 @@ fn row_pieces(
     Ok(pieces)
 }
 
-/// The first row of core sites that shares a point with an earlier one. Takes the time of a sort if there is none and
-/// few rows overlap in y.
+/// Returns the number of the first core row that shares a point with an earlier one, or `None`.
+/// Takes the time of a sort if there is no such row and few rows overlap in y. `Err` if an
+/// allocation fails.
 pub(crate) fn first_row_overlap(
     alloc: Global,
     rows: &[Row],
@@ -302,7 +306,7 @@ pub(crate) fn first_row_overlap(
     Ok(row_overlap_by_pairs(rows, core, pitch))
 }
 
-/// Whether the row is one of core sites and ends past the largest coordinate.
+/// True if the row is a core row that ends past the largest coordinate.
 fn ends_too_far(row: &Row, core: &Site, pitch: &Pitch) -> bool
     requires row { IsRow row.now }
     ensures { IsTrue result ↔ EndsTooFar core.now pitch.now.size [] row.now }
@@ -310,7 +314,7 @@ fn ends_too_far(row: &Row, core: &Site, pitch: &Pitch) -> bool
     is_core_row(row, core) && 2_147_483_647 < right_edge(row, pitch)
 }
 
-/// The first row of core sites that ends past the largest coordinate.
+/// Returns the number of the first core row that ends past the largest coordinate, or `None`.
 pub(crate) fn first_too_far(rows: &[Row], core: &Site, pitch: &Pitch) -> Option<usize>
     requires each { All IsRow rows.now }
     ensures { FirstIs (EndsTooFar core.now pitch.now.size) rows.now result }

@@ -1,4 +1,5 @@
-//! Pieces of rows or fences, and an upward sweep that finds whether pieces of two entries share a point.
+//! Pieces of rows or fences, and an upward sweep that finds whether pieces of two entries share a
+//! point.
 
 ghost use Rattle.std.specs.Prelude.{◌≡◌, ◌↔◌, ◌+◌, ◌<◌, ◌≤ℤ◌, All, AllPairs, IsTrue, IsPermutation, length, drop};
 ghost use Rattle.lf_units.specs.Area.{SharesPoint};
@@ -14,21 +15,21 @@ pub struct SweepRect {
     pub top: i64,
 }
 
-/// Whether the first piece ends at or below the lower edge of the second.
+/// True if the first piece ends at or below the lower edge of the second.
 fn is_below(first: &SweepRect, second: &SweepRect) -> bool
     ensures { IsTrue result ↔ (first.now.top ≤ℤ second.now.bottom) }
 {
     first.top <= second.bottom
 }
 
-/// Whether the first piece ends at the left of the second, or below it.
+/// True if the first piece ends left of the second, or below it.
 fn ends_before(first: &SweepRect, second: &SweepRect) -> bool
     ensures { IsTrue result ↔ EndsBefore first.now second.now }
 {
     first.right <= i128::from(second.left) || is_below(first, second)
 }
 
-/// Whether a point lies in both pieces.
+/// True if a point lies in both pieces.
 fn do_pieces_meet(first: &SweepRect, second: &SweepRect) -> bool
     ensures { IsTrue result ↔ SharesPoint (piece_area first.now) (piece_area second.now) }
 {
@@ -44,7 +45,7 @@ fn do_pieces_meet(first: &SweepRect, second: &SweepRect) -> bool
     !ends_before(second, first)
 }
 
-/// Whether the pieces are of different entries and share a point.
+/// True if the pieces are of different entries and share a point.
 fn do_clash(first: &SweepRect, second: &SweepRect) -> bool
     ensures { IsTrue result ↔ Clash first.now second.now }
 {
@@ -54,8 +55,8 @@ fn do_clash(first: &SweepRect, second: &SweepRect) -> bool
     do_pieces_meet(first, second)
 }
 
-/// Whether the piece clashes with none of those after it, which begin no lower. Those that begin above its upper edge
-/// are not looked at.
+/// True if the piece clashes with no piece after it. Those pieces begin no lower. Pieces that begin
+/// above its upper edge are not tested.
 fn clashes_with_none(piece: &SweepRect, behind: &[SweepRect]) -> bool
     requires { Rise behind.now }
     ensures { IsTrue result ↔ ClashesWithNone piece.now behind.now }
@@ -71,7 +72,7 @@ fn clashes_with_none(piece: &SweepRect, behind: &[SweepRect]) -> bool
     true
 }
 
-/// The pieces after this one.
+/// Returns the pieces after this one.
 fn behind(pieces: &[SweepRect], number: usize) -> &[SweepRect]
     requires { number < length pieces.now }
     ensures { result.now ≡ drop (number + 1) pieces.now }
@@ -79,7 +80,7 @@ fn behind(pieces: &[SweepRect], number: usize) -> &[SweepRect]
     &pieces[number + 1..]
 }
 
-/// Whether no two pieces clash, if none begins below an earlier one.
+/// True if no two pieces clash. No piece may begin below an earlier one.
 fn none_clash_upwards(pieces: &[SweepRect]) -> bool
     requires { Rise pieces.now }
     ensures { IsTrue result ↔ NoneClash pieces.now }
@@ -100,8 +101,8 @@ fn sort_upwards(pieces: &mut [SweepRect])
     pieces.sort_unstable_by_key(|piece| piece.bottom);
 }
 
-/// Whether no two pieces of different entries share a point. Takes the time of a sort, and of a test for each two
-/// pieces that overlap in y.
+/// True if no two pieces of different entries share a point. Takes the time of a sort, and of a
+/// test for each two pieces that overlap in y.
 pub(crate) fn none_clash(pieces: &mut [SweepRect]) -> bool
     ensures { IsTrue result ↔ NoneClash pieces.old }
 {

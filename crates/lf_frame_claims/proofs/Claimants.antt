@@ -1,4 +1,5 @@
--- The fences that claim a name by their groups, and by the patterns that are bound to their numbers.
+-- The fences that claim a name, by their groups and by the patterns that are bound to their
+-- numbers.
 use Rattle.std.proofs.Common.{◌≡◌, ℕ, ◌+◌, ◌<◌, inl, inr, true, List, [], ◌∷◌, ◌++◌, length, take, get_or, Option, Some, None, refl, sym, ◌∙◌, ap}
 use Rattle.std.specs.Prelude.{Any}
 use Rattle.std.specs.Option.{option_and_then}
@@ -25,13 +26,13 @@ use Rattle.lf_frame_claims.proofs.Tellings.{one_bound_more}
 use Rattle.lf_frame_claims.proofs.MapLemmas.{one_at_place}
 use Rattle.lf_units.proofs.Any.{any_first, any_later, any_cases, none_of_nothing, any_parts, any_left, any_right, any_mapped, any_map}
 
--- a fence of this number that claims the name
+-- A fence with this number that claims the name.
 pub record Claimant (regions : List Region) (groups : List Group) (name : List ℕ) (n : ℕ) : Type 0 where
   pub fence : List ℕ
   pub place : position_of (fence_names regions) fence ≡ Some n
   pub claimed : IsClaimed regions groups name fence
 
--- the same of one group
+-- The same for one group.
 record GroupClaimant (regions : List Region) (g : Group) (name : List ℕ) (n : ℕ) : Type 0 where
   fence : List ℕ
   place : position_of (fence_names regions) fence ≡ Some n
@@ -93,7 +94,7 @@ claims_of regions (g ∷ groups) name fence n place h = elim (any_cases (λ q. C
   | inr rest ↦ any_right (λ b. (b.fence ≡ n) × Matches b.pattern name) (group_bounds regions g) (all_bounds regions groups) (claims_of regions groups name fence n place rest)
 ]
 
--- the number of a fence that claims the name
+-- The number of a fence that claims the name.
 record Numbered (regions : List Region) (groups : List Group) (name fence : List ℕ) : Type 0 where
   n : ℕ
   place : position_of (fence_names regions) fence ≡ Some n
@@ -106,7 +107,7 @@ numbered regions groups name fence h = by (position_of (fence_names regions) fen
     by None e = absurd (stands_nowhere (fence_names regions) fence e (fence_known regions fence h.4.fence_there))
     by (Some n) e = record { n = n; place = e; claims = claims_of regions groups name fence n e h }
 
--- what a claim says of the numbers, it says of the fences
+-- A claim that counts the numbers of fences counts the fences.
 pub claim_says : (regions : List Region) (groups : List Group) (name : List ℕ) (claim : Claim) → CountsFences (ClaimsBy (all_bounds regions groups) name) claim →
     IsClaimOf regions groups name claim
 claim_says regions groups name Unclaimed none = λ fence claimed. let q : Numbered regions groups name fence = numbered regions groups name fence claimed in none q.n q.claims
@@ -134,7 +135,7 @@ claim_says regions groups name ByTwo (a, b, differ, in_a, in_b) =
     one_number : (m n : ℕ) → Some m ≡ Some n → m ≡ n
     one_number m n e = cc
 
--- a name that no fence claims, or one alone, has no two fences
+-- A name that no fence claims, or only one, does not have two fences.
 pub unclaimed_once : (regions : List Region) (groups : List Group) (name : List ℕ) → IsUnclaimed regions groups name → HasTwoFences regions groups name → ⊥
 unclaimed_once regions groups name none h = none h.first h.by_first
 
@@ -142,7 +143,7 @@ pub claimed_once : (regions : List Region) (groups : List Group) (name : List �
     HasTwoFences regions groups name → ⊥
 claimed_once regions groups name team one h = h.differ (one.only h.first h.by_first ∙ sym (one.only h.second h.by_second))
 
--- the patterns of one group more
+-- The patterns of one more group.
 pub bounds_more : (regions : List Region) (groups : List Group) (n : ℕ) (g : Group) → n < length groups → g ≡ get_or groups n g →
     all_bounds regions (take (n + 1) groups) ≡ all_bounds regions (take n groups) ++ group_bounds regions g
 bounds_more regions groups n g within is =

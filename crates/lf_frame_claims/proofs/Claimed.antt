@@ -24,7 +24,8 @@ use Rattle.lf_frame_claims.proofs.Numbered.{numbered_has, numbered_is}
 use Rattle.lf_frame_claims.proofs.Tellings.{tells_joined, tells_same}
 use Rattle.lf_frame_claims.proofs.Claimants.{claim_says}
 
--- a match more: the claim of its number joins its fence, and the others stay
+-- One more match: its fence is added to the claim at its number, and the other claims are
+-- unchanged.
 matched_more : (matches : List Match) (m : Match) (claims : List Claim) (number : ℕ) → number < length claims →
     CountsFences (IsMatched matches number) (claim_at claims number) →
     CountsFences (IsMatched (matches ++ m ∷ []) number) (claim_at (set claims m.own (joined (claim_at claims m.own) m.asked)) number)
@@ -53,7 +54,7 @@ matched_more matches m claims number within told = by (eqb m.own number) refl
         (λ fence h. elim (Contains-push_cases matches m (record { own = number; asked = fence }) h) [ inl early ↦ early | inr here ↦ absurd (other (sym (ap (λ (q : Match). q.own) here))) ]) told
         )
 
--- so many names have the claims of these matches
+-- The first `count` names have the claims of these matches.
 abbrev pub MatchesTold : List Match → ℕ → List Claim → Type 0
 MatchesTold matches count claims = (number : ℕ) → number < count → CountsFences (IsMatched matches number) (claim_at claims number)
 
@@ -67,7 +68,7 @@ matches_told_more matches n m count claims within is long before number below =
     let more : take (n + 1) matches ≡ take n matches ++ m ∷ [] = grind (arith, common_steps) in
     rw more (matched_more (take n matches) m claims number (omega arith) (before number below))
 
--- a name that is matched is labelled so
+-- The label of a name that is matched.
 pub matches_label : (components : List Component) (literals : List Labelled) (matches : List Match) (k : ℕ) (d : Component) (fence : ℕ) →
     k < length components → AreMatches (numbered_names components) literals matches →
     IsMatched matches k fence → Labels literals (get_or components k d).name fence
@@ -87,11 +88,11 @@ told_by_matches components literals matches claims are told k d within =
     tells_same (IsMatched matches k) (Labels literals (get_or components k d).name) (claim_at claims k) (λ fence. matches_label components literals matches k d fence within are) (λ fence. label_matches components literals matches k d fence within are)
     (told k within)
 
--- the components below n have their claims
+-- The components below n have their claims.
 abbrev pub ToldBelow : (List ℕ → ℕ → Type 0) → List Component → List Claim → ℕ → Type 0
 ToldBelow claims components told n = (k : ℕ) (d : Component) → k < n → CountsFences (claims (get_or components k d).name) (claim_at told k)
 
--- the component at n has a new claim, and the others keep theirs
+-- The component at n has a new claim, and the others keep theirs.
 pub told_put : (claims : List ℕ → ℕ → Type 0) (components : List Component) (told : List Claim) (n : ℕ) (c : Component) (claim : Claim) → n < length told →
     n < length components → c ≡ get_or components n c → CountsFences (claims c.name) claim →
     ToldBelow claims components told n → ToldBelow claims components (set told n claim) (n + 1)
@@ -107,7 +108,7 @@ told_put claims components told n c claim there within is one before k d below =
         let here : claim_at (set told n claim) k ≡ claim = ap (claim_at (set told n claim)) last ∙ ap (λ o. unwrap_or o Unclaimed) (get_set told n claim there) in
         rw (here, item) one
 
--- from n on, each component has the claim that it had
+-- From n on, each component has its old claim.
 abbrev pub SameFrom : ℕ → List Claim → List Claim → Type 0
 SameFrom n old new = (k : ℕ) → n ≤ k → claim_at new k ≡ claim_at old k
 
@@ -116,7 +117,7 @@ same_from_put old new n claim same k from =
     let other : k ≢ n = λ e. omega (arith, from, e) in
     ap (λ o. unwrap_or o Unclaimed) (get_set_other new n k claim other) ∙ same k (omega arith)
 
--- with no pattern that is tried, nothing is added
+-- Without patterns to try, nothing is added.
 pub told_without_starred : (told : List ℕ → ℕ → Type 0) (starred : List FencePattern) (components : List Component) (claims : List Claim) → starred ≡ [] →
     AreClaimsByName told components claims → AreClaimsByName (λ name fence. told name fence ⊎ ClaimsBy starred name fence) components claims
 told_without_starred told starred components claims empty h k d within =
@@ -125,7 +126,7 @@ told_without_starred told starred components claims empty h k d within =
     tells_same (told name) (λ fence. told name fence ⊎ ClaimsBy starred name fence) (claim_at claims k) (λ fence s. inl s)
     (λ fence u. elim u [ inl s ↦ s | inr c ↦ absurd (omega (arith, c.2)) ]) (h k d within)
 
--- what literal and tried patterns say together, all patterns of the index do
+-- All patterns of the index claim what literal and starred patterns claim together.
 pub told_by_index : (index : PatternIndex) (bounds : List FencePattern) (components : List Component) (claims : List Claim) (h : IndexesPatterns index bounds) →
     AreClaimsByName (λ name fence. Labels index.literals name fence ⊎ ClaimsBy h.starred name fence) components claims →
     AreClaimsByName (ClaimsBy bounds) components claims
@@ -134,24 +135,24 @@ told_by_index index bounds components claims h told k d within =
     tells_same (λ fence. Labels index.literals name fence ⊎ ClaimsBy h.starred name fence) (ClaimsBy bounds name) (claim_at claims k) (h.back name)
     (h.forth name) (told k d within)
 
--- the claims of all groups
+-- The claims of all groups.
 pub claims_made : (regions : List Region) (groups : List Group) (components : List Component) (claims : List Claim) →
     AreClaimsByName (ClaimsBy (all_bounds regions groups)) components claims → AreClaimsOf regions groups components claims
 claims_made regions groups components claims told k d within = claim_says regions groups (get_or components k d).name (claim_at claims k) (told k d within)
 
--- the claim of a component that stands at a number
+-- The claim on a component at a number.
 pub claim_there : (regions : List Region) (groups : List Group) (components : List Component) (claims : List Claim) (k : ℕ) (c : Component) →
     k < length components → c ≡ get_or components k c → AreClaimsOf regions groups components claims → IsClaimOf regions groups c.name (claim_at claims k)
 claim_there regions groups components claims k c within is all = subst (λ (e : Component). IsClaimOf regions groups e.name (claim_at claims k)) (sym is) (all k c within)
 
--- the claim of the component of a number
+-- The claim on the component with a number.
 pub claim_known : (regions : List Region) (groups : List Group) (components : List Component) (claims : List Claim) (k : ℕ) (c : Component) →
     slice_get components k ≡ Some c →
     AreClaimsOf regions groups components claims → IsClaimOf regions groups c.name (claim_at claims k)
 claim_known regions groups components claims k c at =
     claim_there regions groups components claims k c (slice_get_within components k c at) (sym (get_or_from_slice_get components k c c at))
 
--- a claim that is read
+-- A claim that is read.
 pub claim_read : (all lent : List Claim) (number : ℕ) (claim : Claim) → lent ≡ all → claim ≡ claim_at lent number → claim_at all number ≡ claim
 claim_read all lent number claim same is = sym (is ∙ ap (λ claims. claim_at claims number) same)
 
@@ -159,7 +160,7 @@ pub claim_is : (regions : List Region) (groups : List Group) (name : List ℕ) (
     IsClaimOf regions groups name claim
 claim_is regions groups name old claim same is = subst (λ c. IsClaimOf regions groups name c) same is
 
--- of a list of no claims, each claims nothing
+-- In a list without claims, no name is claimed.
 pub all_unclaimed : (count number : ℕ) → claim_at (replicate count Unclaimed) number ≡ Unclaimed
 all_unclaimed zero number = refl
 all_unclaimed (suc count) zero = refl

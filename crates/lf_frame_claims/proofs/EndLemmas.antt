@@ -1,4 +1,4 @@
--- What names have at their ends, where a pattern stands for them.
+-- The bytes at the ends of names that a pattern matches.
 use Rattle.std.proofs.Common.{◌≡◌, ℕ, ◌+◌, ◌-◌, ◌≤◌, List, length, take, drop, ap, ◌∙◌, arith, length-append}
 use Rattle.std.proofs.Math.Seq.{take-append_seam}
 use Rattle.std.proofs.lemmas.List.{drop_at}
@@ -8,7 +8,7 @@ use Rattle.lf_frame_claims.specs.declared.name_end.End.{End}
 use Rattle.lf_frame_claims.specs.declared.name_end.End.TheVariants.{Front, Back}
 use Rattle.lf_frame_claims.specs.Ends.{key_of, part_of}
 
--- as many bytes as the pattern's key has are the key
+-- The bytes at the end of a matching name, as many as the key has, are the key.
 pub part_is_key : (end : End) (pattern name : List ℕ) → Matches pattern name →
     (length (key_of end pattern) ≤ length name) × (part_of end (length (key_of end pattern)) name ≡ key_of end pattern)
 part_is_key Front pattern name h =

@@ -5,7 +5,7 @@ use Rattle.std.specs.Prelude.{MatchOption, IsTrue}
 use Rattle.std.proofs.lemmas.Bool.{false≢true}
 use Rattle.lf_frame_claims.specs.Entries.{IsFirst, FirstIs, first_of}
 
--- no entry below n breaks the rule
+-- No entry below n breaks the rule.
 abbrev pub NoneBelow : {A : Type 0} → (List A → A → Type 0) → List A → ℕ → Type 0
 NoneBelow {A} breaks entries n = (k : ℕ) (d : A) → k < n → breaks (take k entries) (get_or entries k d) → ⊥
 
@@ -28,7 +28,7 @@ none_more breaks entries n x within is sound before k d below broken =
           sound (rw (last, ← same) at broken)
     ]
 
--- the first of the entries below n that breaks the rule, or none
+-- The first of the entries below n that breaks the rule, if any.
 abbrev pub FoundBelow : {A : Type 0} → (List A → A → Type 0) → List A → ℕ → Option ℕ → Type 0
 FoundBelow breaks entries n found = MatchOption found (NoneBelow breaks entries n) (IsFirst breaks entries)
 

@@ -1,4 +1,4 @@
--- An index of patterns, when patterns are added to it.
+-- Adding patterns to an index.
 use Rattle.std.proofs.Common.{◌≡◌, ℕ, inl, inr, ◌↔◌, List, [], ◌∷◌, ◌++◌, refl, sym, subst, ap, append_assoc, arith}
 use Rattle.std.proofs.lemmas.List.{append-nil}
 use Rattle.std.proofs.lemmas.List.Elements.{Contains-append_left, Contains-push, Contains-push_cases}
@@ -23,7 +23,7 @@ holds_nothing index empty none = record {
   back = λ name n h. elim h [ inl early ↦ absurd (none_labelled name n (subst (λ literals. Labels literals name n) empty early)) | inr late ↦ late ];
 }
 
--- a pattern as the name that it stands for
+-- A pattern as the name that it matches.
 abbrev pub label_of : FencePattern → Labelled
 label_of b = record { label = b.fence; name = b.pattern }
 
@@ -37,7 +37,7 @@ claimed_last bounds b name n own is =
     let same : b.pattern ≡ name = ap (λ (l : Labelled). l.name) is in
     rw (← fence, ← same) (claims_new bounds b b.pattern own)
 
--- a pattern that stands for its own bytes alone
+-- A pattern that matches only its own bytes.
 pub extends_literal : (old new : PatternIndex) (b : FencePattern) → ((name : List ℕ) → (Matches b.pattern name ↔ (name ≡ b.pattern))) →
     IsPermutation (old.literals ++ label_of b ∷ []) new.literals → new.starred ≡ old.starred → ExtendsIndex old new (b ∷ [])
 extends_literal old new b own kept starred bounds h = record {
@@ -66,7 +66,7 @@ extends_literal old new b own kept starred bounds h = record {
     was name n there = Contains-permutation new.literals (old.literals ++ label_of b ∷ []) (record { label = n; name = name })
         (IsPermutation-sym (old.literals ++ label_of b ∷ []) new.literals kept) there
 
--- a pattern that is tried
+-- A pattern with a star.
 pub extends_starred : (old new : PatternIndex) (b : FencePattern) → new.literals ≡ old.literals →
     ((starred : List FencePattern) → HasStarred old.starred starred → HasStarred new.starred (starred ++ b ∷ [])) → ExtendsIndex old new (b ∷ [])
 extends_starred old new b literals tried bounds h = record {

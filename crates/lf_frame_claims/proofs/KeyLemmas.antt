@@ -1,4 +1,4 @@
--- Patterns with a star, kept by their keys at one end, when one is added, and what they claim.
+-- Patterns with a star, stored by their keys at one end: adding one, and what they claim.
 use Rattle.std.proofs.Common.{◌≡◌, ℕ, ◌+◌, ◌<◌, ◌≤◌, ◌⊎◌, inl, inr, ◌↔◌, zero, suc, Bool, true, false, List, [], ◌∷◌, ◌++◌, length, take, get_or, set, Option, None, Some, slice_get, refl, sym, subst, ap, ◌∙◌, arith}
 use Rattle.std.specs.Prelude.{Any, Contains, Vec}
 use Rattle.std.specs.Global.{Global}
@@ -21,20 +21,20 @@ use Rattle.lf_frame_claims.proofs.MapLemmas.{new_there, new_others, old_there, o
 use Rattle.lf_frame_claims.proofs.Tellings.{one_bound_more, claims_parts, claims_old, claims_new, tells_same, tells_merged}
 use Rattle.lf_units.proofs.Any.{any_first, none_of_nothing, any_parts, any_left, any_right, any_one, has_item, any_more}
 
--- parts become some bytes
+-- Parts become some bytes.
 becomes_some : (parts : List Part) → (name : List ℕ) × Becomes parts name
 becomes_some [] = ([], refl)
 becomes_some (byte c ∷ parts) = let rest = becomes_some parts in (c ∷ rest.0, (rest.0, refl, rest.1))
 becomes_some (star ∷ parts) = let rest = becomes_some parts in (rest.0, ([], rest.0, refl, rest.1))
 
--- patterns that claim nothing are none
+-- A list of patterns that claims nothing is empty.
 pub no_claim_no_pattern : (bounds : List FencePattern) → ((name : List ℕ) (fence : ℕ) → ClaimsBy bounds name fence → ⊥) → bounds ≡ []
 no_claim_no_pattern [] none = refl
 no_claim_no_pattern (b ∷ bounds) none =
     let name = becomes_some (parts_of b.pattern) in
     absurd (none name.0 b.fence (any_first (λ c. (c.fence ≡ b.fence) × Matches c.pattern name.0) b bounds (refl, name.1)))
 
--- with no length there is no pattern, and with no pattern no length
+-- There are no lengths if and only if there are no patterns.
 pub no_length_no_pattern : (kept : PatternsAtEnd) (bounds : List FencePattern) → length kept.lengths.items ≡ 0 → HasAtEnd kept bounds → bounds ≡ []
 no_length_no_pattern kept bounds none h = no_claim_no_pattern bounds (λ name fence c. let found = h.found name fence c in omega (arith, found.2))
 
@@ -45,7 +45,7 @@ no_pattern_no_length kept bounds none h = by kept.lengths.items h.needed
     by [] needed = refl
     by (n ∷ lengths) needed = absurd (none_of_nothing (λ b. length (key_of kept.end b.pattern) ≡ n) (rw none at (needed n (0, omega arith, refl))))
 
--- a pattern after those of a key that is new
+-- Adding a pattern with a new key.
 pub keeps_new : (old new : PatternsAtEnd) (key : List ℕ) (b : FencePattern) (own : Vec FencePattern Global) → length old.keys ≡ length old.bounds.items →
     position_of old.keys key ≡ None → own.items ≡ b ∷ [] →
     new.keys ≡ old.keys ++ key ∷ [] → new.bounds.items ≡ old.bounds.items ++ own ∷ [] → new.lengths ≡ old.lengths → new.end ≡ old.end → AddsUnderKey old new key b
@@ -63,7 +63,7 @@ keeps_new old new key b own whole absent alone keys bounds lengths end = record 
     by_place : Option ℕ → Option (Vec FencePattern Global)
     by_place at = option_and_then (slice_get old.bounds.items) at
 
--- a pattern after those of a key that was there
+-- Adding a pattern with a known key.
 pub keeps_old : (old new : PatternsAtEnd) (key : List ℕ) (b : FencePattern) (place : ℕ) (before after : Vec FencePattern Global) →
     length old.keys ≡ length old.bounds.items → position_of old.keys key ≡ Some place → slice_get old.bounds.items place ≡ Some before →
     after.items ≡ before.items ++ b ∷ [] → new.keys ≡ old.keys → new.bounds.items ≡ set old.bounds.items place after → new.lengths ≡ old.lengths →
@@ -79,7 +79,7 @@ keeps_old old new key b place before after whole known there more keys bounds le
   end = end;
 }
 
--- each key that is there has patterns of its own
+-- Each known key has patterns of its own.
 pub bounds_stand : (kept : PatternsAtEnd) (key : List ℕ) (place : ℕ) → length kept.keys ≡ length kept.bounds.items →
     position_of kept.keys key ≡ Some place → (before : Vec FencePattern Global) × (slice_get kept.bounds.items place ≡ Some before)
 bounds_stand kept key place whole known =
@@ -91,7 +91,7 @@ bounds_stand kept key place whole known =
     at (x ∷ all) zero within = (x, refl)
     at (x ∷ all) (suc k) within = at all k (omega arith)
 
--- what is kept once a pattern is added
+-- The stored patterns after one is added.
 module _ (old new : PatternsAtEnd) (key : List ℕ) (b : FencePattern) (keeps : AddsUnderKey old new key b) (own : key ≡ key_of old.end b.pattern) where
   still_claims : (q name : List ℕ) (fence : ℕ) → ClaimsBy (kept_under old q) name fence → ClaimsBy (kept_under new q) name fence
   still_claims q name fence h = by (bytes_eq q key) refl
@@ -116,7 +116,7 @@ module _ (old new : PatternsAtEnd) (key : List ℕ) (b : FencePattern) (keeps : 
       by false e =
           inl (rw (keeps.others q (λ same. false≢true (sym e ∙ (bytes_eq-Decides q key).1 same))) at h)
 
-  -- the pattern claims a name by the name's bytes at this end
+  -- The pattern claims a name by the name's bytes at this end.
   claims_by_own : (name : List ℕ) → Matches b.pattern name → ClaimsUnder new name (length key) b.fence
   claims_by_own name h =
       let is : key_of new.end b.pattern ≡ key = ap (λ e. key_of e b.pattern) keeps.end ∙ sym own in
@@ -153,7 +153,7 @@ module _ (old new : PatternsAtEnd) (key : List ℕ) (b : FencePattern) (keeps : 
       still_under name count fence c =
           subst (λ e. ClaimsBy (kept_under new (part_of e count name)) name fence) (sym keeps.end) (still_claims (part_of old.end count name) name fence c)
 
--- the claim with what the patterns of one length more claim
+-- The claim with the claims of the patterns of one more length.
 pub tells_length_more : (kept : PatternsAtEnd) (name : List ℕ) (lengths : List ℕ) (count : ℕ) (claim more : Claim) →
     CountsFences (λ fence. Any (λ n. ClaimsUnder kept name n fence) lengths) claim → CountsFences (ClaimsUnder kept name count) more →
     CountsFences (λ fence. Any (λ n. ClaimsUnder kept name n fence) (lengths ++ count ∷ [])) (merged claim more)
@@ -170,7 +170,7 @@ tells_length_more kept name lengths count claim more h g =
     ])
     (tells_merged (λ fence. Any (λ n. ClaimsUnder kept name n fence) lengths) (ClaimsUnder kept name count) claim more h g)
 
--- what the patterns of all lengths claim, all patterns do
+-- All patterns claim what the patterns of all lengths claim.
 pub tells_all : (kept : PatternsAtEnd) (name : List ℕ) (claim : Claim) →
     CountsFences (λ fence. Any (λ n. ClaimsUnder kept name n fence) kept.lengths.items) claim → (bounds : List FencePattern) → HasAtEnd kept bounds →
     CountsFences (ClaimsBy bounds name) claim
@@ -188,7 +188,7 @@ tells_next_length kept name read index claim more same within h g =
     let one : take index lengths ++ count ∷ [] ≡ take (index + 1) lengths = one_bound_more lengths index count inside (get_or_default lengths index 0 count inside) in
     rw (← one) (tells_length_more kept name (take index lengths) count claim more h (rw same at g))
 
--- the patterns of a key that the name has at this end
+-- The patterns of a key that the name has at this end.
 pub tells_under : (kept : PatternsAtEnd) (name part : List ℕ) (count : ℕ) (claim : Claim) → count ≤ length name → part ≡ part_of kept.end count name →
     CountsFences (ClaimsBy (kept_under kept part) name) claim → CountsFences (ClaimsUnder kept name count) claim
 tells_under kept name part count claim within is h =

@@ -1,4 +1,4 @@
--- The place of a name in a list of names, and its value in a map, when one name is added.
+-- The place of a name in a list of names, and its value in a map, after one name is added.
 use Rattle.std.proofs.Common.{◌≡◌, ◌≢◌, ℕ, zero, suc, ◌+◌, ◌<◌, ◌≤◌, Bool, true, false, cond, nat_lt, eqb, List, [], ◌∷◌, ◌++◌, length, set, Option, Some, None, slice_get, refl, sym, ◌∙◌, ap, add-zero, arith}
 use Rattle.std.specs.Prelude.{position}
 use Rattle.std.specs.List.{position_or_len}
@@ -16,7 +16,7 @@ use Rattle.lf_frame_claims.specs.declared.name_map.NameMap.{NameMap}
 use Rattle.lf_frame_claims.specs.NameMaps.{value_of, HasAllValues, SetsValue}
 use Rattle.lf_frame_claims.specs.Claims.{NumbersNames, NumbersOneMore}
 
--- a position is a place in the list, and no position is its length
+-- A position is a place in the list. Without a position the place is its length.
 data Place (p : List ℕ → Bool) (xs : List (List ℕ)) : Type 0 where
   found : position p xs ≡ Some (position_or_len p xs) → position_or_len p xs < length xs → Place p xs
   missing : position p xs ≡ None → position_or_len p xs ≡ length xs → Place p xs
@@ -37,7 +37,7 @@ position_at p xs n e within = ap (λ k. cond (nat_lt k (length xs)) (Some k) Non
 position_past : (p : List ℕ → Bool) (xs : List (List ℕ)) (n : ℕ) → position_or_len p xs ≡ n → length xs ≤ n → position p xs ≡ None
 position_past p xs n e past = ap (λ k. cond (nat_lt k (length xs)) (Some k) None) e ∙ ap (λ s. cond s (Some n) None) (le-ltb _ _ past)
 
--- where a name stands once another name stands after the list
+-- The place of a name after another name is appended.
 stays : (xs : List (List ℕ)) (y q : List ℕ) (n : ℕ) → position_of xs q ≡ Some n → position_of (xs ++ y ∷ []) q ≡ Some n
 stays xs y q n e = by (place (bytes_eq q) xs)
   where
@@ -74,7 +74,7 @@ differs a b apart = by (bytes_eq a b) refl
 stays_out : (xs : List (List ℕ)) (y q : List ℕ) → q ≢ y → position_of xs q ≡ None → position_of (xs ++ y ∷ []) q ≡ None
 stays_out xs y q apart e = position_past (bytes_eq q) (xs ++ y ∷ []) (length xs + 1) (at_end xs y q false e (differs q y apart)) (omega (arith, length_push xs y))
 
--- a list of values with one more, or with one changed
+-- A list of values with one more value, or with one changed.
 pub get_push : {V : Type 0} (vs : List V) (v : V) (n : ℕ) → n < length vs → slice_get (vs ++ v ∷ []) n ≡ slice_get vs n
 get_push [] v n within = absurd (omega arith)
 get_push (x ∷ vs) v zero within = refl
@@ -96,7 +96,7 @@ get_set_other (x ∷ vs) zero (suc m) v apart = refl
 get_set_other (x ∷ vs) (suc n) zero v apart = refl
 get_set_other (x ∷ vs) (suc n) (suc m) v apart = get_set_other vs n m v (λ e. apart (ap suc e))
 
--- the value of a name
+-- The value of a name.
 abbrev pub value_at : {V : Type 0} → List (List ℕ) → List V → List ℕ → Option V
 value_at names vs q = option_and_then (slice_get vs) (position_of names q)
 
@@ -140,14 +140,14 @@ old_others names vs y n v at_y q apart = by (position_of names q) refl
             let second : slice_get names n ≡ Some y = stands_there names y n at_y in
             cc
 
--- names at one place are one name
+-- Names at one place are equal.
 pub one_at_place : (names : List (List ℕ)) (a b : List ℕ) (n : ℕ) → position_of names a ≡ Some n → position_of names b ≡ Some n → a ≡ b
 one_at_place names a b n at_a at_b =
     let first : slice_get names n ≡ Some a = stands_there names a n at_a in
     let second : slice_get names n ≡ Some b = stands_there names b n at_b in
     cc
 
--- a name after others moves none of them
+-- A name that is appended moves no other name.
 unmoved : (names : List (List ℕ)) (y q : List ℕ) → (q ≡ y → position_of names q ≡ None → ⊥) → position_of (names ++ y ∷ []) q ≡ position_of names q
 unmoved names y q known = by (position_of names q) refl
   where
@@ -155,7 +155,7 @@ unmoved names y q known = by (position_of names q) refl
     by None e = stays_out names y q (λ same. known same e) e ∙ sym e
     by (Some n) e = stays names y q n e ∙ sym e
 
--- a map of places, when a name joins the list
+-- A map of places after a name is appended to the list.
 pub numbers_put : (old new : NameMap ℕ) (number : ℕ) (name : List ℕ) → value_of old name ≡ None → SetsValue old new name number → NumbersOneMore old new number name
 numbers_put old new number name absent puts = record { whole = puts.whole; numbers = λ names many numbered q. by names many numbered q (bytes_eq q name) refl }
   where

@@ -1,4 +1,4 @@
--- The names of components, kept in a list or one after the other.
+-- The names of components, in a table or joined.
 use Rattle.std.proofs.Common.{◌≡◌, ◌≢◌, ℕ, ◌+◌, ◌<◌, List, [], ◌∷◌, ◌++◌, length, take, get_or, AllPairs, sym, ◌∙◌, ap, arith}
 use Rattle.std.specs.Prelude.{Any, Contains}
 use Rattle.std.proofs.lemmas.Grind.{common_steps}
@@ -29,7 +29,7 @@ pub names_more : (components : List Component) (n : ℕ) (c : Component) → n <
     names_of (take n components) ++ c.name ∷ [] ≡ names_of (take (n + 1) components)
 names_more components n c within is = grind (arith, common_steps)
 
--- where no component has an earlier one's name, all names differ
+-- If no component has the name of an earlier one, all names differ.
 pub names_apart : (components : List Component) (d : Component) → NoneBreaks HasEarlierName components →
     AllPairs (λ name later. name ≢ later) (names_of components)
 names_apart components d none i j e below within same =
@@ -38,7 +38,7 @@ names_apart components d none i j e below within same =
     let there : get_or (take j components) i (get_or components i d) ≡ get_or components i d = grind (arith, common_steps, get_or_default components i (get_or components i d) d) in
     none j d behind (i, get_or components i d, early, there, sym (name_at components i d e (omega arith)) ∙ same ∙ name_at components j d e behind)
 
--- where all names differ, no component has an earlier one's
+-- If all names differ, no component has the name of an earlier one.
 pub differ_none : (components : List Component) → AllPairs (λ name later. name ≢ later) (names_of components) → NoneBreaks HasEarlierName components
 differ_none components differ k d within (i, e, inside, is, same) =
     let behind : k < length (names_of components) = omega (arith, many_names components) in

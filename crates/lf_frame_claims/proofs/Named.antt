@@ -1,4 +1,4 @@
--- Entries by their names: an entry that has a name, and the list of all names.
+-- Entries by their names: an entry with a name, and the list of all names.
 use Rattle.std.proofs.Common.{◌≡◌, ℕ, ◌+◌, ◌<◌, true, false, cond, List, [], ◌∷◌, ◌++◌, length, map, take, get_or, sym, ◌∙◌, ap, arith}
 use Rattle.std.specs.Prelude.{Any, Contains, filter}
 use Rattle.std.proofs.lemmas.List.{map-append, append-nil}
@@ -9,7 +9,7 @@ use Rattle.lf_def.specs.Kinds.{is_fence}
 use Rattle.lf_frame_claims.specs.Teams.{fence_names}
 use Rattle.lf_units.proofs.Any.{name_of_any, any_of_name, any_kept, any_of_kept}
 
--- a fence of a name, and the name among the fences' names
+-- A fence with a name, and the name among the fences' names.
 pub fence_known : (regions : List Region) (n : List ℕ) → Any (λ r. (is_fence r ≡ true) × (r.name ≡ n)) regions → Contains (fence_names regions) n
 fence_known regions n h = name_of_any (λ r. r.name) (filter is_fence regions) n (any_kept is_fence (λ r. r.name ≡ n) regions h)
 
@@ -27,7 +27,7 @@ fence_names_more regions n r within is =
     ∙ map-append (λ q. q.name) (filter is_fence (take n regions)) (filter is_fence (r ∷ []))
     )
 
--- the names of the fences among one region more
+-- The names of the fences after one more region.
 pub fence_next : (regions : List Region) (n : ℕ) (r : Region) → n < length regions → r ≡ get_or regions n r → is_fence r ≡ true →
     fence_names (take (n + 1) regions) ≡ fence_names (take n regions) ++ r.name ∷ []
 fence_next regions n r within is fence =

@@ -25,7 +25,7 @@ numbered_at components k d e within =
     let own : 0 + k ≡ k = grind arith in
     get_or-map named (enumerate_from 0 components) k (0, d) e there ∙ ap named (get_or-enumerate_from 0 components k (0, d) within) ∙ ap (λ n. record { label = n; name = (get_or components k d).name }) own
 
--- one component more
+-- One more component.
 numbered_push : (first : ℕ) (components : List Component) (c : Component) →
     numbered_from first (components ++ c ∷ []) ≡ numbered_from first components ++ record { label = first + length components; name = c.name } ∷ []
 numbered_push first [] c = ap (λ n. record { label = n; name = c.name } ∷ []) (grind arith)
@@ -40,7 +40,7 @@ numbered_more components n c within is =
     let many : 0 + length (take n components) ≡ n = grind (arith, common_steps) in
     ap (λ k. numbered_names (take n components) ++ record { label = k; name = c.name } ∷ []) (sym many) ∙ sym (ap numbered_names more ∙ numbered_push 0 (take n components) c)
 
--- a name stands in the list with its component's number alone
+-- A name is in the list only with its component's number.
 pub numbered_has : (components : List Component) (k : ℕ) (d : Component) → k < length components →
     Contains (numbered_names components) (record { label = k; name = (get_or components k d).name })
 numbered_has components k d within =
@@ -59,7 +59,7 @@ first : (components : List Component) → 0 < length components → Component
 first [] some = absurd (omega arith)
 first (c ∷ components) some = c
 
--- these names differ iff no component has an earlier one's name
+-- These names differ if and only if no component has the name of an earlier one.
 pub none_differ : (components : List Component) → NoneBreaks HasEarlierName components → Differ (numbered_names components)
 none_differ components none i j e below within same =
     let d : Component = first components (omega (arith, many_numbered components)) in

@@ -1,4 +1,4 @@
--- What a claim says of a set of fences, when the set grows.
+-- A claim that counts a set of fences, when the set grows.
 use Rattle.std.proofs.Common.{◌≡◌, ℕ, ◌+◌, ◌<◌, ◌≤◌, ◌⊎◌, inl, inr, Bool, true, false, eqb, if◌then◌else◌, List, [], ◌∷◌, ◌++◌, length, take, get_or, refl, sym, ◌∙◌, arith}
 use Rattle.std.proofs.lemmas.Bool.{eqb-true, eqb-false}
 use Rattle.std.proofs.lemmas.List.{take_all}
@@ -10,7 +10,7 @@ use Rattle.lf_frame_claims.specs.declared.star_patterns.FencePattern.{FencePatte
 use Rattle.lf_frame_claims.specs.Claims.{joined, merged, CountsFences, ClaimsBy, AddsPattern}
 use Rattle.lf_units.proofs.Any.{any_first, any_parts, any_left, any_right, any_one}
 
--- a set of fences and one fence more
+-- A set of fences and one more fence.
 pub tells_joined : (S T : ℕ → Type 0) (claim : Claim) (n : ℕ) → ((m : ℕ) → S m → T m) → T n → ((m : ℕ) → T m → S m ⊎ (m ≡ n)) → CountsFences S claim →
     CountsFences T (joined claim n)
 tells_joined S T Unclaimed n old new cases none = (new, λ m h. elim (cases m h) [ inl s ↦ absurd (none m s) | inr e ↦ e ])
@@ -28,13 +28,13 @@ tells_same S T Unclaimed forth back none = λ m t. none m (back m t)
 tells_same S T (ByOne one) forth back h = (forth one h.0, λ m t. h.1 m (back m t))
 tells_same S T ByTwo forth back (a, b, differ, in_a, in_b) = (a, b, differ, forth a in_a, forth b in_b)
 
--- two sets of fences as one
+-- The union of two sets of fences.
 pub tells_merged : (S T : ℕ → Type 0) (claim more : Claim) → CountsFences S claim → CountsFences T more → CountsFences (λ m. S m ⊎ T m) (merged claim more)
 tells_merged S T claim Unclaimed h none = tells_same S (λ m. S m ⊎ T m) claim (λ m s. inl s) (λ m u. elim u [ inl s ↦ s | inr t ↦ absurd (none m t) ]) h
 tells_merged S T claim (ByOne one) h g = tells_joined S (λ m. S m ⊎ T m) claim one (λ m s. inl s) (inr g.0) (λ m u. elim u [ inl s ↦ inl s | inr t ↦ inr (g.1 m t) ]) h
 tells_merged S T claim ByTwo h (a, b, differ, in_a, in_b) = (a, b, differ, inr in_a, inr in_b)
 
--- bound patterns and one pattern more
+-- Bound patterns and one more pattern.
 pub claims_parts : (bounds : List FencePattern) (b : FencePattern) (name : List ℕ) (n : ℕ) → ClaimsBy (bounds ++ b ∷ []) name n →
     ClaimsBy bounds name n ⊎ ((b.fence ≡ n) × Matches b.pattern name)
 claims_parts bounds b name n h = elim (any_parts (λ c. (c.fence ≡ n) × Matches c.pattern name) bounds (b ∷ []) h) [

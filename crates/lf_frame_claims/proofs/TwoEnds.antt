@@ -1,4 +1,4 @@
--- Patterns with a star, some kept at the front and the others at the back.
+-- Patterns with a star, some stored at the front and the others at the back.
 use Rattle.std.proofs.Common.{◌≡◌, ℕ, ◌⊎◌, inl, inr, List, [], ◌∷◌, ◌++◌}
 use Rattle.lf_names.specs.Pattern.{Matches}
 use Rattle.lf_frame_claims.specs.declared.claim.Claim.{Claim}
@@ -13,7 +13,7 @@ use Rattle.lf_units.proofs.Any.{none_of_nothing}
 claims_none : (bounds : List FencePattern) (name : List ℕ) (fence : ℕ) → bounds ≡ [] → ClaimsBy bounds name fence → ⊥
 claims_none bounds name fence none c = none_of_nothing (λ b. (b.fence ≡ fence) × Matches b.pattern name) (rw none at c)
 
--- there is no pattern where there is none at either end, and only there
+-- There is no pattern if and only if there is no pattern at either end.
 module _ (starred : StarredPatterns) (bounds : List FencePattern) (h : HasStarred starred bounds) where
   pub none_together : h.fronts ≡ [] → h.backs ≡ [] → bounds ≡ []
   none_together front back = no_claim_no_pattern bounds (λ name fence c. elim ((h.together name fence).0 c) [
@@ -27,7 +27,7 @@ module _ (starred : StarredPatterns) (bounds : List FencePattern) (h : HasStarre
   pub none_at_back : bounds ≡ [] → h.backs ≡ []
   none_at_back none = no_claim_no_pattern h.backs (λ name fence c. claims_none bounds name fence none ((h.together name fence).1 (inr c)))
 
--- a pattern more
+-- One more pattern.
 module _ (old new : StarredPatterns) (b : FencePattern) where
   pub has_more_at_front : new.backs ≡ old.backs → ((fronts : List FencePattern) → HasAtEnd old.fronts fronts → HasAtEnd new.fronts (fronts ++ b ∷ [])) →
       (bounds : List FencePattern) → HasStarred old bounds → HasStarred new (bounds ++ b ∷ [])
@@ -73,7 +73,7 @@ module _ (old new : StarredPatterns) (b : FencePattern) where
     );
   }
 
--- what is claimed at the two ends, all patterns claim
+-- All patterns claim what the patterns at the two ends claim.
 pub tells_together : (starred : StarredPatterns) (name : List ℕ) (front back : Claim) →
     ((fronts : List FencePattern) → HasAtEnd starred.fronts fronts → CountsFences (ClaimsBy fronts name) front) →
     ((backs : List FencePattern) → HasAtEnd starred.backs backs → CountsFences (ClaimsBy backs name) back) → (bounds : List FencePattern) → HasStarred starred bounds →
@@ -83,7 +83,7 @@ tells_together starred name front back by_front by_back bounds h =
     (λ fence u. (h.together name fence).1 u) (λ fence c. (h.together name fence).0 c)
     (tells_merged (ClaimsBy h.fronts name) (ClaimsBy h.backs name) front back (by_front h.fronts h.by_front) (by_back h.backs h.by_back))
 
--- what is claimed at the front, all patterns claim where there is none at the back
+-- All patterns claim what the patterns at the front claim, if there are no patterns at the back.
 pub tells_at_front : (starred : StarredPatterns) (name : List ℕ) (front : Claim) →
     ((fronts : List FencePattern) → HasAtEnd starred.fronts fronts → CountsFences (ClaimsBy fronts name) front) →
     ((backs : List FencePattern) → HasAtEnd starred.backs backs → backs ≡ []) → (bounds : List FencePattern) → HasStarred starred bounds → CountsFences (ClaimsBy bounds name) front

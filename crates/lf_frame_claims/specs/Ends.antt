@@ -1,15 +1,15 @@
--- The two ends of names at which patterns with a star are kept.
+-- The two ends of names by which patterns with a star are stored.
 use Rattle.std.specs.Prelude.{ℕ, ◌-◌, List, length, take, drop}
 use Rattle.lf_names.specs.Pattern.{prefix_of, suffix_of}
 use Rattle.lf_frame_claims.specs.declared.name_end.End.{End}
 use Rattle.lf_frame_claims.specs.declared.name_end.End.TheVariants.{Front, Back}
 
--- the key of a pattern at an end: what each name that matches it has there
+-- The key of a pattern at an end: the bytes that each matching name has there.
 abbrev pub key_of : End → List ℕ → List ℕ
 key_of Front pattern = prefix_of pattern
 key_of Back pattern = suffix_of pattern
 
--- this many bytes of a name at an end
+-- The first or last `count` bytes of a name.
 abbrev pub part_of : End → ℕ → List ℕ → List ℕ
 part_of Front count name = take count name
 part_of Back count name = drop (length name - count) name

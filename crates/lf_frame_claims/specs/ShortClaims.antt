@@ -5,27 +5,27 @@ use Rattle.lf_frame_claims.specs.declared.claim.Claim.{Claim}
 use Rattle.lf_frame_claims.specs.declared.claim.Claim.TheVariants.{Unclaimed, ByOne, ByTwo}
 use Rattle.lf_frame_claims.specs.declared.claims.ShortClaim.TheInside.{Inside}
 
--- the claim of a code
+-- The claim of a code.
 abbrev pub claim_of_code : ℕ → Claim
 claim_of_code zero = Unclaimed
 claim_of_code (suc zero) = ByTwo
 claim_of_code (suc (suc fence)) = ByOne fence
 
--- the code of a claim
+-- The code of a claim.
 abbrev pub code_of : Claim → ℕ
 code_of Unclaimed = 0
 code_of ByTwo = 1
 code_of (ByOne fence) = suc (suc fence)
 
--- the code of the claim takes no more than 32 bits
+-- Holds if the code of the claim fits into 32 bits.
 abbrev pub IsShort : Claim → Type 0
 IsShort claim = code_of claim < 2 ^ 32
 
--- the claim of these fields
+-- The claim of these fields.
 abbrev pub claim_in : Inside → Claim
 claim_in c = claim_of_code c.code
 
--- the fields of a claim
+-- The fields of a claim.
 abbrev pub shortened : Claim → Inside
 shortened claim = record { code = code_of claim }
 
@@ -34,6 +34,6 @@ code_back zero = refl
 code_back (suc zero) = refl
 code_back (suc (suc fence)) = refl
 
--- the fields are those of their claim
+-- Fields are those of their own claim.
 pub shortened_back : (c : Inside) → shortened (claim_in c) ≡ c
 shortened_back c = ap (λ code. record { code = code }) (code_back c.code)

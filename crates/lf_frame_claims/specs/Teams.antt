@@ -6,39 +6,41 @@ use Rattle.lf_def.specs.Kinds.{is_fence}
 use Rattle.lf_def.specs.declared.regions.Region.{Region}
 use Rattle.lf_def.specs.declared.groups.Group.{Group}
 
--- the fences, in the order of the text
+-- The fences, in the order of the text.
 abbrev pub fences : List Region → List Region
 fences regions = filter is_fence regions
 
--- the names of the fences, in the order of the text
+-- The names of the fences, in the order of the text.
 abbrev pub fence_names : List Region → List (List ℕ)
 fence_names regions = map (λ r. r.name) (fences regions)
 
--- the name matches a pattern of the group
+-- Holds if the name matches a pattern of the group.
 abbrev pub NamedBy : Group → List ℕ → Type 0
 NamedBy group name = Any (λ pattern. Matches pattern name) group.patterns
 
--- the group is bound to the fence, and names the component
+-- Holds if the group is bound to the fence, and names the component.
 pub record Claims (regions : List Region) (group : Group) (name fence : List ℕ) : Type 0 where
   pub bound : group.region ≡ Some fence
   pub fence_there : Any (λ r. (is_fence r ≡ true) × (r.name ≡ fence)) regions
   pub named : NamedBy group name
 
--- a group that is bound to the fence names the component
+-- Holds if a group that is bound to the fence names the component.
 abbrev pub IsClaimed : List Region → List Group → List ℕ → List ℕ → Type 0
 IsClaimed regions groups name fence = Any (λ g. Claims regions g name fence) groups
 
--- no fence claims the name
+-- Holds if no fence claims the name.
 abbrev pub IsUnclaimed : List Region → List Group → List ℕ → Type 0
 IsUnclaimed regions groups name = (fence : List ℕ) → IsClaimed regions groups name fence → ⊥
 
--- the fence of this number claims the name, and no other does; of fences of one name the first counts
+-- Holds if the fence with this number claims the name, and no other fence does. The first of
+-- several fences with one name counts.
 pub record IsClaimedBy (regions : List Region) (groups : List Group) (name : List ℕ) (team : ℕ) : Type 0 where
   pub fence : List ℕ
   pub place : position_of (fence_names regions) fence ≡ Some team
   pub claimed : IsClaimed regions groups name fence
   pub only : (other : List ℕ) → IsClaimed regions groups name other → other ≡ fence
 
--- the team of a movable component: the one fence that claims it, or the ground team, whose number is the number of fences
+-- The team of a movable component: the only fence that claims it, or the ground team, whose number
+-- is the number of fences.
 abbrev pub IsTeamOf : List Region → List Group → List ℕ → ℕ → Type 0
 IsTeamOf regions groups name team = IsClaimedBy regions groups name team ⊎ (IsUnclaimed regions groups name × (team ≡ length (fences regions)))

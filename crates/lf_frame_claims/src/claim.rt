@@ -3,18 +3,18 @@
 ghost use Rattle.std.specs.Prelude.{◌≡◌};
 ghost use Rattle.lf_frame_claims.specs.Claims.{joined as joined_claim, merged as merged_claim};
 
-/// Which fences claim a name.
+/// The claim on a name.
 #[derive(Clone, Copy)]
 pub enum Claim {
-    /// No fence does.
+    /// No fence claims it.
     Unclaimed,
-    /// The fence of this number does, and no other.
+    /// Only the fence with this number claims it.
     ByOne(usize),
-    /// Two different fences do.
+    /// Two different fences claim it.
     ByTwo,
 }
 
-/// The claim with this fence added.
+/// Returns the claim with this fence added.
 pub(crate) fn joined(claim: Claim, fence: usize) -> Claim
     ensures { result ≡ joined_claim claim fence }
 {
@@ -31,7 +31,7 @@ pub(crate) fn joined(claim: Claim, fence: usize) -> Claim
     }
 }
 
-/// The union of two claims.
+/// Returns the union of two claims.
 pub(crate) fn merged(claim: Claim, more: Claim) -> Claim
     ensures { result ≡ merged_claim claim more }
 {

@@ -11,10 +11,10 @@ use std::alloc::{AllocError, Global};
 use std::marker::Model;
 use std::mem::size_of;
 
-/// A claim in 32 bits. Contracts see the claim.
+/// A claim in 32 bits. A contract sees the claim.
 #[derive(Clone, Copy)]
 struct ShortClaim {
-    /// 0 if no fence claims, 1 if two do, and two more than the number of the only fence that does.
+    /// 0 for no fence, 1 for two fences, and the number plus 2 for a single fence.
     code: u32,
 }
 
@@ -34,15 +34,16 @@ impl Model for ShortClaim {
 
 const _: () = prove!(size_of::<ShortClaim>() == 4 && size_of::<Claim>() == 16);
 
-/// Claims on names, all of them in one of two forms.
+/// Claims on names, either all short or all wide.
 #[derive(Drop)]
 enum ClaimList {
     Short(Vec<ShortClaim>),
     Wide(Vec<Claim>),
 }
 
-/// The claims on each name of a list, by the numbers of the names: 4 bytes of each, or 16 once the number of a fence that claims
-/// one takes more than 32 bits. Contracts see their list.
+/// The claims on each name of a list, by the numbers of the names. A claim takes 4 bytes. Each
+/// takes 16 if the number of a fence in one of them needs more than 32 bits. A contract sees the
+/// list of claims.
 #[derive(Drop)]
 pub struct Claims {
     kept: ClaimList,
@@ -60,7 +61,7 @@ impl Model for Claims {
 }
 
 impl ShortClaim {
-    /// The same claim in as many bits as it may take.
+    /// Returns the same claim in its full form.
     fn long(&self) -> Claim
         ensures { result ≡ self.now }
     {
@@ -72,7 +73,7 @@ impl ShortClaim {
     }
 }
 
-/// The claim of this fence alone in 32 bits; none if it takes more.
+/// Returns the claim of only this fence in 32 bits, or `None` if it needs more.
 fn short_by_one(fence: usize) -> Option<ShortClaim>
     ensures { SomeIff result (IsShort (Claim.ByOne fence)) (Claim.ByOne fence) }
 {
@@ -83,7 +84,7 @@ fn short_by_one(fence: usize) -> Option<ShortClaim>
     }
 }
 
-/// The claim in 32 bits; none if it takes more.
+/// Returns the claim in 32 bits, or `None` if it needs more.
 fn short_claim(claim: Claim) -> Option<ShortClaim>
     ensures { SomeIff result (IsShort claim) claim }
 {
@@ -94,7 +95,7 @@ fn short_claim(claim: Claim) -> Option<ShortClaim>
     }
 }
 
-/// The short claim at the number; Unclaimed if there is none.
+/// Returns the short claim at the number. Unclaimed if there is no such number.
 fn short_at(claims: &[ShortClaim], number: usize) -> Claim
     ensures { result ≡ claim_at claims.now number }
 {
@@ -104,7 +105,7 @@ fn short_at(claims: &[ShortClaim], number: usize) -> Claim
     }
 }
 
-/// The wide claim at the number; Unclaimed if there is none.
+/// Returns the wide claim at the number. Unclaimed if there is no such number.
 fn wide_at(claims: &[Claim], number: usize) -> Claim
     ensures { result ≡ claim_at claims.now number }
 {
@@ -114,7 +115,7 @@ fn wide_at(claims: &[Claim], number: usize) -> Claim
     }
 }
 
-/// Puts the claim at the number, if there is one.
+/// Replaces the claim at the number, if there is such a number.
 fn put_at<C: Copy>(claims: &mut Vec<C>, number: usize, claim: C)
     ensures { claims.new.items ≡ slice_set claims.old.items number claim }
 {
@@ -123,7 +124,7 @@ fn put_at<C: Copy>(claims: &mut Vec<C>, number: usize, claim: C)
     }
 }
 
-/// The same claims, wide.
+/// Returns the same claims in their full form. `Err` if an allocation fails.
 fn widened(alloc: Global, claims: &[ShortClaim]) -> Result<Vec<Claim>, AllocError>
     ensures { IfOk result (λ wide. wide.items ≡ claims.now) }
 {
@@ -135,7 +136,7 @@ fn widened(alloc: Global, claims: &[ShortClaim]) -> Result<Vec<Claim>, AllocErro
 }
 
 impl Claims {
-    /// This many names without a claim.
+    /// Returns the claims of `count` names that no fence claims. `Err` if an allocation fails.
     pub(crate) fn unclaimed(alloc: Global, count: usize) -> Result<Self, AllocError>
         ensures { IfOk result (λ claims. claims ≡ replicate count Claim.Unclaimed) }
     {
@@ -145,7 +146,7 @@ impl Claims {
         })
     }
 
-    /// The claim at the number; Unclaimed if there is none.
+    /// Returns the claim at the number. Unclaimed if there is no such number.
     pub(crate) fn claim_at(&self, number: usize) -> Claim
         ensures { result ≡ claim_at self.now number }
     {
@@ -155,7 +156,8 @@ impl Claims {
         }
     }
 
-    /// Puts the claim at the number, if there is one. `Err`, which leaves all claims unchanged, if an allocation fails.
+    /// Replaces the claim at the number, if there is such a number. `Err` if an allocation fails;
+    /// all claims are then unchanged.
     fn put(&mut self, alloc: Global, number: usize, claim: Claim) -> Result<(), AllocError>
         ensures ok { OnOk result (self.new ≡ slice_set self.old number claim) }
         ensures err { OnErr result (self.new ≡ self.old) }
@@ -174,8 +176,8 @@ impl Claims {
         Ok(())
     }
 
-    /// Adds these fences to the claim at the number, if there is one. `Err`, which leaves all claims unchanged, if an allocation
-    /// fails.
+    /// Adds these fences to the claim at the number, if there is such a number. `Err` if an
+    /// allocation fails; all claims are then unchanged.
     pub(crate) fn merge(
         &mut self,
         alloc: Global,
@@ -193,7 +195,8 @@ impl Claims {
     }
 }
 
-/// The claims on this many names from matches of a name's number with a fence's number.
+/// Returns the claims on `count` names, given matches of a name's number with a fence's number.
+/// `Err` if an allocation fails.
 pub(crate) fn claims_by_match(
     alloc: Global,
     count: usize,

@@ -1,4 +1,4 @@
-//! Which fences claim each component.
+//! The fences that claim each component.
 
 ghost use Rattle.std.specs.Prelude.{◌≡◌, IfOk, OnOk, length};
 ghost use Rattle.lf_frame_claims.specs.Teams.{fences, fence_names};
@@ -16,8 +16,8 @@ use lf_units::Name;
 use std::alloc::{AllocError, Global};
 use std::marker::Model;
 
-/// What follows from the names of all components: the first that has an earlier one's name, and the fences that claim
-/// each. A contract sees these.
+/// Facts about the names of all components: the first that has the name of an earlier one, and the
+/// fences that claim each. A contract sees these facts.
 #[derive(Drop)]
 pub struct ClaimTable {
     second: Option<usize>,
@@ -45,7 +45,8 @@ fn put_fence(numbers: &mut NameMap<usize>, name: &Name, number: usize) -> Result
     Ok(())
 }
 
-/// The number of each fence by its name, and the number of fences.
+/// Returns the number of each fence by its name, and the number of fences. `Err` if an allocation
+/// fails.
 fn number_fences(alloc: Global, regions: &[Region]) -> Result<(NameMap<usize>, usize), AllocError>
     ensures numbers { IfOk result (λ answer. NumbersNames (fence_names regions.now) answer.0) }
     ensures ground { IfOk result (λ answer. answer.1 ≡ length (fences regions.now)) }
@@ -61,8 +62,9 @@ fn number_fences(alloc: Global, regions: &[Region]) -> Result<(NameMap<usize>, u
     Ok((numbers, count))
 }
 
-/// The table of these components, regions and groups; it has no claims if two components have one name. A group claims for the
-/// first fence of its region's name. `Err` if an allocation fails.
+/// Returns the table of these components, regions and groups. It has no claims if two components
+/// have the same name. A group claims for the first fence with its region's name. `Err` if an
+/// allocation fails.
 pub fn claim_table(
     alloc: Global,
     components: &[Component],
@@ -88,15 +90,17 @@ pub fn claim_table(
 }
 
 impl ClaimTable {
-    /// The first component that has an earlier one's name, by its number; none iff all names differ.
+    /// Returns the number of the first component that has the name of an earlier one. `None` if and
+    /// only if all names differ.
     pub fn first_duplicate(&self) -> Option<usize>
         ensures { FindsDuplicate self.now result }
     {
         self.second
     }
 
-    /// The team of the component of that number, if names differ and no two fences claim it: the position of its fence
-    /// among the fences, or their number if no fence claims it.
+    /// Returns the team of the component with this number, if names differ and no two fences claim
+    /// it. The team is the position of its fence among the fences, or the number of fences if no
+    /// fence claims it.
     pub fn team_at(&self, number: usize) -> usize
         ensures { FindsTeam self.now number result }
     {
@@ -107,7 +111,8 @@ impl ClaimTable {
         }
     }
 
-    /// Whether teams may move the component of this number, and groups of two different fences name it.
+    /// True if teams may move the component with this number, and groups of two different fences
+    /// name it.
     fn is_claimed_twice(&self, number: usize, component: &Component) -> bool
         ensures { FindsClaimedTwice (claim_at self.now.claims number) component.now result }
     {
@@ -119,8 +124,9 @@ impl ClaimTable {
     }
 }
 
-/// The first movable component that groups of two different fences name, by its number; none iff there is none. The answer
-/// stands if no two components have one name and the table is that of the components.
+/// Returns the number of the first movable component that groups of two different fences name.
+/// `None` if and only if there is no such component. The result is valid if no two components have
+/// the same name and the table is that of the components.
 pub fn first_claimed_twice(components: &[Component], table: &ClaimTable) -> Option<usize>
     ensures { FindsFirstClaimedTwice table.now components.now result }
 {

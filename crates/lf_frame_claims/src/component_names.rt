@@ -9,7 +9,8 @@ use lf_def::Component;
 use lf_names::{Added, NameTable, PartitionedNames};
 use std::alloc::{AllocError, Global};
 
-/// The names of components in parts, each labelled with its component's number.
+/// Returns the names of components in parts, each labelled with its component's number. `Err` if an
+/// allocation fails.
 pub(crate) fn parts_of_components(
     alloc: Global,
     components: &[Component],
@@ -23,8 +24,8 @@ pub(crate) fn parts_of_components(
     Ok(parts)
 }
 
-/// Adds the name; returns whether it is new: if so, the table did not have it, and has it afterwards. `Err` if an allocation
-/// fails.
+/// Adds the name if the table does not have it. Returns true if the name is new. `Err` if an
+/// allocation fails.
 pub fn add_if_new(names: &mut NameTable, name: &[u8]) -> Result<bool, AllocError>
     ensures new { IfOk result (λ added. IsTrue added → Contains names.old name.now → ⊥) }
     ensures added { IfOk result (λ added. IsTrue added → names.new ≡ names.old ++ name.now ∷ []) }
@@ -37,7 +38,8 @@ pub fn add_if_new(names: &mut NameTable, name: &[u8]) -> Result<bool, AllocError
     }
 }
 
-/// The first component that has an earlier one's name.
+/// Returns the number of the first component that has the name of an earlier one, or `None`. `Err`
+/// if an allocation fails.
 pub(crate) fn first_second_name(
     alloc: Global,
     components: &[Component],

@@ -1,18 +1,19 @@
-//! The two ends of names at which patterns with a star are kept.
+//! The two ends of names by which patterns with a star are stored.
 
 ghost use Rattle.std.specs.Prelude.{◌≡◌, ◌<◌, ◌≤◌, length, MatchOption};
 ghost use Rattle.lf_frame_claims.specs.Ends.{key_of, part_of};
 
 use lf_names::Pattern;
 
-/// An end of names. Patterns are kept at the front by their prefixes, and at the back by their suffixes.
+/// An end of names. At the front patterns are stored by their prefixes, at the back by their
+/// suffixes.
 #[derive(Clone, Copy)]
 pub enum End {
     Front,
     Back,
 }
 
-/// What each name that matches the pattern has at this end.
+/// Returns the bytes that each name that matches the pattern has at this end.
 pub(crate) fn key_at(end: End, pattern: &[u8]) -> &[u8]
     ensures { result.now ≡ key_of end pattern.now }
 {
@@ -22,7 +23,7 @@ pub(crate) fn key_at(end: End, pattern: &[u8]) -> &[u8]
     }
 }
 
-/// The first or last `count` bytes of the name; none if it is shorter.
+/// Returns the first or last `count` bytes of the name, or `None` if it is shorter.
 pub(crate) fn part_at(end: End, name: &[u8], count: usize) -> Option<&[u8]>
     ensures { MatchOption result (length name.now < count) (λ part. (count ≤ length name.now) × (part.now ≡ part_of end count name.now)) }
 {

@@ -6,8 +6,8 @@ ghost use Rattle.lf_frame_claims.specs.NameMaps.{value_of, HasAllValues, SetsVal
 use lf_names::{Added, NameTable};
 use std::alloc::{AllocError, Global};
 
-/// A value for each of some names, looked up in a time that does not depend on their number, but for names chosen
-/// against the fixed hash.
+/// A value for each of some names. The time of a lookup does not depend on the number of names,
+/// except for names chosen against the fixed hash.
 #[derive(Drop)]
 pub struct NameMap<V: Copy> {
     names: NameTable,
@@ -15,7 +15,7 @@ pub struct NameMap<V: Copy> {
 }
 
 impl<V: Copy> NameMap<V> {
-    /// The empty map.
+    /// Returns an empty map.
     pub(crate) fn new(alloc: Global) -> Self
         ensures whole { HasAllValues result }
         ensures nothing { (name : List ℕ) → value_of result name ≡ None }
@@ -26,7 +26,7 @@ impl<V: Copy> NameMap<V> {
         }
     }
 
-    /// The name's value; none if it has none.
+    /// Returns the name's value, or `None` if it has no value.
     pub(crate) fn get(&self, name: &[u8]) -> Option<V>
         ensures { result ≡ value_of self.now name.now }
     {

@@ -18,8 +18,9 @@ use lf_names::{PartitionedNames, Pattern};
 use lf_units::Name;
 use std::alloc::{AllocError, Global};
 
-/// Patterns bound to fences: those without a star in parts, as the names that they match, each labelled with the number
-/// of its fence; the others by what their names begin or end with.
+/// Patterns bound to fences. Patterns without a star are in parts, as the names that they match,
+/// each labelled with the number of its fence. The others are stored by the bytes with which their
+/// names begin or end.
 #[derive(Drop)]
 pub struct PatternIndex {
     literals: PartitionedNames,
@@ -27,7 +28,7 @@ pub struct PatternIndex {
 }
 
 impl PatternIndex {
-    /// The empty index.
+    /// Returns an empty index. `Err` if an allocation fails.
     fn new(alloc: Global) -> Result<Self, AllocError>
         ensures { IfOk result (λ index. IndexesPatterns index []) }
     {
@@ -45,7 +46,7 @@ impl PatternIndex {
         Ok(())
     }
 
-    /// Adds a pattern with a star, to be tried on names that begin or end as it does.
+    /// Adds a pattern with a star. It is tried on names that begin or end as it does.
     fn add_starred(&mut self, alloc: Global, pattern: &[u8], fence: usize) -> Result<(), AllocError>
         ensures { OnOk result (ExtendsIndex self.old self.new (record { pattern = pattern.now; fence = fence } ∷ [])) }
     {
@@ -94,7 +95,8 @@ impl PatternIndex {
         }
     }
 
-    /// The claims of the literal patterns on each component; none if two components have one name.
+    /// Returns the claims of the literal patterns on each component. `None` if two components have
+    /// the same name. `Err` if an allocation fails.
     fn literal_claims(
         &self,
         alloc: Global,
@@ -107,13 +109,13 @@ impl PatternIndex {
         let Some(matches) = names.matches(alloc, &self.literals)? else {
             return Ok(None);
         };
-        // (the copied names take more than the claims do)
+        // The copied names take more memory than the claims do.
         drop(names);
         Ok(Some(claims_by_match(alloc, components.len(), &matches)?))
     }
 
-    /// These claims of all components together with those of the patterns with a star, each of which is tried on the
-    /// names that begin, or end, as it does.
+    /// Adds the claims of the patterns with a star to these claims of all components. Each pattern
+    /// is tried only on names that begin, or end, as it does. `Err` if an allocation fails.
     fn with_starred(
         &self,
         alloc: Global,
@@ -130,7 +132,8 @@ impl PatternIndex {
         Ok(all)
     }
 
-    /// These claims of all components together with those of the patterns with a star.
+    /// Adds the claims of the patterns with a star, if there are any, to these claims of all
+    /// components. `Err` if an allocation fails.
     fn completed(
         &self,
         alloc: Global,
@@ -145,7 +148,8 @@ impl PatternIndex {
         self.with_starred(alloc, components, claims)
     }
 
-    /// The claims of all patterns on each component; none if two components have one name.
+    /// Returns the claims of all patterns on each component. `None` if two components have the same
+    /// name. `Err` if an allocation fails.
     pub(crate) fn claims_of(
         &self,
         alloc: Global,
@@ -160,7 +164,8 @@ impl PatternIndex {
     }
 }
 
-/// The number of the fence that the group is bound to; none if it is bound to none.
+/// Returns the number of the fence to which the group is bound, or `None` if it is bound to no
+/// fence.
 fn fence_of(group: &Group, numbers: &NameMap<usize>) -> Option<usize>
     ensures { result ≡ option_and_then (value_of numbers.now) group.now.region }
 {
@@ -170,7 +175,7 @@ fn fence_of(group: &Group, numbers: &NameMap<usize>) -> Option<usize>
     }
 }
 
-/// The index of the patterns of all groups.
+/// Returns the index of the patterns of all groups. `Err` if an allocation fails.
 pub(crate) fn index_of(
     alloc: Global,
     groups: &[Group],

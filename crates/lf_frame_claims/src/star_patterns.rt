@@ -1,4 +1,4 @@
-//! Patterns with a star, each tried only on names that begin as it does, or that end as it does.
+//! Patterns with a star. Each is tried only on names that begin, or end, as it does.
 
 ghost use Rattle.std.specs.Prelude.{◌≡◌, ◌↔◌, ◌⊎◌, ℕ, [], ◌∷◌, ◌++◌, List, IsTrue, IfOk, OnOk, Contains, length};
 ghost use Rattle.lf_frame_claims.specs.Claims.{AppendsThere, ClaimsBy, ClaimsUnder, HasAtEnd, HasStarred, AddsUnderKey, AddsPattern, CountsFences, kept_under as bounds_under};
@@ -9,15 +9,16 @@ use lf_names::{Added, NameTable, Pattern};
 use lf_units::Name;
 use std::alloc::{AllocError, Global};
 
-/// A pattern of a group, and the number of the fence that the group is bound to.
+/// A pattern of a group, and the number of the fence to which the group is bound.
 #[derive(Drop)]
 pub struct FencePattern {
     pub pattern: Name,
     pub fence: usize,
 }
 
-/// Patterns bound to fences, by their key at one end: at the front their bytes before the first star, at the back those
-/// after the last. The patterns of a key are at its position, and each length of a key is listed once.
+/// Patterns bound to fences, by their key at one end. The key at the front is the bytes in front of
+/// the first star, the key at the back those after the last star. The patterns of a key are at its
+/// position. Each length of a key is listed once.
 #[derive(Drop)]
 pub struct PatternsAtEnd {
     end: End,
@@ -26,15 +27,15 @@ pub struct PatternsAtEnd {
     lengths: Vec<usize>,
 }
 
-/// Patterns bound to fences, each kept at an end of its names at which it has bytes of its own: those that begin with a
-/// star at the back, the others at the front.
+/// Patterns bound to fences. Patterns that begin with a star are stored by their back, the others
+/// by their front.
 #[derive(Drop)]
 pub struct StarredPatterns {
     fronts: PatternsAtEnd,
     backs: PatternsAtEnd,
 }
 
-/// The claim with that of one more pattern added.
+/// Returns the claim with that of one more pattern added.
 fn with_bound(claim: Claim, bound: &FencePattern, name: &[u8]) -> Claim
     ensures { AddsPattern bound.now name.now claim result }
 {
@@ -45,7 +46,7 @@ fn with_bound(claim: Claim, bound: &FencePattern, name: &[u8]) -> Claim
     }
 }
 
-/// The claim of the patterns on the name, each tried in turn.
+/// Returns the claim of the patterns on the name. Tries each pattern.
 fn claim_by_matching(bounds: &[FencePattern], name: &[u8]) -> Claim
     ensures { CountsFences (ClaimsBy bounds.now name.now) result }
 {
@@ -56,7 +57,7 @@ fn claim_by_matching(bounds: &[FencePattern], name: &[u8]) -> Claim
     claim
 }
 
-/// A list of this pattern alone.
+/// Returns a list with only this pattern. `Err` if an allocation fails.
 fn one_bound(alloc: Global, bound: FencePattern) -> Result<Vec<FencePattern>, AllocError>
     ensures { IfOk result (λ bounds. bounds.items ≡ bound ∷ []) }
 {
@@ -65,7 +66,7 @@ fn one_bound(alloc: Global, bound: FencePattern) -> Result<Vec<FencePattern>, Al
     Ok(bounds)
 }
 
-/// Appends the pattern to the list at the place, if there is one.
+/// Appends the pattern to the list at the place, if there is such a place.
 fn push_at(
     all: &mut Vec<Vec<FencePattern>>,
     place: usize,
@@ -79,7 +80,7 @@ fn push_at(
     Ok(())
 }
 
-/// Adds the length unless it is listed.
+/// Adds the length unless the list has it.
 fn add_length(lengths: &mut Vec<usize>, added: usize) -> Result<(), AllocError>
     ensures { OnOk result ((n : ℕ) → Contains lengths.new.items n ↔ (Contains lengths.old.items n ⊎ (n ≡ added))) }
 {
@@ -91,7 +92,7 @@ fn add_length(lengths: &mut Vec<usize>, added: usize) -> Result<(), AllocError>
 }
 
 impl PatternsAtEnd {
-    /// The empty list.
+    /// Returns an empty list.
     fn new(alloc: Global, end: End) -> Self
         ensures { HasAtEnd result [] }
     {
@@ -103,7 +104,7 @@ impl PatternsAtEnd {
         }
     }
 
-    /// Whether there is no pattern.
+    /// True if there is no pattern.
     fn is_empty(&self) -> bool
         ensures { (bounds : List FencePattern) → HasAtEnd self.now bounds → (IsTrue result ↔ (bounds ≡ [])) }
     {
@@ -133,7 +134,7 @@ impl PatternsAtEnd {
         Ok(())
     }
 
-    /// The patterns of the key.
+    /// Returns the patterns of the key.
     fn patterns_for(&self, key: &[u8]) -> &[FencePattern]
         ensures { result.now ≡ bounds_under self.now key.now }
     {
@@ -146,7 +147,8 @@ impl PatternsAtEnd {
         }
     }
 
-    /// The claim on the name of the patterns whose key has this length and is at this end of the name.
+    /// Returns the claim on the name of the patterns whose key has this length and is at this end
+    /// of the name.
     fn claim_under(&self, count: usize, name: &[u8]) -> Claim
         ensures { CountsFences (ClaimsUnder self.now name.now count) result }
     {
@@ -156,8 +158,9 @@ impl PatternsAtEnd {
         }
     }
 
-    /// The claim of the patterns on the name. Tries only those whose key the name has at this end, in a time that does
-    /// not depend on how many others there are, but on how many different lengths keys have.
+    /// Returns the claim of the patterns on the name. Tries only the patterns whose key the name
+    /// has at this end. The time depends on the number of different key lengths, not on the number
+    /// of other patterns.
     fn claim_on(&self, name: &[u8]) -> Claim
         ensures { (bounds : List FencePattern) → HasAtEnd self.now bounds → CountsFences (ClaimsBy bounds name.now) result }
     {
@@ -170,7 +173,7 @@ impl PatternsAtEnd {
 }
 
 impl StarredPatterns {
-    /// The empty list.
+    /// Returns an empty list.
     pub(crate) fn new(alloc: Global) -> Self
         ensures { HasStarred result [] }
     {
@@ -180,7 +183,7 @@ impl StarredPatterns {
         }
     }
 
-    /// Whether there is no pattern.
+    /// True if there is no pattern.
     pub(crate) fn is_empty(&self) -> bool
         ensures { (bounds : List FencePattern) → HasStarred self.now bounds → (IsTrue result ↔ (bounds ≡ [])) }
     {
@@ -203,7 +206,7 @@ impl StarredPatterns {
         self.fronts.add(alloc, pattern, fence)
     }
 
-    /// The claim of the patterns on the name.
+    /// Returns the claim of the patterns on the name.
     pub(crate) fn claim_on(&self, name: &[u8]) -> Claim
         ensures { (bounds : List FencePattern) → HasStarred self.now bounds → CountsFences (ClaimsBy bounds name.now) result }
     {

@@ -1,4 +1,5 @@
--- A design that is exported with its cells at other places is loaded again as the design at these places.
+-- A design that is exported with its cells at other places is loaded again as the design at these
+-- places.
 use Rattle.std.proofs.Common.{◌≡◌, ℕ, ◌+◌, ◌<◌, Bool, true, false, List, [], ◌∷◌, map, length, Option, Some, None, negsuc, refl, sym, ap, ◌∙◌, arith}
 use Rattle.std.specs.Prelude.{◌==◌, option_map, if◌then◌else◌, ◌<ℤ◌}
 use Rattle.std.specs.Option.{option_and_then}
@@ -25,7 +26,7 @@ use Rattle.lf_laws_roundtrip.specs.Exports.{with_document, ExportsLoadAgain}
 use Rattle.lf_laws_roundtrip.proofs.Elsewhere.{positions_not_settled, accepted_elsewhere, loaded_elsewhere}
 use Rattle.lf_laws_roundtrip.proofs.Given.{Given, AreForMovables, by_first, rising, for_movables}
 
--- One component at the place that it is given.
+-- One component at its given place.
 
 settled_there : (c : Component) (given : Option Place) → is_movable c ≡ true → without_movable_place (with_place given c) ≡ without_movable_place c
 settled_there c given is = by (stands_at c given)
@@ -53,16 +54,16 @@ located_there c given = by (stands_at c given) refl
 movable_there : (c : Component) (given : Option Place) → is_movable c ≡ true → is_movable (with_place given c) ≡ true
 movable_there c given is = movable_same (with_place given c) c (settled_there c given is) ∙ is
 
--- All components at the places that they are given.
+-- All components at their given places.
 
 begins : {X : Type 0} {x y : X} {xs ys : List X} → x ≡ y → xs ≡ ys → x ∷ xs ≡ y ∷ ys
 begins {X} {x} {y} {xs} {ys} e f = ap (λ (z : X). z ∷ xs) e ∙ ap (λ (zs : List X). y ∷ zs) f
 
--- the components, the first of which has that position, at the places that they are given
+-- The components at their given places. The first component has this position.
 abbrev given_from : ℕ → Given → List Component → List Component
 given_from n places cs = map (λ e. perhaps_with_place (given_to places e.0) e.1) (enumerate_from n cs)
 
--- no place is given before the first position
+-- No place is given in front of the first position.
 none_before : (from to n : ℕ) (places : Given) → Rise from to places → n < from → given_to places n ≡ None
 none_before from to n [] h lt = refl
 none_before from to n (g ∷ places) h lt = rw (not_it (omega (arith, h.0, lt))) (none_before (g.0 + 1) to n places h.2 (omega (arith, h.0, lt)))
@@ -70,7 +71,7 @@ none_before from to n (g ∷ places) h lt = rw (not_it (omega (arith, h.0, lt)))
     not_it : n < g.0 → (g.0 == n) ≡ false
     not_it less = grind (arith, nat_tests)
 
--- a place that was given plays no part behind it
+-- A given place has no effect on later components.
 same_behind : (n : ℕ) (g : ℕ × Option Place) (places : Given) (cs : List Component) → g.0 < n → given_from n (g ∷ places) cs ≡ given_from n places cs
 same_behind n g places [] lt = refl
 same_behind n g places (c ∷ cs) lt =
@@ -79,7 +80,7 @@ same_behind n g places (c ∷ cs) lt =
     not_it : (g.0 == n) ≡ false
     not_it = grind (arith, nat_tests, lt)
 
--- the components stay what they are but for the places of the movable ones, which are these
+-- The components are unchanged, except for the places of the movable ones, which are these.
 record AreGiven (n : ℕ) (cs : List Component) (places : Given) : Type 0 where
   stay : map without_movable_place (given_from n places cs) ≡ map without_movable_place cs
   stand : map (λ e. location e.1) (movables_from n (given_from n places cs)) ≡ map (λ g. option_map as_location g.1) places
@@ -138,7 +139,7 @@ one_without : (n : ℕ) (c : Component) (cs : List Component) → locations_from
 one_without n c cs rest true is = rw (movable_without c ∙ is, is) (begins (location_without c) rest)
 one_without n c cs rest false is = rw (movable_without c ∙ is, is) rest
 
--- where movable components stand does not turn on positions in the text
+-- The places of movable components do not depend on positions in the text.
 locations_without : (n : ℕ) (cs : List Component) → locations_from n (map without_places cs) ≡ locations_from n cs
 locations_without n [] = refl
 locations_without n (c ∷ cs) = one_without n c cs (locations_without (n + 1) cs) (is_movable c) refl
@@ -149,7 +150,8 @@ same_locations a b same = sym (locations_without 0 a.components) ∙ ap movable_
 same_settled : (d : Document) (places : Given) → AreGiven 0 d.components places → document_but_movable_places (given_places places d) ≡ document_but_movable_places d
 same_settled d places given = ap (λ (cs : List Component). record d { components = cs }) given.stay
 
--- Places that are one as locations are one: what a place keeps of its coordinates is a proposition.
+-- Places are equal if their locations are. The proof in a place about its coordinates is a
+-- proposition.
 
 abbrev Kept : Location → Type 0
 Kept l = (negsuc 2147483647 <ℤ l.x) × (negsuc 2147483647 <ℤ l.y)

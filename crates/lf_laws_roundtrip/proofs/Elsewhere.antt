@@ -1,4 +1,5 @@
--- Inputs that differ in places alone: one is accepted where the other is, and their designs differ in places alone.
+-- Inputs that differ only in places: if one is accepted, so is the other, and their designs differ
+-- only in places.
 use Rattle.std.proofs.Common.{◌≡◌, ℕ, inl, inr, List, [], ◌∷◌, map, Option, Some, None, refl, ap, sym, ◌∙◌, subst}
 use Rattle.std.specs.Prelude.{option_map}
 use Rattle.std.specs.List.{AllZip}
@@ -28,7 +29,7 @@ positions_not_settled a b alike = λ d. record {
   blockages = (alike d).blockages;
 }
 
--- inputs that differ in places differ in their components alone
+-- Inputs that differ in places differ only in their components.
 but_components : (i j : LoadInputs) → DifferInPlaces i j → i ≡ with_components j i.document.components
 but_components i j differ = λ d. record {
   library = differ.library d;
@@ -62,7 +63,7 @@ team_is_one regions groups name s t (inl a) (inr b) = absurd (b.0 a.fence a.clai
 team_is_one regions groups name s t (inr a) (inl b) = absurd (a.0 b.fence b.claimed)
 team_is_one regions groups name s t (inr a) (inr b) = a.1 ∙ sym b.1
 
--- the cell of a movable component, wherever it stands
+-- The cell of a movable component, at any place.
 record IsCellBut (j : LoadInputs) (entry : ℕ × Component) (c : Cell) : Type 0 where
   name : c.name ≡ entry.1.name
   team : IsTeamOf j.document.regions j.document.groups entry.1.name c.team

@@ -1,4 +1,4 @@
--- Frames of one design are one: what a frame keeps of its fields is a proposition.
+-- The frames of one design are equal. The proofs in a frame about its fields are propositions.
 use Rattle.std.proofs.Common.{◌≡◌, ℕ, ◌<◌, ◌≤◌, List, length, map, All, ℤ, pos, ◌*ℤ◌, ap, sym, ◌∙◌, arith}
 use Rattle.std.specs.Prelude.{filter}
 use Rattle.std.proofs.Props.{props}
@@ -21,7 +21,7 @@ use Rattle.lf_frame_checks.specs.Loading.{is_core_row, frame_row}
 use Rattle.lf_frame_checks.specs.Findings.{LoadInputs}
 use Rattle.lf_frame.specs.Loads.{IsFrameOf}
 
--- the fields of a frame, without what it keeps of them
+-- The fields of a frame, without the proofs about them.
 record Fields : Type 0 where
   site : Site
   pitch : Point
@@ -114,7 +114,7 @@ pitch_is_one units size p q h k =
     let y : p.y ≡ q.y = length_is_one p.y q.y (size.y *ℤ pos units) h.up k.up in
     λ d. record { x = x d; y = y d }
 
--- the frame of a design is one
+-- A design has only one frame.
 pub frame_is_one : (i : LoadInputs) (f g : Frame) → IsFrameOf i f → IsFrameOf i g → f ≡ g
 frame_is_one i f g a b =
     let site : f.site ≡ g.site = cc (a.site, b.site) in

@@ -12,7 +12,7 @@ use Rattle.lf_lex.proofs.Splicing.{plains, moved, joined_front, word_front}
 use Rattle.lf_def.specs.PrintedTexts.{quoted_of, quoted_tokens}
 use Rattle.lf_team_def.specs.TeamText.{line_of}
 
--- the tokens of a text without their places
+-- The tokens of a text without their places.
 abbrev pub read : List ℕ → List PlainToken
 read text = plains (tokens_from 0 0 1 text)
 
@@ -46,7 +46,7 @@ lines_front (l ∷ ls) rest h =
     ∙ ap (λ (y : List PlainToken). map word_of l ++ y) (lines_front ls rest (All-tail AreWords l ls h))
     ∙ sym (append_assoc (map word_of l) (flat_map (map word_of) ls) (read rest))
 
--- a quoted text that ends where its bytes do
+-- A quoted text that ends with its last byte.
 quoted_front : (more rest : List ℕ) → quoted_len false more ≡ Some (length more) → read (34 ∷ (more ++ rest)) ≡ quoted_of (34 ∷ more) ∷ read rest
 quoted_front more rest closed =
     let front : take (length more) more ≡ more = take_whole more in
@@ -71,7 +71,7 @@ quoted_front more rest closed =
     long [] ys = omega arith
     long (x ∷ xs) ys = omega (arith, long xs ys)
 
--- keyword "text" ; on a line
+-- keyword "text" ; on a line.
 pub quoted_line : (keyword q more rest : List ℕ) → is_word_text keyword ≡ true → q ≡ 34 ∷ more → quoted_len false more ≡ Some (length more)
     → read (line_of (keyword ∷ q ∷ (59 ∷ []) ∷ []) ++ rest) ≡ quoted_tokens keyword q ++ read rest
 quoted_line keyword q more rest word is closed =

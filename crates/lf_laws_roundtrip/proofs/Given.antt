@@ -1,4 +1,4 @@
--- Places for the cells of a loaded design: which components are given them.
+-- Places for the cells of a loaded design, and the components that are given them.
 use Rattle.std.proofs.Common.{◌≡◌, ℕ, ◌+◌, ◌≤◌, suc, Bool, true, false, List, [], ◌∷◌, map, length, Option, Some, None, All, refl, ap, ◌∙◌, arith}
 use Rattle.std.specs.Prelude.{IfSome, slice_get}
 use Rattle.std.specs.List.{AllZip}
@@ -20,7 +20,8 @@ use Rattle.lf_laws_roundtrip.specs.Exports.{AreForCells, LoadedIsExportable}
 abbrev pub Given : Type 0
 Given = List (ℕ × Option Place)
 
--- a place for each movable one of these components, the first of which has that position
+-- Holds if there is a place for each movable one of these components. The first component has this
+-- position.
 abbrev pub AreForMovables : ℕ → List Component → Given → Type 0
 AreForMovables n cs places = map (λ g. g.0) places ≡ map (λ e. e.0) (movables_from n cs)
 
@@ -41,7 +42,8 @@ neither c = by c.placement
         kinds Placed place start stop is = ((λ e. absurd cc), (λ e. absurd cc))
         kinds Unplaced place start stop is = ((λ e. absurd cc), (λ e. absurd cc))
 
--- The first of some components is movable, and has the first place, or is not, and has none.
+-- The first of some components is movable and has the first place, or it is not movable and has no
+-- place.
 
 first_cases : (n : ℕ) (c : Component) (cs : List Component) (P : Given → Type 0)
     → (is_movable c ≡ false → (places : Given) → AreForMovables (n + 1) cs places → P places)
@@ -81,7 +83,7 @@ rising n to (c ∷ cs) places long same =
 
 -- The components are movable.
 
--- the component of that position is movable
+-- Holds if the component at this position is movable.
 abbrev IsMovableAt : List Component → ℕ × Option Place → Type 0
 IsMovableAt whole g = IfSome (slice_get whole g.0) (λ c. IsMovable c)
 
@@ -112,7 +114,7 @@ positions_of_cells i (e ∷ es) [] h = absurd h
 positions_of_cells i (e ∷ es) (c ∷ cs) h =
     ap (λ (k : ℕ). k ∷ map (λ (d : Cell). d.component) cs) h.0.component ∙ ap (λ (ks : List ℕ). e.0 ∷ ks) (positions_of_cells i es cs h.1)
 
--- places for the cells of a design are places for the movable components
+-- Places for the cells of a design are places for the movable components.
 pub for_movables : (i : LoadInputs) (l : Loaded) (places : Given) → IsLoadedFrom i l → AreForCells l places → AreForMovables 0 i.document.components places
 for_movables i l places loaded same = same ∙ positions_of_cells i (movables i.document.components) l.cells loaded.cells
 

@@ -1,4 +1,5 @@
--- What a reader gives if the tokens are spelled as a text has them: values with some property, and such tokens after them.
+-- The values that a reader gives if the tokens are spelled as in a text: values with some property,
+-- followed by tokens that are spelled.
 use Rattle.std.proofs.Common.{◌≡◌, ℕ, zero, suc, Bool, true, false, cond, List, [], ◌∷◌, ◌++◌, length, Result, Ok, Err, refl, subst}
 use Rattle.std.specs.Prelude.{All}
 use Rattle.std.proofs.lemmas.List.Elements.{All-head, All-tail}
@@ -73,7 +74,7 @@ statements_give {S = S} P Q statement each (suc n) s h =
     (λ t k. gives_choose Q t.more (statements statement n t.state) (λ l. taken t.state l) (λ _. statements_give P Q statement each n t.state k.0)
     (λ stop. gives_pure Q t.state (k.1 stop)))
 
--- of statement after statement: what each keeps, and what is true where the last ends
+-- Blocks of statements: what each statement preserves, and what holds after the last.
 pub block_gives : {S : Type 0} (P Q : S → Type 0) (statement : Statement S)
     → ((s : S) → P s → Gives (λ t. P t.state × (t.more ≡ false → Q t.state)) (statement s))
     → (s : S) → P s → Gives Q (block statement s)

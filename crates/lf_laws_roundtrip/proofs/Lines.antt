@@ -1,4 +1,4 @@
--- The lines of a section are the section's words, as a printed text has them.
+-- The lines of a section are the section's words, as in a printed text.
 use Rattle.std.proofs.Common.{◌≡◌, ◌≢◌, ℕ, ◌≤◌, true, List, [], ◌∷◌, ◌++◌, map, length, pos, Option, Some, None, Ok, refl, ap, sym, ◌∙◌, append-nil, arith}
 use Rattle.std.specs.Prelude.{codes, decimal}
 use Rattle.std.specs.List.{flat_map}
@@ -24,7 +24,7 @@ use Rattle.lf_team_def.specs.TeamText as text
 use Rattle.lf_team_def.specs.TeamText.{section_lines}
 use Rattle.lf_laws_roundtrip.specs.TeamDocument.{placement_of, component_of, region_of, group_of}
 
--- a line's words one behind the other
+-- The words of lines, in order.
 words_of_lines : (lines : List (List (List ℕ))) → flat_map (map word_of) lines ≡ map word_of (flat_map (λ l. l) lines)
 words_of_lines [] = refl
 words_of_lines (l ∷ ls) = ap (λ (y : List PlainToken). map word_of l ++ y) (words_of_lines ls) ∙ sym (map-append word_of l (flat_map (λ (x : List (List ℕ)). x) ls))
@@ -34,7 +34,7 @@ entry_lines : {A : Type 0} (words : A → List (List ℕ)) (xs : List A) (last :
 entry_lines words [] last = append-nil last
 entry_lines words (x ∷ xs) last = ap (λ (y : List (List ℕ)). codes "-" ∷ (words x ++ y)) (entry_lines words xs last)
 
--- the tokens of a section's lines
+-- The tokens of a section's lines.
 pub section_tokens : {A : Type 0} (keyword : List ℕ) (words : A → List (List ℕ)) (xs : List A) (entries : List (List (List ℕ)))
     → entries ≡ map (λ x. codes "-" ∷ words x) xs
     → flat_map (map word_of) (section_lines keyword entries) ≡ map word_of (keyword ∷ section_words keyword (decimal (length entries)) words xs)

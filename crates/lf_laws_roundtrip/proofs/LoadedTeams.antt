@@ -1,4 +1,4 @@
--- What a loaded design has of a team is spelled as a text has it.
+-- The parts of a loaded design that belong to a team are spelled as in a text.
 use Rattle.std.proofs.Common.{◌≡◌, ◌≢◌, ℕ, ◌+◌, ◌<◌, inl, inr, List, [], ◌∷◌, All, map, length, get_or, Option, Some, None, refl, ap, sym, ◌∙◌, subst, arith}
 use Rattle.std.specs.Prelude.{codes, IfSome, Contains, slice_get, option_map, unwrap_or, Any}
 use Rattle.std.specs.List.{AllZip, enumerate_from}
@@ -63,7 +63,7 @@ macro_named f macros name n same at =
 
 -- A team's name.
 
--- a fence that claims a component is no parenthesis
+-- A fence that claims a component is not named by a parenthesis.
 not_parenthesis : (regions : List Region) (groups : List Group) (name fence : List ℕ) → All IsBindable groups → Any (λ g. Claims regions g name fence) groups
     → fence ≢ codes "("
 not_parenthesis regions groups name fence all (k, g, within, is, claims) e =
@@ -71,7 +71,7 @@ not_parenthesis regions groups name fence all (k, g, within, is, claims) e =
     let other : IfSome (Some fence) (λ n. n ≢ codes "(") = subst (λ o. IfSome o (λ n. n ≢ codes "(")) claims.bound bindable in
     other e
 
--- the fence of a number, in the document and in the frame
+-- The fence with a number, in the document and in the frame.
 same_fence : (regions : List Region) (f : Frame) (number : ℕ) (t : Team) (fence : List ℕ) → f.teams ≡ map frame_team (fences regions)
     → slice_get f.teams number ≡ Some t
     → slice_get (fence_names regions) number ≡ Some fence → t.name ≡ fence

@@ -1,4 +1,4 @@
--- All cells of a team, wherever they stand, are cells of the team.
+-- All cells of a team, at any places, are cells of the team.
 use Rattle.std.proofs.Common.{◌≡◌, ◌==◌, ℕ, ◌≤◌, Bool, true, false, List, [], ◌∷◌, All, map, length, get_or, refl, ap, sym, ◌∙◌, arith}
 use Rattle.std.specs.Prelude.{filter, Contains, IfSome}
 use Rattle.std.proofs.lemmas.Bool.Decides.{nat_tests}
@@ -12,7 +12,7 @@ use Rattle.lf_cells.specs.Openings.{initial_cell, own_cells}
 use Rattle.lf_frame.specs.Loads.{as_location}
 use Rattle.lf_laws_roundtrip.specs.LoadedTeams.{IsCellOfTeam, lasting, OwnCellsAreTeamCells}
 
--- what passes a test, of things of which something is true
+-- The elements that pass a test, if all elements have a property.
 passing : {X : Type 0} (p : X → Bool) (P : X → Type 0) (xs : List X) → All P xs → All (λ x. P x × (p x ≡ true)) (filter p xs)
 passing p P [] all = All-nil (λ x. P x × (p x ≡ true))
 passing p P (x ∷ xs) all = by (p x) refl (passing p P xs (All-tail P x xs all))
@@ -32,7 +32,7 @@ fewer p (x ∷ xs) = by (p x) refl (fewer p xs)
 same_number : (n m : ℕ) → (n == m) ≡ true → n ≡ m
 same_number n m h = grind (arith, nat_tests)
 
--- a cell of the list with the team's number
+-- Holds if this is a cell of the list with the team's number.
 abbrev IsOwn : Loaded → ℕ → LoadedCell → Type 0
 IsOwn l number d = Contains l.cells d × ((d.team == number) ≡ true)
 

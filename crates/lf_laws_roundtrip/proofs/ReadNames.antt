@@ -1,4 +1,5 @@
--- What a DEF text says is spelled as a text has it: names are words, and quoted texts end with their marks.
+-- The document of a DEF text is spelled as in a text: names are words, and quoted texts end with
+-- their marks.
 use Rattle.std.proofs.Common.{◌≡◌, ◌≢◌, ℕ, ◌≤◌, Bool, true, false, List, [], ◌∷◌, ◌++◌, length, Option, Some, None, Result, Ok, Err, refl, ap, ◌∙◌, subst}
 use Rattle.std.proofs.Common.{arith}
 use Rattle.std.specs.Prelude.{All, IfSome, codes, nat_lt, not, is_some, unwrap_or}
@@ -270,7 +271,7 @@ record AreSpelledParts (d : DocParts) : Type 0 where
   groups_bindable : All IsBindable d.groups
   components_spelled : All IsSpelledComponent d.components
 
--- where the text ends, its design has a name
+-- Holds if the design has a name. It does when the text ends.
 abbrev IsNamed : DocParts → Type 0
 IsNamed d = AreSpelledParts d × (is_some d.header.design ≡ true)
 
@@ -341,7 +342,7 @@ statement_gives : (s : DocParts) → AreSpelledParts s → Gives Ends (statement
 unfolding statement
 statement_gives s h = gives_bind IsSpelledToken Ends token _ token_gives (λ t _. statement_from_gives s t h)
 
--- nothing is known at first
+-- The initial state is spelled.
 nothing_known : AreSpelledParts no_parts
 nothing_known = record {
   header_spelled = record { version_spelled = tt; divider_closed = tt; brackets_closed = tt; design_spelled = tt };

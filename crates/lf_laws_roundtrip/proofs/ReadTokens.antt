@@ -1,4 +1,5 @@
--- The tokens of a text: a word begins no comment and no quoted text, and a quoted text ends with its closing mark.
+-- The tokens of a text: a word begins no comment and no quoted text, and a quoted text ends with
+-- its closing mark.
 use Rattle.std.proofs.Common.{◌≡◌, ◌==◌, ℕ, zero, suc, ◌+◌, ◌≤◌, Bool, true, false, cond, List, [], ◌∷◌, length, take, Option, Some, None, refl, ap, sym, ◌∙◌}
 use Rattle.std.proofs.Common.{append-nil, arith}
 use Rattle.std.specs.Prelude.{All}
@@ -15,12 +16,12 @@ use Rattle.lf_lex.specs.Splices.{is_word_text}
 use Rattle.lf_lex.proofs.Cutting.{closing_in_front}
 use Rattle.lf_laws_roundtrip.specs.Spelled.{IsQuotedText}
 
--- the token is spelled as a text has it
+-- Holds if the token is spelled as in a text.
 pub record IsSpelledToken (t : Lexeme) : Type 0 where
   pub word : t.kind ≡ Word → is_word_text t.text ≡ true
   pub quoted : t.kind ≡ Quoted → IsQuotedText t.text
 
--- a claim on a choice of five, which knows the tests for a comment, a quoted text and a word
+-- A claim on a choice of five, given the tests for a comment, a quoted text and a word.
 choice_of : (P : Lexed → Type 0) (a b c d e : Bool) (w x y z t u : Lexed) → P w → P x → P y → (d ≡ true → P z) → (c ≡ false → d ≡ false → e ≡ true → P t) → P u
     → P (cond a w (cond b x (cond c y (cond d z (cond e t u)))))
 choice_of P true b c d e w x y z t u o p q r k l = o

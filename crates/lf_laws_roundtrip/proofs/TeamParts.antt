@@ -1,4 +1,4 @@
--- The text of a team as a printed text: its parts, and that each can be printed.
+-- The text of a team as a printed text: its parts, each of which can be printed.
 use Rattle.std.proofs.Common.{◌≡◌, ◌≢◌, ℕ, ◌≤◌, true, List, [], ◌∷◌, ◌++◌, All, map, length, get_or, Option, Some, None, refl, ap, sym, ◌∙◌, append_assoc}
 use Rattle.std.proofs.Common.{append-nil, subst, arith}
 use Rattle.std.specs.Prelude.{codes, decimal, IfSome, IsSome, slice_get}
@@ -49,7 +49,7 @@ abbrev section_parts : Frame → Option Team → List Cell → List Part
 section_parts f fence cells = region_parts fence
     ++ components_section (decimal (length (map (text.component_words f) cells))) (map (component_of f) cells) ∷ group_parts fence cells
 
--- the parts from one of the header's statements on
+-- The parts from one of the header's statements on.
 abbrev from_units : Frame → Option Team → List Cell → List Part
 from_units f fence cells = units_are f.header.units ∷ section_parts f fence cells
 
@@ -119,7 +119,7 @@ section_text_are_words f fence cells h few each =
     named None h = tt
     named (Some t) h = h.0
 
--- the lines of a header from one of its statements on
+-- The lines of a header from one of its statements on.
 abbrev units_line : Header → List (List (List ℕ))
 units_line h = (codes "UNITS" ∷ codes "DISTANCE" ∷ codes "MICRONS" ∷ decimal h.units ∷ codes ";" ∷ []) ∷ []
 
@@ -132,7 +132,7 @@ brackets_line h = (codes "BUSBITCHARS" ∷ h.brackets ∷ codes ";" ∷ []) ∷ 
 abbrev divider_line : Header → List (List (List ℕ))
 divider_line h = (codes "DIVIDERCHAR" ∷ h.divider ∷ codes ";" ∷ []) ∷ brackets_line h
 
--- the tokens of the header's lines, and of what stands behind them
+-- The tokens of the header's lines, and of what follows them.
 header_tokens : (h : Header) (rest : List ℕ) → IsSpelledHeader h → IsLimit h.units 20000
     → read (flat_map line_of (text.header_lines h) ++ rest)
     ≡ part_tokens signed_decimal (version_is h.version)
@@ -254,7 +254,7 @@ parts_printed f fence cells header count spelled whole few each =
     (count_is_other (length (map (text.component_words f) cells)) few, components_printed f cells each)
     (group_parts_printed f fence cells spelled each)))))))
 
--- What the parts say.
+-- The document of the parts.
 
 abbrev document_by : Frame → Option Team → List Cell → Document
 document_by f fence cells = record {

@@ -1,4 +1,4 @@
--- Each line of a team's text but for those of quoted texts is a line of words.
+-- Each line of a team's text, except those with quoted texts, is a line of words.
 use Rattle.std.proofs.Common.{◌≡◌, ℕ, ◌≤◌, true, List, [], ◌∷◌, ◌++◌, All, map, length, ℤ, Option, Some, None, refl, arith}
 use Rattle.std.specs.Prelude.{codes, decimal, IfSome}
 use Rattle.std.specs.List.{flat_map, list_all}

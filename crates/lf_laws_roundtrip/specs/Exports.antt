@@ -9,7 +9,8 @@ use Rattle.lf_write.specs.Export.{AreExportable, exported}
 use Rattle.lf_write.specs.Laws.{FitsText}
 use Rattle.lf_laws_roundtrip.specs.Moved.{unplaced}
 
--- a place for each cell of the design, in the order of its cells, by the positions of their components
+-- Holds if there is a place for each cell of the design, in the order of its cells, by the
+-- positions of their components.
 abbrev pub AreForCells : Loaded → List (ℕ × Option Place) → Type 0
 AreForCells l places = map (λ g. g.0) places ≡ map (λ c. c.component) l.cells
 
@@ -18,25 +19,26 @@ abbrev pub LoadedIsExportable : Type 0
 LoadedIsExportable = (i : LoadInputs) (l : Loaded) (places : List (ℕ × Option Place)) → IsLoadedFrom i l → AreForCells l places
     → AreExportable i.document.components places
 
--- the inputs, with this document in place of theirs
+-- The inputs, with this document instead of theirs.
 abbrev pub with_document : LoadInputs → Document → LoadInputs
 with_document i d = record i { document = d }
 
--- the design has the other's frame and its cells, which are at the places
+-- Holds if the second design has the first one's frame and cells, and the cells are at the places.
 pub record IsAtPlaces (l m : Loaded) (places : List (Option Place)) : Type 0 where
   pub frame : m.frame ≡ l.frame
   pub cells : map unplaced m.cells ≡ map unplaced l.cells
   pub at_places : map (λ c. c.place) m.cells ≡ places
 
--- the text reads; what it says is accepted with the same library and limits, and each design loaded from it is the other one
--- at the places
+-- Holds if the text reads, and its document is accepted with the same library and limits. Each
+-- design loaded from it must be the given one at the places.
 pub record LoadsAtPlaces (i : LoadInputs) (l : Loaded) (places : List (Option Place)) (text : List ℕ) : Type 0 where
   pub again : Document
   pub read : document_of text ≡ Ok again
   pub accepted : IsAccepted (with_document i again)
   pub loaded : (m : Loaded) → IsLoadedFrom (with_document i again) m → IsAtPlaces l m places
 
--- A design that is exported with its cells at other places loads again as the design at these places.
+-- A design that is exported with its cells at other places loads again as the design at these
+-- places.
 abbrev pub ExportsLoadAgain : Type 0
 ExportsLoadAgain = (text : List ℕ) (i : LoadInputs) (l : Loaded) (places : List (ℕ × Option Place)) → document_of text ≡ Ok i.document → IsLoadedFrom i l
     → AreForCells l places → All (λ g. FitsText g.1) places → LoadsAtPlaces i l (map (λ g. g.1) places) (exported text i.document.components places)

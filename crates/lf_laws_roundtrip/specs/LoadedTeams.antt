@@ -1,4 +1,5 @@
--- The cells of a team of a loaded design, wherever they stand, and that the team's text reads back.
+-- The cells of a team of a loaded design, at any places, and the law that the team's text reads
+-- back.
 use Rattle.std.specs.Prelude.{◌≡◌, ◌≢◌, ℕ, ◌≤◌, List, All, Contains, IfSome, IsSome, Ok, codes, length, map, slice_get}
 use Rattle.lf_def.specs.Document.{document_of}
 use Rattle.lf_def.specs.PrintedTexts.{ReadsApartFromOffsets}
@@ -12,7 +13,8 @@ use Rattle.lf_frame.specs.Loads.{as_location, IsLoadedFrom}
 use Rattle.lf_team_def.specs.TeamText.{team_text}
 use Rattle.lf_laws_roundtrip.specs.TeamDocument.{team_document}
 
--- a cell of the team of that number, at any working place that a text can hold, or unplaced
+-- Holds if this is a cell of the team with this number, unplaced or at any working place that a
+-- text can hold.
 pub record IsCellOfTeam (l : Loaded) (number : ℕ) (c : Cell) : Type 0 where
   pub loaded : LoadedCell
   pub there : Contains l.cells loaded
@@ -21,17 +23,18 @@ pub record IsCellOfTeam (l : Loaded) (number : ℕ) (c : Cell) : Type 0 where
   pub mac : c.mac ≡ loaded.mac
   pub place : IfSome c.working (λ p. IsLocation (as_location p))
 
--- cells of the team of that number; if it has a fence none is named `+`, which no pattern of a group can be
+-- Holds if these are cells of the team with this number. If the team has a fence, no cell is named
+-- `+`, which is no pattern of a group.
 pub record AreTeamCells (l : Loaded) (number : ℕ) (cells : List Cell) : Type 0 where
   pub few : length cells ≤ 4000000
   pub own : All (IsCellOfTeam l number) cells
   pub no_plus : IsSome (slice_get l.frame.teams number) → All (λ c. c.name ≢ codes "+") cells
 
--- the name and the macro of a cell, which no command changes
+-- The name and the macro of a cell, which no command changes.
 abbrev pub lasting : Cell → List ℕ × ℕ
 lasting c = (c.name, c.mac)
 
--- the cells of the team of that number, in loading order, wherever they stand
+-- Holds if these are the cells of the team with this number, in loading order, at any places.
 pub record AreOwnCells (l : Loaded) (number : ℕ) (cells : List Cell) : Type 0 where
   pub same : map lasting cells ≡ map lasting (own_cells number l.cells)
   pub places : All (λ c. IfSome c.working (λ p. IsLocation (as_location p))) cells
@@ -41,7 +44,7 @@ pub record AreOwnCells (l : Loaded) (number : ℕ) (cells : List Cell) : Type 0 
 abbrev pub OwnCellsAreTeamCells : Type 0
 OwnCellsAreTeamCells = (l : Loaded) (number : ℕ) (cells : List Cell) → AreOwnCells l number cells → AreTeamCells l number cells
 
--- Of a design that is loaded from a text that was read, the text of a team reads back.
+-- If a design is loaded from a text that was read, the text of a team reads back.
 abbrev pub LoadedTeamsReadBack : Type 0
 LoadedTeamsReadBack = (text : List ℕ) (i : LoadInputs) → document_of text ≡ Ok i.document → (l : Loaded) → IsLoadedFrom i l → (number : ℕ) (cells : List Cell)
     → AreTeamCells l number cells → ReadsApartFromOffsets (team_text l.frame number cells) (team_document l.frame number cells)

@@ -1,4 +1,4 @@
--- Names, places and headers that a DEF text can hold, as a frame and cells have them.
+-- The names, places and headers of frames and cells that a DEF text can hold.
 use Rattle.std.specs.Prelude.{◌≡◌, ◌≢◌, ℕ, ◌≤◌, List, ◌∷◌, length, true, All, IfSome, Some, codes, slice_get}
 use Rattle.lf_lex.specs.Tokens.{quoted_len}
 use Rattle.std.specs.Prelude.{false}
@@ -11,41 +11,43 @@ use Rattle.lf_floorplan.specs.Boxes.{macro_of}
 use Rattle.lf_cells.specs.declared.cell.Cell.{Cell}
 use Rattle.lf_frame.specs.Loads.{as_location}
 
--- a word of a text, other than a semicolon: no first byte of it begins a comment or a quoted text
+-- A word of a text, other than a semicolon. Its first byte begins no comment and no quoted text.
 pub record IsSpelledWord (w : List ℕ) : Type 0 where
   pub spelled : is_word_text w ≡ true
   pub other : w ≢ codes ";"
 
--- a name, as a text has it
+-- A name that a text can hold.
 pub record IsSpelledName (n : List ℕ) : Type 0 where
   pub word : IsWord n
   pub spelled : is_word_text n ≡ true
 
--- a quoted text with its marks, the last byte of which is the closing mark
+-- A quoted text with its marks. Its last byte is the closing mark.
 pub record IsQuotedText (q : List ℕ) : Type 0 where
   pub more : List ℕ
   pub text : q ≡ 34 ∷ more
   pub closed : quoted_len false more ≡ Some (length more)
 
--- the words and quoted texts of a header, as a text has them
+-- The words and quoted texts of a header that a text can hold.
 pub record IsSpelledHeader (h : Header) : Type 0 where
   pub version : IsSpelledWord h.version
   pub divider : IsQuotedText h.divider
   pub brackets : IsQuotedText h.brackets
   pub design : IsSpelledName h.design
 
--- a cell whose name and macro a text can name, and whose working place it can hold
+-- A cell whose name and macro a text can name, and whose working place it can hold.
 pub record IsSpelledCell (f : Frame) (c : Cell) : Type 0 where
   pub name : IsSpelledName c.name
   pub mac : IsSpelledName (macro_of f c.mac).name
   pub place : IfSome c.working (λ p. IsLocation (as_location p))
 
--- a team's cells whose group a text can bind to the region of that name: no pattern is a plus, and the region is no parenthesis
+-- Holds if a text can bind the group of these cells to the region with this name: no pattern is a
+-- plus, and the region is no parenthesis.
 pub record CanBeBound (name : List ℕ) (cells : List Cell) : Type 0 where
   pub patterns : All (λ c. c.name ≢ codes "+") cells
   pub region : All (λ c. name ≢ codes "(") cells
 
--- a text can say what the frame has of the team of that number, and these cells of it
+-- Holds if a text can contain what the frame has of the team with this number, and these cells of
+-- the team.
 pub record IsSpelledTeam (f : Frame) (number : ℕ) (cells : List Cell) : Type 0 where
   pub header : IsSpelledHeader f.header
   pub fence : IfSome (slice_get f.teams number) (λ t. IsSpelledName t.name × CanBeBound t.name cells)

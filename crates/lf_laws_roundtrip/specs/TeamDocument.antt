@@ -1,4 +1,4 @@
--- What the DEF text of a team says (LEF/DEF 5.8, DEF REGIONS, COMPONENTS and GROUPS).
+-- The document of the DEF text of a team (LEF/DEF 5.8, DEF REGIONS, COMPONENTS and GROUPS).
 use Rattle.std.specs.Prelude.{ℕ, List, [], ◌∷◌, map, Option, Some, None, slice_get}
 use Rattle.lf_def.specs.declared.regions.Region.{Region}
 use Rattle.lf_def.specs.declared.regions.RegionKind.TheVariants.{Fence}
@@ -17,35 +17,35 @@ use Rattle.lf_frame.specs.Loads.{as_location}
 use Rattle.lf_team_def.specs.TeamText.{team_text}
 use Rattle.lf_laws_roundtrip.specs.Spelled.{IsSpelledTeam}
 
--- a placement clause for a place, or for none; its position in a text is left out
+-- A placement clause for a place, or for no place. Its position in a text is left out.
 abbrev pub placement_of : Option Place → PlacementClause
 placement_of None = record { kind = Unplaced; place = None; start = 0; stop = 0 }
 placement_of (Some p) = record { kind = Placed; place = Some (as_location p); start = 0; stop = 0 }
 
--- the component of a cell at its working place
+-- The component of a cell at its working place.
 abbrev pub component_of : Frame → Cell → Component
 component_of f c = record { name = c.name; mac = (macro_of f c.mac).name; placement = Some (placement_of c.working); semicolon = 0 }
 
--- the fence as a region
+-- The fence as a region.
 abbrev pub region_of : Team → Region
 region_of t = record { name = t.name; rects = t.rects; kind = Some Fence }
 
--- the team's fence; the ground team has none
+-- The team's fence. The ground team has no fence.
 abbrev pub regions_of : Option Team → List Region
 regions_of None = []
 regions_of (Some t) = region_of t ∷ []
 
--- the group that binds the cells to the team's fence, by their names
+-- The group that binds the cells to the team's fence, by their names.
 abbrev pub group_of : Team → List Cell → Group
 group_of t cells = record { name = t.name; patterns = map (λ c. c.name) cells; region = Some t.name }
 
--- that group; the ground team and a team without cells have none
+-- The groups: that group, or no group for the ground team and a team without cells.
 abbrev pub groups_of : Option Team → List Cell → List Group
 groups_of None cells = []
 groups_of (Some t) [] = []
 groups_of (Some t) (c ∷ cs) = group_of t (c ∷ cs) ∷ []
 
--- the header, the team's fence, its cells, and the group that binds them to the fence
+-- The header, the team's fence, its cells, and the group that binds them to the fence.
 abbrev pub team_document : Frame → ℕ → List Cell → Document
 team_document f number cells = record {
   header = record {
@@ -62,7 +62,7 @@ team_document f number cells = record {
   blockages = [];
 }
 
--- The text of a team says this, except for the positions of its components.
+-- The text of a team reads as this document, except for the positions of its components.
 abbrev pub TeamTextReadsBack : Type 0
 TeamTextReadsBack = (f : Frame) (number : ℕ) (cells : List Cell) → IsSpelledTeam f number cells
     → ReadsApartFromOffsets (team_text f number cells) (team_document f number cells)

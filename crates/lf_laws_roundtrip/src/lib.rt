@@ -1,16 +1,22 @@
-//! Laws: what written texts say when they are read again, and the designs that are loaded from them.
+//! Laws: what written texts say when they are read again, and the designs that are loaded from
+//! them.
 //!
-//! No code runs here: each function is a law, whose contract is a theorem that its `ensures` names. They are about the two texts that
-//! the program writes, the DEF text of a team (`lf_team_def`) and the exported text of a design (`lf_write`), and say what
-//! `document_of` of `lf_def` makes of them and what loading then finds.
+//! No code runs here: each function is a law, and its `ensures` clauses name the theorem. The laws
+//! are about the two texts that the program writes: the DEF text of a team (`lf_team_def`) and the
+//! exported text of a design (`lf_write`). They say what `document_of` of `lf_def` makes of these
+//! texts and what loading then finds.
 //!
-//! A text can *spell* what it says if each name is a word that is no semicolon, the divider and the brackets are quoted texts with
-//! their marks, and no group is bound to a region named by a parenthesis.
+//! A text can *spell* a document under three conditions:
 //!
-//! ```
-//! let text = export(alloc, &document, &places)?;
-//! exported_designs_load_alike();
-//! ```
+//! - each name is a word other than a semicolon
+//! - the divider and the brackets are quoted texts with their marks
+//! - no group is bound to a region named by a parenthesis
+//!
+//! Used by `lf_task_serve` and `lf_task_repair`.
+//!
+//! Modules, in reading order:
+//!
+//! - `laws`: the laws
 #![tactic(auto)]
 
 mod laws;

@@ -1,4 +1,5 @@
--- The statements of LEF take a run of tokens, and read alike from tokens that differ in their places alone.
+-- The statements of LEF take a run of tokens, and read alike from tokens that differ only in their
+-- places.
 use Rattle.std.proofs.Common.{◌≡◌, ℕ, ◌^◌, Bool, true, false, ◌||◌, List, [], ◌∷◌, ◌++◌, ℤ, Ok, refl, ap}
 use Rattle.std.specs.Prelude.{codes}
 use Rattle.std.specs.Str.{bytes_eq}

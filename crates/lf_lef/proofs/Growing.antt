@@ -1,4 +1,4 @@
--- A library that grows begins with what it was.
+-- A library that grows begins with its old contents.
 use Rattle.std.proofs.Common.{◌≡◌, ◌≤◌, List, length, take, sym, ap, ◌∙◌, arith}
 use Rattle.std.proofs.lemmas.List.{length-take, take-take}
 use Rattle.std.proofs.Math.Seq.{take-length}

@@ -1,4 +1,4 @@
--- Printed lengths, points and words are read back, and what is skipped is skipped up to its semicolon.
+-- Printed lengths, points and words are read back, and skipping ends at the semicolon.
 use Rattle.std.proofs.Common.{◌≡◌, ◌≢◌, ℕ, ◌^◌, ◌<◌, Bool, true, false, cond, List, [], ◌∷◌, ◌++◌, All, map, length, ℤ, Result, Ok, Err, refl, sym, ap, ◌∙◌}
 use Rattle.std.proofs.Common.{arith}
 use Rattle.std.specs.Prelude.{codes}
@@ -26,7 +26,7 @@ use Rattle.lf_lef.proofs.Following.{point_at}
 no_value : (x : ℤ) → ◌≡◌ {A = Result ℤ NumberFault} (Ok x) (Err NotANumber) → ⊥
 no_value x e = cc
 
--- a word that writes a length is no other word
+-- A word that denotes a length differs from a word that denotes no number.
 pub not_word : (w a : List ℕ) (x : ℤ) → fixed_of w 6 (10 ^ 12) ≡ Err NotANumber → Writes a x → a ≢ w
 not_word w a x e h same = no_value x (sym h ∙ ap (λ (z : List ℕ). fixed_of z 6 (10 ^ 12)) same ∙ e)
 
@@ -42,7 +42,7 @@ micros_at n h =
     at_first same _ (word_of n.word) [] n.length (λ t e. at_given same (micros_of t) _ n.length [] n.length (micros_of_at n h t e)
     (back_pure same n.length n.length refl))
 
--- a word that writes a length is no keyword
+-- A word that denotes a length is no keyword.
 pub no_keyword : (n : PrintedLength) → IsPrintedLength n → (w : List ℕ) → fixed_of w 6 (10 ^ 12) ≡ Err NotANumber → bytes_eq n.word w ≡ false
 no_keyword n h w e = not_eq n.word w (not_word w n.word n.length e h)
 
@@ -116,7 +116,7 @@ symmetry_from s t l =
     cond (is (codes ";") t) (finishes s l) (cond (is (codes "X") t) (continues (record s { x = true }) l) (cond (is (codes "Y") t) (continues (record s { y = true }) l)
     (cond (is (codes "R90") t) (continues s l) (fault_at Unexpected t.line))))
 
--- one more word of SYMMETRY
+-- One more word of SYMMETRY.
 word_turns : (s s1 y : Symmetry) (u : PlainToken) (rest : List PlainToken)
     → ((t : Lexeme) (l : Lexed) → symmetry_from s (record t { text = u.text; kind = u.kind }) l ≡ continues s1 l)
     → TurnsAt same symmetry_word s1 rest y → TurnsAt same symmetry_word s (u ∷ rest) y
@@ -146,7 +146,7 @@ symmetries_back ws = at_block same symmetry_word no_symmetry (with_symmetries no
 
 -- Statements that are skipped.
 
--- a statement that is skipped, where a semicolon alone is skipped and any other first token but those
+-- A skipped statement: a semicolon alone, or one that begins with no other statement's keyword.
 pub passed_back : {S : Type 0} (from : Lexeme → Reader (Turn S)) (s : S) (others : List (List ℕ)) (ts : List PlainToken) → IsSkipped others ts
     → ((t : Lexeme) (l : Lexed) → from (record t { text = codes ";"; kind = Word }) l ≡ continues s l)
     → ((u : PlainToken) → All (λ w. u.text ≢ w) others → u.text ≢ codes ";" → (t : Lexeme) (l : Lexed)

@@ -1,4 +1,4 @@
--- Printed sites and macros are read back in texts, and statements that are skipped are ignored.
+-- Printed sites and macros are read back in texts, and skipped statements are ignored.
 use Rattle.std.proofs.Common.{◌≡◌, ◌≢◌, ℕ, zero, suc, ◌<◌, Bool, true, false, cond, List, [], ◌∷◌, ◌++◌, All, map, length, ℤ, None, Result, Ok, Err, refl, sym}
 use Rattle.std.proofs.Common.{ap, ◌∙◌, arith}
 use Rattle.std.specs.Prelude.{codes, nat_le}
@@ -46,7 +46,7 @@ use Rattle.lf_lef.proofs.PrintedMacros.{macro_parts_back}
 has_room : (n : ℕ) → n < 1000000 → nat_le 1000000 n ≡ false
 has_room n lt = grind (arith, nat_tests)
 
--- Statements that are skipped.
+-- Skipped statements.
 
 plain_due : (c : Contents) (ts : List PlainToken) → IsSkipped other_statements ts → BackAt same (due_statement c) (with_semicolon ts) (turn c true)
 unfolding due_statement statement_from passed_from
@@ -83,7 +83,7 @@ named_back n between p h =
     at_bind plain same name _ (word_of n ∷ []) (between ++ map word_of (end_words n)) (token_with n) tt (short_name_back n p.word p.short) (λ t e.
     rw (text_is n t e) (to_end_before n (same_bytes n) between h))
 
--- a keyword after which something is skipped
+-- A keyword after which tokens are skipped.
 keyword_due : (c : Contents) (w : List ℕ) (r : Reader (Unit {0})) (vs : List PlainToken)
     → ((t : Lexeme) (l : Lexed) → statement_from c (record t { text = w; kind = Word }) l ≡ (r l >>= λ stop. continues c stop.rest)) → BackAt same r vs tt
     → BackAt same (due_statement c) (word_of w ∷ vs) (turn c true)
@@ -156,7 +156,7 @@ same_from one goes n n' s l lt lt' later (Ok t) h =
     let shorter = goes s t.value.state l t.rest (h ∙ ap (λ (b : Bool). taken (turn t.value.state b) t.rest) more) in
     later t.value.state t.rest (omega (arith, shorter, lt)) (omega (arith, shorter, lt')))
 
--- the bound on turns does not matter if it is large enough
+-- The bound on turns does not matter if it is large enough.
 same_turns : {S : Type 0} (one : Statement S) → Goes one → (n n' : ℕ) (s : S) (l : Lexed) → length l.tokens < n → length l.tokens < n'
     → statements one n s l ≡ statements one n' s l
 unfolding statements
@@ -170,7 +170,7 @@ library_turn c c' l k h =
     let shorter = statement_goes c c' l k h in
     rw h (same_turns statement statement_goes (length l.tokens) (suc (length k.tokens)) c' k shorter (omega arith))
 
--- a statement of these tokens is read, whatever stands after
+-- A statement with these tokens is read, whatever follows.
 library_step : (c c' : Contents) (ts : List PlainToken) (p : List Lexeme) (k : Lexed) → BackAt same (due_statement c) ts (turn c' true) → Spells p ts
     → library c (with_tokens p k) ≡ library c' k
 library_step c c' ts p k back e =
@@ -195,7 +195,7 @@ nothing_spelled (t ∷ q) k e = absurd cc
 pub passes_over : (c : Contents) → SkipsStatements c
 passes_over c ps p k h e = pass_all ps c [] p k (library c k) h e (λ q eq. ap (λ (z : Lexed). library c z) (nothing_spelled q k eq))
 
--- X and Y, where they are said
+-- X and Y, if the symmetry has them.
 abbrev said_words : Symmetry → List SymmetryWord
 said_words s = cond s.x (about_x ∷ []) [] ++ cond s.y (about_y ∷ []) []
 
@@ -233,14 +233,14 @@ site_due c n xs h hs fresh room =
     (at_map same same (with_site c) (λ (z : Contents). turn z true) behind v (turn v true) (with_site_back c n xs h hs fresh room)
     (λ z e. ap (λ (x : Contents). turn x true) e))
 
--- a site that is printed by any statements is read back
+-- A site that is printed by any statements is read back.
 pub reads_site_of : (c : Contents) (s : Site) (xs : List SiteStatement) → ReadsSiteOf c s xs
 reads_site_of c s xs ps p k hp hn hs said fresh room e =
     pass_all ps c (site_tokens s.name xs) p k (library (with_one c s) k) hp e (λ q eq.
     library_step c (with_one c (described_site s.name xs)) (site_tokens s.name xs) q k (site_due c s.name xs hn hs fresh room) eq
     ∙ ap (λ (z : Site). library (with_one c z) k) said)
 
--- CLASS, SYMMETRY and SIZE
+-- CLASS, SYMMETRY and SIZE.
 
 abbrev one_site : List ℕ → Symmetry → PrintedLength → PrintedLength → List SiteStatement
 one_site class y w h = site_class class ∷ site_symmetry (said_words y) ∷ site_size w h ∷ []
@@ -294,7 +294,7 @@ macro_due c n xs h hs fresh room =
     (with_macro_back c n xs h hs fresh room)
     (λ z e. ap (λ (y : Contents). turn y true) e))
 
--- a macro that is printed by any statements is read back
+-- A macro that is printed by any statements is read back.
 pub reads_macro_of : (c : Contents) (m : Macro) (xs : List MacroStatement) → ReadsMacroOf c m xs
 reads_macro_of c m xs ps p k hp hn hs said fresh room e =
     pass_all ps c (macro_tokens m.name xs) p k (library (with_said c m) k) hp e (λ q eq.

@@ -1,4 +1,4 @@
--- Printed macros say what their statements say.
+-- Printed macros are read as their statements describe them.
 use Rattle.std.proofs.Common.{◌≡◌, ◌≢◌, ℕ, ◌<◌, Bool, true, false, cond, List, [], ◌∷◌, ◌++◌, All, map, length, ℤ, Option, Some, None, Result, refl, ap, ◌∙◌}
 use Rattle.std.proofs.Common.{arith}
 use Rattle.std.specs.Prelude.{codes, IfSome}
@@ -79,7 +79,7 @@ rect_with m iterate x y b o more = record { mask = m; iterate = iterate; corner 
 reach_alike : (a b : ℤ) (p q : Point) → p.y ≡ a → q.y ≡ b → reach_of p.y q.y ≡ reach_of a b
 reach_alike a b p q e f = rw (e, f) refl
 
--- what stands after RECT, its first corner taken apart
+-- The tokens after RECT, with the first corner written out.
 corner_back : (m : Option PrintedLength) (iterate : Bool) (x y : PrintedLength) (b : Bool) (o : PrintedPoint) (more : List PlainToken)
     → IsPrintedRect (rect_with m iterate x y b o more)
     → BackAt same rect (map word_of (mask_words m) ++ (map word_of (iterate_words iterate) ++

@@ -1,4 +1,4 @@
--- Printed sites say what their statements say.
+-- Printed sites are read as their statements describe them.
 use Rattle.std.proofs.Common.{◌≢◌, ℕ, ◌<◌, true, false, List, [], ◌∷◌, All, length, refl, ap, arith}
 use Rattle.std.specs.Prelude.{codes}
 use Rattle.std.specs.Str.{bytes_eq}

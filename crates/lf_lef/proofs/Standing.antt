@@ -1,4 +1,4 @@
--- Of several statements of one kind the first stands.
+-- The first of several statements of one kind counts.
 use Rattle.std.proofs.Common.{◌≡◌, ℕ, zero, suc, Bool, true, false, cond, List, [], ◌∷◌, ◌++◌, length, Option, Some, None, Result, Ok, Err, refl}
 use Rattle.std.specs.Prelude.{codes}
 use Rattle.std.specs.Str.{bytes_eq}
@@ -20,7 +20,7 @@ use Rattle.lf_lef.specs.Library.{room_for, with_first, with_site, with_macro, st
 use Rattle.lf_lef.specs.Laws.{IsKept, StaysInFront, FirstSiteStatementsCount, FirstPinUseCounts, FirstMacroStatementsCount}
 use Rattle.lf_lef.proofs.Growing.{same_contents, grown_twice, through}
 
--- whatever is read has the property
+-- Holds if whatever is read has the property.
 abbrev Gives : {A : Type 0} → (A → Type 0) → Result (ReadValue A) ReadFault → Type 0
 Gives P r = (x : _) (m : Lexed) → r ≡ taken x m → P x
 
@@ -56,7 +56,7 @@ gives_statements R trans one each (suc n) s l x m h =
     gives_then (λ (t : Turn _). R s t.state) (R s) (one s l) _ (each s l)
     (λ t p. turn_then R trans s t.value t.rest (statements one n t.value.state t.rest) p (gives_statements R trans one each n t.value.state t.rest) t.value.more) x m h
 
--- what is known stays
+-- A known value stays.
 
 same_said : {A : Type 0} (o : Option A) → IsKept o o
 same_said o x e = e

@@ -1,5 +1,5 @@
--- The statements of a text take a run of tokens, read alike from tokens that differ in their places alone, and leave what stands
--- after END LIBRARY.
+-- The statements of a text take a run of tokens, and read alike from tokens that differ only in
+-- their places. They leave what follows END LIBRARY.
 use Rattle.std.proofs.Common.{◌≡◌, ℕ, zero, suc, ◌<◌, Bool, true, false, ◌||◌, cond, List, [], ◌∷◌, length, map, Option, Some, None, Result, Ok, Err, refl, ap}
 use Rattle.std.proofs.Common.{sym, ◌∙◌}
 use Rattle.std.specs.Prelude.{codes, nat_le}
@@ -42,7 +42,7 @@ room_again : (names : List (List ℕ)) (count : ℕ) (t t' : Lexeme) → plain t
 room_again names count t t' e v h = room_moved (position_of names t.text) (position_of names t'.text) count t t' v
     (ap (λ (x : List ℕ). position_of names x) (text_alike t t' e)) h
 
--- a library with one site more, or one macro more
+-- The library with one more site, or one more macro.
 abbrev pub site_added : Contents → List ℕ → SiteParts → Contents
 site_added c n parts = record c { sites = with_first (position_of (site_names c.sites) n) c.sites (site_of n parts) }
 
@@ -114,9 +114,9 @@ statement_from_follows c t t' e =
     (λ x x' ex. pure same (turn x true) (turn x' true) (ap (λ (z : Contents). turn z true) ex)))
     (bind same same (passed_from t) (passed_from t') _ _ (passed_from_follows t t' e) (λ x x' ex. pure same (turn c true) (turn c true) refl))))
 
--- A statement where one is due.
+-- A statement that is due.
 
--- a statement, where the text may not end
+-- A statement, in a text that may not end here.
 unfoldable pub due_statement : Statement Contents
 due_statement c l = do
   t ← token l
@@ -133,7 +133,7 @@ due_statement_goes c c1 l m e = takes_one same _ _ l m (turn c1 true) (λ t. sta
 pub due_statements_follow : (c : Contents) → Follows same (block due_statement c) (block due_statement c)
 due_statements_follow c = block_follows same due_statement (alike_states due_statement due_statement_follows) due_statement_goes c c refl
 
--- where a token is left it is the same statement
+-- If a token is left, the two statements are the same.
 pub with_token_left : (c : Contents) (l : Lexed) (t : Lexeme) (ts : List Lexeme) → l.tokens ≡ t ∷ ts → statement c l ≡ due_statement c l
 unfolding statement due_statement
 with_token_left c l t ts e = rw e refl
@@ -148,7 +148,7 @@ none_of : (c : Contents) (l m : Lexed) (x : Turn Contents) (ts : List Lexeme) �
 none_of c l m x [] e h = at_end c l m x l.fault h
 none_of c l m x (t ∷ ts) e h = absurd cc
 
--- where no token is left the library ends
+-- If no token is left, the library ends.
 no_token_left : (c : Contents) (l m : Lexed) (x : Turn Contents) → l.tokens ≡ [] → statement c l ≡ taken x m → (x ≡ turn c false) × (m ≡ l)
 unfolding statement
 no_token_left c l m x e h = none_of c l m x l.tokens e h
@@ -163,7 +163,7 @@ goes_with c c1 l m (t ∷ ts) e h = due_statement_goes c c1 l m (sym (with_token
 pub statement_goes : Goes statement
 statement_goes c c1 l m h = goes_with c c1 l m l.tokens refl h
 
--- What stands after END LIBRARY.
+-- The tokens after END LIBRARY.
 
 nothing_left : (l m : Lexed) → l.tokens ≡ [] → m ≡ l → m.tokens ≡ []
 nothing_left l m e f = ap (λ (x : Lexed). x.tokens) f ∙ e
@@ -192,7 +192,7 @@ due_turn n c c' l m left later [] e (Ok t) h f =
 due_turn n c c' l m left later (u ∷ us) e (Ok t) h f = rw (sym (with_token_left c l u us e) ∙ h)
     (due_rest n c' m left later t.value.more t.value.state t.rest f)
 
--- where tokens are left, each statement was due
+-- If tokens are left at the end, each statement was due.
 all_due : (n : ℕ) (c c' : Contents) (l m : Lexed) → (m.tokens ≡ [] → ⊥) → statements statement n c l ≡ taken c' m → statements due_statement n c l ≡ taken c' m
 unfolding statements
 all_due zero c c' l m left h = absurd cc
@@ -228,7 +228,7 @@ unfolding statements
 any_due zero c c' l m h = absurd cc
 any_due (suc n) c c' l m h = plain_turn n c c' l m (λ s k f. any_due n s c' k m f) l.tokens refl (due_statement c l) refl h
 
--- where tokens are left unread, any others may stand in their place
+-- If tokens are left unread, any others may replace them.
 pub unread : (c c' : Contents) (front : List Lexeme) (k k' : Lexed) → (k.tokens ≡ [] → ⊥) → library c (with_tokens front k) ≡ taken c' k
     → library c (with_tokens front k') ≡ taken c' k'
 unread c c' front k k' left h =

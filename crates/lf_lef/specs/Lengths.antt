@@ -6,41 +6,41 @@ use Rattle.lf_lex.specs.declared.fault.ReadFault.{ReadFault}
 use Rattle.lf_lex.specs.Tokens.{Lexeme}
 use Rattle.lf_lex.specs.Reading.{◌>>=◌, Reader, taken, token, is, keyword, or_bad_number}
 
--- a length lies between -1,000,000 and 1,000,000 microns
+-- Holds if the length lies between -1,000,000 and 1,000,000 microns.
 pub record IsInRange (length : ℤ) : Type 0 where
   pub low : negsuc 999999999999 ≤ℤ length
   pub high : length ≤ℤ pos (10 ^ 12)
 
--- both lengths of a point or a size are in that range
+-- Holds if both lengths of a point or a size are in that range.
 pub record HasRange (p : Point) : Type 0 where
   pub x : IsInRange p.x
   pub y : IsInRange p.y
 
--- the length that the token writes; six decimals of a micron are kept
+-- The length of a token, with six decimals of a micron.
 abbrev pub micros_of : Lexeme → Result ℤ ReadFault
 micros_of t = or_bad_number (fixed_of t.text 6 (10 ^ 12)) t.line
 
--- a length
+-- A length.
 unfoldable pub micros : Reader ℤ
 micros l = do
   t ← token l
   length ← micros_of t.value
   taken length t.rest
 
--- a point, after its first token: x y, or ( x y )
+-- A point, after its first token: x y, or ( x y ).
 unfoldable pub point_from : Lexeme → Reader Point
 point_from t l =
     if is (codes "(") t then (micros l >>= λ x. micros x.rest >>= λ y. keyword (codes ")") y.rest >>= λ stop.
     taken (record { x = x.value; y = y.value }) stop.rest)
     else (micros_of t >>= λ x. micros l >>= λ y. taken (record { x = x; y = y.value }) y.rest)
 
--- a point
+-- A point.
 unfoldable pub point : Reader Point
 point l = do
   t ← token l
   point_from t.value t.rest
 
--- SIZE w BY h ; after its keyword (LEF SITE, LEF MACRO)
+-- SIZE w BY h ; after its keyword (LEF SITE, LEF MACRO).
 unfoldable pub size : Reader Point
 size l = do
   width ← micros l
@@ -49,7 +49,7 @@ size l = do
   stop ← keyword (codes ";") height.rest
   taken (record { x = width.value; y = height.value }) stop.rest
 
--- ORIGIN x y ; after its keyword (LEF MACRO)
+-- ORIGIN x y ; after its keyword (LEF MACRO).
 unfoldable pub origin : Reader Point
 origin l = do
   p ← point l

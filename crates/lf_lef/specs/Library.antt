@@ -1,4 +1,5 @@
--- LEF texts: the statements of a library, up to END LIBRARY or the end of the text between statements.
+-- LEF texts: the statements of a library, up to END LIBRARY or the end of the text between
+-- statements.
 use Rattle.std.specs.Prelude.{◌≡◌, ◌⊎◌, ℕ, nat_le, Bool, ◌||◌, List, [], ◌∷◌, ◌++◌, length, Option, Some, None, Result, Ok, Err, codes, if◌then◌else◌}
 use Rattle.lf_names.specs.Names.{position_of}
 use Rattle.lf_lex.specs.declared.fault.FaultNumber.TheVariants.{TooMany}
@@ -13,17 +14,18 @@ use Rattle.lf_lef.specs.Contents.{Contents, site_names, macro_names}
 use Rattle.lf_lef.specs.Sites.{site_parts, site_of}
 use Rattle.lf_lef.specs.Macros.{macro_parts, macro_of}
 
--- a new name needs room for one thing more
+-- Checks that there is room for one more entry if the name is new.
 abbrev pub room_for : Option ℕ → ℕ → Lexeme → Result (Unit {0}) ReadFault
 room_for (Some at) count t = Ok tt
 room_for None count t = if nat_le 1000000 count then fault_at TooMany t.line else Ok tt
 
--- of several things of one name the first counts
+-- The entries with this one appended if its name is new. The first of several entries with one name
+-- counts.
 abbrev pub with_first : {A : Type 0} → Option ℕ → List A → A → List A
 with_first (Some at) things thing = things
 with_first None things thing = things ++ thing ∷ []
 
--- SITE name, its statements, END name; after its keyword
+-- SITE name, its statements, END name; after its keyword.
 unfoldable pub with_site : Contents → Reader Contents
 with_site c l = do
   n ← name l
@@ -31,7 +33,7 @@ with_site c l = do
   parts ← site_parts n.value.text n.rest
   taken (record c { sites = with_first (position_of (site_names c.sites) n.value.text) c.sites (site_of n.value.text parts.value) }) parts.rest
 
--- MACRO name, its statements, END name; after its keyword
+-- MACRO name, its statements, END name; after its keyword.
 unfoldable pub with_macro : Contents → Reader Contents
 with_macro c l = do
   n ← name l
@@ -39,22 +41,24 @@ with_macro c l = do
   parts ← macro_parts n.value.text n.rest
   taken (record c { macros = with_first (position_of (macro_names c.macros) n.value.text) c.macros (macro_of n.value.text parts.value) }) parts.rest
 
--- what is skipped to END and the name that follows its keyword (LEF LAYER, VIA, VIARULE, NONDEFAULTRULE, ARRAY)
+-- True for what is skipped up to END and the name that follows the keyword (LEF LAYER, VIA,
+-- VIARULE, NONDEFAULTRULE, ARRAY).
 abbrev pub is_named : Lexeme → Bool
 is_named t = is (codes "LAYER") t || is (codes "VIA") t || is (codes "VIARULE") t || is (codes "NONDEFAULTRULE") t || is (codes "ARRAY") t
 
--- what is skipped to END and its keyword (LEF UNITS, PROPERTYDEFINITIONS, SPACING and groups of older texts)
+-- True for what is skipped up to END and its keyword (LEF UNITS, PROPERTYDEFINITIONS, SPACING, and
+-- groups of older texts).
 abbrev pub is_group : Lexeme → Bool
 is_group t = is (codes "UNITS") t || is (codes "PROPERTYDEFINITIONS") t || is (codes "SPACING") t || is (codes "IRDROP") t || is (codes "NOISETABLE") t || is
     (codes "CORRECTIONTABLE") t
 
--- the name, and all up to END and that name
+-- The name, and all tokens up to END and that name.
 unfoldable pub to_named_end : Reader (Unit {0})
 to_named_end l = do
   n ← name l
   to_end n.value.text n.rest
 
--- A statement other than SITE and MACRO, after its first token.
+-- Skips a statement other than SITE and MACRO, after its first token.
 unfoldable pub passed_from : Lexeme → Reader (Unit {0})
 passed_from t l =
     if is_named t then to_named_end l
@@ -63,7 +67,8 @@ passed_from t l =
     else if is (codes ";") t then taken tt l
     else to_semicolon l
 
--- A statement of the text, after its first token: SITE and MACRO count, and others are skipped.
+-- A statement of the text, after its first token. SITE and MACRO count. Other statements are
+-- skipped.
 unfoldable pub statement_from : Contents → Lexeme → Reader (Turn Contents)
 statement_from c t l =
     if is (codes "END") t then (end_name (codes "LIBRARY") l >>= λ stop. finishes c stop.rest)
@@ -71,7 +76,7 @@ statement_from c t l =
     else if is (codes "MACRO") t then (with_macro c l >>= λ new. continues new.value new.rest)
     else (passed_from t l >>= λ stop. continues c stop.rest)
 
--- the end of the text between statements ends the library too
+-- A statement, or the end of the text, which ends the library too.
 abbrev pub statement_or_end : Contents → Option Lexeme → Reader (Turn Contents)
 statement_or_end c None l = finishes c l
 statement_or_end c (Some t) l = statement_from c t l
@@ -81,14 +86,14 @@ statement c l = do
   t ← next l
   statement_or_end c t.value t.rest
 
--- what a library holds after a text, and what is left after its END LIBRARY
+-- The contents of a library after a text, and what is left after END LIBRARY.
 abbrev pub library : Contents → Reader Contents
 library c l = block statement c l
 
--- What a library holds after a text is read into it, or the text's first fault.
+-- The contents of a library after a text was read into it, or the text's first fault.
 abbrev pub library_after : Contents → List ℕ → Result Contents ReadFault
 library_after c text = value_of (library c (tokens_of text))
 
--- the fault of a reader: that of the text with its line, or a failed allocation
+-- Holds if the fault is that of the text, with its line, or a failed allocation.
 abbrev pub Refuses : LoadFault → Result Contents ReadFault → Type 0
 Refuses fault reading = (fault ≡ load_fault_of Memory) ⊎ ((first : ReadFault) × (reading ≡ Err first) × (fault ≡ load_fault_of (Fault first)))

@@ -9,7 +9,8 @@ use Rattle.lf_lef.specs.Lengths.{size, origin}
 use Rattle.lf_lef.specs.Sites.{symmetry, no_symmetry, no_point}
 use Rattle.lf_lef.specs.Pins.{pin, rail_of}
 
--- A statement of OBS or DENSITY (LEF MACRO OBS, LEF MACRO DENSITY), which is skipped; an END alone is the last.
+-- A skipped statement of OBS or DENSITY (LEF MACRO OBS, LEF MACRO DENSITY). An END without a name
+-- is the last.
 unfoldable pub passed_statement : Statement (Unit {0})
 passed_statement _ l = do
   t ← token l
@@ -17,11 +18,11 @@ passed_statement _ l = do
       else if is (codes ";") t.value then continues tt t.rest
       else (to_semicolon t.rest >>= λ stop. continues tt stop.rest)
 
--- OBS or DENSITY after its keyword
+-- OBS or DENSITY after its keyword.
 abbrev pub passed_group : Reader (Unit {0})
 passed_group l = block passed_statement tt l
 
--- A statement of a macro that is skipped, after its first token.
+-- Skips a statement of a macro, after its first token.
 unfoldable pub passed_from : Lexeme → Reader (Unit {0})
 passed_from t l =
     if is (codes "OBS") t || is (codes "DENSITY") t then passed_group l
@@ -29,8 +30,8 @@ passed_from t l =
     else if is (codes ";") t then taken tt l
     else to_semicolon l
 
--- A statement of a macro, after its first token: of ORIGIN, SIZE and SYMMETRY the first counts, every PIN counts, and others are
--- skipped.
+-- A statement of a macro, after its first token. The first ORIGIN, SIZE and SYMMETRY count, and
+-- every PIN. Other statements are skipped.
 unfoldable pub macro_statement_from : List ℕ → MacroParts → Lexeme → Reader (Turn MacroParts)
 macro_statement_from name parts t l =
     if is (codes "END") t then (end_name name l >>= λ stop. finishes parts stop.rest)
@@ -48,14 +49,14 @@ macro_statement name parts l = do
 abbrev pub no_macro_parts : MacroParts
 no_macro_parts = record { size = None; origin = None; symmetry = None; pins = [] }
 
--- the statements of a macro, and its END name
+-- The statements of a macro, and its END name.
 abbrev pub macro_parts : List ℕ → Reader MacroParts
 macro_parts name l = block (macro_statement name) no_macro_parts l
 
 abbrev pub origin_of : MacroParts → Point
 origin_of parts = unwrap_or parts.origin no_point
 
--- the macro that the statements describe
+-- The macro that the statements describe.
 abbrev pub macro_of : List ℕ → MacroParts → Macro
 macro_of name parts =
     record { name = name; size = unwrap_or parts.size no_point; origin = origin_of parts; symmetry = unwrap_or parts.symmetry no_symmetry; rail = rail_of (origin_of parts).y parts.pins }

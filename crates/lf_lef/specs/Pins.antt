@@ -1,4 +1,4 @@
--- LEF MACRO PIN and its PORT, as far as supply rails need them.
+-- LEF MACRO PIN and its PORT, as needed for supply rails.
 use Rattle.std.specs.Prelude.{ℕ, Bool, true, false, ◌&&◌, not, List, [], ◌∷◌, ◌++◌, ℤ, pos, ◌+ℤ◌, int_le, Option, Some, None, codes, if◌then◌else◌}
 use Rattle.std.specs.Int.{int_min, int_max}
 use Rattle.std.specs.List.{list_any}
@@ -14,19 +14,20 @@ use Rattle.lf_lef.specs.declared.pins.Pin.{Pin}
 use Rattle.lf_lef.specs.Lengths.{micros, point_from, point}
 use Rattle.lf_lef.specs.Sites.{one_word}
 
--- MASK n, if it is there
+-- MASK n, if present.
 unfoldable pub past_mask : Lexeme → Reader Lexeme
 past_mask t l = if is (codes "MASK") t then (micros l >>= λ n. token n.rest) else taken t l
 
--- ITERATE, if it is there
+-- ITERATE, if present.
 unfoldable pub past_iterate : Lexeme → Reader Lexeme
 past_iterate t l = if is (codes "ITERATE") t then token l else taken t l
 
--- the y range of a rectangle, from any two opposite corners
+-- The y range of a rectangle, from any two opposite corners.
 abbrev pub reach_of : ℤ → ℤ → Reach
 reach_of a b = record { low = int_min a b; high = int_max a b }
 
--- RECT [MASK n] [ITERATE] pt pt .. ; after its keyword: of an ITERATE the first rectangle counts
+-- RECT [MASK n] [ITERATE] pt pt .. ; after its keyword. Only the first rectangle of an ITERATE
+-- counts.
 unfoldable pub rect : Reader Reach
 rect l = do
   t ← token l
@@ -37,7 +38,8 @@ rect l = do
   stop ← to_semicolon opposite.rest
   taken (reach_of corner.value.y opposite.value.y) stop.rest
 
--- A statement of a port, after its first token: every RECT counts, others are skipped, and an END alone is the last.
+-- A statement of a port, after its first token. Every RECT counts, other statements are skipped,
+-- and an END without a name is the last.
 unfoldable pub port_statement_from : List Reach → Lexeme → Reader (Turn (List Reach))
 port_statement_from reaches t l =
     if is (codes "END") t then finishes reaches l
@@ -50,11 +52,12 @@ port_statement reaches l = do
   t ← token l
   port_statement_from reaches t.value t.rest
 
--- the use that a word names: all but POWER and GROUND are ignored
+-- The use that a word names. Words other than POWER and GROUND are ignored.
 abbrev pub use_named : List ℕ → PinUse
 use_named w = if bytes_eq w (codes "POWER") then Power else if bytes_eq w (codes "GROUND") then Ground else Other
 
--- A statement of a pin, after its first token: the first USE counts, every PORT counts, and others are skipped.
+-- A statement of a pin, after its first token. The first USE and every PORT count. Other statements
+-- are skipped.
 unfoldable pub pin_statement_from : List ℕ → Pin → Lexeme → Reader (Turn Pin)
 pin_statement_from name pin t l =
     if is (codes "END") t then (end_name name l >>= λ stop. finishes pin stop.rest)
@@ -71,19 +74,19 @@ pin_statement name pin l = do
 abbrev pub no_pin : Pin
 no_pin = record { supply = None; reaches = [] }
 
--- PIN name, its statements, END name; after its keyword
+-- PIN name, its statements, END name; after its keyword.
 unfoldable pub pin : Reader Pin
 pin l = do
   n ← name l
   block (pin_statement n.value.text) no_pin n.rest
 
--- The bottom rail, which is this project's own rule.
+-- The bottom rail: a rule of this project, not of LEF.
 
--- the rectangle reaches the line y = 0 after ORIGIN is added
+-- True if the rectangle reaches the line y = 0 after ORIGIN is added.
 abbrev pub is_at_bottom : ℤ → Reach → Bool
 is_at_bottom origin r = int_le (r.low +ℤ origin) (pos 0) && int_le (pos 0) (r.high +ℤ origin)
 
--- the pin has this use
+-- True if the uses are the same.
 abbrev pub is_same_use : PinUse → PinUse → Bool
 is_same_use Power Power = true
 is_same_use Ground Ground = true
@@ -94,14 +97,14 @@ abbrev pub is_used_as : PinUse → Option PinUse → Bool
 is_used_as supply None = false
 is_used_as supply (Some u) = is_same_use u supply
 
--- the pin has this use, and a rectangle of it reaches the bottom
+-- True if the pin has this use, and one of its rectangles reaches the bottom.
 abbrev pub is_supply_at_bottom : PinUse → ℤ → Pin → Bool
 is_supply_at_bottom supply origin p = is_used_as supply p.supply && list_any (is_at_bottom origin) p.reaches
 
--- so does one of the pins
+-- True if one of the pins has this use and reaches the bottom.
 abbrev pub has_at_bottom : PinUse → ℤ → List Pin → Bool
 has_at_bottom supply origin pins = list_any (is_supply_at_bottom supply origin) pins
 
--- power if a power pin reaches the bottom and no ground pin does, else ground
+-- Power if a power pin reaches the bottom and no ground pin does. Otherwise ground.
 abbrev pub rail_of : ℤ → List Pin → Rail
 rail_of origin pins = if has_at_bottom Power origin pins && not (has_at_bottom Ground origin pins) then rail.Power else rail.Ground

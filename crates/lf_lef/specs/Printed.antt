@@ -1,4 +1,4 @@
--- LEF statements as they are printed, word by word; any white space and comments may be between the words.
+-- LEF statements as printed, word by word. Any white space and comments may be between the words.
 use Rattle.std.specs.Prelude.{◌≡◌, ◌≢◌, ℕ, ◌^◌, ◌≤◌, ◌<◌, List, [], ◌∷◌, ◌++◌, length, map, All, ℤ, None, Some, Ok, codes, if◌then◌else◌}
 use Rattle.std.specs.Str.{bytes_eq}
 use Rattle.lf_units.specs.Number.{fixed_of}
@@ -13,15 +13,15 @@ use Rattle.lf_lef.specs.Contents.{Contents, site_names, macro_names}
 use Rattle.lf_lef.specs.Pins.{rail_of, reach_of, use_named}
 use Rattle.lf_lef.specs.Library.{library}
 
--- the tokens have these kinds and bytes, wherever they are
+-- Holds if the tokens have these kinds and bytes, wherever they are.
 abbrev pub Spells : List Lexeme → List PlainToken → Type 0
 Spells tokens printed = map plain tokens ≡ printed
 
--- the word writes the length
+-- Holds if the word denotes the length.
 abbrev pub Writes : List ℕ → ℤ → Type 0
 Writes word length = fixed_of word 6 (10 ^ 12) ≡ Ok length
 
--- a name as it may be printed
+-- Holds if the name may be printed.
 pub record IsPrintable (name : List ℕ) : Type 0 where
   pub word : name ≢ codes ";"
   pub short : length name ≤ 1024
@@ -48,7 +48,7 @@ origin_words x y = codes "ORIGIN" ∷ x ∷ y ∷ codes ";" ∷ []
 abbrev pub end_words : List ℕ → List (List ℕ)
 end_words name = codes "END" ∷ name ∷ []
 
--- SITE name, its CLASS, SYMMETRY and SIZE, END name
+-- SITE name, its CLASS, SYMMETRY and SIZE, END name.
 abbrev pub site_words : List ℕ → List ℕ → Symmetry → List ℕ → List ℕ → List (List ℕ)
 site_words name class symmetry w h = codes "SITE" ∷ name ∷ (class_words class ++ (symmetry_words symmetry ++ (size_words w h ++ end_words name)))
 
@@ -60,17 +60,17 @@ use_words use_word = codes "USE" ∷ use_word ∷ codes ";" ∷ []
 abbrev pub port_words : List ℕ → List ℕ → List ℕ → List ℕ → List (List ℕ)
 port_words x1 y1 x2 y2 = codes "PORT" ∷ codes "RECT" ∷ x1 ∷ y1 ∷ x2 ∷ y2 ∷ codes ";" ∷ codes "END" ∷ []
 
--- PIN name, its USE, one PORT of one RECT, END name
+-- PIN name, its USE, one PORT of one RECT, END name.
 abbrev pub pin_words : List ℕ → List ℕ → List ℕ → List ℕ → List ℕ → List ℕ → List (List ℕ)
 pin_words name use_word x1 y1 x2 y2 = codes "PIN" ∷ name ∷ (use_words use_word ++ (port_words x1 y1 x2 y2 ++ end_words name))
 
--- MACRO name, its ORIGIN, SIZE and SYMMETRY, one PIN, END name
+-- MACRO name, its ORIGIN, SIZE and SYMMETRY, one PIN, END name.
 abbrev pub macro_words : List ℕ → List ℕ → List ℕ → List ℕ → List ℕ → Symmetry → List (List ℕ) → List (List ℕ)
 macro_words name x y w h symmetry pin = codes "MACRO" ∷ name ∷ (origin_words x y ++ (size_words w h ++ (symmetry_words symmetry ++ (pin ++ end_words name))))
 
 -- Statements that are skipped.
 
--- what is skipped to END and the name after the keyword
+-- Statements that are skipped up to END and the name after the keyword.
 pub data NamedGroup : Type 0 where
   layer : NamedGroup
   via : NamedGroup
@@ -85,7 +85,7 @@ named_word via_rule = codes "VIARULE"
 named_word rule = codes "NONDEFAULTRULE"
 named_word array = codes "ARRAY"
 
--- what is skipped to END and the keyword
+-- Statements that are skipped up to END and the keyword.
 pub data Group : Type 0 where
   units : Group
   property_definitions : Group
@@ -102,25 +102,25 @@ group_word ir_drop = codes "IRDROP"
 group_word noise_table = codes "NOISETABLE"
 group_word correction_table = codes "CORRECTIONTABLE"
 
--- words and quoted texts, and a semicolon
+-- Words and quoted texts, followed by a semicolon.
 abbrev pub with_semicolon : List PlainToken → List PlainToken
 with_semicolon tokens = tokens ++ word_of (codes ";") ∷ []
 
--- The statement is skipped up to its semicolon: it has no other, and begins with none of the words that begin a statement that is
--- read otherwise. A semicolon alone is one too.
+-- Holds if the statement is skipped up to its semicolon. It has no other semicolon, and begins with
+-- no word of a statement that is read in another manner. A semicolon alone is such a statement too.
 abbrev pub IsSkipped : List (List ℕ) → List PlainToken → Type 0
 IsSkipped others [] = Unit {0}
 IsSkipped others (t ∷ ts) = All (λ word. t.text ≢ word) others × OccurNowhere (codes ";" ∷ []) (t ∷ ts)
 
--- a statement other than SITE and MACRO, with any words and quoted texts
+-- A statement other than SITE and MACRO, with any words and quoted texts.
 pub data Skipped : Type 0 where
-  -- all up to a semicolon
+  -- All tokens up to a semicolon.
   plain_statement : List PlainToken → Skipped
-  -- a keyword and a name, what is in between, END and the name
+  -- A keyword and a name, the tokens between, END and the name.
   named : NamedGroup → List ℕ → List PlainToken → Skipped
-  -- a keyword, what is in between, END and the keyword
+  -- A keyword, the tokens between, END and the keyword.
   grouped : Group → List PlainToken → Skipped
-  -- BEGINEXT, what is in between, ENDEXT
+  -- BEGINEXT, the tokens between, ENDEXT.
   extension : List PlainToken → Skipped
 
 abbrev pub skipped_tokens : Skipped → List PlainToken
@@ -129,32 +129,34 @@ skipped_tokens (named keyword name between) = word_of (named_word keyword) ∷ w
 skipped_tokens (grouped keyword between) = word_of (group_word keyword) ∷ (between ++ map word_of (end_words (group_word keyword)))
 skipped_tokens (extension between) = word_of (codes "BEGINEXT") ∷ (between ++ word_of (codes "ENDEXT") ∷ [])
 
--- the words that begin a statement that is not skipped up to a semicolon
+-- The words that begin a statement that is not skipped up to a semicolon.
 abbrev pub other_statements : List (List ℕ)
 other_statements =
     codes "END" ∷ codes "SITE" ∷ codes "MACRO" ∷ codes "LAYER" ∷ codes "VIA" ∷ codes "VIARULE" ∷ codes "NONDEFAULTRULE" ∷ codes "ARRAY"
     ∷ codes "UNITS" ∷ codes "PROPERTYDEFINITIONS" ∷ codes "SPACING" ∷ codes "IRDROP" ∷ codes "NOISETABLE" ∷ codes "CORRECTIONTABLE" ∷ codes "BEGINEXT" ∷ []
 
--- the statement ends with its last word and not before: nowhere earlier does the name directly follow END
+-- Holds if the statement ends with its last word and not earlier: nowhere earlier does the name
+-- directly follow END.
 abbrev pub IsWhole : Skipped → Type 0
 IsWhole (plain_statement tokens) = IsSkipped other_statements tokens
 IsWhole (named keyword name between) = IsPrintable name × OccurNowhere (codes "END" ∷ name ∷ []) (between ++ word_of (codes "END") ∷ [])
 IsWhole (grouped keyword between) = OccurNowhere (codes "END" ∷ group_word keyword ∷ []) between
 IsWhole (extension between) = OccurNowhere (codes "ENDEXT" ∷ []) between
 
--- the statements one after the other, and then these tokens
+-- The statements in order, and then these tokens.
 abbrev pub tokens_behind : List Skipped → List PlainToken → List PlainToken
 tokens_behind [] tokens = tokens
 tokens_behind (p ∷ ps) tokens = skipped_tokens p ++ tokens_behind ps tokens
 
 -- What reading returns.
 
--- statements that are skipped have no effect, whatever follows
+-- Holds if skipped statements have no effect, whatever follows.
 abbrev pub SkipsStatements : Contents → Type 0
 SkipsStatements c = (passed : List Skipped) (tokens : List Lexeme) (behind : Lexed) → All IsWhole passed → Spells tokens (tokens_behind passed [])
     → library c (with_tokens tokens behind) ≡ library c behind
 
--- a printed site of a new name reads back, after skipped statements and with anything after it
+-- Holds if a printed site with a new name reads back, after skipped statements and with anything
+-- after it.
 abbrev pub ReadsSite : Contents → Site → Type 0
 ReadsSite c s = (passed : List Skipped) (class w h : List ℕ) (tokens : List Lexeme) (behind : Lexed)
     → All IsWhole passed → IsPrintable s.name → class ≢ codes ";" → bytes_eq class (codes "CORE") ≡ s.core → Writes w s.size.x → Writes h s.size.y
@@ -162,8 +164,8 @@ ReadsSite c s = (passed : List Skipped) (class w h : List ℕ) (tokens : List Le
     → Spells tokens (tokens_behind passed (map word_of (site_words s.name class s.symmetry w h)))
     → library c (with_tokens tokens behind) ≡ library (record c { sites = c.sites ++ s ∷ [] }) behind
 
--- a printed macro of a new name reads back with the rail that its pin gives it, after skipped statements and with anything after
--- it
+-- Holds if a printed macro with a new name reads back with the rail of its pin, after skipped
+-- statements and with anything after it.
 abbrev pub ReadsMacro : Contents → Macro → Type 0
 ReadsMacro c m = (passed : List Skipped) (x y w h pin use_word x1 y1 x2 y2 : List ℕ) (low high left right : ℤ) (tokens : List Lexeme) (behind : Lexed)
     → All IsWhole passed → IsPrintable m.name → IsPrintable pin → use_word ≢ codes ";" → Writes x m.origin.x → Writes y m.origin.y → Writes w m.size.x

@@ -1,4 +1,5 @@
--- Printed LEF macros: statements in any order, in MACRO, in PIN, in PORT and in OBS, with any skipped ones among them.
+-- Printed LEF macros: statements of MACRO, PIN, PORT and OBS in any order, with skipped ones among
+-- them.
 use Rattle.std.specs.Prelude.{◌≡◌, ◌≢◌, ℕ, ◌<◌, Bool, List, [], ◌∷◌, ◌++◌, length, map, All, IfSome, ℤ, Option, Some, None, codes, if◌then◌else◌, true}
 use Rattle.lf_units.specs.declared.geometry.Point.{Point}
 use Rattle.lf_orient.specs.declared.Symmetry.{Symmetry}
@@ -21,7 +22,7 @@ use Rattle.lf_lef.specs.Sites.{no_symmetry}
 
 -- Lengths and points.
 
--- a word, and the length that it writes
+-- A word, and the length that it denotes.
 pub record PrintedLength : Type 0 where
   pub word : List ℕ
   pub length : ℤ
@@ -29,7 +30,7 @@ pub record PrintedLength : Type 0 where
 abbrev pub IsPrintedLength : PrintedLength → Type 0
 IsPrintedLength n = Writes n.word n.length
 
--- x y, or ( x y )
+-- A point: x y, or ( x y ).
 pub record PrintedPoint : Type 0 where
   pub x : PrintedLength
   pub y : PrintedLength
@@ -47,8 +48,8 @@ point_of p = record { x = p.x.length; y = p.y.length }
 
 -- Ports (LEF MACRO PIN PORT).
 
--- a rectangle: its mask, whether it is repeated, two opposite corners, and what follows them up to its semicolon, as DO n BY m
--- STEP x y
+-- A rectangle: its mask, whether it is repeated, two opposite corners, and what follows them up to
+-- its semicolon, for example DO n BY m STEP x y.
 pub record PrintedRect : Type 0 where
   pub mask : Option PrintedLength
   pub iterate : Bool
@@ -75,7 +76,7 @@ rect_tokens r =
     word_of (codes "RECT") ∷ (map word_of (mask_words r.mask) ++
     (map word_of (iterate_words r.iterate) ++ (map word_of (point_words r.corner) ++ (map word_of (point_words r.opposite) ++ with_semicolon r.more))))
 
--- a statement of a PORT
+-- A statement of a PORT.
 pub data PortStatement : Type 0 where
   port_rect : PrintedRect → PortStatement
   port_passed : List PlainToken → PortStatement
@@ -88,12 +89,12 @@ abbrev pub IsPortStatement : PortStatement → Type 0
 IsPortStatement (port_rect r) = IsPrintedRect r
 IsPortStatement (port_passed tokens) = IsSkipped (codes "END" ∷ codes "RECT" ∷ []) tokens
 
--- the statements one after the other, and END
+-- The statements in order, and END.
 abbrev pub port_tokens : List PortStatement → List PlainToken
 port_tokens [] = word_of (codes "END") ∷ []
 port_tokens (s ∷ ss) = port_statement_tokens s ++ port_tokens ss
 
--- every RECT counts
+-- Every RECT counts.
 abbrev pub with_rect : List Reach → PortStatement → List Reach
 with_rect reaches (port_rect r) = reaches ++ reach_of r.corner.y.length r.opposite.y.length ∷ []
 with_rect reaches (port_passed tokens) = reaches
@@ -104,7 +105,7 @@ with_rects reaches (s ∷ ss) = with_rects (with_rect reaches s) ss
 
 -- Pins (LEF MACRO PIN).
 
--- a statement of a PIN
+-- A statement of a PIN.
 pub data PinStatement : Type 0 where
   pin_use : List ℕ → PinStatement
   pin_port : List PortStatement → PinStatement
@@ -120,12 +121,12 @@ IsPinStatement (pin_use use_word) = use_word ≢ codes ";"
 IsPinStatement (pin_port statements) = All IsPortStatement statements
 IsPinStatement (pin_passed tokens) = IsSkipped (codes "END" ∷ codes "USE" ∷ codes "PORT" ∷ []) tokens
 
--- the statements one after the other, and END name
+-- The statements in order, and END name.
 abbrev pub pin_body_tokens : List ℕ → List PinStatement → List PlainToken
 pin_body_tokens name [] = map word_of (end_words name)
 pin_body_tokens name (s ∷ ss) = pin_statement_tokens s ++ pin_body_tokens name ss
 
--- the first USE counts, and every PORT
+-- The first USE counts, and every PORT.
 abbrev pub with_pin_statement : Pin → PinStatement → Pin
 with_pin_statement pin (pin_use use_word) = record pin { supply = first_counts pin.supply (use_named use_word) }
 with_pin_statement pin (pin_port statements) = record pin { reaches = with_rects pin.reaches statements }
@@ -137,7 +138,7 @@ with_pin_statements pin (s ∷ ss) = with_pin_statements (with_pin_statement pin
 
 -- Macros (LEF MACRO).
 
--- what is skipped statement by statement, up to an END alone
+-- Groups that are skipped statement by statement, up to an END without a name.
 pub data Layers : Type 0 where
   obstructions : Layers
   density : Layers
@@ -150,7 +151,7 @@ abbrev pub layers_tokens : List (List PlainToken) → List PlainToken
 layers_tokens [] = word_of (codes "END") ∷ []
 layers_tokens (s ∷ ss) = with_semicolon s ++ layers_tokens ss
 
--- a word of SYMMETRY
+-- A word of SYMMETRY.
 pub data SymmetryWord : Type 0 where
   about_x : SymmetryWord
   about_y : SymmetryWord
@@ -161,12 +162,12 @@ spelled_symmetry about_x = codes "X"
 spelled_symmetry about_y = codes "Y"
 spelled_symmetry turned = codes "R90"
 
--- the words, and a semicolon
+-- The words, and a semicolon.
 abbrev pub symmetry_tokens : List SymmetryWord → List PlainToken
 symmetry_tokens [] = word_of (codes ";") ∷ []
 symmetry_tokens (w ∷ ws) = word_of (spelled_symmetry w) ∷ symmetry_tokens ws
 
--- R90 is ignored
+-- R90 is ignored.
 abbrev pub with_symmetry : Symmetry → SymmetryWord → Symmetry
 with_symmetry s about_x = record s { x = true }
 with_symmetry s about_y = record s { y = true }
@@ -176,7 +177,7 @@ abbrev pub with_symmetries : Symmetry → List SymmetryWord → Symmetry
 with_symmetries s [] = s
 with_symmetries s (w ∷ ws) = with_symmetries (with_symmetry s w) ws
 
--- a statement of a MACRO
+-- A statement of a MACRO.
 pub data MacroStatement : Type 0 where
   -- ORIGIN pt ;
   macro_origin : PrintedPoint → MacroStatement
@@ -184,13 +185,13 @@ pub data MacroStatement : Type 0 where
   macro_size : PrintedLength → PrintedLength → MacroStatement
   -- SYMMETRY {X | Y | R90} .. ;
   macro_symmetry : List SymmetryWord → MacroStatement
-  -- PIN name, its statements, END name
+  -- PIN name, its statements, END name.
   macro_pin : List ℕ → List PinStatement → MacroStatement
-  -- OBS or DENSITY, statements of any words and quoted texts, END
+  -- OBS or DENSITY, statements of any words and quoted texts, END.
   macro_layers : Layers → List (List PlainToken) → MacroStatement
   -- TIMING .. END TIMING
   macro_timing : List PlainToken → MacroStatement
-  -- any other, up to its semicolon
+  -- Any other statement, up to its semicolon.
   macro_passed : List PlainToken → MacroStatement
 
 abbrev pub macro_statement_tokens : MacroStatement → List PlainToken
@@ -212,16 +213,16 @@ IsMacroStatement (macro_timing between) = OccurNowhere (codes "END" ∷ codes "T
 IsMacroStatement (macro_passed tokens) =
     IsSkipped (codes "END" ∷ codes "ORIGIN" ∷ codes "SIZE" ∷ codes "SYMMETRY" ∷ codes "PIN" ∷ codes "OBS" ∷ codes "DENSITY" ∷ codes "TIMING" ∷ []) tokens
 
--- the statements one after the other, and END name
+-- The statements in order, and END name.
 abbrev pub macro_body_tokens : List ℕ → List MacroStatement → List PlainToken
 macro_body_tokens name [] = map word_of (end_words name)
 macro_body_tokens name (s ∷ ss) = macro_statement_tokens s ++ macro_body_tokens name ss
 
--- MACRO name, its statements, END name
+-- MACRO name, its statements, END name.
 abbrev pub macro_tokens : List ℕ → List MacroStatement → List PlainToken
 macro_tokens name statements = word_of (codes "MACRO") ∷ word_of name ∷ macro_body_tokens name statements
 
--- the first ORIGIN, SIZE and SYMMETRY count, and every PIN; what is skipped is ignored
+-- The first ORIGIN, SIZE and SYMMETRY count, and every PIN. Skipped statements are ignored.
 abbrev pub with_statement : MacroParts → MacroStatement → MacroParts
 with_statement parts (macro_origin p) = record parts { origin = first_counts parts.origin (point_of p) }
 with_statement parts (macro_size w h) = record parts { size = first_counts parts.size (record { x = w.length; y = h.length }) }
@@ -235,11 +236,12 @@ abbrev pub with_statements : MacroParts → List MacroStatement → MacroParts
 with_statements parts [] = parts
 with_statements parts (s ∷ ss) = with_statements (with_statement parts s) ss
 
--- the macro that the statements describe
+-- The macro that the statements describe.
 abbrev pub described_macro : List ℕ → List MacroStatement → Macro
 described_macro name statements = macro_of name (with_statements no_macro_parts statements)
 
--- A macro of a new name, printed by any such statements, reads back, after skipped statements and with anything after it.
+-- Holds if a macro with a new name, printed by any such statements, reads back, after skipped
+-- statements and with anything after it.
 abbrev pub ReadsMacroOf : Contents → Macro → List MacroStatement → Type 0
 ReadsMacroOf c m statements = (passed : List Skipped) (tokens : List Lexeme) (behind : Lexed)
     → All IsWhole passed → IsPrintable m.name → All IsMacroStatement statements → described_macro m.name statements ≡ m

@@ -1,4 +1,4 @@
--- Printed LEF sites: statements in any order, with any skipped ones among them.
+-- Printed LEF sites: statements in any order, with skipped ones among them.
 use Rattle.std.specs.Prelude.{◌≡◌, ◌≢◌, ℕ, ◌<◌, List, [], ◌∷◌, ◌++◌, length, map, All, None, codes}
 use Rattle.std.specs.Str.{bytes_eq}
 use Rattle.lf_names.specs.Names.{position_of}
@@ -13,7 +13,7 @@ use Rattle.lf_lef.specs.Library.{library}
 use Rattle.lf_lef.specs.Printed.{Spells, IsPrintable, class_words, end_words, with_semicolon, IsSkipped, Skipped, IsWhole, tokens_behind}
 use Rattle.lf_lef.specs.PrintedMacros.{PrintedLength, IsPrintedLength, SymmetryWord, symmetry_tokens, with_symmetries}
 
--- a statement of a SITE
+-- A statement of a SITE.
 pub data SiteStatement : Type 0 where
   -- CLASS class ;
   site_class : List ℕ → SiteStatement
@@ -21,7 +21,7 @@ pub data SiteStatement : Type 0 where
   site_symmetry : List SymmetryWord → SiteStatement
   -- SIZE w BY h ;
   site_size : PrintedLength → PrintedLength → SiteStatement
-  -- any other, up to its semicolon
+  -- Any other statement, up to its semicolon.
   site_passed : List PlainToken → SiteStatement
 
 abbrev pub site_statement_tokens : SiteStatement → List PlainToken
@@ -36,16 +36,16 @@ IsSiteStatement (site_symmetry words) = Unit {0}
 IsSiteStatement (site_size w h) = IsPrintedLength w × IsPrintedLength h
 IsSiteStatement (site_passed tokens) = IsSkipped (codes "END" ∷ codes "CLASS" ∷ codes "SYMMETRY" ∷ codes "SIZE" ∷ []) tokens
 
--- the statements one after the other, and END name
+-- The statements in order, and END name.
 abbrev pub site_body_tokens : List ℕ → List SiteStatement → List PlainToken
 site_body_tokens name [] = map word_of (end_words name)
 site_body_tokens name (s ∷ ss) = site_statement_tokens s ++ site_body_tokens name ss
 
--- SITE name, its statements, END name
+-- SITE name, its statements, END name.
 abbrev pub site_tokens : List ℕ → List SiteStatement → List PlainToken
 site_tokens name statements = word_of (codes "SITE") ∷ word_of name ∷ site_body_tokens name statements
 
--- the first CLASS, SYMMETRY and SIZE count, and what is skipped is ignored
+-- The first CLASS, SYMMETRY and SIZE count. Skipped statements are ignored.
 abbrev pub with_site_statement : SiteParts → SiteStatement → SiteParts
 with_site_statement parts (site_class class) = record parts { core = first_counts parts.core (bytes_eq class (codes "CORE")) }
 with_site_statement parts (site_symmetry words) = record parts { symmetry = first_counts parts.symmetry (with_symmetries no_symmetry words) }
@@ -56,11 +56,12 @@ abbrev pub with_site_statements : SiteParts → List SiteStatement → SiteParts
 with_site_statements parts [] = parts
 with_site_statements parts (s ∷ ss) = with_site_statements (with_site_statement parts s) ss
 
--- the site that the statements describe
+-- The site that the statements describe.
 abbrev pub described_site : List ℕ → List SiteStatement → Site
 described_site name statements = site_of name (with_site_statements no_site_parts statements)
 
--- A site of a new name, printed by any such statements, reads back, after skipped statements and with anything after it.
+-- Holds if a site with a new name, printed by any such statements, reads back, after skipped
+-- statements and with anything after it.
 abbrev pub ReadsSiteOf : Contents → Site → List SiteStatement → Type 0
 ReadsSiteOf c s statements = (passed : List Skipped) (tokens : List Lexeme) (behind : Lexed)
     → All IsWhole passed → IsPrintable s.name → All IsSiteStatement statements → described_site s.name statements ≡ s

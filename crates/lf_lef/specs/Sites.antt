@@ -10,14 +10,14 @@ use Rattle.lf_floorplan.specs.declared.sites.Site.{Site}
 use Rattle.lf_lef.specs.declared.sites.SiteParts.{SiteParts}
 use Rattle.lf_lef.specs.Lengths.{size}
 
--- one word and a semicolon: CLASS of a site, USE of a pin
+-- One word and a semicolon: CLASS of a site, USE of a pin.
 unfoldable pub one_word : Reader (List ℕ)
 one_word l = do
   w ← word l
   stop ← keyword (codes ";") w.rest
   taken w.value.text stop.rest
 
--- a word of SYMMETRY {X | Y | R90} .. ; up to its semicolon; R90 is ignored
+-- A word of SYMMETRY {X | Y | R90} .. ; up to its semicolon. R90 is ignored.
 unfoldable pub symmetry_word : Statement Symmetry
 symmetry_word s l = do
   t ← token l
@@ -30,11 +30,12 @@ symmetry_word s l = do
 abbrev pub no_symmetry : Symmetry
 no_symmetry = record { x = false; y = false }
 
--- SYMMETRY {X | Y | R90} .. ; after its keyword
+-- SYMMETRY {X | Y | R90} .. ; after its keyword.
 abbrev pub symmetry : Reader Symmetry
 symmetry l = block symmetry_word no_symmetry l
 
--- A statement of a site, after its first token: of CLASS, SYMMETRY and SIZE the first counts, and others are skipped.
+-- A statement of a site, after its first token. The first CLASS, SYMMETRY and SIZE count. Other
+-- statements are skipped.
 unfoldable pub site_statement_from : List ℕ → SiteParts → Lexeme → Reader (Turn SiteParts)
 site_statement_from name parts t l =
     if is (codes "END") t then (end_name name l >>= λ stop. finishes parts stop.rest)
@@ -52,13 +53,13 @@ site_statement name parts l = do
 abbrev pub no_site_parts : SiteParts
 no_site_parts = record { core = None; symmetry = None; size = None }
 
--- the statements of a site, and its END name
+-- The statements of a site, and its END name.
 abbrev pub site_parts : List ℕ → Reader SiteParts
 site_parts name l = block (site_statement name) no_site_parts l
 
 abbrev pub no_point : Point
 no_point = record { x = pos 0; y = pos 0 }
 
--- the site that the statements describe
+-- The site that the statements describe.
 abbrev pub site_of : List ℕ → SiteParts → Site
 site_of name parts = record { name = name; core = unwrap_or parts.core false; size = unwrap_or parts.size no_point; symmetry = unwrap_or parts.symmetry no_symmetry }

@@ -30,20 +30,21 @@ pub fn statements_take_tokens()
     ensures text { TakesTokens statement }
 {}
 
-/// White space, comments and what follows do not affect what the statements of a site or a macro say.
+/// White space, comments and what follows do not affect how the statements of a site or a macro are
+/// read.
 pub fn statements_read_alike()
     ensures site { (name : List ℕ) → ReadsAlike (site_parts name) }
     ensures cell { (name : List ℕ) → ReadsAlike (macro_parts name) }
 {}
 
-/// What follows END LIBRARY is ignored: if reading a text leaves tokens unread, any bytes may replace those from the
-/// first of these on.
+/// Nothing after END LIBRARY counts. If reading a text leaves tokens unread, any bytes may replace
+/// those from the first unread token on.
 pub fn nothing_behind_end_library_counts()
     ensures { (before after : Contents) (text : List ℕ) → EndsBefore before after text }
 {}
 
-/// Of several statements of one kind the first counts, and every PIN and RECT counts; of several sites or macros of one
-/// name the first counts, in one text or several.
+/// The first of several statements of one kind counts, and every PIN and RECT counts. The first of
+/// several sites or macros with one name counts, in one text or several.
 pub fn first_of_each_kind_stands()
     ensures site { (name : List ℕ) (old new : SiteParts) (l m : Lexed)
         → block (site_statement name) old l ≡ taken new m → FirstSiteStatementsCount old new }
@@ -60,17 +61,17 @@ pub fn passed_over_statements_play_no_part()
     ensures { (c : Contents) → SkipsStatements c }
 {}
 
-/// A printed SITE reads back, alone and after any skipped statements: with a CLASS, a SYMMETRY and a SIZE, and with any
-/// statements in any order.
+/// A printed SITE reads back, alone and after any skipped statements. It may have a CLASS, a
+/// SYMMETRY and a SIZE, or any statements in any order.
 pub fn a_printed_site_is_read_back()
     ensures three_statements { (c : Contents) (s : Site) → ReadsSite c s }
     ensures any_statements { (c : Contents) (s : Site) (statements : List SiteStatement)
         → ReadsSiteOf c s statements }
 {}
 
-/// A printed MACRO reads back, alone and after any skipped statements: with one PIN, and with any statements in any
-/// order: any number of PIN and PORT, RECT with MASK and ITERATE, OBS, DENSITY, TIMING and others, which are skipped
-/// with all words and quoted texts in them.
+/// A printed MACRO reads back, alone and after any skipped statements. It may have one PIN, or any
+/// statements in any order: any number of PIN and PORT, RECT with MASK and ITERATE, OBS, DENSITY,
+/// TIMING and others. Skipped statements may have any words and quoted texts.
 pub fn a_printed_macro_is_read_back()
     ensures one_pin { (c : Contents) (m : Macro) → ReadsMacro c m }
     ensures any_statements { (c : Contents) (m : Macro) (statements : List MacroStatement)

@@ -9,7 +9,8 @@ ghost use Rattle.lf_lef.specs.Lengths.{IsInRange, HasRange};
 use lf_lex::{FaultNumber, Lexer, ReadError, Token, fault_at, is_token, keyword, token};
 use lf_units::{Point, read_fixed};
 
-/// The length that a token writes, in millionths of a micron; else BadNumber.
+/// Returns the length of a token, in millionths of a micron. `Err(BadNumber)` if it is no number,
+/// is too fine, or is not from -1,000,000 to 1,000,000 microns.
 fn micros_of(token: &Token) -> Result<i64, ReadError>
     ensures read { MatchResult result (λ x. grammar.micros_of (lexeme token.now) ≡ Ok x)
         (λ e. Fails e (grammar.micros_of (lexeme token.now))) }
@@ -21,7 +22,7 @@ fn micros_of(token: &Token) -> Result<i64, ReadError>
     }
 }
 
-/// A length.
+/// Reads a length.
 #[tactic(auto, unfolding(crate::specs::Lengths::micros))]
 pub(crate) fn micros(lexer: &mut Lexer) -> Result<i64, ReadError>
     ensures read { Reads (λ x. x) result grammar.micros lexer.old lexer.new }
@@ -31,7 +32,7 @@ pub(crate) fn micros(lexer: &mut Lexer) -> Result<i64, ReadError>
     micros_of(&token)
 }
 
-/// A point, after its first token.
+/// Reads a point, given its first token.
 #[tactic(auto, unfolding(crate::specs::Lengths::point_from))]
 pub(crate) fn point_from(lexer: &mut Lexer, token: &Token) -> Result<Point, ReadError>
     ensures read { Reads (λ p. p) result
@@ -50,7 +51,7 @@ pub(crate) fn point_from(lexer: &mut Lexer, token: &Token) -> Result<Point, Read
     }
 }
 
-/// A point.
+/// Reads a point.
 #[tactic(auto, unfolding(crate::specs::Lengths::point))]
 pub(crate) fn point(lexer: &mut Lexer) -> Result<Point, ReadError>
     ensures read { Reads (λ p. p) result grammar.point lexer.old lexer.new }
@@ -60,7 +61,7 @@ pub(crate) fn point(lexer: &mut Lexer) -> Result<Point, ReadError>
     point_from(lexer, &token)
 }
 
-/// `SIZE w BY h ;` after its keyword.
+/// Reads `SIZE w BY h ;`, after its keyword.
 #[tactic(auto, unfolding(crate::specs::Lengths::size))]
 pub(crate) fn size(lexer: &mut Lexer) -> Result<Point, ReadError>
     ensures read { Reads (λ p. p) result grammar.size lexer.old lexer.new }
@@ -73,7 +74,7 @@ pub(crate) fn size(lexer: &mut Lexer) -> Result<Point, ReadError>
     Ok(Point { x, y })
 }
 
-/// `ORIGIN x y ;` after its keyword.
+/// Reads `ORIGIN x y ;`, after its keyword.
 #[tactic(auto, unfolding(crate::specs::Lengths::origin))]
 pub(crate) fn origin(lexer: &mut Lexer) -> Result<Point, ReadError>
     ensures read { Reads (λ p. p) result grammar.origin lexer.old lexer.new }
@@ -84,7 +85,7 @@ pub(crate) fn origin(lexer: &mut Lexer) -> Result<Point, ReadError>
     Ok(point)
 }
 
-/// The first of several points counts.
+/// Sets `first` to the point unless an earlier statement set it.
 pub(crate) fn keep_first(first: &mut Option<Point>, point: Point)
     requires range { IfSome first.old (λ p. HasRange p) }
     requires point { HasRange point }

@@ -1,13 +1,28 @@
 //! Reads the parts of LEF 5.8 texts that placement needs, by the grammar in `specs/`.
 //!
-//! These are sites, and macros with their sizes, origins, symmetries and bottom rails; all other statements are skipped. A
-//! `Library` takes one LEF text after the other. A contract sees its sites and its macros, each list in first-read order.
-//! Lengths are in millionths of a micron.
+//! These parts are sites, and macros with their sizes, origins, symmetries and bottom rails. All
+//! other statements are skipped. A `Library` takes one LEF text after the other. A contract sees
+//! its sites and its macros, each list in first-read order. Lengths are in millionths of a micron.
+//!
+//! Used by most other crates.
+//!
+//! Modules, in reading order:
+//!
+//! - `lengths`: lengths, points and sizes
+//! - `sites`: the statements of SITE
+//! - `pins`: the pins of macros, and the rail along the bottom
+//! - `macros`: the statements of MACRO
+//! - `library`: the sites and macros that were read
+//! - `read`: the statements of a LEF text
+//! - `laws`: laws on the grammar
+//! - `built_in`: a small LEF text for tests
+//!
+//! From `crates/lefence_bench/src/main.rt`:
 //!
 //! ```
-//! let mut library = Library::new(Global);
-//! read_lef(&mut library, DEMO_LEF)?;
-//! let inv = library.find_macro(b"INV"); // Some(0)
+//! let mut library = Library::new(alloc);
+//! read_lef(&mut library, text)?;
+//! Ok((library.sites().len(), library.macros().len()))
 //! ```
 #![tactic(auto)]
 

@@ -1,4 +1,4 @@
-//! What was read of LEF texts.
+//! The sites and macros of LEF texts.
 
 ghost use Rattle.std.specs.Prelude.{◌≡◌, ◌≢◌, ◌≤◌, ◌<◌, [], ◌∷◌, ◌++◌, None, length, take, All, AllPairs, OnOk, OnErr};
 ghost use Rattle.lf_names.specs.Names.{position_of};
@@ -11,8 +11,8 @@ use std::marker::Model;
 
 /// The sites and macros of the LEF texts that were read, each list in first-read order.
 ///
-/// Names in a list differ, are 1,024 bytes long at most and hold bytes from 33 to 126; lengths lie
-/// between -1,000,000 and 1,000,000 microns; a list has at most 1,000,000 entries.
+/// Names in a list differ, and have at most 1,024 bytes, each from 33 to 126. Lengths lie between
+/// -1,000,000 and 1,000,000 microns. A list has at most 1,000,000 entries.
 pub struct Library {
     sites: Vec<Site>,
     site_table: NameTable,
@@ -20,7 +20,8 @@ pub struct Library {
     macro_table: NameTable,
 }
 
-/// (Written out: the proof of a function that lets one go does not take it apart.)
+/// Written by hand: with a derived `drop`, the proof of every function that drops a library would
+/// unfold it.
 impl Drop for Library {
     fn drop(self) {
         let Library {
@@ -46,7 +47,7 @@ impl Model for Library {
 }
 
 impl Library {
-    /// The empty library, which allocates nothing.
+    /// Returns an empty library. Allocates nothing.
     pub fn new(alloc: Global) -> Self
         ensures { result ≡ record { sites = []; macros = [] } }
     {
@@ -58,12 +59,12 @@ impl Library {
         }
     }
 
-    /// The library's allocator.
+    /// Returns the library's allocator.
     pub(crate) fn alloc(&self) -> Global {
         *self.sites.allocator()
     }
 
-    /// The sites.
+    /// Returns the sites.
     pub fn sites(&self) -> &[Site]
         ensures sites { result.now ≡ self.now.sites }
         ensures each { All IsSite self.now.sites }
@@ -72,7 +73,7 @@ impl Library {
         &self.sites
     }
 
-    /// The macros.
+    /// Returns the macros.
     pub fn macros(&self) -> &[Macro]
         ensures macros { result.now ≡ self.now.macros }
         ensures each { All IsMacro self.now.macros }
@@ -81,21 +82,23 @@ impl Library {
         &self.macros
     }
 
-    /// The position of the site of that name; none iff there is none.
+    /// Returns the position of the site with this name. `None` if and only if there is no such
+    /// site.
     pub fn find_site(&self, name: &[u8]) -> Option<usize>
         ensures { result ≡ position_of (site_names self.now.sites) name.now }
     {
         self.site_table.find(name)
     }
 
-    /// The position of the macro of that name; none iff there is none.
+    /// Returns the position of the macro with this name. `None` if and only if there is no such
+    /// macro.
     pub fn find_macro(&self, name: &[u8]) -> Option<usize>
         ensures { result ≡ position_of (macro_names self.now.macros) name.now }
     {
         self.macro_table.find(name)
     }
 
-    /// Appends a site.
+    /// Appends a site with a new name. `Err` if an allocation fails; the library is then unchanged.
     pub(crate) fn add_site(&mut self, site: Site) -> Result<(), AllocError>
         requires site { IsSite site }
         requires fresh { position_of (site_names self.old.sites) site.name ≡ None }
@@ -107,7 +110,8 @@ impl Library {
         push_site(&mut self.sites, &mut self.site_table, site)
     }
 
-    /// Appends a macro.
+    /// Appends a macro with a new name. `Err` if an allocation fails; the library is then
+    /// unchanged.
     pub(crate) fn add_macro(&mut self, cell: Macro) -> Result<(), AllocError>
         requires cell { IsMacro cell }
         requires fresh { position_of (macro_names self.old.macros) cell.name ≡ None }

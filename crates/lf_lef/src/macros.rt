@@ -19,7 +19,7 @@ use lf_orient::{Rail, Symmetry};
 use lf_units::{Name, Point, Sequence};
 use std::alloc::Global;
 
-/// What the statements of a macro say: of each kind the first, and all pins.
+/// The statements of a macro: the first SIZE, ORIGIN and SYMMETRY, and all pins.
 #[derive(Drop)]
 pub struct MacroParts {
     pub size: Option<Point>,
@@ -28,7 +28,7 @@ pub struct MacroParts {
     pub pins: Sequence<Pin>,
 }
 
-/// The statements of OBS or DENSITY, which are skipped.
+/// Skips the statements of OBS or DENSITY.
 #[derive(Drop)]
 struct PassedStatements;
 
@@ -50,7 +50,7 @@ impl Block for PassedStatements {
     }
 }
 
-/// A statement of a macro that is skipped, after its first token.
+/// Skips a statement of a macro, after its first token.
 #[tactic(auto, unfolding(crate::specs::Macros::passed_from))]
 fn skip_from(lexer: &mut Lexer, token: &Token) -> Result<(), ReadError>
     ensures { ReadsOn (λ x. x) result (grammar.passed_from (lexeme token.now)) lexer.old lexer.new }
@@ -66,7 +66,7 @@ fn skip_from(lexer: &mut Lexer, token: &Token) -> Result<(), ReadError>
     }
 }
 
-/// A statement of a macro, after its first token; returns whether more follow.
+/// Reads a statement of a macro, after its first token. Returns whether more statements follow.
 #[tactic(auto, unfolding(crate::specs::Macros::macro_statement_from))]
 fn macro_statement_from(
     alloc: Global,
@@ -102,7 +102,7 @@ fn macro_statement_from(
     Ok(true)
 }
 
-/// The statements of the macro of that name.
+/// Reads the statements of the macro with this name.
 #[derive(Drop)]
 struct MacroStatements<'n> {
     alloc: Global,
@@ -123,7 +123,7 @@ impl<'n> Block for MacroStatements<'n> {
     }
 }
 
-/// The state of a macro before its first statement.
+/// Returns the state of a macro in front of its first statement.
 fn no_parts(alloc: Global) -> MacroParts
     ensures { result ≡ grammar.no_macro_parts }
 {
@@ -135,7 +135,7 @@ fn no_parts(alloc: Global) -> MacroParts
     }
 }
 
-/// The statements of a macro, and its END name.
+/// Reads the statements of a macro, and its END name.
 pub(crate) fn macro_parts(
     alloc: Global,
     lexer: &mut Lexer,
@@ -149,7 +149,7 @@ pub(crate) fn macro_parts(
     Ok(parts)
 }
 
-/// The macro that the statements describe.
+/// Returns the macro that the statements describe.
 pub(crate) fn macro_of(name: Name, parts: &MacroParts) -> Macro
     requires range { HasRanges parts.now.size parts.now.origin }
     ensures macro_is { result ≡ grammar.macro_of name parts.now }

@@ -1,4 +1,4 @@
-//! Pins of macros, as far as supply rails need them.
+//! Pins of macros, as needed for supply rails.
 
 ghost use Rattle.std.specs.Prelude.{◌≡◌, [], ◌+ℤ◌};
 ghost use Rattle.std.specs.List.{list_any};
@@ -15,7 +15,7 @@ use lf_orient::Rail;
 use lf_units::Sequence;
 use std::alloc::Global;
 
-/// What a pin is used for.
+/// The use of a pin.
 #[derive(Clone, Copy, Debug, PartialEq, Eq)]
 pub enum PinUse {
     Power,
@@ -30,7 +30,7 @@ pub struct Reach {
     pub high: i64,
 }
 
-/// A pin: the first USE, and the rectangles of all its ports.
+/// A pin: its first USE, and the y ranges of the rectangles of all its ports.
 #[derive(Drop)]
 pub struct Pin {
     pub supply: Option<PinUse>,
@@ -59,7 +59,7 @@ fn past_iterate<'a>(lexer: &mut Lexer<'a>, first: Token<'a>) -> Result<Token<'a>
     token(lexer)
 }
 
-/// The y range between two opposite corners.
+/// Returns the y range between two opposite corners.
 fn reach_of(a: i64, b: i64) -> Reach
     ensures { result ≡ grammar.reach_of a b }
 {
@@ -69,7 +69,7 @@ fn reach_of(a: i64, b: i64) -> Reach
     }
 }
 
-/// `RECT [MASK n] [ITERATE] pt pt .. ;` after its keyword.
+/// Reads `RECT [MASK n] [ITERATE] pt pt .. ;`, after its keyword.
 #[tactic(auto, unfolding(crate::specs::Pins::rect))]
 fn rect(lexer: &mut Lexer) -> Result<Reach, ReadError>
     ensures { Reads (λ r. r) result grammar.rect lexer.old lexer.new }
@@ -83,7 +83,7 @@ fn rect(lexer: &mut Lexer) -> Result<Reach, ReadError>
     Ok(reach_of(corner.y, opposite.y))
 }
 
-/// A statement of a port, after its first token; returns whether more follow.
+/// Reads a statement of a port, after its first token. Returns whether more statements follow.
 #[tactic(auto, unfolding(crate::specs::Pins::port_statement_from))]
 fn port_statement_from(
     lexer: &mut Lexer,
@@ -105,7 +105,7 @@ fn port_statement_from(
     Ok(true)
 }
 
-/// The statements of a port: its rectangles are appended.
+/// Reads the statements of a port and appends its rectangles.
 #[derive(Drop)]
 struct PortStatements;
 
@@ -121,7 +121,7 @@ impl Block for PortStatements {
     }
 }
 
-/// The use that a word names.
+/// Returns the use that a word names.
 fn use_named(word: &[u8]) -> PinUse
     ensures { result ≡ grammar.use_named word.now }
 {
@@ -134,7 +134,7 @@ fn use_named(word: &[u8]) -> PinUse
     }
 }
 
-/// A statement of a pin, after its first token; returns whether more follow.
+/// Reads a statement of a pin, after its first token. Returns whether more statements follow.
 #[tactic(auto, unfolding(crate::specs::Pins::pin_statement_from))]
 fn pin_statement_from(
     lexer: &mut Lexer,
@@ -160,7 +160,7 @@ fn pin_statement_from(
     Ok(true)
 }
 
-/// The statements of the pin of that name.
+/// Reads the statements of the pin with this name.
 #[derive(Drop)]
 struct PinStatements<'n> {
     name: &'n [u8],
@@ -178,7 +178,7 @@ impl<'n> Block for PinStatements<'n> {
     }
 }
 
-/// `PIN name`, its statements and `END name`, after its keyword.
+/// Reads `PIN name`, its statements and `END name`, after its keyword.
 #[tactic(auto, unfolding(crate::specs::Pins::pin))]
 pub(crate) fn read_pin(alloc: Global, lexer: &mut Lexer) -> Result<Pin, ReadError>
     ensures { Reads (λ p. p) result grammar.pin lexer.old lexer.new }
@@ -192,7 +192,7 @@ pub(crate) fn read_pin(alloc: Global, lexer: &mut Lexer) -> Result<Pin, ReadErro
     Ok(pin)
 }
 
-/// A y of the macro's own coordinates after ORIGIN is added.
+/// Returns a y in the macro's coordinates with the y of ORIGIN added.
 fn moved(y: i64, origin: i64) -> i128
     ensures { result ≡ y +ℤ origin }
 {
@@ -233,7 +233,7 @@ fn has_at_bottom(supply: PinUse, origin: i64, pins: &[Pin]) -> bool
         .any(|pin| is_supply_at_bottom(supply, origin, pin))
 }
 
-/// The rail along the bottom of a macro whose ORIGIN has this y.
+/// Returns the rail along the bottom of a macro whose ORIGIN has this y.
 pub(crate) fn rail_of(origin: i64, pins: &[Pin]) -> Rail
     ensures { result ≡ grammar.rail_of origin pins.now }
 {

@@ -1,4 +1,4 @@
-//! LEF texts: the statements of a library.
+//! The statements of a LEF text.
 
 ghost use Rattle.std.specs.Prelude.{◌≡◌, ◌<◌, Ok, Option, None, length, map, IfOk, IfErr, OnOk, OnErr, MatchResult, MatchOption};
 ghost use Rattle.std.specs.Option.{option_map};
@@ -17,7 +17,7 @@ use lf_lex::{
 };
 use lf_units::Name;
 
-/// A new name needs room for one thing more, else TooMany.
+/// Checks that there is room for one more entry if the name is new. `Err(TooMany)` if there is not.
 fn room_for(known: Option<usize>, count: usize, name: &Token) -> Result<(), ReadError>
     ensures read { MatchResult result (λ x. grammar.room_for known count (lexeme name.now) ≡ Ok x)
         (λ e. Fails e (grammar.room_for known count (lexeme name.now))) }
@@ -29,7 +29,7 @@ fn room_for(known: Option<usize>, count: usize, name: &Token) -> Result<(), Read
     Ok(())
 }
 
-/// SITE after its keyword.
+/// Reads a SITE, after its keyword.
 #[tactic(auto, unfolding(crate::specs::Library::with_site))]
 fn site(library: &mut Library, lexer: &mut Lexer) -> Result<(), ReadError>
     ensures read { Reads (λ _. library.new) result
@@ -47,7 +47,7 @@ fn site(library: &mut Library, lexer: &mut Lexer) -> Result<(), ReadError>
     Ok(())
 }
 
-/// MACRO after its keyword.
+/// Reads a MACRO, after its keyword.
 #[tactic(auto, unfolding(crate::specs::Library::with_macro))]
 fn cell(library: &mut Library, lexer: &mut Lexer) -> Result<(), ReadError>
     ensures read { Reads (λ _. library.new) result
@@ -65,7 +65,8 @@ fn cell(library: &mut Library, lexer: &mut Lexer) -> Result<(), ReadError>
     Ok(())
 }
 
-/// Whether a statement of this keyword is skipped to END and the name after the keyword.
+/// True if a statement with this keyword is skipped up to END and the name that follows the
+/// keyword.
 fn is_named(token: &Token) -> bool
     ensures { result ≡ grammar.is_named (lexeme token.now) }
 {
@@ -76,7 +77,7 @@ fn is_named(token: &Token) -> bool
         || is_token(b"ARRAY", token)
 }
 
-/// Whether a statement of this keyword is skipped to END and the keyword.
+/// True if a statement with this keyword is skipped up to END and the keyword.
 fn is_group(token: &Token) -> bool
     ensures { result ≡ grammar.is_group (lexeme token.now) }
 {
@@ -96,7 +97,7 @@ fn to_named_end(lexer: &mut Lexer) -> Result<(), ReadError>
     skip_to_end(lexer, name.text)
 }
 
-/// A statement other than SITE and MACRO, after its first token.
+/// Skips a statement other than SITE and MACRO, after its first token.
 #[tactic(auto, unfolding(crate::specs::Library::passed_from))]
 fn skip_from(lexer: &mut Lexer, token: &Token) -> Result<(), ReadError>
     ensures { ReadsOn (λ x. x) result (grammar.passed_from (lexeme token.now)) lexer.old lexer.new }
@@ -114,7 +115,7 @@ fn skip_from(lexer: &mut Lexer, token: &Token) -> Result<(), ReadError>
     }
 }
 
-/// A statement of the text, after its first token; returns whether more follow.
+/// Reads a statement of the text, after its first token. Returns whether more statements follow.
 #[tactic(auto, unfolding(crate::specs::Library::statement_from))]
 fn statement_from(
     library: &mut Library,
@@ -151,7 +152,7 @@ fn statement(library: &mut Library, lexer: &mut Lexer) -> Result<bool, ReadError
     }
 }
 
-/// The statements of a text; what was read before a failure stays in the library.
+/// Reads the statements of a text. After a failure the library keeps what was read so far.
 fn read_statements(library: &mut Library, text: &[u8]) -> Result<(), ReadError>
     ensures ok { OnOk result (grammar.library_after library.old text.now ≡ Ok library.new) }
     ensures fault { IfErr result (λ e. Fails e (grammar.library_after library.old text.now)) }
@@ -162,12 +163,16 @@ fn read_statements(library: &mut Library, text: &[u8]) -> Result<(), ReadError>
     Ok(())
 }
 
-/// Adds the sites and macros of a LEF text, up to END LIBRARY or the end of the text between statements. Of several
-/// sites or macros of one name the first counts, in one text or several. Unless an allocation fails, this succeeds iff the text
-/// is LEF by the grammar in `specs/`; the library is then what the grammar makes of it.
+/// Adds the sites and macros of a LEF text, up to END LIBRARY or the end of the text between
+/// statements.
 ///
-/// The error is the first fault in the order of the tokens, with its line: BadToken, UnexpectedEnd, Unexpected,
-/// BadNumber, WrongEnd or TooMany; or OutOfMemory, without a line. The library is unchanged after it.
+/// The first of several sites or macros with one name counts, in one text or several. Unless an
+/// allocation fails, this succeeds if and only if the text is LEF by the grammar in `specs/`. The
+/// library is then what the grammar makes of it.
+///
+/// `Err` is the first fault in the order of the tokens, with its line: BadToken, UnexpectedEnd,
+/// Unexpected, BadNumber, WrongEnd or TooMany. It is OutOfMemory, without a line, if an allocation
+/// fails. The library is then unchanged.
 pub fn read_lef<'a>(library: &mut Library, text: &'a [u8]) -> Result<(), LoadFault<'a>>
     ensures ok { OnOk result (grammar.library_after library.old text.now ≡ Ok library.new) }
     ensures fault { IfErr result

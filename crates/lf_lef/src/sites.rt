@@ -15,7 +15,7 @@ use lf_lex::{
 use lf_orient::Symmetry;
 use lf_units::{Name, Point};
 
-/// What the statements of a site say: of each kind the first.
+/// The statements of a site, the first of each kind.
 #[derive(Clone, Copy, Debug, PartialEq, Eq)]
 pub struct SiteParts {
     pub core: Option<bool>,
@@ -23,7 +23,7 @@ pub struct SiteParts {
     pub size: Option<Point>,
 }
 
-/// A word and a semicolon.
+/// Reads a word and a semicolon.
 #[tactic(auto, unfolding(crate::specs::Sites::one_word))]
 pub(crate) fn one_word<'a>(lexer: &mut Lexer<'a>) -> Result<&'a [u8], ReadError>
     ensures { Reads (λ w. w.now) result grammar.one_word lexer.old lexer.new }
@@ -33,7 +33,7 @@ pub(crate) fn one_word<'a>(lexer: &mut Lexer<'a>) -> Result<&'a [u8], ReadError>
     Ok(word.text)
 }
 
-/// The words after SYMMETRY, up to the `;`.
+/// Reads the words after SYMMETRY, up to the `;`.
 #[derive(Drop)]
 struct SymmetryWords;
 
@@ -59,7 +59,7 @@ impl Block for SymmetryWords {
     }
 }
 
-/// `SYMMETRY {X | Y | R90} .. ;` after its keyword.
+/// Reads `SYMMETRY {X | Y | R90} .. ;`, after its keyword. R90 is ignored.
 pub(crate) fn symmetry(lexer: &mut Lexer) -> Result<Symmetry, ReadError>
     ensures { Reads (λ s. s) result grammar.symmetry lexer.old lexer.new }
 {
@@ -68,7 +68,7 @@ pub(crate) fn symmetry(lexer: &mut Lexer) -> Result<Symmetry, ReadError>
     Ok(symmetry)
 }
 
-/// A statement of a site, after its first token; returns whether more follow.
+/// Reads a statement of a site, after its first token. Returns whether more statements follow.
 #[tactic(auto, unfolding(crate::specs::Sites::site_statement_from))]
 fn site_statement_from(
     lexer: &mut Lexer,
@@ -100,7 +100,7 @@ fn site_statement_from(
     Ok(true)
 }
 
-/// The statements of the site of that name.
+/// Reads the statements of the site with this name.
 #[derive(Drop)]
 struct SiteStatements<'n> {
     name: &'n [u8],
@@ -120,7 +120,7 @@ impl<'n> Block for SiteStatements<'n> {
     }
 }
 
-/// The statements of a site, and its END name.
+/// Reads the statements of a site, and its END name.
 pub(crate) fn site_parts(lexer: &mut Lexer, name: &[u8]) -> Result<SiteParts, ReadError>
     ensures read { Reads (λ p. p) result (grammar.site_parts name.now) lexer.old lexer.new }
     ensures range { IfOk result (λ parts. IfSome parts.size (λ p. HasRange p)) }
@@ -134,14 +134,14 @@ pub(crate) fn site_parts(lexer: &mut Lexer, name: &[u8]) -> Result<SiteParts, Re
     Ok(parts)
 }
 
-/// The point or size of a missing statement: 0 and 0.
+/// Returns the point or size of a missing statement: 0 and 0.
 pub(crate) fn no_point() -> Point
     ensures { result ≡ grammar.no_point }
 {
     Point { x: 0, y: 0 }
 }
 
-/// The site that the statements describe.
+/// Returns the site that the statements describe.
 pub(crate) fn site_of(name: Name, parts: &SiteParts) -> Site
     requires range { IfSome parts.now.size (λ p. HasRange p) }
     ensures site { result ≡ grammar.site_of name parts.now }

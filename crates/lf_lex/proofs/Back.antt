@@ -1,4 +1,5 @@
--- Reading words back: from tokens with these bytes a reader gives this value, places apart, whatever stands after.
+-- Reading words back: from tokens with these bytes a reader gives this value, up to offsets and
+-- lines, whatever follows.
 use Rattle.std.proofs.Common.{◌≡◌, ℕ, suc, ◌<◌, Bool, true, false, cond, List, [], ◌∷◌, ◌++◌, map, length, Result, Ok, Err, refl, ap, sym, ◌∙◌, arith}
 use Rattle.std.proofs.lemmas.List.{map-append}
 use Rattle.lf_lex.specs.declared.fault.ReadFault.{ReadFault}
@@ -10,18 +11,18 @@ use Rattle.lf_lex.proofs.Runs.{Again, TurnsAgain, turn_bare, left, nil_plain, pl
 abbrev pub BackAt : {A B : Type 0} → (A → B) → Reader A → List PlainToken → A → Type 0
 BackAt bare reader ps x = (p : List Lexeme) → map plain p ≡ ps → Again bare reader p x
 
--- the same from words
+-- The same from words.
 abbrev pub Back : {A B : Type 0} → (A → B) → Reader A → List (List ℕ) → A → Type 0
 Back bare reader ws x = BackAt bare reader (map word_of ws) x
 
 pub back_pure : {A B : Type 0} (bare : A → B) (x x' : A) → bare x' ≡ bare x → Back bare (λ l. taken x' l) [] x
 back_pure bare x x' e p q = record { value = x'; alike = e; takes = λ l. ap (λ (z : List Lexeme). taken x' (with_tokens z l)) (nil_plain p q) }
 
--- a token with these bytes, at no place in particular
+-- A token with these bytes, at an arbitrary place.
 abbrev pub token_of : PlainToken → Lexeme
 token_of u = record { text = u.text; kind = u.kind; start = 0; stop = 0; line = 0 }
 
--- a token with the bytes of a word
+-- A token with the bytes of a word.
 abbrev pub token_with : List ℕ → Lexeme
 token_with w = token_of (word_of w)
 
@@ -34,7 +35,7 @@ at_token u (t ∷ p) e =
 pub back_token : (w : List ℕ) → Back plain token (w ∷ []) (token_with w)
 back_token w = at_token (word_of w)
 
--- tokens with the bytes of two runs of words are two runs
+-- Tokens with the bytes of two runs of words are two runs.
 pub record Halves (p : List Lexeme) (us vs : List PlainToken) : Type 0 where
   pub front : List Lexeme
   pub back : List Lexeme
@@ -75,12 +76,12 @@ pub back_bind : {A B C D : Type 0} (bareA : A → C) (bareB : B → D) (r : Read
     → Back bareA r ws x → ((x' : A) → bareA x' ≡ bareA x → Back bareB (λ l. k (left x' l)) vs y) → Back bareB (λ l. r l >>= k) (ws ++ vs) y
 back_bind bareA bareB r k ws vs x y f next p e = at_bind bareA bareB r k (map word_of ws) (map word_of vs) x y f next p (e ∙ map-append word_of ws vs)
 
--- what is made of a value
+-- The image of a value that is read.
 pub at_map : {A B C D : Type 0} (bareA : A → C) (bareB : B → D) (r : Reader A) (f : A → B) (ps : List PlainToken) (x : A) (y : B)
     → BackAt bareA r ps x → ((x' : A) → bareA x' ≡ bareA x → bareB (f x') ≡ bareB y) → BackAt bareB (λ l. r l >>= λ z. taken (f z.value) z.rest) ps y
 at_map bareA bareB r f ps x y g alike p e = let a = g p e in record { value = f a.value; alike = alike a.value a.alike; takes = λ l. rw (a.takes l) refl }
 
--- a reader that is the same one
+-- A reader that is the same one.
 pub at_same : {A B : Type 0} (bare : A → B) (r r' : Reader A) (ps : List PlainToken) (x : A) → ((l : Lexed) → r l ≡ r' l) → BackAt bare r' ps x → BackAt bare r ps x
 at_same bare r r' ps x h f p e = let a = f p e in record { value = a.value; alike = a.alike; takes = λ l. h (with_tokens p l) ∙ a.takes l }
 
@@ -92,7 +93,7 @@ at_first bareB k u vs y next (t ∷ p) e =
     let b = next t h.0 p h.1 in
     record { value = b.value; alike = b.alike; takes = λ l. b.takes l }
 
--- a first token, and what is read after it
+-- A first token, and what is read after it.
 pub back_first : {B D : Type 0} (bareB : B → D) (k : ReadValue Lexeme → Result (ReadValue B) ReadFault) (w : List ℕ) (vs : List (List ℕ)) (y : B)
     → ((t : Lexeme) → plain t ≡ word_of w → Back bareB (λ l. k (left t l)) vs y) → Back bareB (λ l. token l >>= k) (w ∷ vs) y
 back_first bareB k w vs y next = back_bind plain bareB token k (w ∷ []) vs (token_with w) y (back_token w) next
@@ -127,7 +128,7 @@ pub back_given : {A B D : Type 0} (bare : B → D) (o : Result A ReadFault) (k :
     → o ≡ Ok v → Back bare (k v) ws x → Back bare (λ l. o >>= λ v. k v l) ws x
 back_given bare o k v ws x e f = at_given bare o k v (map word_of ws) x e f
 
--- what begins with a token of these bytes is read as their reader reads on
+-- A reader that begins with a token of these bytes continues with the reader of what follows.
 pub at_known : {B D : Type 0} (bareB : B → D) (f : Lexeme → Reader B) (r : Reader B) (u : PlainToken) (vs : List PlainToken) (y : B)
     → ((t : Lexeme) (l : Lexed) → f (record t { text = u.text; kind = u.kind }) l ≡ r l) → BackAt bareB r vs y
     → BackAt bareB (λ l. token l >>= λ t. f t.value t.rest) (u ∷ vs) y
@@ -135,7 +136,7 @@ at_known bareB f r u vs y is_read back =
     at_first bareB (λ t. f t.value t.rest) u vs y (λ t e.
     at_same bareB (f t) r vs y (λ l. ap (λ (p : PlainToken). f (record t { text = p.text; kind = p.kind }) l) e ∙ is_read t l) back)
 
--- Statement after statement.
+-- Blocks of statements.
 
 abbrev pub TurnsAt : {S D : Type 0} → (S → D) → Statement S → S → List PlainToken → S → Type 0
 TurnsAt bare statement s ps y = (p : List Lexeme) → map plain p ≡ ps → TurnsAgain bare statement s p y

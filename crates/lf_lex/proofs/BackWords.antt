@@ -1,4 +1,4 @@
--- The words that the readers share read back, and what is skipped is skipped up to its end.
+-- The shared words are read back, and skipping ends at the right token.
 use Rattle.std.proofs.Common.{◌≡◌, ◌≢◌, ℕ, ◌≤◌, Bool, true, false, ◌&&◌, List, [], ◌∷◌, ◌++◌, map, length, refl, ap, sym, ◌∙◌, arith}
 use Rattle.std.proofs.lemmas.List.{append-nil}
 use Rattle.std.specs.Prelude.{codes, not, nat_lt}
@@ -17,7 +17,7 @@ use Rattle.lf_lex.proofs.Back.{at_block}
 pub no_more : {A B : Type 0} (bare : A → B) (q : Reader A) (y : A) (ws : List (List ℕ)) → Back bare q (ws ++ []) y → Back bare q ws y
 no_more bare q y ws f = rw (append-nil ws) at f
 
--- a token with the bytes of a word is what the word is
+-- Comparing a token that has the bytes of a word compares the word.
 pub is_at : (due w : List ℕ) (t : Lexeme) → plain t ≡ word_of w → is due t ≡ bytes_eq w due
 is_at due w t e = ap (λ (p : PlainToken). bytes_eq p.text due) e
 
@@ -58,11 +58,11 @@ end_back due own =
     back_first same _ due [] tt (λ t e. back_no same (not (kind_is_word t.kind)) _ _ [] tt (ap (λ (p : PlainToken). not (kind_is_word p.kind)) e)
     (back_yes same (is due t) _ _ [] tt (is_at due due t e ∙ own) (back_pure same tt tt refl)))
 
--- the bytes of a token that stands for a word
+-- The bytes of a token of a word.
 pub text_is : (w : List ℕ) (t : Lexeme) → plain t ≡ word_of w → t.text ≡ w
 text_is w t e = ap (λ (p : PlainToken). p.text) e
 
--- a token with these bytes is what they are
+-- Comparing a token that has these bytes compares the bytes.
 pub is_of : (due : List ℕ) (u : PlainToken) (t : Lexeme) → plain t ≡ u → is due t ≡ bytes_eq u.text due
 is_of due u t e = ap (λ (p : PlainToken). bytes_eq p.text due) e
 
@@ -72,7 +72,7 @@ bytes_same a b h = (bytes_eq-Decides a b).0 h
 pub same_bytes : (a : List ℕ) → bytes_eq a a ≡ true
 same_bytes a = (bytes_eq-Decides a a).1 refl
 
--- the rest of tokens among which words stand nowhere
+-- Words that occur nowhere among tokens occur nowhere among the tokens after the first.
 pub later : (words : List (List ℕ)) (u : PlainToken) (ps : List PlainToken) → OccurNowhere words (u ∷ ps) → OccurNowhere words ps
 later words u ps h before after e = h (text_of u ∷ before) after (ap (λ (z : List (List ℕ)). text_of u ∷ z) e)
 
@@ -97,7 +97,7 @@ pub to_word_at : (due : List ℕ) → bytes_eq due due ≡ true → (ps : List P
     → BackAt same (to_word due) (ps ++ word_of due ∷ []) tt
 to_word_at due own ps h = at_block same (passed_to_word due) tt tt (ps ++ word_of due ∷ []) (word_turns due own ps h)
 
--- a semicolon is such a word
+-- A semicolon is such a word.
 pub to_semicolon_at : (ps : List PlainToken) → OccurNowhere (codes ";" ∷ []) ps → BackAt same to_semicolon (ps ++ word_of (codes ";") ∷ []) tt
 unfolding passed_token passed_to_word
 to_semicolon_at ps h = to_word_at (codes ";") refl ps h
@@ -109,7 +109,7 @@ not_both true true h = absurd (h refl refl)
 not_both true false h = refl
 not_both false b h = refl
 
--- the word does not stand directly after END
+-- The word does not directly follow END.
 not_end : (due q : List ℕ) (u : PlainToken) (ps : List PlainToken) → OccurNowhere (codes "END" ∷ due ∷ []) (word_of q ∷ u ∷ ps)
     → (bytes_eq q (codes "END") && bytes_eq u.text due) ≡ false
 not_end due q u ps h =
@@ -138,12 +138,12 @@ end_turns due own q (u ∷ ps) h state at =
     (back_pure same (turn is_end true) (turn (is (codes "END") t) true) (ap (λ (z : Bool). turn z true) (is_of (codes "END") u t e))))) (λ s es.
     end_turns due own u.text ps (λ before after e. later (codes "END" ∷ due ∷ []) (word_of q) (u ∷ (ps ++ word_of (codes "END") ∷ [])) h before after e) s es)
 
--- no END stands before the first of them
+-- No END is in front of the first of them.
 none_before : (due : List ℕ) (ps : List PlainToken) → OccurNowhere (codes "END" ∷ due ∷ []) ps → OccurNowhere (codes "END" ∷ due ∷ []) (word_of [] ∷ ps)
 none_before due ps h [] after e = absurd cc
 none_before due ps h (w ∷ before) after e = h before after cc
 
--- up to the first END with the word after it
+-- Up to the first END that the word directly follows.
 pub to_end_before : (due : List ℕ) → bytes_eq due due ≡ true → (ps : List PlainToken) → OccurNowhere (codes "END" ∷ due ∷ []) (ps ++ word_of (codes "END") ∷ [])
     → BackAt same (to_end due) (ps ++ word_of (codes "END") ∷ word_of due ∷ []) tt
 unfolding to_end
@@ -152,7 +152,7 @@ to_end_before due own ps h =
     at_map same same _ (λ (z : Bool). tt) all true tt
     (at_block same (passed_to_end due) false true all (end_turns due own [] ps (none_before due (ps ++ word_of (codes "END") ∷ []) h) false refl)) (λ x e. refl)
 
--- one END more does not matter where the word is another
+-- An END in front changes nothing if the word is not END.
 end_apart : (due : List ℕ) → codes "END" ≢ due → (ps : List PlainToken) → OccurNowhere (codes "END" ∷ due ∷ []) ps
     → OccurNowhere (codes "END" ∷ due ∷ []) (ps ++ word_of (codes "END") ∷ [])
 end_apart due other [] h [] after e = absurd cc

@@ -1,4 +1,4 @@
--- A text that is cut where a token begins.
+-- A text that is cut at the start of a token.
 use Rattle.std.proofs.Common.{◌≡◌, ℕ, zero, suc, ◌+◌, ◌-◌, ◌≤◌, ◌<◌, Bool, true, false, cond, List, [], ◌∷◌, ◌++◌, length, take, drop, Option, Some, None}
 use Rattle.std.proofs.Common.{replicate, refl, sym, ap, ◌∙◌, arith, subst}
 use Rattle.std.specs.Prelude.{not, ◌&&◌, ◌==◌}
@@ -15,14 +15,14 @@ use Rattle.lf_lex.proofs.Scanning.{no_line_feed, one_more, white_step, word_read
 use Rattle.lf_lex.proofs.Slices.{slices_from}
 use Rattle.lf_lex.specs.Reading.{behind}
 
--- the first bytes of a list, with others after them
+-- The first bytes of a list with others after them.
 front_of : (n k : ℕ) (bytes new : List ℕ) → n ≤ k → n ≤ length bytes → take n (take k bytes ++ new) ≡ take n bytes
 front_of zero k bytes new le within = refl
 front_of (suc n) zero bytes new le within = absurd (omega arith)
 front_of (suc n) (suc k) [] new le within = absurd (omega arith)
 front_of (suc n) (suc k) (b ∷ bytes) new le within = ap (λ (x : List ℕ). b ∷ x) (front_of n k bytes new (omega arith) (omega arith))
 
--- the first byte that passes a test stands in the front
+-- The first byte that passes a test lies in the front.
 first_step : (p : ℕ → Bool) (k b : ℕ) (bytes new : List ℕ) → (test : Bool) → p b ≡ test → position_or_len p (b ∷ bytes) < suc k
     → position_or_len p (b ∷ bytes) < length (b ∷ bytes)
     → (position_or_len p bytes < k → position_or_len p bytes < length bytes → position_or_len p (take k bytes ++ new) ≡ position_or_len p bytes)
@@ -42,7 +42,7 @@ first_in_front p (suc k) (b ∷ bytes) new lt within = first_step p k b bytes ne
 pub some_is : (m n : ℕ) → ◌≡◌ {A = Option ℕ} (Some m) (Some n) → m ≡ n
 some_is m n e = cc
 
--- the closing quote stands in the front
+-- The closing quote lies in the front.
 closing_rest : (n k : ℕ) (bytes front : List ℕ) (escaped : Bool) (o : Option ℕ) → quoted_len escaped bytes ≡ o → option_map (λ m. m + 1) o ≡ Some n → n ≤ suc k
     → ((m : ℕ) → quoted_len escaped bytes ≡ Some m → m ≤ k → (quoted_len escaped front ≡ Some m) × (m ≤ length bytes))
     → (option_map (λ m. m + 1) (quoted_len escaped front) ≡ Some n) × (n ≤ suc (length bytes))
@@ -79,7 +79,7 @@ closing_in_front escaped n zero (b ∷ bytes) new e le = absurd (omega (arith, c
 closing_in_front escaped n (suc k) (b ∷ bytes) new e le = closing_step escaped n k b bytes new (not escaped && b == 34) refl e le
     (λ later m q x. closing_in_front later m k bytes new q x)
 
--- where a token of those that are left begins
+-- The offset at which a remaining token begins.
 
 in_slices : (text : List ℕ) (from : ℕ) (before after : List Lexeme) (t : Lexeme) → AreSlices text from (before ++ t ∷ after) → from ≤ t.start
 in_slices text from [] after t s = s.0
@@ -107,7 +107,7 @@ head_is u t us ts e = cc
 pub tail_is : (u t : Lexeme) (us ts : List Lexeme) → ◌≡◌ {A = List Lexeme} (u ∷ us) (t ∷ ts) → us ≡ ts
 tail_is u t us ts e = cc
 
--- white space is skipped
+-- White space is skipped.
 pub blank_step : (at line b : ℕ) (bytes : List ℕ) (feed : Bool) → is_line_feed b ≡ feed → is_white b ≡ true
     → tokens_from 0 at line (b ∷ bytes) ≡ tokens_from 0 (at + 1) (cond (is_line_feed b) (line + 1) line) bytes
 unfolding tokens_from
@@ -125,7 +125,7 @@ pub quote_step : (at line b : ℕ) (bytes : List ℕ) (o : Option ℕ) → is_wh
 unfolding tokens_from
 quote_step at line b bytes o w h q e = rw (w, no_line_feed b w, h, q, e) refl
 
--- the next token begins after the first byte of white space
+-- The next token begins after the first byte of white space.
 passed_step : (p : ℕ → Bool) (at line b : ℕ) (bytes : List ℕ) (test : Bool) → p b ≡ test → (p b ≡ true → is_white b ≡ true)
     → (before after : List Lexeme) (t : Lexeme)
     → ((line : ℕ) → (tokens_from (position_or_len p bytes) (at + 1) line bytes).tokens ≡ before ++ t ∷ after
@@ -151,7 +151,7 @@ passed p white at line [] before after t e = absurd (no_token before after t e)
 passed p white at line (b ∷ bytes) before after t e =
     passed_step p at line b bytes (p b) refl (white b) before after t (λ l f. passed p white (at + 1) l bytes before after t f) e
 
--- the tokens before one of them do not change with what stands in its place and after it
+-- The tokens in front of a token do not depend on that token and what follows it.
 abbrev pub Cuts : List ℕ → ℕ → ℕ → ℕ → List ℕ → Type 0
 Cuts new n at line bytes = (before after : List Lexeme) (t : Lexeme) → (tokens_from n at line bytes).tokens ≡ before ++ t ∷ after
     → tokens_from n at line (take (t.start - at) bytes ++ new) ≡ with_tokens before (tokens_from 0 t.start t.line new)

@@ -1,4 +1,5 @@
--- The words that the readers share take a run of tokens, and read alike from tokens that differ in their places alone.
+-- The shared words take a run of tokens, and read alike from tokens that differ only in their
+-- places.
 use Rattle.std.proofs.Common.{◌≡◌, ℕ, Bool, true, false, ◌&&◌, List, length, Result, Ok, Err, refl, ap}
 use Rattle.std.specs.Prelude.{not, nat_lt, codes}
 use Rattle.std.specs.Str.{bytes_eq}
@@ -103,7 +104,7 @@ to_end_follows due =
 pub named_end : (n n' : List ℕ) → n' ≡ n → Follows same (to_end n) (to_end n')
 named_end n n' e = rw e (to_end_follows n)
 
--- a number is the same at another line
+-- A number is the same at another line.
 pub number_again : {A E : Type 0} (r : Result A E) (line line' : ℕ) (v : A) → or_bad_number r line ≡ Ok v → or_bad_number r line' ≡ Ok v
 number_again (Ok x) line line' v e = e
 number_again (Err q) line line' v e = absurd cc

@@ -1,4 +1,5 @@
--- Reading takes a run of tokens, and reads the same from tokens that differ in their places alone, whatever stands after.
+-- Reading takes a run of tokens, and reads the same from tokens that differ only in their places,
+-- whatever follows.
 use Rattle.std.proofs.Common.{◌≡◌, ℕ, zero, suc, ◌+◌, ◌≤◌, ◌<◌, Bool, true, false, cond, List, [], ◌∷◌, ◌++◌, map, length, Result, Ok, Err, refl, sym, ap, ◌∙◌}
 use Rattle.std.proofs.Common.{arith}
 use Rattle.std.proofs.lemmas.List.{append_assoc, append_cancel_right, append-nil}
@@ -7,7 +8,7 @@ use Rattle.lf_lex.specs.declared.fault.ReadFault.{ReadFault}
 use Rattle.lf_lex.specs.Laws.{TakesTokens, ReadsAlike}
 use Rattle.lf_lex.specs.Reading.{◌>>=◌, Reader, ReadValue, Turn, Statement, taken, turn, token, first_of, behind, statements, block}
 
--- What is read from such tokens: a value that is the same but for places.
+-- The value read from such tokens, equal up to places.
 pub record Again {A B : Type 0} (bare : A → B) (reader : Reader A) (p : List Lexeme) (x : A) : Type 0 where
   pub value : A
   pub alike : bare value ≡ bare x
@@ -18,7 +19,7 @@ pub record Run {A B : Type 0} (bare : A → B) (reader : Reader A) (l m : Lexed)
   pub whole : l ≡ with_tokens run m
   pub again : (p : List Lexeme) → map plain p ≡ map plain run → Again bare reader p x
 
--- what the first reads, the second reads again
+-- Holds if the second reader reads again what the first one reads.
 abbrev pub Follows : {A B : Type 0} → (A → B) → Reader A → Reader A → Type 0
 Follows bare r r' = (l m : Lexed) (x : _) → r l ≡ taken x m → Run bare r' l m x
 
@@ -29,7 +30,7 @@ pub nil_plain : (p : List Lexeme) → map plain p ≡ [] → p ≡ []
 nil_plain [] e = refl
 nil_plain (t ∷ p) e = absurd cc
 
--- a value with what is left
+-- A value with what is left.
 abbrev pub left : {A : Type 0} → A → Lexed → ReadValue A
 left x l = record { value = x; rest = l }
 
@@ -53,7 +54,7 @@ pure bare x x' alike l m y e =
 pub fault : {A B : Type 0} (bare : A → B) (f : ReadFault) (r' : Reader A) → Follows bare (λ l. Err f) r'
 fault bare f r' l m x e = absurd cc
 
--- tokens that are like two runs are two runs
+-- Tokens that are like two runs are two runs.
 pub record Split (p xs ys : List Lexeme) : Type 0 where
   pub front : List Lexeme
   pub back : List Lexeme
@@ -127,7 +128,7 @@ pub bind : {A B C D : Type 0} (bareA : A → C) (bareB : B → D) (r r' : Reader
     → Follows bareB (λ l. r l >>= k) (λ l. r' l >>= k')
 bind bareA bareB r r' k k' f next l m y e = by_first bareA bareB r r' k k' l m y f next (r l) refl e
 
--- one token that is like another
+-- A token that is like another one.
 one_plain : (p : List Lexeme) (t : Lexeme) → map plain p ≡ plain t ∷ [] → (u : Lexeme) × (p ≡ u ∷ []) × (plain u ≡ plain t)
 one_plain [] t e = absurd cc
 one_plain (u ∷ p) t e = let h = plain_head _ _ _ _ e in (u, ap (λ (z : List Lexeme). u ∷ z) (nil_plain p h.1), h.0)
@@ -169,13 +170,13 @@ given_of : {A B D : Type 0} (bare : B → D) (o e e' : Result A ReadFault) (k k'
 given_of bare (Err q) e e' k k' h same_value next l m x f = absurd cc
 given_of bare (Ok v) e e' k k' h same_value next l m x f = rw (same_value v h) (next v l m x f)
 
--- a value that takes no token, which may be a fault
+-- A value that takes no token. It may be a fault.
 pub given : {A B D : Type 0} (bare : B → D) (e e' : Result A ReadFault) (k k' : A → Reader B) → ((v : A) → e ≡ Ok v → e' ≡ Ok v)
     → ((v : A) → Follows bare (λ l. k v l) (λ l. k' v l))
     → Follows bare (λ l. e >>= λ v. k v l) (λ l. e' >>= λ v. k' v l)
 given bare e e' k k' same_value next = given_of bare e e e' k k' refl same_value next
 
--- Statement after statement.
+-- Blocks of statements.
 
 abbrev pub turn_bare : {S D : Type 0} → (S → D) → Turn S → Turn D
 turn_bare bare t = turn (bare t.state) t.more
@@ -190,7 +191,7 @@ pub record TurnsRun {S D : Type 0} (bare : S → D) (statement : Statement S) (s
   pub whole : l ≡ with_tokens run m
   pub again : (p : List Lexeme) → map plain p ≡ map plain run → TurnsAgain bare statement s p y
 
--- a turn that goes on takes a token
+-- Holds if a turn that continues takes a token.
 abbrev pub Goes : {S : Type 0} → Statement S → Type 0
 Goes statement = TakesTokens statement
 
@@ -299,7 +300,7 @@ block_follows bare statement each goes s s' a l m x e =
           record { value = b.value; alike = b.alike; takes = λ k. b.takes (suc (length (p ++ k.tokens))) (omega (arith, length_both p k.tokens)) k };
     }
 
--- reading leaves no more tokens than there were
+-- Reading never increases the number of tokens.
 pub leaves : {A B : Type 0} (bare : A → B) (r' : Reader A) (l m : Lexed) (x : A) → Run bare r' l m x → length m.tokens ≤ length l.tokens
 leaves bare r' l m x f = omega (arith, ap (λ (z : Lexed). length z.tokens) f.whole ∙ length_both f.run m.tokens)
 
@@ -311,24 +312,24 @@ first_taken bare k r' l m x next (t ∷ ts) h e =
     let f = next t (behind ts l) m x e in
     omega (arith, leaves bare (r' t) (behind ts l) m x f, ap (λ (z : List Lexeme). length z) h)
 
--- what begins with a token takes one
+-- A reader that begins with a token takes one.
 pub takes_one : {A B : Type 0} (bare : A → B) (k : ReadValue Lexeme → Result (ReadValue A) ReadFault) (r' : Lexeme → Reader A) (l m : Lexed) (x : A)
     → ((t : Lexeme) → Follows bare (λ l. k (left t l)) (r' t))
     → (token l >>= k) ≡ taken x m → length m.tokens < length l.tokens
 takes_one bare k r' l m x next e = first_taken bare k r' l m x next l.tokens refl e
 
--- a reader without places reads alike
+-- A reader whose value has no places reads alike.
 pub reads_alike : {A : Type 0} (reader : Reader A) → Follows same reader reader → ReadsAlike reader
 reads_alike reader f l m x e =
     let r = f l m x e in
     (r.run, r.whole, λ p q k. let a = r.again p q in a.takes k ∙ ap (λ (z : _). taken z k) a.alike)
 
--- what begins with a token takes one, whatever is read after it
+-- A reader that begins with a token takes one, whatever it reads next.
 pub takes_first : {A : Type 0} (k : ReadValue Lexeme → Result (ReadValue A) ReadFault) (l m : Lexed) (x : A) → (token l >>= k) ≡ taken x m
     → ((t : Lexeme) → Follows same (λ l. k (left t l)) (λ l. k (left t l))) → length m.tokens < length l.tokens
 takes_first k l m x e next = takes_one same k (λ t l. k (left t l)) l m x next e
 
--- a statement without places: states that are alike are the same
+-- A statement whose state has no places: states that are alike are equal.
 pub alike_states : {S : Type 0} (statement : Statement S) → ((s : S) → Follows same (statement s) (statement s)) → (s s' : S) → same s' ≡ same s
     → Follows (turn_bare same) (statement s) (statement s')
 alike_states statement f s s' e = rw e (f s)

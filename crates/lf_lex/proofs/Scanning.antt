@@ -30,7 +30,7 @@ first_and_rest text i lt = rw (add-one, drop-cons text i 0 lt) refl
 pub one_more : (n : ℕ) → 1 + n ≡ suc n
 one_more n = omega arith
 
--- what is left, after one more byte
+-- What is left after one more byte.
 
 line_feed_step : (in_comment : Bool) (at line b : ℕ) (bytes : List ℕ) → b ≡ 10 → tokens_from (blank_len in_comment (b ∷ bytes)) at line (b ∷ bytes) ≡ tokens_from 0 (at + 1) (line + 1) bytes
 unfolding tokens_from
@@ -79,7 +79,7 @@ over_white true at line text total lt e ne w same = absurd cc
 over_white false at line text total lt e ne w same =
     sym (white_step at line (get_or text at 0) (drop (at + 1) text) (not_ten _ ne) w) ∙ rw (first_and_rest text at lt) at same
 
--- how many bytes of a quoted text are left
+-- The number of bytes of a quoted text that are left.
 
 pub quoted_goes_on : (escaped : Bool) (i b : ℕ) (bytes : List ℕ) → (not escaped && b == 34) ≡ false
     → option_map (λ n. i + n) (quoted_len escaped (b ∷ bytes)) ≡ option_map (λ n. i + 1 + n) (quoted_len (not escaped && b == 92) bytes)
@@ -89,7 +89,7 @@ quoted_goes_on escaped i b bytes h = rw h (moved i (quoted_len (not escaped && b
     moved i None = refl
     moved i (Some n) = let e : i + (n + 1) ≡ i + 1 + n = omega arith in rw e refl
 
--- how many line feeds stand in a list that is cut at its front
+-- The number of line feeds in a list that is cut at its front.
 pub line_feeds_cons : (b : ℕ) (bytes : List ℕ) → line_feeds (b ∷ bytes) ≡ cond (is_line_feed b) 1 0 + line_feeds bytes
 line_feeds_cons b bytes = sum_by-cons (λ x. cond (is_line_feed x) 1 0) b bytes
 
@@ -100,7 +100,7 @@ after_one false line n = omega arith
 pub not_equal : (b n : ℕ) → (b ≡ n → ⊥) → (b == n) ≡ false
 not_equal b n h = grind (arith, nat_tests)
 
--- the last line of a choice of five, of which the first is not taken
+-- The end line of a choice of five, if the first is not taken.
 choice_end : (a b c d e : Bool) (w x y z t u : Lexed) (v : ℕ) → a ≡ false → x.end_line ≡ v → y.end_line ≡ v → z.end_line ≡ v → t.end_line ≡ v → u.end_line ≡ v
     → (cond a w (cond b x (cond c y (cond d z (cond e t u))))).end_line ≡ v
 choice_end true b c d e w x y z t u v h p q r k l = absurd cc
@@ -132,7 +132,7 @@ unfolding tokens_from
 end_line_step at line b bytes each true h = rw h (each 0 (at + 1) (line + 1) ∙ omega arith)
 end_line_step at line b bytes each false h = other_end at line b bytes each h ∙ omega arith
 
--- the line on which what is left ends
+-- The line on which the rest ends.
 pub end_line_is : (before at line : ℕ) (bytes : List ℕ) → (tokens_from before at line bytes).end_line ≡ line + line_feeds bytes
 unfolding tokens_from
 end_line_is before at line [] = sym (add-zero line)
@@ -141,7 +141,7 @@ end_line_is (suc before) at line (b ∷ bytes) =
 end_line_is zero at line (b ∷ bytes) =
     end_line_step at line b bytes (λ n k l. end_line_is n k l bytes) (is_line_feed b) refl ∙ rw (line_feeds_cons b bytes) refl
 
--- bytes that belong to what was read before
+-- Bytes that belong to an earlier token.
 pub after_front : (n at line : ℕ) (bytes : List ℕ) → n ≤ length bytes → tokens_from n at line bytes ≡ tokens_from 0 (at + n) (line + line_feeds (take n bytes)) (drop n bytes)
 unfolding tokens_from
 after_front zero at line bytes le = rw (add-zero, add-zero) refl
@@ -151,7 +151,7 @@ after_front (suc n) at line (b ∷ bytes) le =
     let f = after_one (is_line_feed b) line (line_feeds (take n bytes)) in
     after_front n (at + 1) (cond (is_line_feed b) (line + 1) line) bytes (omega arith) ∙ rw (e, f, ← line_feeds_cons b (take n bytes)) refl
 
--- what stands at a place, as a token with what is left after it
+-- The token at an offset, with what is left after it.
 placed : (kind : TokenKind) (text : List ℕ) (at line more b : ℕ) (t : List ℕ) → at < length text → get_or text at 0 ≡ b → is_line_feed b ≡ false → more ≤ length (drop (at + 1) text)
     → t ≡ take (at + 1 + more - at) (drop at text)
     → tokens_from 0 at line (b ∷ drop (at + 1) text) ≡ with_token (token_at kind at line b (drop (at + 1) text) more) (tokens_from more (at + 1) line (drop (at + 1) text))

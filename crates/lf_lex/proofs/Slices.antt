@@ -10,7 +10,7 @@ use Rattle.lf_lex.specs.declared.tokens.LexFault.TheVariants.{BadToken, Unexpect
 use Rattle.lf_lex.specs.Tokens.{Lexed, is_white, is_line_feed, is_word_byte, line_feeds, comment_len, word_len, quoted_len, with_token, token_at, stopped}
 use Rattle.lf_lex.specs.Tokens.{tokens_from, AreSlices, AreWithin}
 
--- a claim on a choice of five
+-- A claim on a choice of five.
 choice_of : (P : Lexed → Type 0) (a b c d e : Bool) (w x y z t u : Lexed) → P w → P x → P y → P z → P t → P u
     → P (cond a w (cond b x (cond c y (cond d z (cond e t u)))))
 choice_of P true b c d e w x y z t u o p q r k l = o

@@ -36,7 +36,7 @@ word_spelled text word at stop line lt le no_quote e bytes =
     let f = first_of_slice text word at stop lt le e in
     record { kind = sym (kind_of_first word f.0 (get_or text at 0) false f.1 (not_equal _ _ no_quote)); bytes = λ _. bytes }
 
--- a claim on a choice of five, which knows the tests for a quoted text and a word
+-- A claim on a choice of five, given the tests for a quoted text and a word.
 choice_of : (P : Lexed → Type 0) (a b c d e : Bool) (w x y z t u : Lexed) → P w → P x → P y → (d ≡ true → P z) → (d ≡ false → e ≡ true → P t) → P u
     → P (cond a w (cond b x (cond c y (cond d z (cond e t u)))))
 choice_of P true b c d e w x y z t u o p q r k l = o

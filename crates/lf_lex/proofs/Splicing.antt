@@ -62,7 +62,7 @@ moved zero at at' line line' (b ∷ bytes) =
     (λ n. ap (λ (x : List PlainToken). plain (token_at Quoted at line b bytes n) ∷ x) (each n line line')) refl)
     (ap (λ (x : List PlainToken). plain (token_at Word at line b bytes (word_len bytes)) ∷ x) (each (word_len bytes) line line')) refl
 
--- white space stands at the front, or nothing is left
+-- Holds if white space is at the front, or nothing is left.
 abbrev pub BeginsWhite : List ℕ → Type 0
 BeginsWhite [] = Unit {0}
 BeginsWhite (b ∷ bytes) = is_white b ≡ true
@@ -139,7 +139,7 @@ joined_front at line (w ∷ ws) rest h white =
     ∙ word_front at line w (spaced ws ++ rest) x.0 (spaced_white ws rest white)
     ∙ ap (λ (y : List PlainToken). word_of w ∷ y) (spaced_front at line ws rest x.1 white)
 
--- What stands after a token.
+-- The bytes after a token.
 
 word_behind : (bytes : List ℕ) → BeginsWhite (drop (word_len bytes) bytes)
 word_behind [] = tt
@@ -149,7 +149,7 @@ word_behind (b ∷ bytes) = by_test (is_white b) refl (word_behind bytes)
     by_test true h r = rw h h
     by_test false h r = let e : 1 + word_len bytes ≡ suc (word_len bytes) = omega arith in rw (h, e) r
 
--- the tokens after a place that skipping reaches
+-- The tokens after an offset that skipping reaches.
 pub record Behind (at stop : ℕ) (bytes : List ℕ) (us : List Lexeme) : Type 0 where
   pub line : ℕ
   pub past : at ≤ stop
@@ -220,7 +220,7 @@ cancel : (before xs ys : List Lexeme) → before ++ xs ≡ before ++ ys → xs �
 cancel [] xs ys e = e
 cancel (t ∷ before) xs ys e = cancel before xs ys (tail_is t t _ _ e)
 
--- the tokens from one of them on are those of the bytes from its first on
+-- The tokens from one of them on are those of the bytes from its first byte on.
 skip_to : (at line : ℕ) (bytes : List ℕ) (before after : List Lexeme) (t : Lexeme) → (tokens_from 0 at line bytes).tokens ≡ before ++ t ∷ after
     → (tokens_from 0 t.start t.line (drop (t.start - at) bytes)).tokens ≡ t ∷ after
 skip_to at line bytes before after t e =
@@ -249,7 +249,7 @@ walk at line bytes (v ∷ us) after u stop e s last =
     drop-drop (stop - v.start) (v.start - u.stop) _ ∙ drop-drop _ (u.stop - at) bytes ∙ rw sum refl in
     (record { line = w.0.line; past = omega (arith, ge, n.0.past, w.0.past); rest = rw there at w.0.rest }, rw there at w.1)
 
--- the first token at or after a splice
+-- The first token at or after a splice.
 first_made : (s : Splice) (ws : List (List ℕ)) (middle after : List Lexeme) → ReplacesTokens s ws middle after
     → (t : Lexeme) × (ts : List Lexeme) × (middle ++ after ≡ t ∷ ts) × (s.start ≡ t.start)
 first_made s ws [] [] m = absurd m

@@ -6,7 +6,7 @@ use Rattle.lf_lex.specs.declared.fault.ReadError.{ReadError}
 use Rattle.lf_lex.specs.declared.fault.ReadError.TheVariants.{Memory, Fault}
 use Rattle.lf_lex.specs.Reading.{Statement, ReadValue, turn, taken, Fails, statements, block, value_of}
 
--- from here on, with enough turns, the statements give the total
+-- From here on, with enough turns, the statements give the total.
 pub record Going {S : Type 0} (statement : Statement S) (s : S) (l : Lexed) (total : Result (ReadValue S) ReadFault) : Type 0 where
   pub left : ℕ
   pub enough : length l.tokens < left
@@ -53,7 +53,7 @@ pub turn_fails : {S : Type 0} (statement : Statement S) (e : ReadError) (s : S) 
     → Fails e (statement s l) → Fails e total
 turn_fails statement e s l total g h = failed_turn statement e g.left s l total g.enough g.same h
 
--- a fault of what is read is a fault of the value
+-- A fault of the reader is a fault of its value.
 pub fails_too : {A : Type 0} (e : ReadError) (r : Result (ReadValue A) ReadFault) → Fails e r → Fails e (value_of r)
 fails_too Memory r h = tt
 fails_too (Fault f) r h = rw h refl

@@ -1,4 +1,4 @@
--- The bytes of a word, up to the first that no word has.
+-- The bytes of a word, up to the first byte that no word may have.
 use Rattle.std.proofs.Common.{◌≡◌, ℕ, suc, ◌+◌, ◌-◌, ◌<◌, Bool, true, false, List, [], ◌∷◌, length, take, drop, get_or, refl, sym, zero-add, ◌∙◌, arith}
 use Rattle.std.specs.Prelude.{◌&&◌}
 use Rattle.std.specs.List.{list_all, position_or_len}
@@ -27,7 +27,8 @@ and_false : (a b : Bool) → b ≡ false → (a && b) ≡ false
 and_false true b e = e
 and_false false b e = refl
 
--- where the first byte that no word has is white space, or there is none, the next white space is there
+-- If the first byte that no word may have is white space or does not exist, it is the next white
+-- space.
 pub stops_at_white : (bytes : List ℕ) → (position_or_len is_other bytes < length bytes → is_white (get_or bytes (position_or_len is_other bytes) 0) ≡ true)
     → position_or_len is_other bytes ≡ word_len bytes
 stops_at_white bytes white =
@@ -39,7 +40,7 @@ word_step : (b : ℕ) (bytes : List ℕ) (other : Bool) → is_other b ≡ other
 word_step b bytes true h all = rw h refl
 word_step b bytes false h all = rw (h, one_more (position_or_len is_other bytes)) (rw (word_byte b h) all)
 
--- a word may have each byte before it
+-- A word may have each byte in front of it.
 pub each_before : (bytes : List ℕ) → list_all is_word_byte (take (position_or_len is_other bytes) bytes) ≡ true
 each_before [] = refl
 each_before (b ∷ bytes) = word_step b bytes (is_other b) refl (each_before bytes)
@@ -57,20 +58,21 @@ fault_step b bytes false h again less white =
     let black = rw (h, one_more (position_or_len is_other bytes)) at white in
     rw (no_white b h, one_more (word_len bytes)) (and_false (is_word_byte b) _ (again (omega (arith, inner)) black))
 
--- where the first byte that no word has is no white space, it lies before the next white space
+-- If the first byte that no word may have is not white space, it lies in front of the next white
+-- space.
 pub stops_at_fault : (bytes : List ℕ) → position_or_len is_other bytes < length bytes → is_white (get_or bytes (position_or_len is_other bytes) 0) ≡ false
     → list_all is_word_byte (take (word_len bytes) bytes) ≡ false
 stops_at_fault [] less white = absurd (omega (arith, less))
 stops_at_fault (b ∷ bytes) less white = fault_step b bytes (is_other b) refl (stops_at_fault bytes) less white
 
--- a word has no line feed
+-- A word has no line feed.
 pub no_line_feeds : (word : List ℕ) → list_all is_word_byte word ≡ true → line_feeds word ≡ 0
 no_line_feeds [] all = refl
 no_line_feeds (b ∷ word) all =
     let both = and_true (is_word_byte b) (list_all is_word_byte word) all in
     line_feeds_cons b word ∙ rw (no_feed b both.0) (zero-add (line_feeds word) ∙ no_line_feeds word both.1)
 
--- a word from an offset on
+-- A word from an offset on.
 pub whole_word : (text word : List ℕ) (at more : ℕ) → at < length text → is_other (get_or text at 0) ≡ false
     → list_all is_word_byte (take more (drop (at + 1) text)) ≡ true → word ≡ take (at + 1 + more - at) (drop at text) → list_all is_word_byte word ≡ true
 whole_word text word at more lt first rest e =

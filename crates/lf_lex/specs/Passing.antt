@@ -1,10 +1,11 @@
--- Tokens that are skipped, as they are printed.
+-- Printed tokens that a reader skips.
 use Rattle.std.specs.Prelude.{◌≢◌, ℕ, List, ◌++◌, map}
 use Rattle.lf_lex.specs.Tokens.{PlainToken}
 
 abbrev pub text_of : PlainToken → List ℕ
 text_of t = t.text
 
--- nowhere among these tokens do these words follow one another directly
+-- Holds if these words occur in this order nowhere among these tokens, each directly after the one
+-- in front of it.
 abbrev pub OccurNowhere : List (List ℕ) → List PlainToken → Type 0
 OccurNowhere words tokens = (before after : List (List ℕ)) → map text_of tokens ≢ before ++ (words ++ after)

@@ -4,7 +4,7 @@ use Rattle.std.specs.List.{list_all}
 use Rattle.lf_lex.specs.declared.tokens.TokenKind.TheVariants.{Word}
 use Rattle.lf_lex.specs.Tokens.{Lexeme, PlainToken, plain, tokens_of, is_word_byte}
 
--- bytes that replace those from one offset up to another
+-- Bytes that replace those from one offset up to another.
 pub record Splice : Type 0 where
   pub start : ℕ
   pub stop : ℕ
@@ -15,22 +15,22 @@ unfoldable pub spliced : ℕ → List Splice → List ℕ → List ℕ
 spliced at [] bytes = bytes
 spliced at (s ∷ ss) bytes = take (s.start - at) bytes ++ (s.new ++ spliced s.stop ss (drop (s.stop - at) bytes))
 
--- splices one after the other, within a text of this length
+-- Holds if the splices are in order, do not overlap, and lie within a text of this length.
 abbrev pub Rising : ℕ → ℕ → List Splice → Type 0
 Rising at len [] = at ≤ len
 Rising at len (s ∷ ss) = (at ≤ s.start) × (s.start ≤ s.stop) × Rising s.stop len ss
 
--- words with a space before each
+-- Words with a space in front of each.
 abbrev pub spaced : List (List ℕ) → List ℕ
 spaced [] = []
 spaced (w ∷ ws) = 32 ∷ w ++ spaced ws
 
--- words with one space between
+-- Words with one space between them.
 abbrev pub joined : List (List ℕ) → List ℕ
 joined [] = []
 joined (w ∷ ws) = w ++ spaced ws
 
--- bytes that are one word if white space follows
+-- True if the bytes are one word when white space follows.
 abbrev pub is_word_text : List ℕ → Bool
 is_word_text [] = false
 is_word_text (b ∷ bytes) = not (b == 35) && not (b == 34) && list_all is_word_byte (b ∷ bytes)
@@ -38,12 +38,12 @@ is_word_text (b ∷ bytes) = not (b == 35) && not (b == 34) && list_all is_word_
 abbrev pub word_of : List ℕ → PlainToken
 word_of w = record { text = w; kind = Word }
 
--- the last token of a run is a word and ends at this offset
+-- Holds if the last token of a run is a word and ends at this offset.
 abbrev pub LastIs : ℕ → Lexeme → List Lexeme → Type 0
 LastIs stop t [] = (t.stop ≡ stop) × (is_word_text t.text ≡ true)
 LastIs stop t (u ∷ us) = LastIs stop u us
 
--- one splice replaces a run of tokens by words, or inserts words before a token
+-- Holds if the splice replaces a run of tokens by words, or inserts words in front of a token.
 abbrev pub ReplacesTokens : Splice → List (List ℕ) → List Lexeme → List Lexeme → Type 0
 ReplacesTokens s ws [] [] = ⊥
 ReplacesTokens s ws [] (t ∷ after) = (s.start ≡ t.start) × (s.stop ≡ t.start) × (s.new ≡ joined ws ++ 32 ∷ [])
@@ -61,11 +61,12 @@ pub record SpliceStep (s : Splice) (p : List Lexeme) (q : List PlainToken) (Then
   pub new : q ≡ map plain before ++ (map word_of words ++ later)
   pub next : Then after later
 
--- the splices turn this run of tokens into that one
+-- Holds if the splices turn the first run of tokens into the second.
 abbrev pub AreEdited : List Splice → List Lexeme → List PlainToken → Type 0
 AreEdited [] p q = map plain p ≡ q
 AreEdited (s ∷ ss) p q = SpliceStep s p q (AreEdited ss)
 
--- Making splices in a text makes them among its tokens, but for offsets and lines.
+-- Holds if splices in the text make the same splices among its tokens, except for offsets and
+-- lines.
 abbrev pub SplicesTokens : List ℕ → Type 0
 SplicesTokens text = (ss : List Splice) (q : List PlainToken) → AreEdited ss (tokens_of text).tokens q → map plain (tokens_of (spliced 0 ss text)).tokens ≡ q

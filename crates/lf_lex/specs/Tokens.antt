@@ -9,17 +9,17 @@ use Rattle.lf_lex.specs.declared.tokens.TokenKind.TheVariants.{Word, Quoted}
 use Rattle.lf_lex.specs.declared.tokens.LexFault.{LexFault}
 use Rattle.lf_lex.specs.declared.tokens.LexFault.TheVariants.{BadToken, UnexpectedEnd}
 
--- a token whose bytes are a list instead of a slice of a text
+-- A token whose bytes are a list instead of a slice of a text.
 abbrev pub Lexeme : Type 0
 Lexeme = TokenOf (List ℕ)
 
--- the tokens of a text, the fault after them, and the line on which the text ends
+-- The tokens of a text, the fault after them, and the line on which the text ends.
 pub record Lexed : Type 0 where
   pub tokens : List Lexeme
   pub fault : Option LexFault
   pub end_line : ℕ
 
--- space, tab, line feed and carriage return
+-- True for space, tab, line feed and carriage return.
 abbrev pub is_white : ℕ → Bool
 is_white b = b == 32 || b == 9 || b == 10 || b == 13
 
@@ -29,22 +29,23 @@ is_line_feed b = b == 10
 abbrev pub is_word_byte : ℕ → Bool
 is_word_byte b = nat_le 33 b && nat_le b 126
 
--- no word has the byte
+-- True if no word may have the byte.
 abbrev pub is_other : ℕ → Bool
 is_other b = nat_lt b 33 || nat_lt 126 b
 
 abbrev pub line_feeds : List ℕ → ℕ
 line_feeds bytes = count_by is_line_feed bytes
 
--- the number of bytes of a comment after its number sign: all up to the end of the line
+-- The number of bytes of a comment after its number sign, up to the end of the line.
 abbrev pub comment_len : List ℕ → ℕ
 comment_len bytes = position_or_len is_line_feed bytes
 
--- the number of bytes before the next white space
+-- The number of bytes up to the next white space.
 abbrev pub word_len : List ℕ → ℕ
 word_len bytes = position_or_len is_white bytes
 
--- the number of bytes up to the closing quote, with it; a backslash takes the next byte along
+-- The number of bytes up to the closing quote, including it. The byte after a backslash does not
+-- close the text.
 abbrev pub quoted_len : Bool → List ℕ → Option ℕ
 quoted_len escaped [] = None
 quoted_len escaped (b ∷ bytes) =
@@ -61,8 +62,8 @@ stopped fault end_line = record { tokens = []; fault = Some fault; end_line = en
 abbrev pub token_at : TokenKind → ℕ → ℕ → ℕ → List ℕ → ℕ → Lexeme
 token_at kind at line b bytes more = record { text = b ∷ take more bytes; kind = kind; start = at; stop = at + 1 + more; line = line }
 
--- The tokens of the rest of a text, from an offset and a line; the first bytes, as many as `before`, were read already and are
--- skipped.
+-- The tokens of the rest of a text, from an offset and a line on. The first `before` bytes belong
+-- to an earlier token and are skipped.
 unfoldable pub tokens_from : ℕ → ℕ → ℕ → List ℕ → Lexed
 tokens_from before at line [] = record { tokens = []; fault = None; end_line = line }
 tokens_from (suc before) at line (b ∷ bytes) = tokens_from before (at + 1) (if is_line_feed b then line + 1 else line) bytes
@@ -81,35 +82,37 @@ tokens_of text = tokens_from 0 0 1 text
 abbrev pub lexeme : TokenOf (Bor (List ℕ)) → Lexeme
 lexeme t = record { text = t.text.now; kind = t.kind; start = t.start; stop = t.stop; line = t.line }
 
--- What a call for the next token returns: the first of them, or the end, or the fault after them, which then stays.
+-- Holds if a call for the next token returns the first token, `None` at the end, or the fault after
+-- the last token. The fault then remains.
 abbrev pub ReturnsNextToken : Result (Option (TokenOf (Bor (List ℕ)))) LexFault → Lexed → Lexed → Type 0
 ReturnsNextToken (Ok (Some token)) old new = old ≡ with_token (lexeme token) new
 ReturnsNextToken (Ok None) old new = (old.tokens ≡ []) × (old.fault ≡ None) × (new ≡ old)
 ReturnsNextToken (Err fault) old new = (old.tokens ≡ []) × (old.fault ≡ Some fault) × (new ≡ old)
 
--- a token is at the front, or nothing is left
+-- Holds if a token begins here, or nothing is left.
 abbrev pub BeginsToken : List ℕ → Type 0
 BeginsToken [] = Unit {0}
 BeginsToken (b ∷ bytes) = (is_white b ≡ false) × ((b == 35) ≡ false)
 
--- A token read at an offset: the first of those that are left, with the others after it; or the fault in its place.
+-- Holds if this is the token at an offset, with the other tokens after it, or the fault at that
+-- offset.
 abbrev pub ReadsToken : List ℕ → ℕ → ℕ → Result (TokenOf (Bor (List ℕ))) LexFault → Type 0
 ReadsToken text at line (Ok t) =
     (at + length t.text.now ≡ t.stop) × (at < t.stop) × (t.stop ≤ length text)
     × (tokens_from 0 at line (drop at text) ≡ with_token (lexeme t) (tokens_from 0 t.stop (line + line_feeds t.text.now) (drop t.stop text)))
 ReadsToken text at line (Err fault) = tokens_from 0 at line (drop at text) ≡ stopped fault (line + line_feeds (drop at text))
 
--- Tokens that are slices of a text, one after the other, from an offset on.
+-- Holds if the tokens are slices of the text from an offset on, in order and without overlap.
 abbrev pub AreSlices : List ℕ → ℕ → List Lexeme → Type 0
 AreSlices text from [] = Unit {0}
 AreSlices text from (t ∷ ts) = (from ≤ t.start) × (t.start < t.stop) × (t.text ≡ take (t.stop - t.start) (drop t.start text)) × AreSlices text t.stop ts
 
--- tokens that end within a text
+-- Holds if the tokens end within the text.
 abbrev pub AreWithin : List ℕ → List Lexeme → Type 0
 AreWithin text [] = Unit {0}
 AreWithin text (t ∷ ts) = (t.stop ≤ length text) × AreWithin text ts
 
--- tokens, and then those of a rest
+-- These tokens, followed by those of a rest.
 abbrev pub with_tokens : List Lexeme → Lexed → Lexed
 with_tokens front rest = record { tokens = front ++ rest.tokens; fault = rest.fault; end_line = rest.end_line }
 
@@ -121,17 +124,19 @@ pub record PlainToken : Type 0 where
 abbrev pub plain : Lexeme → PlainToken
 plain t = record { text = t.text; kind = t.kind }
 
--- Replacing a token and all that follows leaves the tokens before it unchanged, with their offsets.
+-- Holds if replacing a token and all that follows leaves the tokens in front of it unchanged, with
+-- their offsets.
 abbrev pub CutsAtTokens : List ℕ → Type 0
 CutsAtTokens text = (new : List ℕ) (before : List Lexeme) (t : Lexeme) (after : List Lexeme) → (tokens_of text).tokens ≡ before ++ t ∷ after
     → tokens_of (take t.start text ++ new) ≡ with_tokens before (tokens_from 0 t.start t.line new)
 
--- the kind of a token follows from its text: a quotation mark begins a quoted text
+-- The kind of a token with these bytes. A quotation mark begins a quoted text.
 abbrev pub kind_of : List ℕ → TokenKind
 kind_of [] = Word
 kind_of (b ∷ bytes) = if b == 34 then Quoted else Word
 
--- a token is spelled as its kind asks: its first byte determines the kind, and each byte of a word is from 33 to 126
+-- Holds if the first byte determines the kind of the token, and each byte of a word is from 33 to
+-- 126.
 pub record IsSpelled (t : Lexeme) : Type 0 where
   pub kind : t.kind ≡ kind_of t.text
   pub bytes : t.kind ≡ Word → list_all is_word_byte t.text ≡ true

@@ -8,12 +8,13 @@ ghost use Rattle.lf_lex.specs.Reading.{Reads, Statement};
 use crate::fault::ReadError;
 use crate::lexer::Lexer;
 
-/// A block of statements: how each of them is read, and what the statements keep of a state (`keeps`).
+/// A block of statements: how each of them is read, and what the statements keep of a state
+/// (`keeps`).
 pub trait Block {
-    /// The state: what the statements read so far say.
+    /// The state: what the statements read so far contain.
     type State;
 
-    // What a statement reads, given the state before it.
+    // What a statement reads, given the state in front of it.
     ghost statement: { Self → Statement Self.State };
 
     // What each statement keeps of the state.
@@ -22,7 +23,7 @@ pub trait Block {
     // What an error may be.
     ghost fails: { ReadError → Type 0 } = { λ _. ⊤ };
 
-    /// Reads a statement and updates the state; returns whether more follow.
+    /// Reads a statement and updates the state. Returns whether more statements follow.
     ///
     /// `Err` is a fault of the text with its line, or a failed allocation.
     fn turn(&self, lexer: &mut Lexer, state: &mut Self::State) -> Result<bool, ReadError>
@@ -32,10 +33,10 @@ pub trait Block {
         ensures kept { keeps self.now state.new };
 }
 
-/// Reads statement after statement up to the last, each as `Block::turn` reads it, and updates the state.
+/// Reads statements up to the last, each as `Block::turn` reads it, and updates the state.
 ///
-/// `keeps` must hold of the state at the start, and holds of it at the end. `Err` is that of the first statement that
-/// fails; the state then keeps `keeps`, and nothing more is promised.
+/// `keeps` must hold of the state at the start, and it holds of it at the end. `Err` is that of the
+/// first statement that fails; `keeps` then still holds of the state, and nothing more is promised.
 pub fn read_block<B: Block>(
     lexer: &mut Lexer,
     block: &B,

@@ -9,13 +9,13 @@ use std::alloc::{AllocError, AllocFailed};
 /// The faults of reading and loading, numbered 1 to 24 in this order.
 #[derive(Clone, Copy, Debug, PartialEq, Eq)]
 pub enum FaultNumber {
-    /// A byte that no token may hold.
+    /// A byte that no token may have.
     BadToken,
-    /// The text ends where more is due.
+    /// The text ends although more is due.
     UnexpectedEnd,
     /// A token other than the one that is due.
     Unexpected,
-    /// No number, too fine a number or too large a number where a number is due.
+    /// A number is due, but the token is no number, or its number is too fine or out of range.
     BadNumber,
     /// A name after END other than the one that is due.
     WrongEnd,
@@ -23,7 +23,7 @@ pub enum FaultNumber {
     UnknownStatement,
     /// The DEF text has no UNITS.
     NoUnits,
-    /// A row names a site that no LEF text has.
+    /// A row names a site that no LEF text defines.
     NoSite,
     /// No row has a site of class CORE with both lengths above 0.
     NoRows,
@@ -31,29 +31,30 @@ pub enum FaultNumber {
     VerticalRow,
     /// A row's step is not the width of its site.
     BadStep,
-    /// A row is not N, S, FN or FS: it lies on its side.
+    /// A row has an orientation other than N, S, FN and FS, so it lies on its side.
     RowOrient,
-    /// A row shares a point with an earlier one.
+    /// A row shares a point with an earlier row.
     RowsOverlap,
-    /// A component has a macro that no LEF text has.
+    /// A component has a macro that no LEF text defines.
     NoMacro,
     /// A component's macro has no size with both lengths above 0.
     NoSize,
     /// A size is not whole in database units.
     NotWhole,
-    /// A component has an earlier one's name.
+    /// A component has the name of an earlier one.
     SecondName,
-    /// A fence has an earlier one's name.
+    /// A fence has the name of an earlier one.
     SecondRegion,
-    /// A group's region is in no REGIONS entry.
+    /// No REGIONS entry has the name of a group's region.
     NoRegion,
     /// A fence has the name of the ground team, `-`.
     TeamName,
-    /// A fence shares a point with an earlier one.
+    /// A fence shares a point with an earlier fence.
     FencesOverlap,
     /// Groups of two different fences name the same component.
     TwoFences,
-    /// A name is too long, there are more things than their limit, or a row ends past x 2147483647.
+    /// A name is too long, a limit on the number of entries is exceeded, or a row ends past x
+    /// 2147483647.
     TooMany,
     /// An allocation failed.
     OutOfMemory,
@@ -61,7 +62,7 @@ pub enum FaultNumber {
 
 /// The fault of a text or a design, with its line or name.
 ///
-/// Readers give the line, loading gives the entry's name, and a failed allocation has neither.
+/// Readers give the line, loading gives the entry's name. A failed allocation has neither.
 #[derive(Clone, Copy, Debug, PartialEq, Eq)]
 pub struct LoadFault<'a> {
     pub number: FaultNumber,
@@ -76,7 +77,7 @@ pub struct ReadFault {
     pub line: usize,
 }
 
-/// Why reading failed: a fault of the text, or a failed allocation.
+/// The reason why reading failed: a fault of the text, or a failed allocation.
 #[derive(Debug, Drop)]
 pub enum ReadError {
     Memory,
@@ -100,7 +101,8 @@ impl<T: Drop> From<AllocFailed<T>> for ReadError {
 }
 
 impl ReadError {
-    /// The error for a user: the fault with its line, or `OutOfMemory` with neither line nor name.
+    /// Returns the error for a user: the fault with its line, or `OutOfMemory` with neither line
+    /// nor name.
     pub fn into_load_fault<'a>(self) -> LoadFault<'a>
         ensures { result ≡ load_fault_of self }
     {

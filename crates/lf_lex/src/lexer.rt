@@ -8,8 +8,8 @@ use crate::scan::{line_feeds, quoted_token, skip_blank, word_token};
 use crate::tokens::{LexFault, Token};
 use std::marker::Model;
 
-/// Returns the tokens of a text one by one. A contract sees the tokens that are left, the fault after them if there is one,
-/// and the line on which the text ends.
+/// Returns the tokens of a text one by one. A contract sees the tokens that are left, the fault
+/// after them if there is one, and the line on which the text ends.
 #[derive(Drop)]
 pub struct Lexer<'a> {
     text: &'a [u8],
@@ -29,7 +29,7 @@ impl<'a> Model for Lexer<'a> {
 }
 
 impl<'a> Lexer<'a> {
-    /// The lexer at the start of a text: all of its tokens are left.
+    /// Returns the lexer at the start of a text. All tokens of the text are left.
     pub fn new(text: &'a [u8]) -> Self
         ensures { result ≡ tokens_of text.now }
     {
@@ -40,7 +40,7 @@ impl<'a> Lexer<'a> {
         }
     }
 
-    /// The whole text. The tokens left are slices of it, one after the other.
+    /// Returns the whole text. The tokens that are left are slices of it, in order.
     pub fn text(&self) -> &'a [u8]
         ensures slices { AreSlices result.now 0 self.now.tokens }
         ensures within { AreWithin result.now self.now.tokens }
@@ -48,14 +48,15 @@ impl<'a> Lexer<'a> {
         self.text
     }
 
-    /// The line on which the text ends.
+    /// Returns the line on which the text ends.
     pub fn end_line(&self) -> usize
         ensures { result ≡ self.now.end_line }
     {
         self.line + line_feeds(&self.text[self.at..])
     }
 
-    /// The next token, or None at the end of the text. `Err` is the fault after the last token; every later call returns it too.
+    /// Returns the next token, or `None` at the end of the text. `Err` is the fault after the last
+    /// token; every later call returns it too.
     #[inline(always)]
     pub fn next_token(&mut self) -> Result<Option<Token<'a>>, LexFault>
         ensures tokens { ReturnsNextToken result self.old self.new }
@@ -78,17 +79,17 @@ impl<'a> Lexer<'a> {
     }
 }
 
-/// The kind of each token of a text follows from its bytes, and words have bytes from 33 to 126 only.
+/// The kind of each token of a text follows from its bytes. Words have only bytes from 33 to 126.
 pub fn kinds_follow_texts()
     ensures { (text : List ℕ) → All IsSpelled (tokens_of text).tokens }
 {}
 
-/// The tokens of a text are slices of it, one after the other.
+/// The tokens of a text are slices of it, in order.
 pub fn slices_in_order()
     ensures { (text : List ℕ) → AreSlices text 0 (tokens_of text).tokens }
 {}
 
-/// Replacing a token and all that follows leaves the tokens before it unchanged.
+/// Replacing a token and all that follows leaves the tokens in front of it unchanged.
 pub fn cuts_at_tokens()
     ensures { (text : List ℕ) → CutsAtTokens text }
 {}

@@ -1,16 +1,31 @@
 //! The tokens of LEF and DEF texts, and the reading functions that both readers share.
 //!
-//! A contract sees of a `Lexer` the tokens that are left, the fault after them if there is one, and the line on which the
-//! text ends. A reading function takes tokens from the front of that list: it returns what the definition of the same name
-//! (`specs/Reading.antt`) reads, or fails with the first fault and its line. It allocates nothing, so it never fails for
-//! memory; `read_block` does where a statement of its block does.
+//! A contract sees of a `Lexer` the tokens that are left, the fault after them if there is one, and
+//! the line on which the text ends. A reading function takes tokens from the front of that list. It
+//! returns what the definition of the same name (`specs/Reading.antt`) reads, or fails with the
+//! first fault and its line. It allocates nothing, so it never fails for memory. `read_block`
+//! allocates if a statement of its block does.
 //!
 //! The faults of reading and of loading a design have one numbering, 1 to 24 (`FaultNumber`).
 //!
+//! Used by most other crates.
+//!
+//! Modules, in reading order:
+//!
+//! - `tokens`: tokens, their kinds, and why there is no further token
+//! - `scan`: steps over the bytes of a text: white space, comments, words and quoted texts
+//! - `lexer`: the lexer, and laws on the tokens of every text
+//! - `fault`: the faults of texts and designs, with their numbers
+//! - `block`: blocks of statements, read in a loop
+//! - `read`: the reading functions: words, names, and what is skipped
+//! - `laws`: laws on the reading functions
+//!
+//! From `crates/lf_lef/src/sites.rt`:
+//!
 //! ```
-//! let mut lexer = Lexer::new(b"SITE core ;");
-//! keyword(&mut lexer, b"SITE")?;
-//! let site = name(&mut lexer)?; // site.text is b"core"
+//! let word = word(lexer)?;
+//! keyword(lexer, b";")?;
+//! Ok(word.text)
 //! ```
 #![tactic(auto)]
 

@@ -13,7 +13,7 @@ use crate::fault::{FaultNumber, ReadError, ReadFault};
 use crate::lexer::Lexer;
 use crate::tokens::{LexFault, Token, TokenKind};
 
-/// The error that is this fault of the text, at this line.
+/// Returns the error for this fault of the text at this line.
 pub fn fault_at(number: FaultNumber, line: usize) -> ReadError
     ensures { result ≡ reading.error_at number line }
 {
@@ -29,14 +29,14 @@ fn lexer_error(fault: LexFault) -> ReadError
     }
 }
 
-/// The error for another token than the one that is due.
+/// Returns the error for a token other than the one that is due.
 fn unexpected(found: &Token) -> ReadError
     ensures { result ≡ reading.error_at Unexpected found.now.line }
 {
     fault_at(FaultNumber::Unexpected, found.line)
 }
 
-/// The next token; UnexpectedEnd at the end of the text.
+/// Takes the next token. `Err(UnexpectedEnd)` at the end of the text.
 pub fn token<'a>(lexer: &mut Lexer<'a>) -> Result<Token<'a>, ReadError>
     ensures read { Reads lexeme result reading.token lexer.old lexer.new }
     ensures fault { IfErr result IsFault }
@@ -49,7 +49,7 @@ pub fn token<'a>(lexer: &mut Lexer<'a>) -> Result<Token<'a>, ReadError>
     }
 }
 
-/// The next token, or None at the end of the text.
+/// Takes the next token. Returns `None` at the end of the text.
 pub fn next<'a>(lexer: &mut Lexer<'a>) -> Result<Option<Token<'a>>, ReadError>
     ensures read { MatchResult result
         (λ t. (reading.next lexer.old ≡ taken (option_map lexeme t) lexer.new) × OnSome t
@@ -63,7 +63,8 @@ pub fn next<'a>(lexer: &mut Lexer<'a>) -> Result<Option<Token<'a>>, ReadError>
     }
 }
 
-/// Whether the token's bytes are these. A quoted text has its quotation marks among them, so it never is a word without any.
+/// True if the token's bytes are `word`. The bytes of a quoted text include its quotation marks, so
+/// they never equal a word without any.
 pub fn is_token(word: &[u8], token: &Token) -> bool
     ensures { result ≡ reading.is word.now (lexeme token.now) }
 {
@@ -73,7 +74,7 @@ pub fn is_token(word: &[u8], token: &Token) -> bool
     token.text.starts_with(word)
 }
 
-/// Whether the token is a word; `;` is one.
+/// True if the token is a word, including `;`.
 pub fn is_any_word(token: &Token) -> bool
     ensures { result ≡ reading.kind_is_word (lexeme token.now).kind }
 {
@@ -83,14 +84,14 @@ pub fn is_any_word(token: &Token) -> bool
     }
 }
 
-/// Whether the token is a word other than `;`.
+/// True if the token is a word other than `;`.
 pub fn is_word(token: &Token) -> bool
     ensures { result ≡ reading.is_word (lexeme token.now) }
 {
     is_any_word(token) && !is_token(b";", token)
 }
 
-/// Takes the next token, which must have the bytes `due`; else Unexpected.
+/// Takes the next token. `Err(Unexpected)` if its bytes are not `due`.
 #[tactic(auto, unfolding(crate::specs::Reading::keyword))]
 pub fn keyword(lexer: &mut Lexer, due: &[u8]) -> Result<(), ReadError>
     ensures read { Reads (λ x. x) result (reading.keyword due.now) lexer.old lexer.new }
@@ -104,7 +105,7 @@ pub fn keyword(lexer: &mut Lexer, due: &[u8]) -> Result<(), ReadError>
     }
 }
 
-/// Takes a word other than `;`, of any length; else Unexpected.
+/// Takes a word other than `;`, of any length. `Err(Unexpected)` for another token.
 #[inline]
 #[tactic(auto, unfolding(crate::specs::Reading::word))]
 pub fn word<'a>(lexer: &mut Lexer<'a>) -> Result<Token<'a>, ReadError>
@@ -120,7 +121,8 @@ pub fn word<'a>(lexer: &mut Lexer<'a>) -> Result<Token<'a>, ReadError>
     }
 }
 
-/// Takes a word other than `;` of at most 1,024 bytes; else Unexpected or TooMany.
+/// Takes a word other than `;`. `Err(Unexpected)` for another token, `Err(TooMany)` if it is longer
+/// than 1,024 bytes.
 #[tactic(auto, unfolding(crate::specs::Reading::name))]
 pub fn name<'a>(lexer: &mut Lexer<'a>) -> Result<Token<'a>, ReadError>
     ensures read { Reads lexeme result reading.name lexer.old lexer.new }
@@ -135,7 +137,8 @@ pub fn name<'a>(lexer: &mut Lexer<'a>) -> Result<Token<'a>, ReadError>
     }
 }
 
-/// Takes the name due after END: WrongEnd for another word, Unexpected for a quoted text.
+/// Takes the name due after END. `Err(WrongEnd)` for another word, `Err(Unexpected)` for a quoted
+/// text.
 #[tactic(auto, unfolding(crate::specs::Reading::end_name))]
 pub fn end_name(lexer: &mut Lexer, due: &[u8]) -> Result<(), ReadError>
     ensures read { Reads (λ x. x) result (reading.end_name due.now) lexer.old lexer.new }
@@ -152,7 +155,7 @@ pub fn end_name(lexer: &mut Lexer, due: &[u8]) -> Result<(), ReadError>
     }
 }
 
-/// How tokens up to a `;` are skipped.
+/// Skips the tokens up to a `;`.
 #[derive(Drop)]
 struct ToSemicolon;
 
@@ -170,7 +173,7 @@ impl Block for ToSemicolon {
     }
 }
 
-/// Skips past the next `;`. UnexpectedEnd if the text ends before it.
+/// Skips past the next `;`. `Err(UnexpectedEnd)` if the text ends first.
 pub fn skip_to_semicolon(lexer: &mut Lexer) -> Result<(), ReadError>
     ensures read { Reads (λ x. x) result reading.to_semicolon lexer.old lexer.new }
     ensures fault { IfErr result IsFault }
@@ -178,7 +181,8 @@ pub fn skip_to_semicolon(lexer: &mut Lexer) -> Result<(), ReadError>
     read_block(lexer, &ToSemicolon, &mut ())
 }
 
-/// How tokens up to END and the name due directly after it are skipped. Its state: whether the last token was END.
+/// Skips the tokens up to END directly followed by the name that is due. Its state is true if the
+/// last token was END.
 #[derive(Drop)]
 struct ToEnd<'d> {
     due: &'d [u8],
@@ -202,7 +206,8 @@ impl<'d> Block for ToEnd<'d> {
     }
 }
 
-/// Skips past the next END that the name directly follows, and past that name. UnexpectedEnd if the text ends before it.
+/// Skips past the next END that the name directly follows, and past that name. `Err(UnexpectedEnd)`
+/// if the text ends first.
 #[tactic(auto, unfolding(crate::specs::Reading::to_end))]
 pub fn skip_to_end(lexer: &mut Lexer, due: &[u8]) -> Result<(), ReadError>
     ensures read { Reads (λ x. x) result (reading.to_end due.now) lexer.old lexer.new }
@@ -212,7 +217,7 @@ pub fn skip_to_end(lexer: &mut Lexer, due: &[u8]) -> Result<(), ReadError>
     read_block(lexer, &ToEnd { due }, &mut behind_end)
 }
 
-/// How tokens up to the word that is due are skipped.
+/// Skips the tokens up to the word that is due.
 #[derive(Drop)]
 struct ToWord<'d> {
     due: &'d [u8],
@@ -232,7 +237,7 @@ impl<'d> Block for ToWord<'d> {
     }
 }
 
-/// Skips past the next token with these bytes. UnexpectedEnd if the text ends before it.
+/// Skips past the next token with these bytes. `Err(UnexpectedEnd)` if the text ends first.
 pub fn skip_to_word(lexer: &mut Lexer, due: &[u8]) -> Result<(), ReadError>
     ensures read { Reads (λ x. x) result (reading.to_word due.now) lexer.old lexer.new }
     ensures fault { IfErr result IsFault }

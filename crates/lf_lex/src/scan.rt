@@ -19,7 +19,7 @@ pub(crate) fn line_feeds(text: &[u8]) -> usize
     text.iter().filter(|byte| **byte == b'\n').count()
 }
 
-/// Whether no word has the byte.
+/// True if no word may have the byte.
 fn is_other(byte: u8) -> bool
     ensures { result ≡ is_other byte }
 {
@@ -32,7 +32,7 @@ fn first_other(text: &[u8]) -> Option<usize>
     text.iter().position(|byte| is_other(*byte))
 }
 
-/// The number of bytes before the first that no word has.
+/// Returns the number of bytes in front of the first one that no word may have.
 fn other_len(text: &[u8]) -> usize
     ensures len { result ≡ position_or_len is_other text.now }
     ensures within { result ≤ length text.now }
@@ -40,7 +40,8 @@ fn other_len(text: &[u8]) -> usize
     first_other(text).unwrap_or(text.len())
 }
 
-/// The number of bytes before the next white space, if a word may have each of them. Each is looked at once.
+/// Returns the number of bytes up to the next white space. `None` if one of them is not a word's.
+/// Reads each byte once.
 fn word_len(text: &[u8]) -> Option<usize>
     ensures len { MatchOption result (list_all is_word_byte (take (word_len text.now) text.now) ≡ false) (λ n. n ≡ word_len text.now) }
     ensures bytes { IfSome result (λ n. list_all is_word_byte (take n text.now) ≡ true) }
@@ -53,7 +54,8 @@ fn word_len(text: &[u8]) -> Option<usize>
     Some(len)
 }
 
-/// The number of bytes up to the closing quote, with it.
+/// Returns the number of bytes up to the closing quote, including it. `None` if there is no closing
+/// quote.
 pub(crate) fn quoted_len(text: &[u8]) -> Option<usize>
     ensures len { result ≡ quoted_len false text.now }
     ensures within { IfSome result (λ n. n ≤ length text.now) }
@@ -71,7 +73,7 @@ pub(crate) fn quoted_len(text: &[u8]) -> Option<usize>
     None
 }
 
-/// The offset and the line of the next byte that is neither white space nor in a comment.
+/// Returns the offset and the line of the next byte that is neither white space nor in a comment.
 pub(crate) fn skip_blank(text: &[u8], start: usize, start_line: usize) -> (usize, usize)
     requires start { start ≤ length text.now }
     requires line { start_line ≤ start + 1 }
@@ -115,7 +117,7 @@ fn part(text: &[u8], start: usize, stop: usize) -> &[u8]
     &text[start..stop]
 }
 
-/// The quoted token at an offset that has a quote.
+/// Returns the quoted token at an offset that has a quote.
 pub(crate) fn quoted_token<'a>(
     text: &'a [u8],
     at: usize,
@@ -145,7 +147,8 @@ pub(crate) fn quoted_token<'a>(
     }
 }
 
-/// The word at an offset that has neither white space, a comment nor a quote. No line feed is in it.
+/// Returns the word at an offset that begins neither white space, a comment nor a quoted text. A
+/// word has no line feed.
 pub(crate) fn word_token<'a>(text: &'a [u8], at: usize, line: usize) -> Result<Token<'a>, LexFault>
     requires within { at < length text.now }
     requires line { line ≤ at + 1 }

@@ -1,17 +1,17 @@
 //! Tokens of LEF and DEF texts.
 
-/// What kind of token it is.
+/// The kind of a token.
 #[derive(Clone, Copy, Debug, PartialEq, Eq)]
 pub enum TokenKind {
-    /// Bytes from 33 to 126, up to the next white space: a keyword, a name, a number, or `;`, `(`, `)`, `+` and `-` as
-    /// words of their own.
+    /// A word: bytes from 33 to 126, up to the next white space. It is a keyword, a name or a
+    /// number. The signs `;`, `(`, `)`, `+` and `-` are words of their own.
     Word,
-    /// A text in quotation marks, which are part of it.
+    /// A quoted text, with its quotation marks.
     Quoted,
 }
 
-/// A token: its bytes, and where they are in the text. The bytes have the type `T`: a slice of the text in a `Token`, a
-/// list of bytes in a contract.
+/// A token: its bytes, and their offsets in the text. The bytes have the type `T`: a slice of the
+/// text in a `Token`, a list of bytes in a contract.
 #[derive(Clone, Copy, Debug, PartialEq, Eq)]
 pub struct TokenOf<T> {
     pub text: T,
@@ -27,11 +27,11 @@ pub struct TokenOf<T> {
 /// A token whose bytes are a slice of the text that it was read from.
 pub type Token<'a> = TokenOf<&'a [u8]>;
 
-/// Why there is no further token.
+/// The reason why there is no further token.
 #[derive(Clone, Copy, Debug, PartialEq, Eq)]
 pub enum LexFault {
     /// A byte outside comments and quoted texts that is neither white space nor from 33 to 126.
     BadToken { line: usize },
-    /// A quoted text has no end; the line is the text's last.
+    /// A quoted text has no end. The line is the text's last.
     UnexpectedEnd { line: usize },
 }

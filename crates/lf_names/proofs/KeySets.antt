@@ -1,4 +1,5 @@
--- A set of keys that is asked and added to at once: where the key stands, and whether it is new.
+-- A set of keys in which a lookup and an insertion are one step: the position of the key, and
+-- whether it is new.
 use Rattle.std.proofs.Common.{◌≡◌, ◌<◌, ℕ, Bool, true, false, cond, if◌then◌else◌, not, List, [], ◌∷◌, ◌++◌, length, map, None, Some, position, refl, sym, ap, ◌∙◌, arith}
 use Rattle.std.proofs.lemmas.Bool.{false≢true, lt-ltb, le-ltb}
 use Rattle.std.proofs.lemmas.List.{length-map, map-append}
@@ -7,7 +8,7 @@ use Rattle.std.specs.Str.{bytes_eq}
 use Rattle.lf_names.specs.Names.{position_of}
 use Rattle.lf_names.proofs.Keys.{position-keys}
 
--- the first place of a list that passes is within it, where some place passes
+-- The first position in a list that passes is within the list, if some position passes.
 within : {K : Type 0} (test : K → Bool) (keys : List K) → list_any test keys ≡ true → position_or_len test keys < length keys
 within test [] any = absurd (false≢true any)
 within test (key ∷ keys) any = by (test key) refl any (within test keys)
@@ -16,7 +17,7 @@ within test (key ∷ keys) any = by (test key) refl any (within test keys)
     by true is any rest = rw is (omega arith)
     by false is any rest = let later : position_or_len test keys < length keys = rest (rw is at any) in rw is (omega arith)
 
--- and is its length, where none does
+-- It is the length of the list, if no position passes.
 past : {K : Type 0} (test : K → Bool) (keys : List K) → list_any test keys ≡ false → position_or_len test keys ≡ length keys
 past test [] none = refl
 past test (key ∷ keys) none = by (test key) refl none (past test keys)
@@ -33,7 +34,7 @@ position-out test keys none =
     let at : position_or_len test keys ≡ length keys = past test keys none in
     ap (λ t. cond t (Some (position_or_len test keys)) None) (le-ltb (position_or_len test keys) (length keys) (omega arith))
 
--- whether a key is new, of which the set says the opposite
+-- A key is new if and only if the set does not have it.
 stands : (new known : Bool) → new ≡ not known → new ≡ false → known ≡ true
 stands new true is old = refl
 stands new false is old = absurd (false≢true (sym old ∙ is))
@@ -43,7 +44,7 @@ fresh new true is added = absurd (false≢true (sym is ∙ added))
 fresh new false is added = refl
 
 module _ {K : Type 0} (bytes : K → List ℕ) where
-  -- a key that the set has stands where its name does
+  -- The position of a key in the set is that of its name.
   pub present-there : (keys : List K) (names : List (List ℕ)) (name : List ℕ) (at : ℕ) (new : Bool) → map bytes keys ≡ names → new ≡ not (list_any (λ k. bytes_eq name (bytes k)) keys) → new ≡ false
       → at ≡ position_or_len (λ k. bytes_eq name (bytes k)) keys → position_of names name ≡ Some at
   present-there keys names name at new view is old place =
@@ -60,7 +61,7 @@ module _ {K : Type 0} (bytes : K → List ℕ) where
   new-last keys names name at new view is added place =
       place ∙ past (λ k. bytes_eq name (bytes k)) keys (fresh new _ is added) ∙ sym (length-map keys bytes) ∙ ap length view
 
-  -- the names after a key that is added, and after one that is there
+  -- The names after adding a new key, and after adding one that the set has.
   pub names-new : (keys after : List K) (key : K) (names : List (List ℕ)) (new : Bool) → map bytes keys ≡ names → new ≡ not (list_any (λ k. bytes_eq (bytes key) (bytes k)) keys) → new ≡ true
       → after ≡ (if list_any (λ k. bytes_eq (bytes key) (bytes k)) keys then keys else keys ++ key ∷ []) → map bytes after ≡ names ++ bytes key ∷ []
   names-new keys after key names new view is added made =

@@ -1,4 +1,4 @@
--- The keys that a table holds, against the names that contracts see.
+-- The keys of a table, compared with the names that contracts see.
 use Rattle.std.proofs.Common.{◌≡◌, ◌≢◌, ℕ, ◌+◌, Bool, true, false, cond, if◌then◌else◌, nat_lt, List, [], ◌∷◌, ◌++◌, length, map, AllPairs, None, Some, position, refl, sym, ap, subst, ◌∙◌}
 use Rattle.std.proofs.lemmas.List.{length-map, map-append}
 use Rattle.std.proofs.lemmas.List.Elements.{All-head, All-tail}
@@ -18,7 +18,7 @@ module _ {K : Type 0} (bytes : K → List ℕ) where
   place-map test [] = refl
   place-map test (key ∷ keys) = place-cons test key keys (place-map test keys) (test (bytes key)) refl
 
-  -- a name stands among the names where its key stands among the keys
+  -- The position of a name among the names is that of its key among the keys.
   pub position-keys : (keys : List K) (names : List (List ℕ)) (name : List ℕ) → map bytes keys ≡ names → position (λ k. bytes_eq name (bytes k)) keys ≡ position_of names name
   position-keys keys names name view =
       let many : length keys ≡ length (map bytes keys) = simp length-map in
@@ -34,11 +34,11 @@ module _ {K : Type 0} (bytes : K → List ℕ) where
       by true is rest = absurd (All-head (λ n. n ≢ name) (bytes key) (map bytes keys) apart (sym ((bytes_eq-Decides name (bytes key)).0 is)))
       by false is rest = rw is rest
 
-  -- a name that differs from all has no key
+  -- A name that differs from all others has no key.
   pub no-key : (keys : List K) (names : List (List ℕ)) (name : List ℕ) → map bytes keys ≡ names → All (λ n. n ≢ name) names → false ≡ list_any (λ k. bytes_eq name (bytes k)) keys
   no-key keys names name view apart = none-passes keys name (subst (All (λ n. n ≢ name)) (sym view) apart)
 
-  -- a new key puts its name after the others
+  -- A new key puts its name after the others.
   pub names-push : (keys after : List K) (key : K) (names : List (List ℕ)) (name : List ℕ) → map bytes keys ≡ names → bytes key ≡ name
       → false ≡ list_any (λ k. bytes_eq name (bytes k)) keys → after ≡ (if list_any (λ k. bytes_eq (bytes key) (bytes k)) keys then keys else keys ++ key ∷ [])
       → map bytes after ≡ names ++ name ∷ []
@@ -56,7 +56,7 @@ module _ {K : Type 0} (bytes : K → List ℕ) where
   distinct-map [] h = tt
   distinct-map (key ∷ keys) h = (differ-map key keys h.0, distinct-map keys h.1)
 
-  -- the names of distinct keys differ
+  -- The names of distinct keys differ.
   pub names_differ : (keys : List K) (names : List (List ℕ)) → map bytes keys ≡ names → IsDistinct (λ a b. bytes_eq (bytes a) (bytes b)) keys → AllPairs (λ name later. name ≢ later) names
   names_differ keys names view distinct =
       subst (λ ns. AllPairs (λ name later. name ≢ later) ns) view (AllPairs-from_IsDistinct bytes_eq-Decides (map bytes keys) (distinct-map keys distinct))

@@ -1,4 +1,4 @@
--- Names with labels, kept one after the other.
+-- Names with labels, stored in order.
 use Rattle.std.proofs.Common.{◌≡◌, ◌≢◌, ℕ, ◌+◌, ◌<◌, List, [], ◌∷◌, ◌++◌, length, take, drop, map, get_or, AllPairs, Option, slice_get, sym, ◌∙◌, ap, arith, append_assoc}
 use Rattle.std.proofs.Math.Seq.{take-append_seam, drop-append_seam}
 use Rattle.std.proofs.lemmas.Grind.{common_steps}
@@ -19,7 +19,7 @@ use Rattle.lf_names.proofs.Positions.{stands_nowhere, stands_there}
 no_name : Labelled
 no_name = record { label = 0; name = [] }
 
--- a name that is read between those before it and those after it
+-- A name between those in front of it and those after it.
 pub record IsRead (names : List Labelled) (i : ℕ) (e : Entry) : Type 0 where
   pub one : Labelled
   pub entry : e ≡ entry_of one
@@ -48,7 +48,7 @@ read store names i e keeps within is =
       known = taken names i (get_or names i no_name) inside own;
     }
 
--- the bytes of the name, and those after it
+-- The bytes of the name, and those after it.
 pub cut_front : (names : List Labelled) (i : ℕ) (e : Entry) (r : IsRead names i e) (bytes : List ℕ) → bytes ≡ joined (drop i names) → take e.len bytes ≡ r.one.name
 cut_front names i e r bytes is =
     ap (λ (f : Entry). take f.len bytes) r.entry ∙ ap (take (length r.one.name)) (is ∙ ap joined r.left) ∙ take-append_seam r.one.name (joined (drop (i + 1) names))
@@ -57,12 +57,12 @@ pub cut_back : (names : List Labelled) (i : ℕ) (e : Entry) (r : IsRead names i
 cut_back names i e r bytes is =
     ap (λ (f : Entry). drop f.len bytes) r.entry ∙ ap (drop (length r.one.name)) (is ∙ ap joined r.left) ∙ drop-append_seam r.one.name (joined (drop (i + 1) names))
 
--- a name that has no position may stand after names that differ
+-- A name without a position may follow names that differ.
 pub differ_more : (names : List (List ℕ)) (name : List ℕ) → position_of names name ≡ None → AllPairs (λ earlier later. earlier ≢ later) names → AllPairs (λ earlier later. earlier ≢ later) (names ++ name ∷ [])
 differ_more names name new differ =
     all_pairs_push (λ earlier later. earlier ≢ later) names name differ (λ k d within same. stands_nowhere names name new (k, within, get_or_default names k name d within ∙ same))
 
--- labelled names differ where their names do
+-- Labelled names differ if their names do.
 pub differ_labelled : (names : List Labelled) → AllPairs (λ earlier later. earlier ≢ later) (map (λ n. n.name) names) → Differ names
 differ_labelled names differ i j d less within same =
     let many : length (map (λ (n : Labelled). n.name) names) ≡ length names = length-map names (λ n. n.name) in
@@ -76,7 +76,7 @@ differ_names names differ i j d less within same =
     let late : j < length names = omega arith in
     differ i j no_name less late (sym (get_or-map (λ n. n.name) names i no_name d early) ∙ same ∙ get_or-map (λ n. n.name) names j no_name d late)
 
--- a name that has a position among those before it stands twice
+-- A name with a position among the earlier names is in the list twice.
 pub stands_twice : (names : List Labelled) (i : ℕ) (e : Entry) (r : IsRead names i e) (at : ℕ) → position_of (map (λ n. n.name) (take i names)) r.one.name ≡ Some at → Differ names → ⊥
 stands_twice names i e r at known differ =
     let there : slice_get (map (λ n. n.name) (take i names)) at ≡ Some r.one.name = stands_there (map (λ n. n.name) (take i names)) r.one.name at known in
@@ -88,7 +88,7 @@ stands_twice names i e r at known differ =
     let before_it : (get_or names at r.one).name ≡ r.one.name = ap (λ (n : Labelled). n.name) (sym (get_or-take i names at r.one early)) ∙ sym (get_or-map (λ n. n.name) (take i names) at r.one [] (omega arith)) ∙ here in
     differ at i r.one early r.within (before_it ∙ ap (λ (n : Labelled). n.name) r.own)
 
--- one answer more
+-- One more match.
 one_first : (o : Option Match) (matches found : List Match) → matches ++ cons_option o found ≡ (matches ++ option_to_list o) ++ found
 one_first None matches found = sym (append_assoc matches [] found)
 one_first (Some m) matches found = sym (append_assoc matches (m ∷ []) found)

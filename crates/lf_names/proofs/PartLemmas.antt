@@ -19,7 +19,7 @@ use Rattle.lf_names.proofs.Gathered.{gathered, all_gathered, filter_map_same}
 use Rattle.lf_names.proofs.LabelledLemmas.{differ_names}
 use Rattle.lf_names.proofs.Positions.{stands_there, found_there}
 
--- a part is one of them
+-- A part is one of the parts.
 pub part_within : (name : List ℕ) → part_of name < part_count
 unfolding part_of
 part_within name = omega arith
@@ -28,7 +28,7 @@ one_alone : {X : Type 0} (x y : X) → Contains (x ∷ []) y → x ≡ y
 one_alone x y (zero, within, is) = is
 one_alone x y (suc k, within, is) = absurd (omega arith)
 
--- what a filter keeps
+-- The elements that a filter keeps.
 module _ {X : Type 0} (p : X → Bool) where
   kept : (xs : List X) (x : X) → p x ≡ true → Contains xs x → Contains (filter p xs) x
   kept [] x passes there = let none : there.0 < 0 = there.1 in absurd (omega arith)
@@ -50,7 +50,7 @@ module _ {X : Type 0} (p : X → Bool) where
       ]
       by false there more = Contains-append_right (y ∷ []) xs x (more there)
 
--- what a list of options gives
+-- The values of a list of options.
 module _ {X Y : Type 0} (f : X → Option Y) (y : Y) where
   given : (xs : List X) → Contains (filter_map f xs) y → (x : X) × Contains xs x × (f x ≡ Some y)
   given [] there = let none : there.0 < 0 = there.1 in absurd (omega arith)
@@ -72,7 +72,7 @@ module _ {X Y : Type 0} (f : X → Option Y) (y : Y) where
       behind None there = there
       behind (Some z) there = Contains-append_right (z ∷ []) (filter_map f xs) y there
 
--- names that differ have one label each
+-- Names that differ have one label each.
 named : (o : Option Labelled) (name : List ℕ) → option_map (λ n. n.name) o ≡ Some name → (n : Labelled) × (o ≡ Some n) × (n.name ≡ name)
 named None name e = absurd (cc)
 named (Some n) name e = (n, refl, cc)
@@ -103,7 +103,7 @@ label_is names differ n there =
     let known : position_of (map (λ (m : Labelled). m.name) names) n.name ≡ Some there.0 = found_there (map (λ m. m.name) names) n.name there.0 (differ_names names differ) named_there in
     ap (option_and_then (λ i. option_map (λ (m : Labelled). m.label) (slice_get names i))) known ∙ ap (option_map (λ (m : Labelled). m.label)) at
 
--- the matches of one part, whose names differ
+-- The matches of one part whose names differ.
 matched : (names asked : List Labelled) → Differ names → (m : Match) → Contains (matches_of names asked) m ↔ IsMatch names asked m
 matched names asked differ m = (forth, back)
   where
@@ -124,7 +124,7 @@ matched names asked differ m = (forth, back)
     back : IsMatch names asked m → Contains (matches_of names asked) m
     back is = gives (match_of names) m asked (record { label = m.asked; name = is.name }) is.is_asked (ap (option_map (labels_of m.asked)) (label_is names differ (record { label = m.own; name = is.name }) is.is_own))
 
--- names that differ differ in each part, and names that differ in each part differ
+-- Names differ if and only if they differ in each part.
 pub differ_in_part : (names : List Labelled) (part : ℕ) → Differ names → Differ (names_of_part part names)
 differ_in_part names part differ = AllPairs-filter (λ n later. n.name ≢ later.name) (λ n. part_of n.name == part) names differ
 
@@ -132,7 +132,7 @@ behind_differ : (n : Labelled) (names : List Labelled) (t : Bool) → Differ (co
 behind_differ n names true differ = λ i j d less within. differ (suc i) (suc j) d (omega arith) (omega arith)
 behind_differ n names false differ = differ
 
--- a name differs from those after it that are of its part, and so from all after it
+-- A name that differs from the later names of its part differs from all later names.
 differs_from : (n : Labelled) (names : List Labelled) (part : ℕ) → part_of n.name ≡ part → Differ (names_of_part part (n ∷ names)) → All (λ later. n.name ≢ later.name) names
 differs_from n names part is differ k d within same =
     let later : Labelled = get_or names k d in
@@ -148,7 +148,7 @@ all_differ (n ∷ names) parts =
     (differs_from n names (part_of n.name) refl (parts (part_of n.name) (part_within n.name)))
     (all_differ names (λ k below. behind_differ n (names_of_part k names) (part_of n.name == k) (parts k below)))
 
--- where names differ, a name has the label that it has in its part
+-- If names differ, a name has the label that it has in its part.
 label_in_part : (names : List Labelled) → Differ names → (name : List ℕ) → label_in (names_of_part (part_of name) names) name ≡ label_in names name
 label_in_part names differ name = by (label_in names name) refl (label_in (names_of_part (part_of name) names) name) refl
   where
@@ -164,11 +164,11 @@ label_in_part names differ name = by (label_in names name) refl (label_in (names
         let known : label_in names name ≡ Some label = label_is names differ n there in
         absurd (cc)
 
--- the matches of the parts below this one, part by part
+-- The matches of the parts below this one, part by part.
 abbrev pub matches_below : List Labelled → List Labelled → ℕ → List Match
 matches_below names asked part = gathered (λ q. part_of q.name) (λ k. match_of (names_of_part k names)) part asked
 
--- all parts together have the matches of the names as they are asked for
+-- All parts together have the matches of the requested names.
 pub all_matched : (names asked : List Labelled) (matches : List Match) (part : ℕ) → part ≡ part_count → ((k : ℕ) → k < part → Differ (names_of_part k names)) → matches ≡ matches_below names asked part → IsPermutation (matches_of names asked) matches
 all_matched names asked matches part many parts are =
     let differ : Differ names = all_differ names (subst (λ n. (k : ℕ) → k < n → Differ (names_of_part k names)) many parts) in
@@ -178,14 +178,14 @@ all_matched names asked matches part many parts are =
     let found : IsPermutation (matches_below names asked part_count) (filter_map inside asked) = all_gathered (λ q. part_of q.name) (λ k. match_of (names_of_part k names)) part_count asked (λ q. part_within q.name) in
     IsPermutation-sym matches (matches_of names asked) (subst (λ ms. IsPermutation ms (matches_of names asked)) (sym all) (subst (IsPermutation (matches_below names asked part_count)) same found))
 
--- a list that has the matches as they are asked for has no others
+-- A list that has the matches of the requested names has no others.
 pub are_matches : (names asked : List Labelled) (matches : List Match) → Differ names → IsPermutation (matches_of names asked) matches → AreMatches names asked matches
 are_matches names asked matches differ same m = (
   λ there. (matched names asked differ m).0 (Contains-permutation matches (matches_of names asked) m (IsPermutation-sym (matches_of names asked) matches same) there),
   λ is. Contains-permutation (matches_of names asked) matches m same ((matched names asked differ m).1 is),
 )
 
--- a name more, in its part
+-- One more name, in its part.
 part_more : (names : List Labelled) (n : Labelled) (part : ℕ) (t : Bool) → (part_of n.name == part) ≡ t → names_of_part part (names ++ n ∷ []) ≡ names_of_part part names ++ cond t (n ∷ []) []
 part_more names n part t is = filter-append (λ m. part_of m.name == part) names (n ∷ []) ∙ ap (λ b. names_of_part part names ++ cond b (n ∷ []) []) is
 
@@ -216,7 +216,7 @@ module _ (names : List Labelled) (n : Labelled) (old new : List LabelledNames) (
       each = λ part e below. rw parts (after part e below (part_of n.name == part) refl);
     }
 
--- the part of a number has the same names, in a store of its own
+-- The part of a number has the same names, in a store of its own.
 pub kept_in_part : (names : List Labelled) (number : ℕ) (old new : List LabelledNames) (d store : LabelledNames) → ArePartsOf names old →
     number < part_count → ((own : List Labelled) → StoresNames (get_or old number d) own → StoresNames store own) →
     new ≡ set old number store → ArePartsOf names new

@@ -15,7 +15,7 @@ use Rattle.lf_names.specs.declared.partitioned.LabelledNames.{LabelledNames}
 use Rattle.lf_names.proofs.Gathered.{gathered, all_gathered}
 use Rattle.lf_names.proofs.PartLemmas.{part_within}
 
--- what is kept of names is cut into these names
+-- The entries cut the joined bytes of names into these names.
 cut_joined : (names : List Labelled) → cut_names (map entry_of names) (joined names) ≡ names
 cut_joined [] = refl
 cut_joined (n ∷ names) =
@@ -28,7 +28,7 @@ cut_kept : (store : LabelledNames) (names : List Labelled) → StoresNames store
 cut_kept store names keeps = ap (λ bytes. cut_names store.entries bytes) keeps.bytes ∙ ap (λ entries. cut_names entries (joined names)) keeps.entries ∙
     cut_joined names
 
--- the names of the parts below this one, part by part
+-- The names of the parts below this one, part by part.
 abbrev pub parted : ℕ → List Labelled → List Labelled
 parted zero names = []
 parted (suc k) names = parted k names ++ names_of_part k names
@@ -58,17 +58,17 @@ parted_below names parts are (suc k) below =
     ∙ ap (λ ns. ns ++ cut_names p.entries p.bytes.items) (parted_below names parts are k (omega arith))
     ∙ ap (λ ns. parted k names ++ ns) (cut_kept p (names_of_part k names) (are.each k d (omega arith)))
 
--- the list of the parts' names, by the names alone
+-- The list of the names of the parts depends only on the names.
 pub view_parted : (names : List Labelled) (parts : List LabelledNames) → ArePartsOf names parts → names_of_parts parts ≡ parted part_count names
 view_parted names parts are =
     let many : length parts ≡ part_count = are.many in
     ap names_of_parts (sym (take_all part_count parts (omega arith))) ∙ parted_below names parts are part_count (omega arith)
 
--- the parts of no name have none
+-- The parts of an empty list have no name.
 pub view_empty : (parts : List LabelledNames) → ArePartsOf [] parts → names_of_parts parts ≡ []
 view_empty parts are = view_parted [] parts are ∙ nothing_parted part_count
 
--- two stores of the same names are seen as one list
+-- Two stores of the same names are seen as one list.
 pub view_same : (names : List Labelled) (parts more : List LabelledNames) → ArePartsOf names parts → ArePartsOf names more →
     names_of_parts more ≡ names_of_parts parts
 view_same names parts more first second = view_parted names more second ∙ sym (view_parted names parts first)
@@ -82,7 +82,7 @@ parted_gathered zero names = refl
 parted_gathered (suc k) names = ap (λ ns. ns ++ filter_map (λ n. Some n) (names_of_part k names)) (parted_gathered k names) ∙ ap (λ ns. parted k names ++ ns)
     (some_of_all (names_of_part k names))
 
--- the list has the names, each as often as it stands among them
+-- The list has each of the names, as often as they do.
 pub view_permuted : (names : List Labelled) (parts : List LabelledNames) → ArePartsOf names parts → IsPermutation names (names_of_parts parts)
 view_permuted names parts are =
     let all : IsPermutation (gathered (λ n. part_of n.name) (λ part n. Some n) part_count names) (filter_map (λ n. Some n) names) = all_gathered
@@ -92,7 +92,7 @@ view_permuted names parts are =
     (subst (IsPermutation (gathered (λ n. part_of n.name) (λ part n. Some n) part_count names)) (some_of_all names) all) in
     IsPermutation-sym (names_of_parts parts) names own
 
--- what a filter keeps of what it, or another, kept
+-- Filtering what a filter kept.
 kept_twice : {X : Type 0} (p : X → Bool) (xs : List X) → filter p (filter p xs) ≡ filter p xs
 kept_twice p [] = refl
 kept_twice p (x ∷ xs) = by (p x) refl (kept_twice p xs)
@@ -114,7 +114,7 @@ other_part : (k n : ℕ) (names : List Labelled) → k ≢ n → names_of_part k
 other_part k n names other = none_kept (λ m. part_of m.name == n) (λ m. part_of m.name == k) names
     (λ m is. ne_eqb (part_of m.name) k (λ same. other (sym same ∙ eqb-true (part_of m.name) n is)))
 
--- those of a later part are not there yet
+-- The names of a later part are not in the list.
 not_yet : (n k : ℕ) (names : List Labelled) → n ≤ k → names_of_part k (parted n names) ≡ []
 not_yet zero k names later = refl
 not_yet (suc n) k names later =
@@ -122,7 +122,7 @@ not_yet (suc n) k names later =
     ∙ ap (λ ns. ns ++ names_of_part k (names_of_part n names)) (not_yet n k names (omega arith))
     ∙ other_part k n names (λ same. omega arith)
 
--- those of an earlier part are there
+-- The names of an earlier part are in the list.
 there : (n k : ℕ) (names : List Labelled) → k < n → names_of_part k (parted n names) ≡ names_of_part k names
 there zero k names below = absurd (omega arith)
 there (suc n) k names below = filter-append (λ m. part_of m.name == k) (parted n names) (names_of_part n names) ∙ by (there n k names) (grind arith)
@@ -137,7 +137,7 @@ there (suc n) k names below = filter-append (λ m. part_of m.name == k) (parted 
         ap (λ ns. ns ++ names_of_part k (names_of_part n names)) (not_yet n k names (omega arith))
         ∙ ap (λ m. names_of_part k (names_of_part m names)) (sym last) ∙ kept_twice (λ m. part_of m.name == k) names
 
--- parts of some names are parts of the names that are seen
+-- Parts of some names are parts of the names that are seen.
 pub view_kept : (names : List Labelled) (parts : List LabelledNames) → ArePartsOf names parts → AreParted parts
 view_kept names parts are = record {
   many = are.many;
@@ -147,7 +147,7 @@ view_kept names parts are = record {
       subst (StoresNames (get_or parts k d)) (sym same) (are.each k d below);
 }
 
--- parts that are lent have the names that are seen
+-- Borrowed parts have the names that are seen.
 pub view_lent : (names : List Labelled) (parts lent : List LabelledNames) → names_of_parts parts ≡ names → lent ≡ parts → AreParted parts →
     ArePartsOf names lent
 view_lent names parts lent seen same are = subst (ArePartsOf names) (sym same) (subst (λ ns. ArePartsOf ns parts) seen are)

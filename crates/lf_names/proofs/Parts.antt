@@ -8,7 +8,7 @@ use Rattle.std.specs.List.{ends_with}
 use Rattle.lf_names.specs.Pattern.{Part, byte, star, parts_of, bytes_before_star, bytes_behind_star, Becomes, IsLiteral}
 use Rattle.lf_names.specs.Places.{IsBehindFirst}
 
--- bytes become themselves
+-- Bytes become themselves.
 pub bytes_front : (piece : List ℕ) (parts : List Part) (name : List ℕ) → Becomes (map byte piece ++ parts) name → (rest : List ℕ) × (name ≡ piece ++ rest) × Becomes parts rest
 bytes_front [] parts name h = (name, refl, h)
 bytes_front (c ∷ piece) parts name h =
@@ -25,7 +25,7 @@ bytes_alone (c ∷ piece) name = (
   λ e. (piece, e, (bytes_alone piece piece).1 refl),
 )
 
--- a pattern without a star stands for its own bytes alone
+-- A pattern without a star matches only its own bytes.
 pub own_bytes : (parts : List Part) (pattern name : List ℕ) → parts ≡ map byte pattern → Becomes parts name ↔ (name ≡ pattern)
 own_bytes parts pattern name e =
     let P : List Part → Type 0 = λ ps. Becomes ps name ↔ (name ≡ pattern) in subst P (sym e) (bytes_alone pattern name)
@@ -40,7 +40,7 @@ module _ (parts more : List Part) (piece : List ℕ) (is : parts ≡ map byte pi
       let Q : List ℕ → Type 0 = λ n. Becomes (map byte piece ++ star ∷ more) n in
       subst P (sym is) (subst Q (sym e) (front_bytes piece (star ∷ more) rest h))
 
-  -- before the first star the name must begin with the piece
+  -- In front of the first star the name must begin with the piece.
   pub at_front : (name rest : List ℕ) → name ≡ piece ++ rest → Becomes (star ∷ more) rest ↔ Becomes parts name
   at_front name rest e = (
     λ h. closed name rest e h,
@@ -53,7 +53,7 @@ module _ (parts more : List Part) (piece : List ℕ) (is : parts ≡ map byte pi
   pub not_at_front : (name : List ℕ) → ((rest : List ℕ) → name ≡ piece ++ rest → ⊥) → Becomes parts name → ⊥
   not_at_front name apart h = let o = opened name h in apart o.0 o.1
 
-  -- between two stars the first place of the piece serves as well as any
+  -- Between two stars the first occurrence of the piece serves as well as any.
   pub at_first : (name rest : List ℕ) → IsBehindFirst name piece rest → Becomes (star ∷ parts) name ↔ Becomes (star ∷ more) rest
   at_first name rest place = (
     λ h.
@@ -66,7 +66,7 @@ module _ (parts more : List Part) (piece : List ℕ) (is : parts ≡ map byte pi
   pub nowhere : (name : List ℕ) → ((before rest : List ℕ) → name ≡ before ++ (piece ++ rest) → ⊥) → Becomes (star ∷ parts) name → ⊥
   nowhere name apart h = let o = opened h.1 h.3 in apart h.0 o.0 (h.2 ∙ ap (λ l. h.0 ++ l) o.1)
 
--- after the last star the name must end with the piece
+-- After the last star the name must end with the piece.
 pub at_end : (parts : List Part) (piece name : List ℕ) (ends : Bool) → parts ≡ map byte piece → ends ≡ ends_with nat_eq name piece → IsTrue ends ↔ Becomes (star ∷ parts) name
 at_end parts piece name ends e is =
     let answer = ends_is Decides-eqb name piece ends is in
@@ -75,14 +75,14 @@ at_end parts piece name ends e is =
       λ h. answer.1 h.0 (h.2 ∙ ap (λ l. h.0 ++ l) ((own h.1).0 h.3)),
     )
 
--- a list of bytes has no star
+-- A list of bytes has no star.
 no_star : (bytes piece : List ℕ) (more : List Part) → map byte bytes ≡ map byte piece ++ star ∷ more → ⊥
 no_star [] [] more e = cc
 no_star [] (c ∷ piece) more e = cc
 no_star (b ∷ bytes) [] more e = cc
 no_star (b ∷ bytes) (c ∷ piece) more e = no_star bytes piece more (cc)
 
--- a pattern in which no star is found has none
+-- A pattern in which no star is found is literal.
 pub none_means_literal : (pattern : List ℕ) (found : Option (Bor (List ℕ) × Bor (List ℕ))) → MatchOption found (IsLiteral pattern) (λ p. parts_of pattern ≡ map byte p.0.now ++ star ∷ parts_of p.1.now)
     → (none : Bool) → is_some found ≡ not none → IsTrue none ↔ IsLiteral pattern
 none_means_literal pattern None literal true is = (λ _. literal, λ _. refl)
@@ -93,7 +93,7 @@ none_means_literal pattern (Some p) parts false is = (
   λ literal. absurd (no_star pattern p.0.now (parts_of p.1.now) (sym literal ∙ parts)),
 )
 
--- the bytes before the first star of parts that are cut there
+-- The bytes in front of the first star of parts that are cut there.
 pub before_star : (piece : List ℕ) (more : List Part) → bytes_before_star (map byte piece ++ star ∷ more) ≡ piece
 before_star [] more = refl
 before_star (c ∷ piece) more = ap (λ l. c ∷ l) (before_star piece more)
@@ -102,14 +102,15 @@ pub before_no_star : (piece : List ℕ) → bytes_before_star (map byte piece) �
 before_no_star [] = refl
 before_no_star (c ∷ piece) = ap (λ l. c ∷ l) (before_no_star piece)
 
--- what some parts become begins with the bytes before their first star. A caller's proof may cite this.
+-- Whatever the parts become begins with the bytes in front of their first star. A caller's proof
+-- may cite this.
 pub begins_before_star : (parts : List Part) (name : List ℕ) → Becomes parts name → (rest : List ℕ) × (name ≡ bytes_before_star parts ++ rest)
 begins_before_star [] name h = (name, refl)
 begins_before_star (byte c ∷ parts) name h =
     let more = begins_before_star parts h.0 h.2 in (more.0, h.1 ∙ ap (λ l. c ∷ l) more.1)
 begins_before_star (star ∷ parts) name h = (name, refl)
 
--- the bytes after the last star are those of what is after any star
+-- The bytes after the last star are found in the parts after any star.
 pub behind_star : (seen piece : List ℕ) (more : List Part) → bytes_behind_star seen (map byte piece ++ star ∷ more) ≡ bytes_behind_star [] more
 behind_star seen [] more = refl
 behind_star seen (c ∷ piece) more = behind_star (seen ++ c ∷ []) piece more
@@ -118,7 +119,8 @@ pub behind_no_star : (seen piece : List ℕ) → bytes_behind_star seen (map byt
 behind_no_star seen [] = sym (append-nil seen)
 behind_no_star seen (c ∷ piece) = behind_no_star (seen ++ c ∷ []) piece ∙ append_assoc seen (c ∷ []) piece
 
--- what some parts become ends with the bytes after their last star, once the bytes seen before stand in front of it
+-- Whatever the parts become, with the bytes seen in front of it, ends with the bytes after their
+-- last star.
 seen_ends_behind_star : (parts : List Part) (seen name : List ℕ) → Becomes parts name → (run : List ℕ) × (seen ++ name ≡ run ++ bytes_behind_star seen parts)
 seen_ends_behind_star [] seen name h = ([], ap (λ l. seen ++ l) h ∙ append-nil seen)
 seen_ends_behind_star (byte c ∷ parts) seen name h =
@@ -131,6 +133,7 @@ seen_ends_behind_star (star ∷ parts) seen name h =
       ap (λ l. seen ++ l) (h.2 ∙ ap (λ l. h.0 ++ l) more.1 ∙ sym (append_assoc h.0 more.0 ends)) ∙ sym (append_assoc seen (h.0 ++ more.0) ends),
     )
 
--- what some parts become ends with the bytes after their last star. A caller's proof may cite this.
+-- Whatever the parts become ends with the bytes after their last star. A caller's proof may cite
+-- this.
 pub ends_behind_star : (parts : List Part) (name : List ℕ) → Becomes parts name → (run : List ℕ) × (name ≡ run ++ bytes_behind_star [] parts)
 ends_behind_star parts name h = seen_ends_behind_star parts [] name h

@@ -1,16 +1,17 @@
--- A search for the first place of a piece, from one end of the name to the next.
+-- A search for the first occurrence of a piece, from one end of the name to the next.
 use Rattle.std.proofs.Common.{◌≡◌, ℕ, ◌≤◌, List, [], ◌∷◌, ◌++◌, length, drop, sym, ap, ◌∙◌, append_assoc, arith, length-append}
 use Rattle.std.proofs.Math.Seq.{drop-append_seam}
 use Rattle.std.proofs.lemmas.List.{drop-append-le}
 use Rattle.lf_names.specs.Places.{IsBehindFirst}
 
--- the end is one of the name's, and every place of the piece lies in it
+-- An end of the name in which every occurrence of the piece lies.
 pub record IsEndWithAll (name piece end : List ℕ) : Type 0 where
   pub before : List ℕ
   pub is : name ≡ before ++ end
   pub all : (front later : List ℕ) → name ≡ front ++ (piece ++ later) → (ahead : List ℕ) × (end ≡ ahead ++ (piece ++ later))
 
--- where the piece does not stand at its front, the end without its first byte has all places too
+-- If the piece is not at the front of an end, the end without its first byte has all occurrences
+-- too.
 pub shorter_end : (name piece end rest : List ℕ) (c : ℕ) → IsEndWithAll name piece end → end ≡ c ∷ rest → ((later : List ℕ) → end ≡ piece ++ later → ⊥) → IsEndWithAll name piece rest
 shorter_end name piece end rest c h cut apart = record {
   before = h.before ++ c ∷ [];
@@ -22,7 +23,7 @@ shorter_end name piece end rest c h cut apart = record {
     ahead [] later e = absurd (apart later e)
     ahead (d ∷ front) later e = (front, cc)
 
--- an end without bytes, at whose front the piece does not stand, has no place of it
+-- If an end has no bytes and the piece is not at its front, the piece does not occur.
 pub no_place : (name piece end : List ℕ) → IsEndWithAll name piece end → end ≡ [] → ((later : List ℕ) → end ≡ piece ++ later → ⊥) → (before rest : List ℕ) → name ≡ before ++ (piece ++ rest) → ⊥
 no_place name piece end h empty apart before rest e = let at = h.all before rest e in ahead at.0 at.1
   where
@@ -30,7 +31,7 @@ no_place name piece end h empty apart before rest e = let at = h.all before rest
     ahead [] is = apart rest is
     ahead (d ∷ front) is = cc
 
--- what is after a later place of the piece is an end of what is after an earlier one
+-- The bytes after a later occurrence of the piece are an end of those after an earlier one.
 behind : (piece rest ahead later : List ℕ) → piece ++ rest ≡ ahead ++ (piece ++ later) → (more : List ℕ) × (rest ≡ more ++ later)
 behind piece rest ahead later e =
     let fits : length piece ≤ length (ahead ++ piece) = simp length-append (omega arith) in (
@@ -38,7 +39,7 @@ behind piece rest ahead later e =
       sym (drop-append_seam piece rest) ∙ ap (drop (length piece)) (e ∙ sym (append_assoc ahead piece later)) ∙ drop-append-le (length piece) (ahead ++ piece) later fits,
     )
 
--- what stands after the piece at the front of such an end
+-- The bytes after the piece at the front of an end.
 pub first_place : (name piece end rest : List ℕ) → IsEndWithAll name piece end → end ≡ piece ++ rest → IsBehindFirst name piece rest
 first_place name piece end rest h at = record {
   found = (h.before, h.is ∙ ap (λ l. h.before ++ l) at);

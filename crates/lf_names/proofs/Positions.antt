@@ -1,4 +1,4 @@
--- Where a name stands in a list of names, in plain facts. A caller's proof may cite these.
+-- The position of a name in a list of names, as plain facts. A caller's proof may cite these.
 use Rattle.std.proofs.Common.{◌≡◌, ◌≢◌, ℕ, zero, suc, ◌<◌, Bool, true, false, cond, nat_lt, get_or, List, [], ◌∷◌, length, IfSome, IfNone, AllPairs, Contains, Option, None, Some, slice_get, refl, sym, ap, ◌∙◌, arith}
 use Rattle.std.proofs.lemmas.Bool.{false≢true, lt-ltb}
 use Rattle.std.proofs.lemmas.List.Quantifiers.{position-Some}
@@ -9,14 +9,14 @@ use Rattle.std.specs.List.{position_or_len}
 use Rattle.std.specs.Str.{bytes_eq}
 use Rattle.lf_names.specs.Names.{position_of}
 
--- the name stands at its position
+-- The name is at its position.
 pub stands_there : (names : List (List ℕ)) (name : List ℕ) (at : ℕ) → position_of names name ≡ Some at → slice_get names at ≡ Some name
 stands_there names name at e =
     let found = position-Some (bytes_eq name) names at [] e in
     let same : name ≡ get_or names at [] = (bytes_eq-Decides name (get_or names at [])).0 found.1 in
     slice_get-get_or names at [] found.0 ∙ ap Some (sym same)
 
--- a test that some name passes finds a place
+-- A test that some name passes finds a position.
 place_within : (test : List ℕ → Bool) (names : List (List ℕ)) (k : ℕ) (d : List ℕ) → k < length names → test (get_or names k d) ≡ true → position_or_len test names < length names
 place_within test [] k d within passes = absurd (omega arith)
 place_within test (name ∷ names) k d within passes = by (test name) refl k within passes (λ k. place_within test names k d)
@@ -26,7 +26,7 @@ place_within test (name ∷ names) k d within passes = by (test name) refl k wit
     by false e zero w p rest = absurd (false≢true (sym e ∙ p))
     by false e (suc k) w p rest = let below : position_or_len test names < length names = rest k (omega arith) p in rw e (omega arith)
 
--- a name without a position is not in the list
+-- A name without a position is not in the list.
 pub stands_nowhere : (names : List (List ℕ)) (name : List ℕ) → position_of names name ≡ None → Contains names name → ⊥
 stands_nowhere names name e there =
     let passes : bytes_eq name (get_or names there.0 name) ≡ true = (bytes_eq-Decides name (get_or names there.0 name)).1 (sym there.2) in
@@ -35,7 +35,7 @@ stands_nowhere names name e there =
     let some : position_of names name ≡ Some (position_or_len (bytes_eq name) names) = ap (λ t. cond t (Some (position_or_len (bytes_eq name) names)) None) test in
     cc
 
--- where the names differ, a name's place is its position
+-- If the names differ, the index of a name is its position.
 pub found_there : (names : List (List ℕ)) (name : List ℕ) (at : ℕ) → AllPairs (λ earlier later. earlier ≢ later) names → slice_get names at ≡ Some name → position_of names name ≡ Some at
 found_there names name at distinct e =
     let within : at < length names = slice_get_within names at name e in
@@ -50,7 +50,7 @@ found_there names name at distinct e =
     earlier k below within true e here = absurd (distinct k at [] below within (sym ((bytes_eq-Decides name (get_or names k [])).0 e) ∙ sym here))
     earlier k below within false e here = e
 
--- what a look-up says in plain facts
+-- The result of a lookup, as plain facts.
 pub found : (names : List (List ℕ)) (name : List ℕ) (answer : Option ℕ) → answer ≡ position_of names name → IfSome answer (λ at. slice_get names at ≡ Some name)
 found names name (Some at) e = stands_there names name at (sym e)
 found names name None e = tt

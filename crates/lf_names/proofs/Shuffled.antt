@@ -1,4 +1,5 @@
--- Labelled names in another order: they differ as before, and have the same matches. A caller's proof may cite these.
+-- Labelled names in another order: they still differ, and have the same matches. A caller's proof
+-- may cite these.
 use Rattle.std.proofs.Common.{◌≡◌, ℕ, Bool, true, false, List, map, refl, sym}
 use Rattle.std.proofs.lemmas.List.Sorted.{IsPermutation-map, IsPermutation-sym, Contains-permutation}
 use Rattle.std.proofs.lemmas.Map.Keys.{IsDistinct-IsPermutation}
@@ -19,7 +20,7 @@ flips a b = by (bytes_eq a b) refl (bytes_eq b a) refl
     by true is false back = let same : bytes_eq b a ≡ true = (bytes_eq-Decides b a).1 (sym ((bytes_eq-Decides a b).0 is)) in cc
     by false is true back = let same : bytes_eq a b ≡ true = (bytes_eq-Decides a b).1 (sym ((bytes_eq-Decides b a).0 back)) in cc
 
--- names that differ do so in any order
+-- Names that differ do so in any order.
 pub differ_shuffled : (names shuffled : List Labelled) → IsPermutation names shuffled → Differ names → Differ shuffled
 differ_shuffled names shuffled same differ =
     differ_labelled shuffled
@@ -27,7 +28,7 @@ differ_shuffled names shuffled same differ =
     (IsDistinct-IsPermutation bytes_eq flips (map (λ n. n.name) names) (map (λ n. n.name) shuffled) (IsPermutation-map (λ n. n.name) names shuffled same)
     (IsDistinct-from_AllPairs bytes_eq-Decides (map (λ n. n.name) names) (differ_names names differ))))
 
--- the matches of names are those of the names in any order
+-- The matches of names are those of the names in any order.
 pub matches_shuffled : (names shuffled asked : List Labelled) (matches : List Match) → IsPermutation names shuffled → AreMatches shuffled asked matches →
     AreMatches names asked matches
 matches_shuffled names shuffled asked matches same are m = (

@@ -2,6 +2,6 @@
 use Rattle.std.specs.Prelude.{ℕ, List, Option, position}
 use Rattle.std.specs.Str.{bytes_eq}
 
--- the position of the name in the list, if it is there
+-- The position of the name in the list, if the list has it.
 abbrev pub position_of : List (List ℕ) → List ℕ → Option ℕ
 position_of names name = position (bytes_eq name) names

@@ -1,4 +1,4 @@
--- The bytes of a name as a table keeps it.
+-- The bytes of a name in a table.
 use Rattle.std.specs.Prelude.{ℕ, List}
 use Rattle.lf_names.specs.declared.stored_name.StoredName.{StoredName}
 use Rattle.lf_names.specs.declared.stored_name.StoredName.TheVariants.{Short, Long}

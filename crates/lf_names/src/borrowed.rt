@@ -10,8 +10,8 @@ use std::alloc::{AllocError, Global};
 use std::hash::{BuildHasherDefault, FoldHasher};
 use std::marker::Model;
 
-/// Distinct borrowed names, in first-seen order: a `NameTable` without copies. It is fastest if the names are close
-/// together in memory.
+/// Distinct borrowed names, in first-seen order: a `NameTable` without copies. Lookups are fastest
+/// if the names are close together in memory.
 #[derive(Drop)]
 pub(crate) struct BorrowedNames<'a> {
     names: IndexSet<&'a [u8], BuildHasherDefault<FoldHasher>, Global>,
@@ -26,7 +26,7 @@ impl<'a> Model for BorrowedNames<'a> {
 }
 
 impl<'a> BorrowedNames<'a> {
-    /// The empty table, with room for this many names.
+    /// Returns an empty table with room for this many names. `Err` if an allocation fails.
     pub(crate) fn with_capacity(alloc: Global, names: usize) -> Result<Self, AllocError>
         ensures { IfOk result (λ table. table ≡ []) }
     {
@@ -35,7 +35,8 @@ impl<'a> BorrowedNames<'a> {
         })
     }
 
-    /// Appends the name unless it is there. `Err` if an allocation fails, which only a new name needs.
+    /// Appends the name if it is new, and returns its position. `Err` if an allocation fails; only
+    /// a new name allocates. The table is then unchanged.
     pub(crate) fn add(&mut self, name: &'a [u8]) -> Result<Added, AllocError>
         ensures ok { IfOk result (λ added. AddsName self.old name.now added self.new) }
         ensures err { OnErr result (self.new ≡ self.old) }
@@ -48,7 +49,7 @@ impl<'a> BorrowedNames<'a> {
         Ok(Added::Present(position))
     }
 
-    /// The name's position; none if it is not there.
+    /// Returns the name's position, or `None` if the table does not have it.
     pub(crate) fn find(&self, name: &[u8]) -> Option<usize>
         ensures { result ≡ position_of self.now name.now }
     {

@@ -1,4 +1,4 @@
-//! What is kept of labelled names beside their bytes.
+//! The labels and lengths of labelled names.
 
 ghost use Rattle.std.specs.Prelude.{◌≡◌, ◌<◌, ◌++◌, ◌∷◌, [], IfSome, OnErr, OnOk, get_or, length, slice_get};
 
@@ -6,14 +6,14 @@ use std::alloc::{AllocError, Global};
 use std::marker::Model;
 use std::mem::size_of;
 
-/// A name's label, and how many bytes it has.
+/// The label of a name, and the number of its bytes.
 #[derive(Clone, Copy)]
 pub struct Entry {
     pub label: usize,
     pub len: usize,
 }
 
-/// The same in 32 bits each.
+/// An `Entry` with 32 bits for each number.
 #[derive(Drop)]
 struct ShortEntry {
     label: u32,
@@ -30,13 +30,13 @@ impl Model for ShortEntry {
 
 const _: () = prove!(size_of::<ShortEntry>() == 8 && size_of::<Entry>() == 16);
 
-/// The entries of names, in their order: 8 bytes of each, and 16 from the first on whose label or length takes more than
-/// 32 bits. A contract sees their list.
+/// The entries of a list of names, in order. An entry takes 8 bytes. From the first one with a
+/// label or length of more than 32 bits on, each takes 16. A contract sees the list of entries.
 #[derive(Drop)]
 pub(crate) struct Entries {
-    /// The first ones.
+    /// The entries in front of the first that needs more than 32 bits.
     short: Vec<ShortEntry>,
-    /// All further ones.
+    /// All further entries.
     far: Vec<Entry>,
 }
 
@@ -49,7 +49,7 @@ impl Model for Entries {
     ghost view = { λ e. e.short.items ++ e.far.items };
 }
 
-/// The entry in 32 bits each; none if it takes more.
+/// Returns the entry with 32 bits for each number, or `None` if one needs more.
 fn short_entry(entry: Entry) -> Option<ShortEntry>
     ensures { IfSome result (λ short. short ≡ entry) }
 {
@@ -59,7 +59,8 @@ fn short_entry(entry: Entry) -> Option<ShortEntry>
     }
 }
 
-/// The entry as the next of the short ones; none if it takes more than 32 bits, or if there are far ones.
+/// Returns the entry as the next short one. `None` if it needs more than 32 bits, or if there are
+/// far entries.
 fn next_short(entry: Entry, far: &[Entry]) -> Option<ShortEntry>
     ensures { IfSome result (λ short. (short ≡ entry) × (far.now ≡ [])) }
 {
@@ -71,7 +72,7 @@ fn next_short(entry: Entry, far: &[Entry]) -> Option<ShortEntry>
 }
 
 impl ShortEntry {
-    /// The same entry in as many bits as it may take.
+    /// Returns the same entry with full-size numbers.
     fn long(&self) -> Entry
         ensures { result ≡ self.now }
     {
@@ -83,7 +84,7 @@ impl ShortEntry {
 }
 
 impl Entries {
-    /// No entry.
+    /// Returns an empty list.
     pub(crate) fn new(alloc: Global) -> Self
         ensures { result ≡ [] }
     {
@@ -93,14 +94,14 @@ impl Entries {
         }
     }
 
-    /// How many there are.
+    /// Returns the number of entries.
     pub(crate) fn len(&self) -> usize
         ensures { result ≡ length self.now }
     {
         self.short.len() + self.far.len()
     }
 
-    /// Appends the entry. `Err`, which leaves the entries unchanged, if an allocation fails.
+    /// Appends the entry. `Err` if an allocation fails; the list is then unchanged.
     pub(crate) fn push(&mut self, entry: Entry) -> Result<(), AllocError>
         ensures ok { OnOk result (self.new ≡ self.old ++ entry ∷ []) }
         ensures err { OnErr result (self.new ≡ self.old) }
@@ -112,7 +113,7 @@ impl Entries {
         Ok(())
     }
 
-    /// The entry at this position.
+    /// Returns the entry at this position.
     pub(crate) fn at(&self, position: usize) -> Entry
         requires { position < length self.now }
         ensures { result ≡ get_or self.now position result }
@@ -125,7 +126,7 @@ impl Entries {
         }
     }
 
-    /// The entry at this position; none if there is none.
+    /// Returns the entry at this position, or `None` if there is no such position.
     pub(crate) fn get(&self, position: usize) -> Option<Entry>
         ensures { result ≡ slice_get self.now position }
     {

@@ -1,4 +1,4 @@
-//! Labelled names in parts, each of which is looked up by itself.
+//! Labelled names in parts. Each part is looked up by itself.
 
 ghost use Rattle.std.specs.Prelude.{◌≡◌, ◌↔◌, ◌<◌, ◌++◌, ◌∷◌, ℕ, List, [], IfOk, IfSome, IfNone, IsTrue, OnOk, OnErr, map, take, drop};
 ghost use Rattle.std.specs.List.Sorted.{IsPermutation};
@@ -12,29 +12,31 @@ use crate::table::Added;
 use std::alloc::{AllocError, Global};
 use std::marker::Model;
 
-/// The number of parts: enough that the table of one part of a million names stays close to the processor.
+/// The number of parts. With 256 parts of a million names, the table of one part fits into the
+/// processor's cache.
 const PARTS: usize = 256;
 
 /// The odd factor of the hash that selects the part.
 const FACTOR: u32 = 0x9E37_79B1;
 
-/// Names with labels, in the order in which they were pushed; their bytes are joined.
+/// Names with labels, in the order in which they were pushed. Their bytes are joined.
 #[derive(Drop)]
 pub struct LabelledNames {
     bytes: Vec<u8>,
     entries: Entries,
 }
 
-/// The labels of a name that is in two lists: its own, and that of the asked name.
+/// The labels of a name that is in two lists: the label in the list itself, and the label in the
+/// list of requested names.
 #[derive(Clone, Copy)]
 pub struct Match {
     pub own: usize,
     pub asked: usize,
 }
 
-/// A list of labelled names in parts, which copy their names. Equal names are in one part, so names are looked up part
-/// by part, in small tables: faster than one large table if there are many names. A contract sees the list of the names
-/// with their labels, in some order.
+/// A list of labelled names in parts. It copies the names. Equal names are in one part, so names
+/// are looked up part by part, in small tables. With many names that is faster than one large
+/// table. A contract sees the list of names with their labels, in some order.
 #[derive(Drop)]
 pub struct PartitionedNames {
     parts: Vec<LabelledNames>,
@@ -52,7 +54,8 @@ impl Model for PartitionedNames {
     ghost invariant = { λ p. AreParted p.parts.items };
 }
 
-/// The part of a name. The hash is not that of the tables, so that the names of a part do not collide in its table.
+/// Returns the part of a name. Its hash differs from the hash of the tables, so the names of a part
+/// do not collide in its table.
 fn part_of(name: &[u8]) -> usize
     ensures part { result ≡ name_part name.now }
     ensures within { result < part_count }
@@ -64,7 +67,7 @@ fn part_of(name: &[u8]) -> usize
     (hash.wrapping_mul(FACTOR) >> 24) as usize
 }
 
-/// The first `len` bytes, and those after them.
+/// Returns the first `len` bytes, and the bytes after them.
 fn cut(bytes: &[u8], len: usize) -> (&[u8], &[u8])
     ensures front { result.0.now ≡ take len bytes.now }
     ensures back { result.1.now ≡ drop len bytes.now }
@@ -73,7 +76,7 @@ fn cut(bytes: &[u8], len: usize) -> (&[u8], &[u8])
 }
 
 impl LabelledNames {
-    /// The empty list.
+    /// Returns an empty list.
     fn new(alloc: Global) -> Self
         ensures { StoresNames result [] }
     {
@@ -83,7 +86,7 @@ impl LabelledNames {
         }
     }
 
-    /// Appends a name with its label. `Err`, which leaves the names unchanged, if an allocation fails.
+    /// Appends a name with its label. `Err` if an allocation fails; the names are then unchanged.
     fn push(&mut self, label: usize, name: &[u8]) -> Result<(), AllocError>
         ensures ok { (names : List Labelled) → StoresNames self.old names → OnOk result (StoresNames self.new (names ++ record { label = label; name = name.now } ∷ [])) }
         ensures err { (names : List Labelled) → StoresNames self.old names → OnErr result (StoresNames self.new names) }
@@ -99,7 +102,8 @@ impl LabelledNames {
     }
 }
 
-/// The table of the names; none if one is there twice.
+/// Returns the table of the names, or `None` if a name is in the list twice. `Err` if an allocation
+/// fails.
 fn table_of(alloc: Global, names: &LabelledNames) -> Result<Option<BorrowedNames<'_>>, AllocError>
     ensures names { (own : List Labelled) → StoresNames names.now own → IfOk result (λ answer. IfSome answer (λ table. table ≡ map (λ n. n.name) own)) }
     ensures differ { (own : List Labelled) → StoresNames names.now own → IfOk result (λ answer. IfSome answer (λ table. Differ own)) }
@@ -118,7 +122,8 @@ fn table_of(alloc: Global, names: &LabelledNames) -> Result<Option<BorrowedNames
     Ok(Some(table))
 }
 
-/// The label of the name, by its position in the table.
+/// Returns the label of the name, by its position in the table. `None` if the table does not have
+/// it.
 fn label_of(names: &LabelledNames, table: &BorrowedNames, name: &[u8]) -> Option<usize>
     ensures { (own : List Labelled) → StoresNames names.now own → table.now ≡ map (λ n. n.name) own → result ≡ label_in own name.now }
 {
@@ -126,7 +131,7 @@ fn label_of(names: &LabelledNames, table: &BorrowedNames, name: &[u8]) -> Option
     Some(entry.label)
 }
 
-/// Appends a match if the asked name has a label.
+/// Appends a match if the requested name has a label. `Err` if an allocation fails.
 fn add_match(matches: &mut Vec<Match>, own: Option<usize>, asked: usize) -> Result<(), AllocError>
     ensures { OnOk result (matches.new.items ≡ matches.old.items ++ option_to_list (option_map (labels_of asked) own)) }
 {
@@ -136,7 +141,7 @@ fn add_match(matches: &mut Vec<Match>, own: Option<usize>, asked: usize) -> Resu
     Ok(())
 }
 
-/// Appends the match of each asked name that is there.
+/// Appends the match of each requested name that is in the table. `Err` if an allocation fails.
 fn match_names(
     names: &LabelledNames,
     table: &BorrowedNames,
@@ -155,7 +160,8 @@ fn match_names(
     Ok(())
 }
 
-/// Appends the matches of one part and returns true; false, and no match, if a name of the part is there twice.
+/// Appends the matches of one part and returns true. Returns false and appends no match if the part
+/// has a name twice. `Err` if an allocation fails.
 fn match_part(
     alloc: Global,
     names: &LabelledNames,
@@ -172,7 +178,7 @@ fn match_part(
     Ok(true)
 }
 
-/// All parts, empty.
+/// Returns all parts, empty. `Err` if an allocation fails.
 fn empty_parts(alloc: Global) -> Result<Vec<LabelledNames>, AllocError>
     ensures { IfOk result (λ parts. ArePartsOf [] parts.items) }
 {
@@ -183,7 +189,7 @@ fn empty_parts(alloc: Global) -> Result<Vec<LabelledNames>, AllocError>
     Ok(parts)
 }
 
-/// Appends the name to its part.
+/// Appends the name to its part. `Err` if an allocation fails; the names are then unchanged.
 fn push_in_part(parts: &mut Vec<LabelledNames>, label: usize, name: &[u8]) -> Result<(), AllocError>
     ensures ok { (names : List Labelled) → ArePartsOf names parts.old.items → OnOk result (ArePartsOf (names ++ record { label = label; name = name.now } ∷ []) parts.new.items) }
     ensures err { (names : List Labelled) → ArePartsOf names parts.old.items → OnErr result (ArePartsOf names parts.new.items) }
@@ -195,7 +201,8 @@ fn push_in_part(parts: &mut Vec<LabelledNames>, label: usize, name: &[u8]) -> Re
     Ok(())
 }
 
-/// The matches of all parts, one part after the other; none if a name is there twice.
+/// Returns the matches of all parts, one part after the other. `None` if a name is in the list
+/// twice. `Err` if an allocation fails.
 fn match_parts(
     alloc: Global,
     own: &[LabelledNames],
@@ -219,7 +226,7 @@ fn match_parts(
 }
 
 impl PartitionedNames {
-    /// The empty list. `Err` if an allocation fails.
+    /// Returns an empty list. `Err` if an allocation fails.
     pub fn new(alloc: Global) -> Result<Self, AllocError>
         ensures { IfOk result (λ parts. parts ≡ []) }
     {
@@ -228,8 +235,8 @@ impl PartitionedNames {
         })
     }
 
-    /// Adds the name with its label to its part. The same name may be added again. `Err` if an allocation fails; the list is
-    /// then unchanged.
+    /// Adds the name with its label to its part. The same name may be added again. `Err` if an
+    /// allocation fails; the list is then unchanged.
     pub fn push(&mut self, label: usize, name: &[u8]) -> Result<(), AllocError>
         ensures ok { OnOk result (IsPermutation (self.old ++ record { label = label; name = name.now } ∷ []) self.new) }
         ensures err { OnErr result (self.new ≡ self.old) }
@@ -238,8 +245,9 @@ impl PartitionedNames {
         Ok(())
     }
 
-    /// The two labels of each asked name that is in the list, once for each time that it is asked for, in any order.
-    /// None iff a name of the list is there twice. `Err` if an allocation fails.
+    /// Returns the two labels of each requested name that is in the list, in any order. A name that
+    /// is requested twice has two matches. `None` if and only if the list has a name twice. `Err`
+    /// if an allocation fails.
     pub fn matches(
         &self,
         alloc: Global,

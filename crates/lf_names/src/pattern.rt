@@ -1,4 +1,4 @@
-//! Patterns that names match.
+//! Patterns, and the names that they match.
 
 ghost use Rattle.std.specs.Prelude.{◌≡◌, ◌≢◌, ◌<◌, ◌↔◌, ℕ, List, ◌∷◌, ◌++◌, length, map, IsTrue, IfSome, MatchOption};
 ghost use Rattle.lf_names.specs.Pattern.{byte, star, parts_of, prefix_of, suffix_of, Becomes, Matches, IsLiteral};
@@ -6,8 +6,9 @@ ghost use Rattle.lf_names.specs.Places.{IsBehindFirst};
 
 use std::marker::Model;
 
-/// A pattern of names, as a DEF GROUPS entry lists them: `*` matches any run of bytes, also none. A `*` directly after
-/// a backslash is an ordinary byte, and so is every backslash: `a\*` matches these three bytes alone.
+/// A pattern of names, as a DEF GROUPS entry lists them. `*` matches any run of bytes, including
+/// the empty one. A `*` directly after a backslash is an ordinary byte, and so is every backslash:
+/// `a\*` matches only these three bytes.
 #[derive(Drop)]
 pub struct Pattern<'a> {
     bytes: &'a [u8],
@@ -22,14 +23,14 @@ impl<'a> Model for Pattern<'a> {
 }
 
 impl<'a> Pattern<'a> {
-    /// The pattern of these bytes. Every run of bytes is a pattern.
+    /// Returns the pattern with these bytes. Any bytes are a pattern.
     pub fn new(bytes: &'a [u8]) -> Self
         ensures { result ≡ bytes.now }
     {
         Pattern { bytes }
     }
 
-    /// Whether the pattern has no star, so that it matches its own bytes alone.
+    /// True if the pattern has no star. It then matches only its own bytes.
     pub fn is_literal(&self) -> bool
         ensures literal { IsTrue result ↔ IsLiteral self.now }
         ensures own_bytes { IsTrue result → (name : List ℕ) → (Matches self.now name ↔ (name ≡ self.now)) }
@@ -37,7 +38,8 @@ impl<'a> Pattern<'a> {
         split_at_star(self.bytes).is_none()
     }
 
-    /// The bytes before the first star, or all if there is none. Each name that matches begins with them.
+    /// Returns the bytes in front of the first star, or all bytes if there is no star. Each name
+    /// that matches begins with them.
     pub fn prefix(&self) -> &'a [u8]
         ensures prefix { result.now ≡ prefix_of self.now }
         ensures begins { (name : List ℕ) → Matches self.now name → (rest : List ℕ) × (name ≡ result.now ++ rest) }
@@ -48,7 +50,8 @@ impl<'a> Pattern<'a> {
         }
     }
 
-    /// The bytes after the last star, or all if there is none. Each name that matches ends with them.
+    /// Returns the bytes after the last star, or all bytes if there is no star. Each name that
+    /// matches ends with them.
     pub fn suffix(&self) -> &'a [u8]
         ensures suffix { result.now ≡ suffix_of self.now }
         ensures ends { (name : List ℕ) → Matches self.now name → (run : List ℕ) × (name ≡ run ++ result.now) }
@@ -56,8 +59,9 @@ impl<'a> Pattern<'a> {
         behind_last_star(self.bytes)
     }
 
-    /// Whether the pattern becomes the name when each of its stars is replaced by some bytes, or none. Allocates nothing;
-    /// takes time at most proportional to the name's length times the pattern's.
+    /// True if the pattern becomes the name when each of its stars is replaced by a run of bytes,
+    /// perhaps empty. Allocates nothing. The time is at most proportional to the product of the
+    /// lengths of name and pattern.
     pub fn matches(&self, name: &[u8]) -> bool
         ensures { IsTrue result ↔ Matches self.now name.now }
     {
@@ -65,7 +69,7 @@ impl<'a> Pattern<'a> {
     }
 }
 
-/// What `Pattern::matches` returns. Up to the first star the name must agree byte for byte.
+/// Implements `Pattern::matches`. Up to the first star the name must agree byte for byte.
 fn stands_for(pattern: &[u8], name: &[u8]) -> bool
     ensures { IsTrue result ↔ Matches pattern.now name.now }
 {
@@ -78,8 +82,8 @@ fn stands_for(pattern: &[u8], name: &[u8]) -> bool
     }
 }
 
-/// Whether some end of the name matches the pattern. The bytes between two stars are matched at their first occurrence,
-/// which leaves most to the stars after them.
+/// True if some end of the name matches the pattern. The bytes between two stars are matched at
+/// their first occurrence, which leaves the most bytes to the later stars.
 fn stands_for_an_end(pattern: &[u8], name: &[u8]) -> bool
     ensures { IsTrue result ↔ Becomes (star ∷ parts_of pattern.now) name.now }
 {
@@ -95,7 +99,8 @@ fn stands_for_an_end(pattern: &[u8], name: &[u8]) -> bool
     remaining_name.ends_with(remaining_pattern)
 }
 
-/// The bytes before the pattern's first star, and the pattern after it; none if there is no star.
+/// Returns the bytes in front of the pattern's first star, and the pattern after it. `None` if
+/// there is no star.
 fn split_at_star(pattern: &[u8]) -> Option<(&[u8], &[u8])>
     ensures parts { MatchOption result (IsLiteral pattern.now) (λ p. parts_of pattern.now ≡ map byte p.0.now ++ star ∷ parts_of p.1.now) }
     ensures shorter { IfSome result (λ p. length p.1.now < length pattern.now) }
@@ -110,7 +115,7 @@ fn split_at_star(pattern: &[u8]) -> Option<(&[u8], &[u8])>
     None
 }
 
-/// The bytes after the pattern's last star, or all if there is none.
+/// Returns the bytes after the pattern's last star, or all bytes if there is no star.
 fn behind_last_star(pattern: &[u8]) -> &[u8]
     ensures { result.now ≡ suffix_of pattern.now }
 {
@@ -121,7 +126,8 @@ fn behind_last_star(pattern: &[u8]) -> &[u8]
     remaining
 }
 
-/// The rest of the name after the first occurrence of the piece; none if there is none.
+/// Returns the rest of the name after the first occurrence of the piece. `None` if the piece does
+/// not occur.
 fn behind_first<'x>(name: &'x [u8], piece: &[u8]) -> Option<&'x [u8]>
     ensures { MatchOption result ((before rest : List ℕ) → name.now ≢ before ++ (piece.now ++ rest)) (λ rest. IsBehindFirst name.now piece.now rest.now) }
 {

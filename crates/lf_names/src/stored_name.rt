@@ -1,4 +1,4 @@
-//! A name as a table keeps it.
+//! The bytes of a name in a table.
 
 ghost use Rattle.std.specs.Prelude.{◌≡◌, IfOk};
 ghost use Rattle.std.specs.Cmp as Cmp;
@@ -15,7 +15,7 @@ use indexmap::Equivalent;
 use std::alloc::{AllocError, Allocator};
 use std::hash::{Hash, Hasher};
 
-/// The bytes of a name: those of a short one, as most names of cells are, lie in the table itself.
+/// The bytes of a name. Names of up to 16 bytes, as most cell names are, lie in the table itself.
 #[derive(Drop)]
 pub(crate) enum StoredName<A: Allocator> {
     Short(ArrayVec<u8, 16>),
@@ -23,7 +23,7 @@ pub(crate) enum StoredName<A: Allocator> {
 }
 
 impl<A: Allocator> StoredName<A> {
-    /// A copy of the name. `Err` if an allocation fails, which only a long name needs.
+    /// Returns a copy of the name. `Err` if an allocation fails; only a long name allocates.
     pub(crate) fn copied(alloc: A, name: &[u8]) -> Result<Self, AllocError>
         ensures { IfOk result (λ copy. bytes_of copy ≡ name.now) }
     {
@@ -33,7 +33,7 @@ impl<A: Allocator> StoredName<A> {
         }
     }
 
-    /// The bytes, lent.
+    /// Returns the bytes, borrowed.
     pub(crate) fn as_slice(&self) -> &[u8]
         ensures { result.now ≡ bytes_of self.now }
     {

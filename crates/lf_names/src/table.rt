@@ -11,27 +11,28 @@ use std::alloc::{AllocError, Allocator, Global};
 use std::hash::{BuildHasherDefault, FoldHasher};
 use std::marker::Model;
 
-/// What adding a name to a table finds: where the name is, and whether it is new.
+/// The result of adding a name to a table: its position, and whether it is new.
 #[derive(Clone, Copy, Debug, PartialEq, Eq)]
 pub enum Added {
-    /// The name was new, and is the last one.
+    /// The name was new, and is now the last one.
     New(usize),
-    /// The name was in the table already.
+    /// The table had the name already.
     Present(usize),
 }
 
-/// Distinct names, in first-seen order. A name's place in that order is its position, which does
-/// not change while the table grows.
+/// Distinct names, in first-seen order. A name's place in that order is its position. It does not
+/// change while the table grows.
 ///
-/// Names of up to 16 bytes lie in the table itself; a longer one takes memory of its own.
+/// Names of up to 16 bytes lie in the table itself. A longer name takes memory of its own.
 ///
-/// A name is looked up in a time that does not depend on their number, but for names chosen against
-/// the fixed hash.
+/// The time of a lookup does not depend on the number of names, except for names chosen against the
+/// fixed hash.
 pub struct NameTable<A: Allocator + Copy = Global> {
     names: IndexSet<StoredName<A>, BuildHasherDefault<FoldHasher>, A>,
 }
 
-/// (Written out: the proof of a function that lets one go does not take it apart.)
+/// Written by hand: with a derived `drop`, the proof of every function that drops a table would
+/// unfold it.
 impl<A: Allocator + Copy> Drop for NameTable<A> {
     fn drop(self) {
         let NameTable { names: _ } = self;
@@ -48,7 +49,7 @@ impl<A: Allocator + Copy> Model for NameTable<A> {
 }
 
 impl<A: Allocator + Copy> NameTable<A> {
-    /// The empty table, which allocates nothing.
+    /// Returns an empty table. Allocates nothing.
     pub fn new(alloc: A) -> Self
         ensures { result ≡ [] }
     {
@@ -57,7 +58,8 @@ impl<A: Allocator + Copy> NameTable<A> {
         }
     }
 
-    /// The empty table, with room for this many names: it does not grow while they are added. `Err` if an allocation fails.
+    /// Returns an empty table with room for this many names. It does not grow while they are added.
+    /// `Err` if an allocation fails.
     pub fn with_capacity(alloc: A, names: usize) -> Result<Self, AllocError>
         ensures { IfOk result (λ table. table ≡ []) }
     {
@@ -66,8 +68,8 @@ impl<A: Allocator + Copy> NameTable<A> {
         })
     }
 
-    /// Appends the name unless it is there, and returns where it is. `Err` if an allocation fails, which only a new name
-    /// needs; the table is then unchanged.
+    /// Appends the name if it is new, and returns its position. `Err` if an allocation fails; only
+    /// a new name allocates. The table is then unchanged.
     pub fn add(&mut self, name: &[u8]) -> Result<Added, AllocError>
         ensures ok { IfOk result (λ added. AddsName self.old name.now added self.new) }
         ensures err { OnErr result (self.new ≡ self.old) }
@@ -84,8 +86,8 @@ impl<A: Allocator + Copy> NameTable<A> {
         }
     }
 
-    /// Appends a name that is not there: faster than `add`, which looks for it first. `Err` if an allocation fails; the
-    /// table is then unchanged.
+    /// Appends a name that the table does not have. Faster than `add`, which looks for the name
+    /// first. `Err` if an allocation fails; the table is then unchanged.
     pub fn add_new(&mut self, name: &[u8]) -> Result<(), AllocError>
         requires { All (λ n. n ≢ name.now) self.old }
         ensures ok { OnOk result (self.new ≡ self.old ++ name.now ∷ []) }
@@ -96,7 +98,7 @@ impl<A: Allocator + Copy> NameTable<A> {
         Ok(())
     }
 
-    /// The name's position; none if it is not there.
+    /// Returns the name's position, or `None` if the table does not have it.
     pub fn find(&self, name: &[u8]) -> Option<usize>
         ensures position { result ≡ position_of self.now name.now }
         ensures found { IfSome result (λ at. slice_get self.now at ≡ Some name.now) }
@@ -105,7 +107,7 @@ impl<A: Allocator + Copy> NameTable<A> {
         self.names.get_index_of(name)
     }
 
-    /// The name at the position; none if there is none.
+    /// Returns the name at this position, or `None` if there is no such position.
     pub fn name_at(&self, position: usize) -> Option<&[u8]>
         ensures name { option_map (λ name. name.now) result ≡ slice_get self.now position }
         ensures found_there { IfSome result (λ name. position_of self.now name.now ≡ Some position) }
@@ -113,7 +115,7 @@ impl<A: Allocator + Copy> NameTable<A> {
         Some(self.names.as_slice().get(position)?.as_slice())
     }
 
-    /// How many names there are; all differ.
+    /// Returns the number of names, which are distinct.
     pub fn len(&self) -> usize
         ensures len { result ≡ length self.now }
         ensures distinct { AllPairs (λ name later. name ≢ later) self.now }
@@ -121,7 +123,7 @@ impl<A: Allocator + Copy> NameTable<A> {
         self.names.len()
     }
 
-    /// Whether there is no name.
+    /// True if there is no name.
     pub fn is_empty(&self) -> bool
         ensures { IsTrue result ↔ (self.now ≡ []) }
     {

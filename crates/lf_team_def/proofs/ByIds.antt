@@ -19,7 +19,7 @@ seam pre rest c =
     slice_get-get_or (pre ++ c ∷ rest) (length pre) c (omega (arith, length-append pre (c ∷ rest)))
     ∙ ap (λ (x : Cell). Some x) (get_or-append_seam pre c rest c)
 
--- what is said of the cells at positions from one on is said of the cells that stand there
+-- The texts of the cells at positions from one on are those of the cells there.
 from : (g : Option Cell → List ℕ) (h : Cell → List ℕ) → ((c : Cell) → g (Some c) ≡ h c) → (rest pre all : List Cell) (n : ℕ)
     → all ≡ pre ++ rest → n ≡ length pre → flat_map (λ (own : ℕ). g (slice_get all own)) (range_with_len n (length rest)) ≡ flat_map h rest
 from g h same [] pre all n is long = refl
@@ -30,7 +30,7 @@ from g h same (c ∷ rest) pre all n is long =
     ap (λ (l : List ℕ). l ++ flat_map (λ (own : ℕ). g (slice_get all own)) (range_with_len (n + 1) (length rest))) (ap g here ∙ same c)
     ∙ ap (λ (l : List ℕ). h c ++ l) more
 
--- the same of all cells of a team, by their ids
+-- The same for all cells of a team, by their ids.
 pub by_ids : (g : Option Cell → List ℕ) (h : Cell → List ℕ) → ((c : Cell) → g (Some c) ≡ h c) → (table : Cells) (team : ℕ)
     → flat_map (λ id. g (cell_at table id)) (ids_of team (cells_of table team)) ≡ flat_map h (cells_of table team)
 by_ids g h same table team =

@@ -1,4 +1,4 @@
--- Words with a space before each, part by part, and lines.
+-- Words with a space in front of each, part by part, and lines.
 use Rattle.std.proofs.Common.{◌≡◌, ℕ, ◌≤◌, List, [], ◌∷◌, ◌++◌, length, take, map, refl, sym, ap, ◌∙◌, append_assoc, append-nil}
 use Rattle.std.specs.List.{flat_map}
 use Rattle.std.proofs.lemmas.List.{take_all, flat_map_more}
@@ -18,14 +18,14 @@ pub spaced_flat : {X : Type 0} (f : X → List (List ℕ)) (xs : List X) → spa
 spaced_flat f [] = refl
 spaced_flat f (x ∷ xs) = spaced_append (f x) (flat_map f xs) ∙ ap (λ (l : List ℕ). spaced (f x) ++ l) (spaced_flat f xs)
 
--- Pieces one behind the other.
+-- Pieces in order.
 
--- all pieces
+-- All pieces.
 pub put_all : {X : Type 0} (g : X → List ℕ) (old a : List ℕ) (xs : List X) (i : ℕ) → length xs ≤ i → a ≡ old ++ flat_map g (take i xs)
     → a ≡ old ++ flat_map g xs
 put_all g old a xs i past so_far = so_far ∙ ap (λ ys. old ++ flat_map g ys) (take_all i xs past)
 
--- lines behind lines
+-- Lines after lines.
 pub put_lines : (old a new : List ℕ) (xs : List (List (List ℕ))) (l : List (List ℕ)) → a ≡ old ++ flat_map line_of xs → new ≡ a ++ line_of l
     → new ≡ old ++ flat_map line_of (xs ++ l ∷ [])
 put_lines old a new xs l so_far line = line ∙ ap (λ (b : List ℕ). b ++ line_of l) so_far ∙ flat_map_more line_of old xs l
@@ -39,7 +39,7 @@ put_others old a new xs ys so_far others =
     others ∙ ap (λ (b : List ℕ). b ++ flat_map line_of ys) so_far ∙ append_assoc old (flat_map line_of xs) (flat_map line_of ys)
     ∙ ap (λ (b : List ℕ). old ++ b) (sym (flat_map-append line_of xs ys))
 
--- five lines, and three
+-- Five lines, and three.
 pub put_five : (old a b c d new : List ℕ) (l1 l2 l3 l4 l5 : List (List ℕ)) → a ≡ old ++ line_of l1 → b ≡ a ++ line_of l2 → c ≡ b ++ line_of l3
     → d ≡ c ++ line_of l4
     → new ≡ d ++ line_of l5 → new ≡ old ++ flat_map line_of (l1 ∷ l2 ∷ l3 ∷ l4 ∷ l5 ∷ [])
@@ -51,14 +51,14 @@ pub put_three : (old a b new : List ℕ) (l1 l2 l3 : List (List ℕ)) → a ≡ 
     → new ≡ old ++ flat_map line_of (l1 ∷ l2 ∷ l3 ∷ [])
 put_three old a b new l1 l2 l3 e1 e2 e3 = put_lines old b new (l1 ∷ l2 ∷ []) l3 (put_lines old a b (l1 ∷ []) l2 (put_one old a l1 e1) e2) e3
 
--- the lines of a section: the first, those of the entries, and the last
+-- The lines of a section: the first, those of the entries, and the last.
 pub put_section : (old a b new : List ℕ) (first last : List (List ℕ)) (entries : List (List (List ℕ))) → a ≡ old ++ line_of first
     → b ≡ a ++ flat_map line_of entries
     → new ≡ b ++ line_of last → new ≡ old ++ flat_map line_of (first ∷ (entries ++ last ∷ []))
 put_section old a b new first last entries e1 e2 e3 =
     put_lines old b new (first ∷ entries) last (put_others old a b (first ∷ []) entries (put_one old a first e1) e2) e3
 
--- a whole text: lines in four parts, and a last line
+-- A whole text: lines in four parts, and a last line.
 pub put_whole : (old a b c d new : List ℕ) (l1 l2 l3 l4 : List (List (List ℕ))) (last : List (List ℕ)) → a ≡ old ++ flat_map line_of l1
     → b ≡ a ++ flat_map line_of l2 → c ≡ b ++ flat_map line_of l3 → d ≡ c ++ flat_map line_of l4 → new ≡ d ++ line_of last
     → new ≡ old ++ flat_map line_of (l1 ++ (l2 ++ (l3 ++ (l4 ++ last ∷ []))))
@@ -70,7 +70,8 @@ put_whole old a b c d new l1 l2 l3 l4 last e1 e2 e3 e4 e5 =
     regroup : (a b c d e : List (List (List ℕ))) → (((a ++ b) ++ c) ++ d) ++ e ≡ a ++ (b ++ (c ++ (d ++ e)))
     regroup a b c d e = simp append_assoc
 
--- a line of words in parts: the first word, a second, words in between, the words at the end, and a line feed
+-- A line of words in parts: the first word, a second, words between, the words at the end, and a
+-- line feed.
 pub put_in_parts : (old a b c d new first second : List ℕ) (between last : List (List ℕ)) → a ≡ old ++ first → b ≡ a ++ spaced (second ∷ [])
     → c ≡ b ++ spaced between
     → d ≡ c ++ spaced last → new ≡ d ++ 10 ∷ [] → new ≡ old ++ line_of (first ∷ second ∷ (between ++ last))

@@ -1,5 +1,5 @@
--- The DEF text of a team: the header, the team's fence, its cells at their working places, and the group that binds them to
--- the fence (LEF/DEF 5.8, DEF REGIONS, COMPONENTS and GROUPS).
+-- The DEF text of a team: the header, the team's fence, its cells at their working places, and the
+-- group that binds them to the fence (LEF/DEF 5.8, DEF REGIONS, COMPONENTS and GROUPS).
 use Rattle.std.specs.Prelude.{ℕ, List, [], ◌∷◌, ◌++◌, length, map, Option, Some, None, codes, decimal, slice_get}
 use Rattle.std.specs.List.{flat_map}
 use Rattle.std.specs.Fmt.{signed_decimal}
@@ -12,20 +12,20 @@ use Rattle.lf_floorplan.specs.Boxes.{macro_of}
 use Rattle.lf_cells.specs.declared.cell.Cell.{Cell}
 use Rattle.lf_team_def.specs.Clauses.{clause_words}
 
--- ---- lines
+-- Lines.
 
--- words with one space between each two, and a line feed
+-- Words with one space between each two, and a line feed.
 abbrev pub line_of : List (List ℕ) → List ℕ
 line_of words = joined words ++ 10 ∷ []
 
--- KEYWORD count ; then an entry a line, and END KEYWORD
+-- KEYWORD count ; then one entry a line, and END KEYWORD.
 abbrev pub section_lines : List ℕ → List (List (List ℕ)) → List (List (List ℕ))
 section_lines keyword entries =
     (keyword ∷ decimal (length entries) ∷ codes ";" ∷ []) ∷ (entries ++ (codes "END" ∷ keyword ∷ []) ∷ [])
 
--- ---- what the lines say
+-- The contents of the lines.
 
--- the statements of the header
+-- The statements of the header.
 abbrev pub header_lines : Header → List (List (List ℕ))
 header_lines h =
     (codes "VERSION" ∷ h.version ∷ codes ";" ∷ [])
@@ -35,7 +35,7 @@ header_lines h =
     ∷ (codes "UNITS" ∷ codes "DISTANCE" ∷ codes "MICRONS" ∷ decimal h.units ∷ codes ";" ∷ [])
     ∷ []
 
--- ( x1 y1 ) ( x2 y2 ): the lower left corner, and the upper right one
+-- ( x1 y1 ) ( x2 y2 ): the lower left corner, then the upper right one.
 abbrev pub rect_words : Rect → List (List ℕ)
 rect_words r =
     codes "(" ∷ signed_decimal r.x1 ∷ signed_decimal r.y1 ∷ codes ")" ∷ codes "(" ∷ signed_decimal r.x2 ∷ signed_decimal r.y2 ∷ codes ")" ∷ []
@@ -52,20 +52,22 @@ component_words f c = codes "-" ∷ c.name ∷ (macro_of f c.mac).name ∷ (clau
 abbrev pub group_words : Team → List Cell → List (List ℕ)
 group_words t cells = codes "-" ∷ t.name ∷ (map (λ c. c.name) cells ++ codes "+" ∷ codes "REGION" ∷ t.name ∷ codes ";" ∷ [])
 
--- ---- the text
+-- The text.
 
--- the REGIONS section with the team's fence; the ground team has none
+-- The REGIONS section with the team's fence. The ground team has none.
 abbrev pub region_lines : Option Team → List (List (List ℕ))
 region_lines None = []
 region_lines (Some t) = section_lines (codes "REGIONS") (region_words t ∷ [])
 
--- the GROUPS section that binds the cells to the team's fence; the ground team and a team without cells have none
+-- The GROUPS section that binds the cells to the team's fence. The ground team and a team without
+-- cells have none.
 abbrev pub group_lines : Option Team → List Cell → List (List (List ℕ))
 group_lines None cells = []
 group_lines (Some t) [] = []
 group_lines (Some t) (c ∷ cs) = section_lines (codes "GROUPS") (group_words t (c ∷ cs) ∷ [])
 
--- the lines of the team's text: its fence is that of its number in the frame, and its cells are in loading order
+-- The lines of the team's text. Its fence is the one with its number in the frame, and its cells
+-- are in loading order.
 abbrev pub team_lines : Frame → Option Team → List Cell → List (List (List ℕ))
 team_lines f fence cells =
     header_lines f.header
@@ -74,6 +76,6 @@ team_lines f fence cells =
     ++ (group_lines fence cells
     ++ (codes "END" ∷ codes "DESIGN" ∷ []) ∷ [])))
 
--- The DEF text of the team of that number with these cells, at their working places.
+-- The DEF text of the team with this number with these cells, at their working places.
 unfoldable pub team_text : Frame → ℕ → List Cell → List ℕ
 team_text f number cells = flat_map line_of (team_lines f (slice_get f.teams number) cells)

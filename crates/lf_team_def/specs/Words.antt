@@ -1,10 +1,10 @@
--- The words that a line is written from.
+-- The words of a line.
 use Rattle.std.specs.Prelude.{ℕ, List, decimal}
 use Rattle.std.specs.Fmt.{signed_decimal}
 use Rattle.lf_team_def.specs.declared.words.Word.{Word}
 use Rattle.lf_team_def.specs.declared.words.Word.TheVariants.{Text, Count, Length}
 
--- the text of a word
+-- The text of a word.
 abbrev pub word_text : Word → List ℕ
 word_text (Text text) = text.now
 word_text (Count n) = decimal n

@@ -16,7 +16,7 @@ use lf_floorplan::{Frame, Place, Team};
 use lf_orient::orient_word;
 use lf_units::Rect;
 
-/// Puts the points of a rectangle: its lower left corner, and its upper right one.
+/// Writes the points of a rectangle: its lower left corner, then its upper right one.
 fn put_rect<O: Output>(out: &mut O, rect: &Rect)
     ensures { PutsText O.took out.old out.new (spaced (rect_words rect.now)) }
 {
@@ -35,7 +35,7 @@ fn put_rect<O: Output>(out: &mut O, rect: &Rect)
     );
 }
 
-/// Puts the points of the rectangles.
+/// Writes the points of the rectangles.
 fn put_rects<O: Output>(out: &mut O, rects: &[Rect])
     ensures { PutsText O.took out.old out.new (spaced (flat_map rect_words rects.now)) }
 {
@@ -44,7 +44,7 @@ fn put_rects<O: Output>(out: &mut O, rects: &[Rect])
     }
 }
 
-/// Puts the line of a fence.
+/// Writes the line of a fence.
 pub(crate) fn put_region<O: Output>(out: &mut O, fence: &Team)
     ensures { PutsText O.took out.old out.new (line_of (region_words fence.now)) }
 {
@@ -63,7 +63,7 @@ pub(crate) fn put_region<O: Output>(out: &mut O, fence: &Team)
     out.put(b"\n");
 }
 
-/// The name of the macro of that number; no byte if the frame has no such macro.
+/// Returns the name of the macro with this number. Empty if the frame has no such macro.
 fn macro_name(frame: &Frame, number: usize) -> &[u8]
     ensures { result.now ≡ (macro_of frame.now number).name }
 {
@@ -73,7 +73,7 @@ fn macro_name(frame: &Frame, number: usize) -> &[u8]
     }
 }
 
-/// Puts the line of a component with that name, macro and place.
+/// Writes the line of a component with this name, macro and place.
 fn put_component_at<'x, O: Output>(
     out: &mut O,
     name: &'x [u8],
@@ -113,7 +113,7 @@ fn put_component_at<'x, O: Output>(
     }
 }
 
-/// Puts the line of the cell's component, at its working place.
+/// Writes the line of the cell's component, at its working place.
 fn put_component<O: Output>(out: &mut O, frame: &Frame, cells: &CellTable, id: CellId)
     ensures { PutsText O.took out.old out.new (component_line frame.now (cell_at cells.now id)) }
 {
@@ -128,7 +128,7 @@ fn put_component<O: Output>(out: &mut O, frame: &Frame, cells: &CellTable, id: C
     }
 }
 
-/// Puts the lines of the components of the team's cells, in loading order.
+/// Writes the lines of the components of the team's cells, in loading order.
 pub(crate) fn put_components<O: Output>(out: &mut O, frame: &Frame, cells: &CellTable, team: usize)
     ensures { PutsText O.took out.old out.new (flat_map line_of (map (component_words frame.now) (cells_of cells.now team))) }
 {
@@ -137,7 +137,7 @@ pub(crate) fn put_components<O: Output>(out: &mut O, frame: &Frame, cells: &Cell
     }
 }
 
-/// Puts a space and the cell's name.
+/// Writes a space and the cell's name.
 fn put_name<O: Output>(out: &mut O, cells: &CellTable, id: CellId)
     ensures { PutsText O.took out.old out.new (spaced_name (cell_at cells.now id)) }
 {
@@ -147,7 +147,7 @@ fn put_name<O: Output>(out: &mut O, cells: &CellTable, id: CellId)
     }
 }
 
-/// Puts the names of the team's cells, in loading order, a space before each.
+/// Writes the names of the team's cells, in loading order, with a space in front of each.
 fn put_names<O: Output>(out: &mut O, cells: &CellTable, team: usize)
     ensures { PutsText O.took out.old out.new (spaced (map (λ c. c.name) (cells_of cells.now team))) }
 {
@@ -156,7 +156,7 @@ fn put_names<O: Output>(out: &mut O, cells: &CellTable, team: usize)
     }
 }
 
-/// Puts the line of the group that binds the team's cells to the fence.
+/// Writes the line of the group that binds the team's cells to the fence.
 pub(crate) fn put_group<O: Output>(out: &mut O, fence: &Team, cells: &CellTable, team: usize)
     ensures { PutsText O.took out.old out.new (line_of (group_words fence.now (cells_of cells.now team))) }
 {

@@ -1,15 +1,30 @@
 //! The DEF text of a team, and where a text goes piece by piece.
 //!
-//! The text is as LEF/DEF 5.8 has it, with a header and the REGIONS, COMPONENTS and GROUPS of one team; it has no rows.
-//! `write_team_def` puts it to an `Output`, `team_def_length` counts its bytes, and `team_def` makes it whole.
+//! The text follows LEF/DEF 5.8. It has a header and the REGIONS, COMPONENTS and GROUPS of one
+//! team. It has no rows. `write_team_def` writes it to an `Output`, `team_def_length` counts its
+//! bytes, and `team_def` returns the whole text.
 //!
-//! Of an `Output` contracts know what its implementation promises by its relation `took`: which text was put between one state of
-//! it and a later one.
+//! A contract sees of an `Output` what its implementation promises by its relation `took`: the text
+//! that was written between one state and a later one.
+//!
+//! Used by most other crates.
+//!
+//! Modules, in reading order:
+//!
+//! - `output`: outputs, which take a text piece by piece
+//! - `words`: words and lines
+//! - `def_entries`: the entries of a team's sections: its fence, its cells and its group
+//! - `team_text`: the DEF text of a team
+//!
+//! From `crates/lf_floor_verbs/src/queries.rt`:
 //!
 //! ```
-//! let length = team_def_length(&frame, &cells, team);
-//! write_team_def(&mut out, &frame, &cells, team);
-//! let text = team_def(alloc, &frame, &cells, team)?;
+//! let text = team_def(
+//!     around.alloc,
+//!     self.placement.frame(),
+//!     self.placement.cells(),
+//!     around.number,
+//! )?;
 //! ```
 #![tactic(auto)]
 

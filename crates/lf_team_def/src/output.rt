@@ -1,32 +1,34 @@
-//! Where a text goes, piece by piece.
+//! Outputs, which take a text piece by piece.
 
 ghost use Rattle.std.specs.Prelude.{◌≡◌, [], ℕ, List, IfOk, false};
 ghost use Rattle.lf_team_def.specs.Output.{IsLengthOf, PutsText};
 
 use std::alloc::{AllocError, Global};
 
-/// Where the bytes of a text go, one piece behind the other.
+/// A sink for the bytes of a text, written piece by piece.
 ///
-/// A piece that can't be taken is dropped, and so are all after it: whoever made the output asks it at the end. What an
-/// implementation promises of the text that was put is its `took`.
+/// A piece that cannot be taken is dropped, and so are all later ones. The caller that made the
+/// output checks for this at the end. `took` is what an implementation promises about the text that
+/// was written.
 pub trait Output {
-    /// From the first output on to the second just the bytes of this text were put.
+    /// Holds if exactly the bytes of this text were written between the first output and the
+    /// second.
     ghost took: { Self → Self → List ℕ → Type 0 };
 
-    /// Puts the bytes behind those that were put before: where `took` held of a text until now, it holds of the text with these
-    /// bytes behind it.
+    /// Writes the bytes. If `took` held of a text so far, it then holds of that text followed by
+    /// these bytes.
     fn put(&mut self, bytes: &[u8])
         ensures { PutsText took self.old self.new bytes.now };
 }
 
-/// The length of a text, of which nothing is kept: the number of its bytes; none just if they are 2^64 or more.
+/// The number of bytes of a text, which is not stored. `None` if and only if it is 2^64 or more.
 #[derive(Drop)]
 pub(crate) struct Length {
     pub(crate) count: Option<usize>,
 }
 
 impl Length {
-    /// That of a text without bytes.
+    /// Returns the length of an empty text.
     pub(crate) fn zero() -> Length
         ensures { ⟦<Length as Output>⟧.took result result [] }
     {
@@ -45,7 +47,7 @@ impl Output for Length {
     }
 }
 
-/// A text that is kept whole, or of which a part found no memory.
+/// A text that is stored whole, unless an allocation failed for a part of it.
 #[derive(Drop)]
 pub(crate) struct Kept {
     text: Vec<u8>,
@@ -53,7 +55,7 @@ pub(crate) struct Kept {
 }
 
 impl Kept {
-    /// A text without bytes, with room for this many.
+    /// Returns an empty text with room for this many bytes. `Err` if an allocation fails.
     pub(crate) fn with_capacity(alloc: Global, room: usize) -> Result<Kept, AllocError>
         ensures { IfOk result (λ kept. ⟦<Kept as Output>⟧.took kept kept []) }
     {
@@ -64,7 +66,7 @@ impl Kept {
         })
     }
 
-    /// The text; `Err` if an allocation failed for it.
+    /// Returns the text. `Err` if an allocation failed for it.
     pub(crate) fn finish(self) -> Result<Vec<u8>, AllocError>
         ensures { (start : Kept) (text : List ℕ) → ⟦<Kept as Output>⟧.took start self text → IfOk result (λ whole. whole.items ≡ text) }
     {

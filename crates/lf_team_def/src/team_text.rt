@@ -13,7 +13,7 @@ use lf_cells::CellTable;
 use lf_floorplan::{Frame, Header};
 use std::alloc::{AllocError, Global};
 
-/// Puts the lines of the header.
+/// Writes the lines of the header.
 fn put_header<O: Output>(out: &mut O, header: &Header)
     ensures { PutsText O.took out.old out.new (flat_map line_of (header_lines header.now)) }
 {
@@ -33,28 +33,28 @@ fn put_header<O: Output>(out: &mut O, header: &Header)
     );
 }
 
-/// Puts the line of a statement of one word.
+/// Writes the line of a statement of one word.
 fn put_statement<O: Output>(out: &mut O, keyword: &[u8], word: &[u8])
     ensures { PutsText O.took out.old out.new (line_of (keyword.now ∷ word.now ∷ codes ";" ∷ [])) }
 {
     put_line(out, keyword, &[Word::Text(word), Word::Text(b";")]);
 }
 
-/// Puts the line that begins a section of this many entries.
+/// Writes the line that begins a section with this number of entries.
 fn put_begin<O: Output>(out: &mut O, keyword: &[u8], count: usize)
     ensures { PutsText O.took out.old out.new (line_of (keyword.now ∷ decimal count ∷ codes ";" ∷ [])) }
 {
     put_line(out, keyword, &[Word::Count(count), Word::Text(b";")]);
 }
 
-/// Puts the line that ends a section, or the text.
+/// Writes the line that ends a section, or the text.
 fn put_end<O: Output>(out: &mut O, keyword: &[u8])
     ensures { PutsText O.took out.old out.new (line_of (codes "END" ∷ keyword.now ∷ [])) }
 {
     put_line(out, b"END", &[Word::Text(keyword)]);
 }
 
-/// Puts the REGIONS section of the team of that number.
+/// Writes the REGIONS section of the team with this number.
 fn put_regions<O: Output>(out: &mut O, frame: &Frame, team: usize)
     ensures { PutsText O.took out.old out.new (flat_map line_of (region_lines (slice_get frame.now.teams team))) }
 {
@@ -66,7 +66,7 @@ fn put_regions<O: Output>(out: &mut O, frame: &Frame, team: usize)
     put_end(out, b"REGIONS");
 }
 
-/// Puts the COMPONENTS section of the team of that number.
+/// Writes the COMPONENTS section of the team with this number.
 fn put_cells<O: Output>(out: &mut O, frame: &Frame, cells: &CellTable, team: usize)
     ensures { PutsText O.took out.old out.new (flat_map line_of (section_lines (codes "COMPONENTS") (map (component_words frame.now) (cells_of cells.now team)))) }
 {
@@ -75,7 +75,7 @@ fn put_cells<O: Output>(out: &mut O, frame: &Frame, cells: &CellTable, team: usi
     put_end(out, b"COMPONENTS");
 }
 
-/// Puts the GROUPS section of the team of that number.
+/// Writes the GROUPS section of the team with this number.
 fn put_groups<O: Output>(out: &mut O, frame: &Frame, cells: &CellTable, team: usize)
     ensures { PutsText O.took out.old out.new (flat_map line_of (group_lines (slice_get frame.now.teams team) (cells_of cells.now team))) }
 {
@@ -92,11 +92,12 @@ fn put_groups<O: Output>(out: &mut O, frame: &Frame, cells: &CellTable, team: us
     }
 }
 
-/// Puts the DEF text of the team of that number: the header, its fence, its cells at their working places in loading
-/// order, and the group that binds them to the fence (LEF/DEF 5.8, DEF REGIONS, COMPONENTS and GROUPS). It takes no
-/// memory.
+/// Writes the DEF text of the team with this number (LEF/DEF 5.8, DEF REGIONS, COMPONENTS and
+/// GROUPS). It has the header, the team's fence, its cells at their working places in loading
+/// order, and the group that binds them to the fence. Allocates nothing.
 ///
-/// The ground team has no REGIONS and no GROUPS section, a team without cells no GROUPS section.
+/// The ground team has no REGIONS and no GROUPS section. A team without cells has no GROUPS
+/// section.
 pub fn write_team_def<O: Output>(out: &mut O, frame: &Frame, cells: &CellTable, team: usize)
     ensures { PutsText O.took out.old out.new (team_text frame.now team (cells_of cells.now team)) }
 {
@@ -107,7 +108,8 @@ pub fn write_team_def<O: Output>(out: &mut O, frame: &Frame, cells: &CellTable, 
     put_end(out, b"DESIGN");
 }
 
-/// How many bytes the DEF text of the team of that number has (that of `write_team_def`); none just if they are 2^64 or more.
+/// Returns the number of bytes of the text that `write_team_def` writes for the team with this
+/// number. `None` if and only if it is 2^64 or more.
 pub fn team_def_length(frame: &Frame, cells: &CellTable, team: usize) -> Option<usize>
     ensures { IsLengthOf (team_text frame.now team (cells_of cells.now team)) result }
 {
@@ -116,7 +118,8 @@ pub fn team_def_length(frame: &Frame, cells: &CellTable, team: usize) -> Option<
     length.count
 }
 
-/// The DEF text of the team of that number (that of `write_team_def`), whole, in memory for just its bytes.
+/// Returns the text that `write_team_def` writes for the team with this number, in memory for
+/// exactly its bytes.
 ///
 /// `Err` if an allocation fails.
 pub fn team_def(

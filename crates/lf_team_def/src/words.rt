@@ -17,7 +17,7 @@ pub(crate) enum Word<'a> {
     Length(i64),
 }
 
-/// Puts the word.
+/// Writes the word.
 fn put_word<O: Output>(out: &mut O, word: &Word<'_>)
     ensures { PutsText O.took out.old out.new (word_text word.now) }
 {
@@ -28,7 +28,7 @@ fn put_word<O: Output>(out: &mut O, word: &Word<'_>)
     }
 }
 
-/// Puts the words, a space before each.
+/// Writes the words, with a space in front of each.
 pub(crate) fn put_spaced<O: Output>(out: &mut O, words: &[Word<'_>])
     ensures { PutsText O.took out.old out.new (spaced (map word_text words.now)) }
 {
@@ -38,7 +38,7 @@ pub(crate) fn put_spaced<O: Output>(out: &mut O, words: &[Word<'_>])
     }
 }
 
-/// Puts a line of words, the first of them given apart.
+/// Writes a line of words. The first word is given separately.
 pub(crate) fn put_line<O: Output>(out: &mut O, first: &[u8], words: &[Word<'_>])
     ensures { PutsText O.took out.old out.new (line_of (first.now ∷ map word_text words.now)) }
 {

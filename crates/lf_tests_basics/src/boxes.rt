@@ -1,11 +1,12 @@
-//! Boxes in a row, each of which overlaps the next: what lies near one, and the least number met.
+//! Boxes in a row, each of which overlaps the next: the boxes near one, and the least number of
+//! those that overlap it.
 
 use lf_rtree::{Placed, RTree};
 use lf_units::Rect;
 use std::alloc::{AllocError, Global};
 use std::test::Fail;
 
-/// A box 15 wide and 10 high whose left edge lies 10 to the right of the one before.
+/// Returns a box 15 wide and 10 high whose left edge is 10 to the right of the previous box's.
 fn box_of(own: u32) -> Placed {
     let x1 = i64::from(own) * 10;
     Placed {

@@ -1,4 +1,5 @@
-//! DEF texts: prefixes, and a long text. What texts say, and their bounds, are in the rows of lefence_rows.
+//! DEF texts: prefixes, and a long text. The contents of texts, and their bounds, are tested in the
+//! rows of lefence_rows.
 
 use crate::faults::at_line;
 use lf_def::{DEMO_DEF, read_def};
@@ -6,12 +7,12 @@ use lf_lex::{FaultNumber, LoadFault};
 use std::alloc::{AllocError, Global};
 use std::test::Fail;
 
-/// What a text is refused for.
+/// Returns the refusal of a text, or `None` if it is read.
 fn refusal<'a>(rt: &HostRuntime, text: &'a [u8]) -> Option<LoadFault<'a>> {
     read_def(rt.alloc(), text).err()
 }
 
-/// Whether the fault is one of a text, numbered from 1 to 6, with its line.
+/// True if the fault is one of a text, numbered from 1 to 6, with its line.
 fn is_of_a_text(fault: LoadFault<'_>) -> bool {
     let is_read = matches!(
         fault.number,
@@ -25,8 +26,8 @@ fn is_of_a_text(fault: LoadFault<'_>) -> bool {
     is_read && fault.line.is_some()
 }
 
-/// Each prefix that is shorter by two bytes or more is refused for a fault of the text; without its last
-/// line feed the text is read.
+/// Each prefix that is shorter by two bytes or more is refused for a fault of the text. Without its
+/// last line feed the text is read.
 #[test]
 fn refuses_each_prefix(rt: HostRuntime) -> Result<(), Fail> {
     let mut prefix = Vec::new(rt.alloc());
@@ -42,7 +43,7 @@ fn refuses_each_prefix(rt: HostRuntime) -> Result<(), Fail> {
     Ok(())
 }
 
-/// A comment may hold any byte that is no line feed.
+/// A comment may have any byte that is no line feed.
 #[test]
 fn reads_over_any_comment(rt: HostRuntime) -> Result<(), Fail> {
     let mut text = Vec::from_slice(rt.alloc(), b"# ")?;
@@ -55,13 +56,13 @@ fn reads_over_any_comment(rt: HostRuntime) -> Result<(), Fail> {
     Ok(())
 }
 
-/// Puts the line of a component with that number.
+/// Appends the line of a component with this number.
 fn push_component(alloc: Global, text: &mut Vec<u8>, number: u32) -> Result<(), AllocError> {
     let line = format!(in alloc; "- c{number} INVX1 + SOURCE DIST + PLACED ( {number} 0 ) FS ;\n")?;
     text.extend_from_slice(line.as_bytes())
 }
 
-/// Puts 20,000 components, and nothing behind them.
+/// Appends 20,000 components, and nothing after them.
 fn push_components(alloc: Global, text: &mut Vec<u8>) -> Result<(), AllocError> {
     text.extend_from_slice(b"DESIGN many ;\nCOMPONENTS 20000 ;\n")?;
     for number in 0..20_000u32 {
@@ -70,7 +71,7 @@ fn push_components(alloc: Global, text: &mut Vec<u8>) -> Result<(), AllocError> 
     Ok(())
 }
 
-/// How many components the text has.
+/// Returns the number of components of the text, or `None` if it is refused.
 fn count(alloc: Global, text: &[u8]) -> Option<usize> {
     match read_def(alloc, text) {
         Ok(document) => Some(document.components.len()),

@@ -2,7 +2,7 @@
 
 use lf_lex::{FaultNumber, LoadFault};
 
-/// The refusal of that number at a line.
+/// Returns the refusal with this number at a line.
 pub fn at_line(number: FaultNumber, line: usize) -> Option<LoadFault<'static>> {
     Some(LoadFault {
         number,

@@ -1,4 +1,5 @@
-//! LEF texts: prefixes, several texts, and a long one. What texts say, and their bounds, are in the rows of lefence_rows.
+//! LEF texts: prefixes, several texts, and a long one. The contents of texts, and their bounds, are
+//! tested in the rows of lefence_rows.
 
 use crate::faults::at_line;
 use lf_lef::{DEMO_LEF, Library, read_lef};
@@ -6,23 +7,25 @@ use lf_lex::FaultNumber;
 use std::alloc::{AllocError, Global};
 use std::test::Fail;
 
-/// Whether the library has so many sites and macros.
+/// True if the library has this number of sites and macros.
 fn has(library: &Library, sites: usize, macros: usize) -> bool {
     library.sites().len() == sites && library.macros().len() == macros
 }
 
-/// Whether the text is read into the library, which has so many sites and macros then.
+/// True if the text is read into the library, which then has this number of sites and macros.
 fn reads(library: &mut Library, text: &[u8], sites: usize, macros: usize) -> bool {
     read_lef(library, text).is_ok() && has(library, sites, macros)
 }
 
-/// Whether the text is refused for its end in the first line, and the library has so many sites and macros then.
+/// True if the text is refused for its end in the first line, and the library then has this number
+/// of sites and macros.
 fn refuses(library: &mut Library, text: &[u8], sites: usize, macros: usize) -> bool {
     let fault = read_lef(library, text).err();
     fault == at_line(FaultNumber::UnexpectedEnd, 1) && has(library, sites, macros)
 }
 
-/// A text that is refused leaves the library as it was, whatever it held, and what is read next stands behind that.
+/// A refused text leaves the library unchanged, whatever it had. The contents of the next text are
+/// appended.
 #[test]
 fn keeps_what_it_had(rt: HostRuntime) {
     let mut library = Library::new(rt.alloc());
@@ -34,7 +37,7 @@ fn keeps_what_it_had(rt: HostRuntime) {
     assert!(rt; library.find_site(b"t") == Some(1) && library.find_macro(b"m") == Some(0));
 }
 
-/// Whether the library has this one site, 3 by 4 microns, and no macro.
+/// True if the library has only this site, 3 by 4 microns, and no macro.
 fn has_the_old_site(library: &Library) -> bool {
     match library.sites() {
         [site] => {
@@ -51,7 +54,7 @@ fn has_the_old_site(library: &Library) -> bool {
     }
 }
 
-/// Whether a text is read, or refused for a fault of its own and the library left as it was.
+/// True if a text is read, or refused for a fault of its own with the library unchanged.
 fn leaves_the_library(alloc: Global, text: &[u8]) -> bool {
     let mut library = Library::new(alloc);
     if read_lef(&mut library, b"SITE old SIZE 3 BY 4 ; SYMMETRY X ; END old").is_err() {
@@ -73,7 +76,7 @@ fn returns_from_each_prefix(rt: HostRuntime) -> Result<(), Fail> {
     Ok(())
 }
 
-/// Puts the line of a macro with that number.
+/// Appends the line of a macro with this number.
 fn push_macro(alloc: Global, text: &mut Vec<u8>, number: u32) -> Result<(), AllocError> {
     let line = format!(in alloc;
         "MACRO M{number} CLASS CORE ; SIZE 0.4 BY 2.0 ; SITE core ; END M{number}\n"
@@ -81,7 +84,7 @@ fn push_macro(alloc: Global, text: &mut Vec<u8>, number: u32) -> Result<(), Allo
     text.extend_from_slice(line.as_bytes())
 }
 
-/// Puts 20,000 macros.
+/// Appends 20,000 macros.
 fn push_macros(alloc: Global, text: &mut Vec<u8>) -> Result<(), AllocError> {
     for number in 0..20_000u32 {
         push_macro(alloc, text, number)?;
@@ -89,14 +92,15 @@ fn push_macros(alloc: Global, text: &mut Vec<u8>) -> Result<(), AllocError> {
     Ok(())
 }
 
-/// Whether the text of these macros is read into the library.
+/// True if the text of these macros is read into the library.
 fn reads_macros(library: &mut Library, text: &[u8]) -> bool {
     read_lef(library, text).is_ok()
         && library.macros().len() == 20_000
         && library.find_macro(b"M19999") == Some(19_999)
 }
 
-/// Whether the text, behind which one more macro begins, is refused at its end, and the library is left with its macros.
+/// True if the text, followed by the start of one more macro, is refused at its end, and the
+/// library keeps its macros.
 fn refuses_the_end(library: &mut Library, text: &[u8]) -> bool {
     let fault = read_lef(library, text).err();
     fault == at_line(FaultNumber::UnexpectedEnd, 20_001) && library.macros().len() == 20_000

@@ -6,7 +6,7 @@ use linked_list_allocator::LocalHeap;
 use std::alloc::{AllocError, Allocator, Global};
 use std::test::Fail;
 
-/// Whether the table is the list of these names.
+/// True if the table is the list of these names.
 fn holds<A: Allocator + Copy>(table: &NameTable<A>, names: &[&[u8]]) -> bool {
     for (position, name) in names.iter().enumerate() {
         if table.find(name) != Some(position) || table.name_at(position) != Some(name) {
@@ -30,14 +30,14 @@ fn gives_names_their_positions(rt: HostRuntime) -> Result<(), Fail> {
     Ok(())
 }
 
-/// Whether one of the matches has these labels.
+/// True if one of the matches has these labels.
 fn has_match(matches: &[Match], own: usize, asked: usize) -> bool {
     matches
         .iter()
         .any(|found| found.own == own && found.asked == asked)
 }
 
-/// Puts 200 names of two bytes, with labels from this one on.
+/// Adds 200 names of two bytes, with labels from this one on.
 fn push_names(parts: &mut PartitionedNames, first: usize) -> Result<(), AllocError> {
     for name in 0..200u8 {
         parts.push(first.saturating_add(usize::from(name)), &[name, 0])?;
@@ -45,14 +45,14 @@ fn push_names(parts: &mut PartitionedNames, first: usize) -> Result<(), AllocErr
     Ok(())
 }
 
-/// Puts these names, one of them twice, and a name that is not among them.
+/// Adds these names, one of them twice, and a name that is not among them.
 fn push_asked(parts: &mut PartitionedNames) -> Result<(), AllocError> {
     parts.push(999, b"")?;
     push_names(parts, 1000)?;
     parts.push(1200, &[7, 0])
 }
 
-/// Whether these are the matches of each name, and both of the one that is asked for twice.
+/// True if these are the matches of each name, with two for the name that is requested twice.
 fn are_of_all(matches: &[Match]) -> bool {
     for name in 0..200usize {
         if !has_match(matches, name, 1000 + name) {
@@ -62,7 +62,7 @@ fn are_of_all(matches: &[Match]) -> bool {
     matches.len() == 201 && has_match(matches, 7, 1200)
 }
 
-/// Whether the names that are asked for are found, each with its labels.
+/// True if the requested names are found, each with its labels.
 fn are_found(
     alloc: Global,
     names: &PartitionedNames,
@@ -74,7 +74,7 @@ fn are_found(
     }
 }
 
-/// Whether names that are put are found, and there is no answer once one stands twice.
+/// True if added names are found, and there is no result after one of them was added twice.
 fn answer(
     alloc: Global,
     names: &mut PartitionedNames,
@@ -89,15 +89,15 @@ fn answer(
     Ok(names.matches(alloc, asked)?.is_none())
 }
 
-/// The same of empty parts.
+/// The same for empty parts.
 fn parts_answer(alloc: Global) -> Result<bool, AllocError> {
     let mut names = PartitionedNames::new(alloc)?;
     let mut asked = PartitionedNames::new(alloc)?;
     answer(alloc, &mut names, &mut asked)
 }
 
-/// Names of many parts are matched with their labels: a name that is asked for twice has two matches, and one that is
-/// not there has none. Where a name stands twice there is no answer.
+/// Names of many parts are matched with their labels. A name that is requested twice has two
+/// matches, and an unknown one has no match. If a name is in the list twice, there is no result.
 #[test]
 fn finds_names_in_parts(rt: HostRuntime) -> Result<(), Fail> {
     assert!(rt; parts_answer(rt.alloc())?);
@@ -107,7 +107,7 @@ fn finds_names_in_parts(rt: HostRuntime) -> Result<(), Fail> {
 /// A name of 17 bytes, which needs memory of its own.
 const LONG: &[u8] = b"seventeen_bytes_x";
 
-/// Whether the table of one name stays as it is where no memory is left.
+/// True if a table of one name is unchanged when no memory is left.
 fn stays<'a>(
     alloc: Global,
     table: &mut NameTable<&'a LocalHeap>,
@@ -120,7 +120,7 @@ fn stays<'a>(
     Ok(holds(table, &[b"a"]) && table.find(LONG).is_none())
 }
 
-/// Whether it does, and takes another name once memory is given back.
+/// True if it is, and the table takes another name after memory is freed.
 fn stays_and_grows(alloc: Global, heap: &LocalHeap) -> Result<bool, AllocError> {
     let mut table: NameTable<&LocalHeap> = NameTable::new(heap);
     if table.add(b"a")? != Added::New(0) || !stays(alloc, &mut table, heap)? {
@@ -129,7 +129,7 @@ fn stays_and_grows(alloc: Global, heap: &LocalHeap) -> Result<bool, AllocError> 
     Ok(table.add(LONG)? == Added::New(1) && holds(&table, &[b"a", LONG]))
 }
 
-/// With every growth refused the table answers as before, and once memory is given back it grows.
+/// If every growth is refused, the table is unchanged. After memory is freed it grows.
 #[test]
 fn stays_as_it_was_where_memory_is_refused(rt: HostRuntime) -> Result<(), Fail> {
     let heap = LocalHeap::new(rt.alloc(), 4096)?;
@@ -137,7 +137,7 @@ fn stays_as_it_was_where_memory_is_refused(rt: HostRuntime) -> Result<(), Fail> 
     Ok(())
 }
 
-/// Whether the table has so many names, each a byte more than the one before, from 0 on.
+/// True if the table has `count` names, each of one byte: 0, 1, and so on.
 fn has_first(table: &NameTable<&LocalHeap>, count: u8) -> bool {
     for name in 0..count {
         if table.find(&[name]) != Some(usize::from(name)) {
@@ -147,7 +147,8 @@ fn has_first(table: &NameTable<&LocalHeap>, count: u8) -> bool {
     table.len() == usize::from(count) && table.find(&[count]).is_none()
 }
 
-/// Whether the first name for which the heap has no memory leaves the names before it where they are.
+/// True if the first name for which the heap has no memory leaves the earlier names in their
+/// places.
 fn keeps_names_in(heap: &LocalHeap) -> bool {
     let mut table: NameTable<&LocalHeap> = NameTable::new(heap);
     for name in 0..200u8 {
@@ -158,13 +159,13 @@ fn keeps_names_in(heap: &LocalHeap) -> bool {
     false
 }
 
-/// The same in a heap of that size.
+/// The same in a heap of this size.
 fn keeps_its_names(alloc: Global, size: usize) -> Result<bool, AllocError> {
     let heap = LocalHeap::new(alloc, size)?;
     Ok(keeps_names_in(&heap))
 }
 
-/// Each growth refused in turn, in heaps of every size.
+/// Each growth is refused in turn, in heaps of every size.
 #[test]
 fn keeps_its_names_at_every_refusal(rt: HostRuntime) -> Result<(), Fail> {
     for units in 4..200usize {
@@ -173,12 +174,12 @@ fn keeps_its_names_at_every_refusal(rt: HostRuntime) -> Result<(), Fail> {
     Ok(())
 }
 
-/// Whether the pattern matches the name.
+/// True if the pattern matches the name.
 fn stands_for(pattern: &[u8], name: &[u8]) -> bool {
     Pattern::new(pattern).matches(name)
 }
 
-/// Patterns and names, and whether the one stands for the other.
+/// Patterns and names, and whether the pattern matches the name.
 const PATTERNS: &[(&[u8], &[u8], bool)] = &[
     (b"a*", b"a", true),
     (b"a*", b"a1", true),
@@ -229,7 +230,8 @@ fn the_prefix_of_a_pattern_ends_before_its_first_star(rt: HostRuntime) {
     assert!(rt; Pattern::new(b"*").prefix().is_empty());
 }
 
-/// Many stars before a letter that never comes: found out without going back to an earlier star.
+/// Many stars in front of a letter that never comes. The match fails without going back to an
+/// earlier star.
 #[test]
 fn many_stars_end_quickly(rt: HostRuntime) -> Result<(), Fail> {
     let name = vec![in rt.alloc(); b'a'; 1024]?;

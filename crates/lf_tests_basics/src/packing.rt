@@ -1,10 +1,10 @@
-//! Cells packed into a span: what no clause says of trials and of pushing.
+//! Cells packed into a span: candidates, and cells that are pushed apart.
 
 use lf_repair_packing::{Cell, CostCurve, PackedSpan, SearchEffort};
 use std::alloc::{AllocError, Global};
 use std::test::Fail;
 
-/// A span of 40 sites with cells of 4 sites at 10, 14 and 30, each where it is wanted.
+/// Returns a span of 40 sites with cells of 4 sites at 10, 14 and 30, each at its target.
 fn three(alloc: Global) -> Result<PackedSpan, AllocError> {
     let mut segment = PackedSpan::new(alloc, 40);
     for (number, wanted) in [(0u32, 10u32), (1, 14), (2, 30)] {
@@ -22,7 +22,7 @@ fn three(alloc: Global) -> Result<PackedSpan, AllocError> {
     Ok(segment)
 }
 
-/// One that is wanted between the first two, across both.
+/// Returns a cell whose target is between the first two, across both.
 fn one_more() -> Cell {
     Cell {
         number: 3,
@@ -32,7 +32,7 @@ fn one_more() -> Cell {
     }
 }
 
-/// Those that are in the way of a cell move to either side, the others stay.
+/// Neighbours that overlap the new cell move to either side. The others stay.
 #[test]
 fn neighbours_are_pushed_apart(rt: HostRuntime) -> Result<(), Fail> {
     let mut segment = three(rt.alloc())?;
@@ -51,7 +51,8 @@ fn neighbours_are_pushed_apart(rt: HostRuntime) -> Result<(), Fail> {
     Ok(())
 }
 
-/// A trial tells the first place of least cost in each gap, and in the second what `insert` tells of it.
+/// A candidate has the first place of least cost in a gap. For the second gap, the cost is the one
+/// that `insert` returns.
 #[test]
 fn trials_tell_what_gaps_cost(rt: HostRuntime) -> Result<(), Fail> {
     let segment = three(rt.alloc())?;
@@ -74,7 +75,8 @@ fn trials_tell_what_gaps_cost(rt: HostRuntime) -> Result<(), Fail> {
     Ok(())
 }
 
-/// A cell is found near to where it was, one that was taken out is found no more, and another one stands in the place of a third.
+/// A cell is found near its former place, a removed cell is no longer found, and another cell
+/// replaces a third one.
 #[test]
 fn cells_are_found_and_changed(rt: HostRuntime) -> Result<(), Fail> {
     let mut segment = three(rt.alloc())?;

@@ -19,7 +19,8 @@ fn takes_the_least_free_slot(rt: HostRuntime) -> Result<(), Fail> {
     Ok(())
 }
 
-/// What a session has seen is told until its slot is free, and no other team's session has seen it.
+/// A session's last seen number is returned until its slot is freed. It is not visible to sessions
+/// of other teams.
 #[test]
 fn tells_what_a_session_has_seen(rt: HostRuntime) -> Result<(), Fail> {
     let mut table = SessionTable::build(rt.alloc(), 2, 8)?;

@@ -54,7 +54,7 @@ fn windows_show_what_is_free(rt: HostRuntime) -> Result<(), Fail> {
     Ok(())
 }
 
-/// What stands in a row: a cell, and the span that it takes.
+/// A cell in a row, and the span that it occupies.
 #[derive(Clone, Copy)]
 struct Standing {
     cell: u32,

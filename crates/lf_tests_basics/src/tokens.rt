@@ -6,7 +6,7 @@ use lf_lex::{
     skip_to_end, skip_to_semicolon, skip_to_word, token, word,
 };
 
-/// Whether the next token is the quoted text, in its line and at its offsets.
+/// True if the next token is the quoted text, on its line and at its offsets.
 fn is_quoted(lexer: &mut Lexer<'_>) -> bool {
     match lexer.next_token() {
         Ok(Some(token)) => {
@@ -18,7 +18,7 @@ fn is_quoted(lexer: &mut Lexer<'_>) -> bool {
     }
 }
 
-/// Whether the next token has this text.
+/// True if the next token has this text.
 fn is_token(lexer: &mut Lexer<'_>, text: &[u8]) -> bool {
     match lexer.next_token() {
         Ok(Some(token)) => token.text == text,
@@ -26,14 +26,14 @@ fn is_token(lexer: &mut Lexer<'_>, text: &[u8]) -> bool {
     }
 }
 
-/// Whether there is no next token for this fault, and none behind it either.
+/// True if there is no next token because of this fault, and a second call returns the same fault.
 fn stops_at(lexer: &mut Lexer<'_>, fault: LexFault) -> bool {
     matches!(lexer.next_token(), Err(last) if last == fault)
         && matches!(lexer.next_token(), Err(last) if last == fault)
 }
 
-/// A comment that holds quotation marks, an escaped mark in a quoted text, a semicolon inside a word,
-/// and a byte that no word may hold.
+/// The text has a comment with quotation marks and an escaped mark in a quoted text. It also has a
+/// semicolon inside a word, and a byte that no word may have.
 #[test]
 fn gives_tokens_until_the_fault(rt: HostRuntime) {
     let mut lexer = Lexer::new(b"SIZE 0.2 # a ; \"b\n \"c \\\" d\"; x;y \x80");
@@ -49,7 +49,7 @@ fn a_quoted_text_has_an_end(rt: HostRuntime) {
     assert!(rt; stops_at(&mut lexer, LexFault::UnexpectedEnd { line: 3 }));
 }
 
-/// Whether a name with this text is read.
+/// True if a name with this text is read.
 fn reads_name(lexer: &mut Lexer<'_>, text: &[u8]) -> bool {
     match name(lexer) {
         Ok(token) => token.text == text,
@@ -57,14 +57,14 @@ fn reads_name(lexer: &mut Lexer<'_>, text: &[u8]) -> bool {
     }
 }
 
-/// Whether what stands up to a semicolon, up to an END with its name, and up to a word is passed over.
+/// True if tokens are skipped up to a semicolon, up to an END with its name, and up to a word.
 fn passes_over(lexer: &mut Lexer<'_>) -> bool {
     skip_to_semicolon(lexer).is_ok()
         && skip_to_end(lexer, b"core").is_ok()
         && skip_to_word(lexer, b"ENDEXT").is_ok()
 }
 
-/// Whether one more token is read, and then none.
+/// True if one more token is read, and then there is no further one.
 fn reads_the_last(lexer: &mut Lexer<'_>) -> bool {
     matches!(next(lexer), Ok(Some(_))) && matches!(next(lexer), Ok(None))
 }
@@ -78,7 +78,7 @@ fn reads_words(rt: HostRuntime) {
     assert_eq!(rt; lexer.end_line(), 2);
 }
 
-/// The refusal that a public reader would answer.
+/// Returns the refusal that a public reader would return.
 fn refusal<T: Drop>(answer: Result<T, ReadError>) -> Option<LoadFault<'static>> {
     match answer {
         Ok(_) => None,

@@ -1,4 +1,4 @@
-//! Undo entries where memory is refused, and at their limit.
+//! Undo entries if memory is refused, and at their limit.
 
 ghost use Rattle.std.specs.Prelude.{◌≡◌, ◌<◌, length};
 
@@ -10,24 +10,24 @@ use linked_list_allocator::LocalHeap;
 use std::alloc::Global;
 use std::test::Fail;
 
-/// A move of a cell that stood at (3, 4).
+/// Returns a move of a cell from (3, 4).
 fn moved(own: u32) -> Move {
     Move::new(own, Some(Place::new(3, 4, Orient::S)))
 }
 
-/// The moves of a command that moved that cell alone.
+/// Returns the moves of a command that moved only this cell.
 fn one_move<'a>(heap: &'a LocalHeap, own: u32) -> Result<Moves<&'a LocalHeap>, Fail> {
     let mut moves = Moves::new(heap);
     moves.push(moved(own))?;
     Ok(moves)
 }
 
-/// Whether these are the moves of a command that moved that cell alone.
+/// True if these are the moves of a command that moved only this cell.
 fn is_of(moves: &Moves<&LocalHeap>, own: u32) -> bool {
     moves.as_slice() == [moved(own)].as_slice()
 }
 
-/// Whether the team has one entry, of a command that moved that cell alone.
+/// True if the team has one entry, of a command that moved only this cell.
 fn has_only(store: &UndoStore<&LocalHeap>, team: usize, own: u32) -> bool
     requires { team < length store.now.lists }
 {
@@ -37,7 +37,7 @@ fn has_only(store: &UndoStore<&LocalHeap>, team: usize, own: u32) -> bool
     }
 }
 
-/// Puts entries without moves on the first team's stack, until there is no room for one more.
+/// Pushes entries without moves onto the first team's stack, until there is no room for one more.
 fn fill<'a>(store: &mut UndoStore<&'a LocalHeap>, heap: &'a LocalHeap)
     requires { 0 < length store.old.lists }
     ensures { length store.new.lists ≡ length store.old.lists }
@@ -49,16 +49,16 @@ fn fill<'a>(store: &mut UndoStore<&'a LocalHeap>, heap: &'a LocalHeap)
     }
 }
 
-/// What is tried where no memory is left.
+/// What is tested when no memory is left.
 #[derive(Clone, Copy)]
 enum Case {
-    /// The room that one team's entry had serves for another team's.
+    /// The room of one team's removed entry serves for another team's entry.
     RoomOfAnother,
-    /// Room is made where an entry went, and else refused.
+    /// Room is refused while the store is full, and can be reserved after an entry is removed.
     RoomMade,
-    /// An entry that finds no room comes back, and the team's others stand as before.
+    /// An entry that finds no room is returned, and the team's other entries are unchanged.
     NoRoom,
-    /// At the limit the team's oldest entry goes.
+    /// At the limit the team's oldest entry is dropped.
     Limit,
 }
 
@@ -103,7 +103,8 @@ fn takes_the_place<'a>(store: &mut UndoStore<&'a LocalHeap>, second: Moves<&'a L
     }
 }
 
-/// Whether the store of two teams answers as the case asks, where no memory is left for a second entry.
+/// True if the store of two teams behaves as in the case, when no memory is left for a second
+/// entry.
 fn answers<'a>(
     store: &mut UndoStore<&'a LocalHeap>,
     heap: &'a LocalHeap,
@@ -121,7 +122,7 @@ fn answers<'a>(
     }
 }
 
-/// The same where a first entry is there, and all memory of the heap is taken.
+/// The same with one entry in the store, and all memory of the heap in use.
 fn answers_when_full<'a>(
     alloc: Global,
     store: &mut UndoStore<&'a LocalHeap>,
@@ -140,7 +141,7 @@ fn answers_when_full<'a>(
     Ok(answers(store, heap, second, case))
 }
 
-/// The same of a store in a heap of its own.
+/// The same for a store in a heap of its own.
 fn holds(alloc: Global, limit: usize, team: usize, case: Case) -> Result<bool, Fail>
     requires limit { 0 < limit }
     requires team { team < 2 }
@@ -150,8 +151,8 @@ fn holds(alloc: Global, limit: usize, team: usize, case: Case) -> Result<bool, F
     answers_when_full(alloc, &mut store, &heap, team, case)
 }
 
-/// Whether each of two entries that go leaves its room: they go while there is memory, and others come
-/// where there is none.
+/// True if each of two removed entries leaves its room. They are removed while there is memory, and
+/// others are pushed when no memory is left.
 fn leave_their_rooms(alloc: Global) -> Result<bool, Fail> {
     let heap = LocalHeap::new(alloc, 8192)?;
     let mut store: UndoStore<&LocalHeap> = UndoStore::build(&heap, 2, 64)?;
@@ -170,8 +171,9 @@ fn leave_their_rooms(alloc: Global) -> Result<bool, Fail> {
     Ok(both && has_only(&store, 1, 2))
 }
 
-/// Puts an entry without moves on the stack of each team from the third on, until there is no room for
-/// one more: the last team that has an entry, which is the second where none of them has.
+/// Pushes an entry without moves onto the stack of each team from the third on, until there is no
+/// room for one more. Returns the last team that has an entry, or the second team if no team from
+/// the third on has one.
 fn fill_teams<'a>(store: &mut UndoStore<&'a LocalHeap>, heap: &'a LocalHeap) -> usize
     requires { length store.old.lists ≡ 16 }
     ensures teams { length store.new.lists ≡ 16 }
@@ -187,8 +189,9 @@ fn fill_teams<'a>(store: &mut UndoStore<&'a LocalHeap>, heap: &'a LocalHeap) -> 
     last
 }
 
-/// Whether a team's entry that goes leaves its room, though then another team, whose stack is at its
-/// limit, gets an entry: both while there is memory, and another entry comes where there is none.
+/// True if a team's removed entry leaves its room, even if another team, whose stack is at its
+/// limit, gets an entry then. Both happen while there is memory, and another entry is pushed when
+/// no memory is left.
 fn stays_at_the_limit(alloc: Global) -> Result<bool, Fail> {
     let heap = LocalHeap::new(alloc, 8192)?;
     let mut store: UndoStore<&LocalHeap> = UndoStore::build(&heap, 16, 1)?;
@@ -207,7 +210,8 @@ fn stays_at_the_limit(alloc: Global) -> Result<bool, Fail> {
     Ok(store.push(last, Moves::new(&heap)).is_ok() && has_only(&store, 1, 2))
 }
 
-/// Whether the first team's entry, which goes, leaves room for one of the second team that was made before.
+/// True if the first team's removed entry leaves room for one of the second team that was made
+/// earlier.
 fn leaves_its_room(alloc: Global) -> Result<bool, Fail> {
     let heap = LocalHeap::new(alloc, 8192)?;
     let mut store: UndoStore<&LocalHeap> = UndoStore::build(&heap, 2, 1)?;
@@ -220,7 +224,7 @@ fn leaves_its_room(alloc: Global) -> Result<bool, Fail> {
     Ok(popped.is_some() && store.push(1, second).is_ok() && has_only(&store, 1, 2))
 }
 
-/// Whether an entry finds the room that was made for it while there was memory.
+/// True if an entry finds the room that was reserved for it while there was memory.
 fn finds_its_room(alloc: Global) -> Result<bool, Fail> {
     let heap = LocalHeap::new(alloc, 8192)?;
     let mut store: UndoStore<&LocalHeap> = UndoStore::build(&heap, 2, 1)?;

@@ -6,7 +6,7 @@ use lf_lef::{DEMO_LEF, Library, read_lef};
 use std::alloc::Global;
 use std::test::Fail;
 
-/// The design of a library and a document within limits.
+/// Loads the design of a library and a document within limits.
 fn load_on(
     alloc: Global,
     library: &Library,
@@ -19,7 +19,7 @@ fn load_on(
     }
 }
 
-/// The design of a library and a DEF text within limits.
+/// Loads the design of a library and a DEF text within limits.
 fn read_on(alloc: Global, library: &Library, def: &[u8], limits: Limits) -> Result<Loaded, Fail> {
     match read_def(alloc, def) {
         Ok(document) => load_on(alloc, library, &document, limits),
@@ -27,9 +27,9 @@ fn read_on(alloc: Global, library: &Library, def: &[u8], limits: Limits) -> Resu
     }
 }
 
-/// The design of the built-in LEF text and this DEF text within limits.
+/// Loads the design of the built-in LEF text and this DEF text within limits.
 ///
-/// `Err` if the DEF text cannot be read or loaded, or memory is short.
+/// `Err` if the DEF text cannot be read or loaded, or an allocation fails.
 pub fn design_of(alloc: Global, def: &[u8], limits: Limits) -> Result<Loaded, Fail> {
     let mut library = Library::new(alloc);
     match read_lef(&mut library, DEMO_LEF) {

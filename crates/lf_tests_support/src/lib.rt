@@ -1,8 +1,17 @@
-//! What tests and worked rows share: texts that are another one with a line exchanged, and designs of texts.
+//! What tests and worked rows share: texts with one line replaced, and designs of texts.
+//!
+//! `with_line` returns a text with one of its lines replaced. `design_of` loads the design of the
+//! built-in LEF text and a DEF text.
+//!
+//! Modules, in reading order:
+//!
+//! - `designs`: designs over the built-in LEF text
+//!
+//! From `crates/lf_tests_floor/src/floors.rt`:
 //!
 //! ```
-//! let text = with_line(alloc, DEMO_DEF, 12, b"- B ( 6000 0 ) ( 10000 8000 ) + TYPE FENCE ;")?;
-//! let design = design_of(alloc, &text, Limits::standard())?;
+//! let def = with_line(alloc, DEMO_DEF, 15, b"- a1 INV + PLACED ( 0 0 ) N ;")?;
+//! let def = with_line(alloc, &def, 18, b"- b1 INV + PLACED ( 6000 0 ) N ;")?;
 //! ```
 #![tactic(auto)]
 
@@ -11,7 +20,8 @@ mod designs;
 pub use designs::design_of;
 use std::alloc::{AllocError, Global};
 
-/// The text with one of its lines, numbered from 1, exchanged for another.
+/// Returns the text with one of its lines replaced. Lines are numbered from 1. `Err` if an
+/// allocation fails.
 pub fn with_line(
     alloc: Global,
     text: &[u8],

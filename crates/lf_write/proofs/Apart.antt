@@ -1,4 +1,5 @@
--- The clauses of components that are listed by rising positions stand one behind the other within the text.
+-- The clauses of components that are listed by rising positions are in order in the text, without
+-- overlap.
 use Rattle.std.proofs.Common.{◌≡◌, ℕ, suc, zero, ◌+◌, ◌<◌, ◌≤◌, List, [], ◌∷◌, Option, Some, None, subst, sym, arith}
 use Rattle.std.specs.Prelude.{filter_map, slice_get}
 use Rattle.std.specs.List.{cons_option}
@@ -11,7 +12,7 @@ use Rattle.lf_def.specs.Laws as def
 use Rattle.lf_write.specs.Export.{Rise, clause_splice, splice_of}
 use Rattle.lf_write.proofs.Idle.{Found}
 
--- the component is within these offsets
+-- The component lies within these offsets.
 pub record Stands (at len : ℕ) (c : Component) : Type 0 where
   pub from : at ≤ c.semicolon
   pub clause : ClauseWithin at c.semicolon c.placement
@@ -32,7 +33,7 @@ ends_within from len (c ∷ cs) h = omega (arith, h.0, ends_within (c.semicolon 
 some_same : (c d : Component) → ◌≡◌ {A = Option Component} (Some c) (Some d) → c ≡ d
 some_same c d e = cc
 
--- each of the components
+-- Each of the components.
 pub each_stands : (from len : ℕ) (cs : List Component) → def.Rising from len cs → (n : ℕ) (d : Component) → slice_get cs n ≡ Some d → Stands from len d
 each_stands from len [] h n d e = absurd cc
 each_stands from len (c ∷ cs) h zero d e =
@@ -41,7 +42,7 @@ each_stands from len (c ∷ cs) h zero d e =
 each_stands from len (c ∷ cs) h (suc n) d e =
     stands_on (c.semicolon + 1) from len d (omega (arith, h.0)) (each_stands (c.semicolon + 1) len cs h.2 n d e)
 
--- a later one stands behind an earlier one
+-- A later component lies after an earlier one.
 stands_behind : (from len : ℕ) (cs : List Component) → def.Rising from len cs → (n m : ℕ) (c d : Component) → n < m → slice_get cs n ≡ Some c
     → slice_get cs m ≡ Some d → Stands (c.semicolon + 1) len d
 stands_behind from len [] h n m c d lt e f = absurd cc
@@ -50,11 +51,11 @@ stands_behind from len (x ∷ xs) h zero (suc m) c d lt e f =
     subst (λ (y : Component). Stands (y.semicolon + 1) len d) (some_same x c e) (each_stands (x.semicolon + 1) len xs h.2 m d f)
 stands_behind from len (x ∷ xs) h (suc n) (suc m) c d lt e f = stands_behind (x.semicolon + 1) len xs h.2 n m c d (omega (arith, lt)) e f
 
--- the components from a position on stand behind an offset
+-- The components from a position on lie after an offset.
 abbrev AllBehind : List Component → ℕ → ℕ → ℕ → Type 0
 AllBehind cs len position from = (n : ℕ) (d : Component) → position ≤ n → slice_get cs n ≡ Some d → Stands from len d
 
--- nothing, or the clause of the component of that position
+-- Holds for `None`, or the clause of the component at this position.
 abbrev pub IsOf : List Component → ℕ × Option Place → Option Splice → Type 0
 IsOf cs g None = Unit {0}
 IsOf cs g (Some s) = (c : Component) × (slice_get cs g.0 ≡ Some c) × (s ≡ splice_of c g.1)

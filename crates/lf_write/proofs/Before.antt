@@ -1,4 +1,5 @@
--- Up to the placement clause of a component, and where it has none up to its semicolon: what was read leads on to any clause.
+-- The tokens up to the placement clause of a component, or up to its semicolon if it has no clause,
+-- may be followed by any clause.
 use Rattle.std.proofs.Common.{◌≡◌, ◌⊎◌, ℕ, zero, suc, Bool, true, false, ◌||◌, cond, List, [], ◌∷◌, ◌++◌, map, Option, Some, None, Result, Ok, inl}
 use Rattle.std.proofs.Common.{inr, refl, sym, ap, ◌∙◌, arith}
 use Rattle.std.specs.Prelude.{codes}
@@ -137,9 +138,9 @@ clause_ends stop word [] (inl h) e = (e, spelled (codes "UNPLACED") word refl h.
 clause_ends stop word (t ∷ more) (inl h) e = absurd cc
 clause_ends stop word more (inr h) e = place_ends stop word more h e
 
--- What was read leads on.
+-- Tokens like those that were read lead to the same state.
 
--- tokens like these lead from the beginning to what is known then
+-- Holds if tokens like these lead from the start to this state.
 abbrev pub Reaches : List Lexeme → ComponentParts → Type 0
 Reaches r s = (y : ComponentParts) (rest : List PlainToken)
     → ((s' : ComponentParts) → bare_parts s' ≡ bare_parts s → TurnsAt bare_parts component_token s' rest y)
@@ -148,7 +149,7 @@ Reaches r s = (y : ComponentParts) (rest : List PlainToken)
 nothing_read : Reaches [] no_component
 nothing_read y rest next = next no_component refl
 
--- a turn that goes on is taken again by tokens like its own
+-- Tokens like those of a turn that continues make the same turn.
 turn_again : (s s' : ComponentParts) (l m : Lexed) (t : Turn ComponentParts) (run : List Lexeme) → component_token s l ≡ taken t m → l ≡ with_tokens run m
     → bare_parts s' ≡ bare_parts s → BackAt (turn_bare bare_parts) (component_token s') (map plain run) t
 turn_again s s' l m t run h w a p e =
@@ -166,9 +167,9 @@ one_more r s l m t u more reached h w goes y rest next =
     at_more bare_parts component_token s' t.state y (map plain (u ∷ more)) rest (omega arith)
     (λ p e. rw (sym goes_on) (turn_again s s' l m t (u ∷ more) h w a p e)) next))
 
--- Before the clause.
+-- The tokens in front of the clause.
 
--- the last token is a plus
+-- The last token is a plus.
 pub record EndsPlus (r : List Lexeme) (plus : ℕ) : Type 0 where
   pub front : List Lexeme
   pub last : Lexeme
@@ -184,7 +185,7 @@ pub record Before (r : List Lexeme) (s : ComponentParts) : Type 0 where
   pub plus : s.due ≡ Keyword → EndsPlus r s.plus
   pub due : s.due ≡ Separator → ⊥
 
--- A turn before the clause: it goes on, or is the semicolon, or is the clause.
+-- A turn in front of the clause: it continues, or it reads the semicolon or the clause.
 
 record GoesOn (r : List Lexeme) (l m : Lexed) (t : Turn ComponentParts) : Type 0 where
   pub run : List Lexeme
@@ -227,7 +228,7 @@ rest_not_separator e = cc
 keyword_not_separator : Keyword ≡ Separator → ⊥
 keyword_not_separator e = cc
 
--- a turn that takes one token and goes on
+-- A turn that takes one token and continues.
 passes : (r : List Lexeme) (l m n : Lexed) (s s1 : ComponentParts) (u : Lexeme) (t : Turn ComponentParts) → Before r s → component_token s l ≡ taken t m
     → l ≡ with_token u n → s1.placement ≡ None → (s1.due ≡ Keyword → EndsPlus (r ++ u ∷ []) s1.plus) → (s1.due ≡ Separator → ⊥)
     → ◌≡◌ {A = Result (ReadValue (Turn ComponentParts)) ReadFault} (taken (turn s1 true) n) (taken t m) → TurnBefore r l m s t
@@ -312,7 +313,7 @@ turn_before r l m s t b h =
 
 -- All turns.
 
--- no clause: what was read leads on from before the semicolon
+-- There is no clause: the tokens lead on from the place in front of the semicolon.
 pub record Bare (r : List Lexeme) (l m : Lexed) (y : ComponentParts) : Type 0 where
   pub front : List Lexeme
   pub last : Lexeme
@@ -323,7 +324,8 @@ pub record Bare (r : List Lexeme) (l m : Lexed) (y : ComponentParts) : Type 0 wh
   pub none : old.placement ≡ None
   pub reached : Reaches (r ++ front) old
 
--- a clause: what was read leads on from before its plus, and what stands behind it is read behind any clause
+-- There is a clause: the tokens lead on from the place in front of its plus, and what follows it is
+-- read after any clause.
 pub record Found (r : List Lexeme) (l m : Lexed) (y : ComponentParts) (p : PlacementClause) : Type 0 where
   pub run : List Lexeme
   pub whole : l ≡ with_tokens run m
@@ -487,7 +489,7 @@ all_turns (suc n) r l m s y b e =
 item_not_separator : Item ≡ Separator → ⊥
 item_not_separator e = cc
 
--- the tokens of a component behind its macro
+-- The tokens of a component after its macro.
 pub parts_found : (n : ℕ) (l m : Lexed) (y : ComponentParts) → statements component_token n no_component l ≡ taken y m → Outcome [] l m y
 parts_found n l m y e =
     all_turns n [] l m no_component y

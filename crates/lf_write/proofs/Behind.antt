@@ -1,4 +1,4 @@
--- What stands behind the placement clause of a component is read alike, whatever the clause says.
+-- The tokens after the placement clause of a component are read alike, whatever the clause is.
 use Rattle.std.proofs.Common.{◌≡◌, ◌⊎◌, ℕ, zero, suc, Bool, true, false, ◌&&◌, cond, List, [], ◌∷◌, Option, Some, None, Result, Ok, inl, inr, refl}
 use Rattle.std.proofs.Common.{sym, ap, ◌∙◌}
 use Rattle.std.specs.Prelude.{codes}
@@ -18,15 +18,15 @@ use Rattle.lf_def.specs.Components.{is_placement_word, only_placement, clause, u
 use Rattle.lf_def.specs.Laws.{IsPlace, LastEnds}
 use Rattle.lf_def.proofs.Clauses.{bind_ok, token_ok, if_ok, located_ok}
 
--- what is known of a component, with another clause
+-- The state of a component, with another clause.
 abbrev pub swap : PlacementClause → Bool → ComponentParts → ComponentParts
 swap q b s = record s { placement = Some q; point = b }
 
--- what is known behind the word and the place of the clause
+-- The state after the word and the place of the clause.
 abbrev pub placed_state : ComponentParts → Lexeme → PlacementClause → ComponentParts
 placed_state s u p = record s { placement = Some p; due = Separator; point = is (codes "UNPLACED") u }
 
--- one turn behind the clause: with another clause the turn is the same
+-- One turn after the clause: with another clause the turn is the same.
 pub record Swaps (q : PlacementClause) (b : Bool) (s : ComponentParts) (t : Turn ComponentParts) : Type 0 where
   pub kept : t.state.placement ≡ s.placement
   pub due : t.more ≡ true → t.state.due ≡ Separator → ⊥
@@ -34,7 +34,7 @@ pub record Swaps (q : PlacementClause) (b : Bool) (s : ComponentParts) (t : Turn
 abbrev Same : PlacementClause → Bool → Result (ReadValue (Turn ComponentParts)) ReadFault → ComponentParts → Turn ComponentParts → Lexed → Type 0
 Same q b reading s t m = (reading ≡ taken (turn (swap q b t.state) t.more) m) × Swaps q b s t
 
--- a turn that makes of what is known something of which the clause is no part
+-- A turn whose new state does not depend on the clause.
 same : (q : PlacementClause) (b : Bool) (s s1 : ComponentParts) (more : Bool) (n m : Lexed) (t : Turn ComponentParts) → s1.placement ≡ s.placement
     → (more ≡ true → s1.due ≡ Separator → ⊥) → ◌≡◌ {A = Result (ReadValue (Turn ComponentParts)) ReadFault} (taken (turn s1 more) n) (taken t m)
     → Same q b (taken (turn (swap q b s1) more) n) s t m
@@ -59,7 +59,7 @@ rest_not e = cc
 keyword_not : Keyword ≡ Separator → ⊥
 keyword_not e = cc
 
--- a second placement clause is a fault
+-- A second placement clause is a fault.
 no_second : (first : Option PlacementClause) (p : PlacementClause) (plus : ℕ) (u : Lexeme) (l : Lexed) (x : ReadValue PlacementClause) → first ≡ Some p
     → only_placement first plus u l ≡ Ok x → ⊥
 unfolding only_placement
@@ -105,7 +105,7 @@ swap_first : (q : PlacementClause) (b : Bool) (n m : Lexed) (s : ComponentParts)
 unfolding component_from
 swap_first q b n m s u t p has point e = swap_from (is (codes ";") u) (is (codes "+") u) q b n m s u t p has point e
 
--- all turns behind the clause
+-- All turns after the clause.
 abbrev SameTurns : PlacementClause → Bool → ℕ → Lexed → Lexed → ComponentParts → ComponentParts → PlacementClause → Type 0
 SameTurns q b n l m s y p = (statements component_token n (swap q b s) l ≡ taken (swap q b y) m) × (y.placement ≡ Some p)
 
@@ -121,7 +121,7 @@ swap_next n q b m rest s y p t f has next false more_is e =
       sym (ap (λ (z : ComponentParts). z.placement) d.0) ∙ f.kept ∙ has,
     )
 
--- a turn, and what is read behind it
+-- A turn, and what is read after it.
 turn_then : (n : ℕ) (s s1 : ComponentParts) (l rest : Lexed) (more : Bool) (r : Result (ReadValue ComponentParts) ReadFault)
     → component_token s l ≡ taken (turn s1 more) rest
     → cond more (statements component_token n s1 rest) (taken s1 rest) ≡ r → statements component_token (suc n) s l ≡ r
@@ -149,7 +149,8 @@ swap_all (suc n) q b l m s y p has point e =
     no_point : (x y : Bool) → x ≡ false → (x && y) ≡ false
     no_point x y e = rw e refl
 
--- What stands directly behind the clause: perhaps the point of UNPLACED, and then other clauses up to the semicolon.
+-- The tokens directly after the clause: perhaps the point of UNPLACED, and then other clauses up to
+-- the semicolon.
 
 pub record Behind (l m : Lexed) (s y : ComponentParts) (p : PlacementClause) : Type 0 where
   pub point : List Lexeme
@@ -188,7 +189,7 @@ point_from s u n m t d h e =
     let y = not_both (codes "(") (codes "+") u refl b.1 in
     point_due s.due s u n m t d h (rw (x, y) at e)
 
--- the turn of the point
+-- The turn that reads the point.
 pub record PointTurn (s : ComponentParts) (n m : Lexed) (t : Turn ComponentParts) : Type 0 where
   pub stop : ℕ
   pub x : Lexeme

@@ -1,4 +1,4 @@
--- Numbers that are read digit by digit, until they are as large as one that is known.
+-- Numbers that are read digit by digit, until they are at least as large as a known number.
 use Rattle.std.proofs.Common.{◌≡◌, ◌≢◌, ℕ, zero, suc, ◌+◌, ◌-◌, ◌*◌, ◌<◌, ◌^◌, Bool, true, false, List, [], ◌∷◌, length, take, get_or, refl, sym, ◌∙◌, add-one, arith, rules}
 use Rattle.std.specs.Prelude.{◌&&◌, decimal}
 use Rattle.std.proofs.lemmas.Grind.{common_steps}
@@ -11,7 +11,7 @@ use Rattle.std.specs.Int.{IsInRange}
 use Rattle.std.specs.List.{list_all}
 use Rattle.std.specs.Str.Parse.{digits_value}
 
--- each byte is a digit
+-- Holds if each byte is a digit.
 abbrev pub Digits : List ℕ → Type 0
 Digits text = list_all is_ascii_digit text ≡ true
 
@@ -37,7 +37,7 @@ digits_next (c ∷ text) (suc i) lt all digit =
     let p = halves (is_ascii_digit c) (list_all is_ascii_digit (take i text)) all in
     both_true (is_ascii_digit c) (list_all is_ascii_digit (take (suc i) text)) p.0 (digits_next text i (omega arith) p.1 digit)
 
--- one digit more
+-- One more digit.
 pub digits_more : (text : List ℕ) (i : ℕ) → i < length text → Digits (take i text) → is_ascii_digit (get_or text i 0) ≡ true → Digits (take (i + 1) text)
 digits_more text i lt all digit = rw add-one (digits_next text i lt all digit)
 
@@ -54,7 +54,7 @@ same_start (c ∷ text) i = refl
 same_first : (text : List ℕ) (i : ℕ) → get_or (take (i + 1) text) 0 0 ≡ get_or text 0 0
 same_first text i = rw add-one (same_start text i)
 
--- digits that begin with no 0 are the number that they write
+-- Digits that do not begin with 0 are the decimal form of their value.
 pub written : (text : List ℕ) (i number : ℕ) → i < length text → get_or text 0 0 ≢ 48 → Digits (take (i + 1) text) → digits_value 10 (take (i + 1) text) ≡ number → number < 2 ^ 32
     → take (i + 1) text ≡ decimal number
 written text i number lt first all value small =

@@ -1,4 +1,4 @@
--- What splices make of tokens, statement after statement.
+-- The effect of splices on tokens, statement after statement.
 use Rattle.std.proofs.Common.{◌≡◌, ℕ, zero, suc, ◌<◌, Bool, true, false, cond, List, [], ◌∷◌, ◌++◌, map, length, refl, sym, ap, ◌∙◌}
 use Rattle.std.proofs.lemmas.List.{append_assoc, map-append}
 use Rattle.lf_lex.specs.Tokens.{Lexed, Lexeme, PlainToken, plain, with_tokens}
@@ -8,7 +8,7 @@ use Rattle.lf_lex.proofs.Runs.{turn_bare, ok_is, with_both}
 use Rattle.lf_lex.proofs.Back.{BackAt, TurnsAt, at_last, at_more}
 use Rattle.lf_def.proofs.Clauses.{bind_ok}
 
--- Splices of two runs, one behind the other.
+-- Splices of two runs, in order.
 
 makes_more : (s : Splice) (words : List (List ℕ)) (middle after more : List Lexeme) → ReplacesTokens s words middle after → ReplacesTokens s words middle (after ++ more)
 makes_more s words [] [] more m = absurd m
@@ -48,7 +48,8 @@ edited_both (s ∷ ss) ts a b p q e f = record {
   next = edited_both ss ts e.after b e.later q e.next f;
 }
 
--- What a reader took, what splices make of that, and what is read from this: x, from each state like s.
+-- The tokens that a reader takes, those tokens after the splices, and the value x that is read from
+-- them, from each state like s.
 pub record Made {S A D E : Type 0} (like : S → D) (bare : A → E) (reader : S → Reader A) (l m : Lexed) (made : List Splice) (s : S) (x : A) : Type 0 where
   pub run : List Lexeme
   pub whole : l ≡ with_tokens run m
@@ -56,7 +57,7 @@ pub record Made {S A D E : Type 0} (like : S → D) (bare : A → E) (reader : S
   pub edited : AreEdited made run tokens
   pub again : (s' : S) → like s' ≡ like s → BackAt bare (reader s') tokens x
 
--- One turn, where `all` is the splices of what is known and `place` what becomes of it.
+-- One turn, where `all` is the splices of a state and `place` is the state after them.
 pub record MadeTurn {S D : Type 0} (bare : S → D) (place : S → S) (all : S → List Splice) (statement : Statement S) (l m : Lexed) (s : S)
     (t : Turn S) : Type 0 where
   pub made : List Splice
@@ -121,7 +122,7 @@ all_made bare place all statement each (suc n) s y l m e =
     made_by bare place all statement n l m a.0.rest s a.0.value.state y a.0.value.more (each s l a.0.rest a.0.value a.1)
     (λ f. all_made bare place all statement each n a.0.value.state y a.0.rest m f) a.2
 
--- the same of a turn or a place that is another's
+-- The same for a turn or a place that equals another.
 pub same_turn : {S D : Type 0} (bare : S → D) (place : S → S) (all : S → List Splice) (statement : Statement S) (l n m : Lexed) (s : S) (t0 t : Turn S)
     → t0 ≡ t → n ≡ m → MadeTurn bare place all statement l n s t0 → MadeTurn bare place all statement l m s t
 same_turn bare place all statement l n m s t0 t e f g = rw (sym e, sym f) g

@@ -1,4 +1,4 @@
--- What splices make of a COMPONENTS section.
+-- The effect of splices on a COMPONENTS section.
 use Rattle.std.proofs.Common.{◌≡◌, ℕ, ◌+◌, Bool, true, false, cond, List, [], ◌∷◌, ◌++◌, map, length, Option, Some, None, Result, Err, refl, sym, ap}
 use Rattle.std.proofs.Common.{◌∙◌, arith}
 use Rattle.std.specs.Prelude.{codes, IfSome}
@@ -22,11 +22,11 @@ use Rattle.lf_write.proofs.Positions.{Given, change_of, changes_from}
 use Rattle.lf_write.proofs.Renewed.{HasPlace, changed}
 use Rattle.lf_write.proofs.Edits.{MadeTurn, edited_behind, all_made, same_turn}
 
--- every place that is given has coordinates that a text can hold
+-- Holds if a text can hold the coordinates of every given place.
 abbrev pub HavePlaces : Given → Type 0
 HavePlaces places = (n : ℕ) → IfSome (given_to places n) (λ given. HasPlace given)
 
--- these components at their places, the first of which has that position
+-- These components at their places. The first component has this position.
 abbrev placed_from : ℕ → Given → List Component → List Component
 placed_from n places cs = map (λ e. perhaps_with_place (given_to places e.0) e.1) (enumerate_from n cs)
 
@@ -127,7 +127,7 @@ entry_made places h s l m t e =
     let a = token_ok l _ _ e in
     entry_by (is (codes "-") a.0) (is (codes "END") a.0) places h l a.1 m s a.0 t _ a.2 refl refl a.3
 
--- a whole section
+-- A whole section.
 pub record SectionMade (places : Given) (l m : Lexed) (s y : List Component) : Type 0 where
   pub made : List Splice
   pub grown : changes_from 0 places y ≡ changes_from 0 places s ++ made

@@ -6,7 +6,7 @@ use Rattle.std.proofs.lemmas.Slice.Eq.{bytes_eq-Decides}
 use Rattle.lf_write.specs.Comparing.{IsRestOfText}
 use denote.Ref.{Bor}
 
--- the same bytes in front of both
+-- The same bytes in front of both.
 same_front : (front a b : List ℕ) → bytes_eq (front ++ a) (front ++ b) ≡ bytes_eq a b
 same_front [] a b = refl
 same_front (x ∷ front) a b = rw (eq-eqb x x refl) (same_front front a b)
@@ -15,7 +15,7 @@ unequal : (a b : List ℕ) → (a ≡ b → ⊥) → (test : Bool) → bytes_eq 
 unequal a b apart true e = absurd (apart ((bytes_eq-Decides a b).0 e))
 unequal a b apart false e = refl
 
--- what is left once a prefix is taken off
+-- What is left after a prefix is removed.
 pub leaves : (bytes due : List ℕ) (left : Option (Bor (List ℕ))) → MatchOption left ((rest : List ℕ) → bytes ≢ due ++ rest) (λ x. bytes ≡ due ++ x.now)
     → IsRestOfText bytes (λ rest. due ++ rest) left
 leaves bytes due (Some left) e = λ rest. rw e (same_front due left.now rest)

@@ -1,4 +1,4 @@
--- Splices that put the bytes that are there already may be left out.
+-- Splices that replace bytes by the same bytes may be left out.
 use Rattle.std.proofs.Common.{◌≡◌, ℕ, ◌+◌, ◌-◌, ◌≤◌, ◌⊎◌, inl, inr, List, [], ◌∷◌, ◌++◌, length, take, drop, Option, Some, None, refl, sym, ap, ◌∙◌, arith}
 use Rattle.std.specs.Prelude.{filter_map}
 use Rattle.std.specs.List.{cons_option}
@@ -7,11 +7,11 @@ use Rattle.lf_lex.specs.Splices.{Splice, spliced, Rising}
 use Rattle.lf_floorplan.specs.declared.place.Place.{Place}
 use Rattle.lf_write.proofs.Spans.{earlier}
 
--- the splice puts the bytes that are there
+-- Holds if the splice replaces bytes by the same bytes.
 abbrev pub IsIdle : List ℕ → Splice → Type 0
 IsIdle text s = s.new ≡ take (s.stop - s.start) (drop s.start text)
 
--- the same splice, or none in place of an idle one
+-- Holds if the splices are the same, or one is idle and the other `None`.
 abbrev pub Agree : List ℕ → Option Splice → Option Splice → Type 0
 Agree text None o = o ≡ None
 Agree text (Some s) o = (o ≡ Some s) ⊎ ((o ≡ None) × IsIdle text s)
@@ -35,7 +35,7 @@ take_on at m n text le le' =
     ap (λ (k : ℕ). take k (drop at text)) sum ∙ take_twice (m - at) (n - m) (drop at text)
     ∙ ap (λ (z : List ℕ). take (m - at) (drop at text) ++ take (n - m) z) (drop_on at m text le)
 
--- what stands before the first splice is left
+-- The bytes in front of the first splice are unchanged.
 unspliced : (text : List ℕ) (at m : ℕ) (ss : List Splice) → at ≤ m → Rising m (length text) ss
     → spliced at ss (drop at text) ≡ take (m - at) (drop at text) ++ spliced m ss (drop m text)
 unfolding spliced
@@ -49,7 +49,7 @@ unspliced text at m (s ∷ ss) le h =
     ∙ ap (λ (z : List ℕ). take (m - at) (drop at text) ++ (take (s.start - m) (drop m text) ++ (s.new ++ spliced s.stop ss z)))
     (sym (drop_on m s.stop text (omega (arith, h.0, h.1))))
 
--- splices that rise from an offset on, and those without some idle ones
+-- Splices that rise from an offset on, and the same ones without some idle ones.
 abbrev Same : List ℕ → ℕ → List Splice → List Splice → Type 0
 Same text at ss ss' = Rising at (length text) ss' × (spliced at ss (drop at text) ≡ spliced at ss' (drop at text))
 
@@ -78,7 +78,7 @@ without text at s ss ss' idle le le' next =
           ∙ sym (unspliced text at s.start ss' le rise),
     )
 
--- a splice, or none, before those that rise
+-- A splice, or `None`, in front of those that rise.
 one_step : (text : List ℕ) (o o' : Option Splice) (ss ss' : List Splice) (at : ℕ) → Agree text o o' → Rising at (length text) (cons_option o ss)
     → ((from : ℕ) → Rising from (length text) ss → Same text from ss ss') → Same text at (cons_option o ss) (cons_option o' ss')
 one_step text None o' ss ss' at agree h next = rw agree (next at h)
@@ -94,7 +94,7 @@ same_from text f f' agree [] at h = (h, refl)
 same_from text f f' agree (g ∷ places) at h =
     one_step text (f g) (f' g) (filter_map f places) (filter_map f' places) at (agree g) h (λ from r. same_from text f f' agree places from r)
 
--- splices that rise make the same of the text without the idle ones
+-- Rising splices have the same effect on the text as those without the idle ones.
 pub same_spliced : (text : List ℕ) (f f' : Found) (places : List (ℕ × Option Place)) → ((g : ℕ × Option Place) → Agree text (f g) (f' g))
     → Rising 0 (length text) (filter_map f places) → spliced 0 (filter_map f places) text ≡ spliced 0 (filter_map f' places) text
 same_spliced text f f' places agree h = (same_from text f f' agree places 0 h).1

@@ -1,4 +1,4 @@
--- What is kept of the components so far.
+-- The clauses of the components so far.
 use Rattle.std.proofs.Common.{◌≡◌, ℕ, ◌+◌, ◌≤◌, List, [], ◌∷◌, ◌++◌, map, length, refl, sym, subst, ap, ◌∙◌, arith}
 use Rattle.std.specs.Prelude.{All, IfSome, Option, Some, None}
 use Rattle.std.proofs.lemmas.List.{append-nil, get_or_append_left, map-append}
@@ -13,7 +13,7 @@ use Rattle.lf_write.specs.Export.{ClauseFacts, no_clause}
 use Rattle.lf_write.specs.Keeping.{IsInText, IsKept, IsNext, IsWithin, all_in, clause_in}
 use Rattle.lf_write.proofs.Apart.{ends_within}
 
--- these clauses are kept
+-- These clauses are stored.
 pub record AreKept (others : List ClauseFacts) (entries : List Entry) (far clauses : List ClauseFacts) : Type 0 where
   pub are : all_in others entries far ≡ clauses
   pub within : All (IsWithin (length others)) entries
@@ -22,7 +22,7 @@ one_stays : (others more : List ClauseFacts) (entry : Entry) → IsWithin (lengt
 one_stays others more (Plain bytes start) h = refl
 one_stays others more (Other at) h = get_or_append_left others more (no_clause 0) at h
 
--- what is put behind the others plays no part
+-- Clauses that are appended to the others do not affect the entries.
 all_stay : (others more : List ClauseFacts) (entries : List Entry) → All (IsWithin (length others)) entries
     → map (clause_in (others ++ more)) entries ≡ map (clause_in others) entries
 all_stay others more [] h = refl
@@ -30,7 +30,7 @@ all_stay others more (e ∷ entries) h =
     ap (λ (z : ClauseFacts). z ∷ map (clause_in (others ++ more)) entries) (one_stays others more e (All-head (IsWithin (length others)) e entries h))
     ∙ ap (λ (z : List ClauseFacts). clause_in others e ∷ z) (all_stay others more entries (All-tail (IsWithin (length others)) e entries h))
 
--- One entry more.
+-- One more entry.
 
 near_is : (old new : List ClauseFacts) (entries : List Entry) (entry : Entry) (clause : ClauseFacts) → IsKept old new entry clause
     → All (IsWithin (length old)) entries → map (clause_in new) (entries ++ entry ∷ []) ≡ map (clause_in old) entries ++ clause ∷ []
@@ -40,7 +40,7 @@ near_is old new entries entry clause k h =
     ∙ ap (λ (z : List ClauseFacts). z ++ clause_in new entry ∷ []) (all_stay old k.more entries h)
     ∙ ap (λ (z : ClauseFacts). map (clause_in old) entries ++ z ∷ []) k.is
 
--- nothing is behind the entries
+-- No clause comes after those of the entries.
 pub near_more : (old new far : List ClauseFacts) (entries : List Entry) (entry : Entry) (clause : ClauseFacts) → IsNext old new far entry clause
     → All (IsWithin (length old)) entries → all_in new (entries ++ entry ∷ []) far ≡ all_in old entries far ++ clause ∷ []
 near_more old new far entries entry clause k h =

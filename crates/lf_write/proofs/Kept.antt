@@ -1,4 +1,4 @@
--- What is kept of components says what is replaced.
+-- The stored clauses of components determine what is replaced.
 use Rattle.std.proofs.Common.{◌≡◌, ℕ, ◌-◌, Bool, true, false, inl, inr, List, map, length, take, drop, Option, Some, None, refl, sym, ap, ◌∙◌}
 use Rattle.std.specs.Prelude.{slice_get, option_map}
 use Rattle.std.specs.Option.{option_and_then}
@@ -19,7 +19,7 @@ use Rattle.lf_write.proofs.Idle.{Agree, agree_same, same_spliced}
 use Rattle.lf_write.proofs.Positions.{Given, listed}
 use Rattle.lf_write.proofs.Standing.{stands_by}
 
--- A plain clause, written anew for the place at which the component is, is as it was.
+-- A plain clause, written again for the component's own place, is unchanged.
 
 same_words : (given : Option Place) → location_words (option_map as_location given) ≡ clause_words given
 same_words None = refl
@@ -32,7 +32,7 @@ written_again text p given plain stands =
     let place : p.place ≡ option_map as_location given = (stands_by p.place given).0 stands in
     ap (λ (w : List (List ℕ)). joined w) (sym (same_words given)) ∙ ap (λ (l : Option Location). joined (location_words l)) (sym place) ∙ sym bytes
 
--- Of one component.
+-- The clause of one component.
 
 plain_agrees : (text : List ℕ) (c : Component) (p : PlacementClause) (given : Option Place) → is_plain text p ≡ true
     → (test : Bool) → is_at p.place given ≡ test → Agree text (renewal (clause_with true p) given) (change (record c { placement = Some p }) given)
@@ -57,13 +57,13 @@ of_found text (Some c) given = with_placement text c c.placement given
 at_position : (text : List ℕ) (cs : List Component) (g : ℕ × Option Place) → Agree text (renewal_at (map (clause_of text) cs) g) (change_at cs g)
 at_position text cs g = rw (slice_get-map (clause_of text) cs g.0) (of_found text (slice_get cs g.0) g.1)
 
--- the texts are the same
+-- The texts are the same.
 pub same_text : (text : List ℕ) (cs : List Component) (places : Given) → CanBeRenewed text (map (clause_of text) cs) places
     → renewed text (map (clause_of text) cs) places ≡ exported text cs places
 same_text text cs places can =
     same_spliced text (renewal_at (map (clause_of text) cs)) (change_at cs) places (at_position text cs) can.rising
 
--- What is replaced is the clause of the component.
+-- The clause of the component is what is replaced.
 
 splice_is : (test : Bool) (p : PlacementClause) (semicolon : ℕ) (given : Option Place)
     → splice_at (clause_with test p) given ≡ clause_splice (Some p) semicolon given

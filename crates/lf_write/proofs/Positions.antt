@@ -10,16 +10,16 @@ use Rattle.lf_floorplan.specs.declared.place.Place.{Place}
 use Rattle.lf_def.specs.declared.components.Component.{Component}
 use Rattle.lf_write.specs.Export.{Rise, change, change_at, changes, given_to}
 
--- components by their positions, and the places that they are given
+-- Components by their positions, and the places that they are given.
 abbrev pub Given : Type 0
 Given = List (ℕ × Option Place)
 
--- what is replaced of a component that may be given a place
+-- The change of a component that may be given a place.
 abbrev pub change_of : Option (Option Place) → Component → Option Splice
 change_of None c = None
 change_of (Some given) c = change c given
 
--- what is replaced of these components, the first of which has that position
+-- The changes of these components. The first component has this position.
 unfoldable pub changes_from : ℕ → Given → List Component → List Splice
 changes_from n places [] = []
 changes_from n places (c ∷ cs) = cons_option (change_of (given_to places n) c) (changes_from (n + 1) places cs)
@@ -30,12 +30,12 @@ not_there n i h = grind (arith, nat_tests)
 there : (n : ℕ) → (n == n) ≡ true
 there n = grind (arith, nat_tests)
 
--- no place is given before the first position
+-- No place is given in front of the first position.
 none_before : (from to n : ℕ) (places : Given) → Rise from to places → n < from → given_to places n ≡ None
 none_before from to n [] h lt = refl
 none_before from to n (g ∷ places) h lt = rw (not_there n g.0 (omega (arith, h.0, lt))) (none_before (g.0 + 1) to n places h.2 (omega (arith, h.0, lt)))
 
--- a place that was given plays no part behind it
+-- A given place has no effect on later components.
 same_behind : (n : ℕ) (g : ℕ × Option Place) (places : Given) (cs : List Component) → g.0 < n → changes_from n (g ∷ places) cs ≡ changes_from n places cs
 unfolding changes_from
 same_behind n g places [] lt = refl
@@ -44,7 +44,7 @@ same_behind n g places (c ∷ cs) lt = rw (not_it n g.0 lt, same_behind (n + 1) 
     not_it : (n i : ℕ) → i < n → (i == n) ≡ false
     not_it n i h = grind (arith, nat_tests)
 
--- a change by a position, of these components, the first of which has that position
+-- A change by position of these components. The first component has this position.
 abbrev at_from : ℕ → List Component → ℕ × Option Place → Option Splice
 at_from n cs g = option_and_then (λ c. change c g.1) (slice_get cs (g.0 - n))
 
@@ -67,7 +67,7 @@ later : (from more to : ℕ) (places : Given) → more ≤ from → Rise from to
 later from more to [] le h = tt
 later from more to (g ∷ places) le h = (omega (arith, le, h.0), h.1, h.2)
 
--- a list that begins with a change is alike where the change and the rest are
+-- Lists are equal if their first changes and their rests are.
 begins_alike : (o o' : Option Splice) (xs xs' : List Splice) → o ≡ o' → xs ≡ xs' → cons_option o xs ≡ cons_option o' xs'
 begins_alike o o' xs xs' e f = ap (λ (z : Option Splice). cons_option z xs) e ∙ ap (λ (z : List Splice). cons_option o' z) f
 
@@ -104,11 +104,11 @@ found_alike : (f h : ℕ × Option Place → Option Splice) → ((g : ℕ × Opt
 found_alike f h alike [] = refl
 found_alike f h alike (g ∷ places) = begins_alike (f g) (h g) (filter_map f places) (filter_map h places) (alike g) (found_alike f h alike places)
 
--- the changes of a list of places are those of the components in their order
+-- The changes of a list of places are those of the components in their order.
 pub changes_are : (places : Given) (cs : List Component) → Rise 0 (length cs) places → changes cs places ≡ changes_from 0 places cs
 changes_are places cs h = found_alike (change_at cs) (at_from 0 cs) (at_zero cs) places ∙ by_components 0 (length cs) places cs (omega arith) h
 
--- positions lie below the bound
+-- Positions are below the bound.
 pub listed : (from to : ℕ) (places : Given) → Rise from to places → All (λ g. g.0 < to) places
 listed from to [] h = All-nil (λ (g : ℕ × Option Place). g.0 < to)
 listed from to (g ∷ places) h = All-cons (λ (g : ℕ × Option Place). g.0 < to) g places h.1 (listed (g.0 + 1) to places h.2)

@@ -32,7 +32,7 @@ nothing_yet places = refl
 abbrev ReadsAs : List ℕ → Document → Type 0
 ReadsAs text d = (again : Document) × (document_of text ≡ Ok again) × (document_without_places again ≡ document_without_places d)
 
--- tokens behind a run stay
+-- The tokens after a run are unchanged.
 whole_edits : (made : List Splice) (run rest whole : List Lexeme) (tokens : List PlainToken) → whole ≡ run ++ rest → AreEdited made run tokens
     → AreEdited made whole (tokens ++ map plain rest)
 whole_edits made run rest whole tokens e edited =
@@ -40,7 +40,8 @@ whole_edits made run rest whole tokens e edited =
     let none = append-nil made in
     rw e (rw none at both)
 
--- the splices of a document's components make of its text one that reads as the document at the places
+-- The splices of a document's components turn its text into one that reads as the document at the
+-- places.
 changes_read : (places : Given) → HavePlaces places → (text : List ℕ) (d : Document) → document_of text ≡ Ok d
     → ReadsAs (spliced 0 (changes_from 0 places d.components) text) (given_places places d)
 changes_read places h text d e =
@@ -68,7 +69,7 @@ pub reads_back : (places : Given) → HavePlaces places → (text : List ℕ) (d
     → ReadsAs (exported text d.components places) (given_places places d)
 reads_back places h text d e rise = rw (changes_are places d.components rise) (changes_read places h text d e)
 
--- places whose coordinates fit are found to fit
+-- Places whose coordinates fit have places in a text.
 pub have_places : (places : Given) → All (λ g. HasPlace g.1) places → HavePlaces places
 have_places [] fit n = tt
 have_places (g ∷ places) fit n = by_test (g.0 == n) (have_places places (All-tail (λ (x : ℕ × Option Place). HasPlace x.1) g places fit) n)

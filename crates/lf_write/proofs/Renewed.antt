@@ -1,4 +1,4 @@
--- A component whose placement clause is written anew reads as the component at its new place.
+-- A component whose placement clause is replaced reads as the component at its new place.
 use Rattle.std.proofs.Common.{◌≡◌, ℕ, Bool, true, false, List, [], ◌∷◌, ◌++◌, map, Option, Some, None, inl, inr, refl, sym, ap, ◌∙◌, arith}
 use Rattle.std.specs.Prelude.{codes, IfSome}
 use Rattle.std.specs.List.{list_all, cons_option}
@@ -38,7 +38,7 @@ use Rattle.lf_write.proofs.Behind.{swap}
 use Rattle.lf_write.proofs.Before.{Bare, Found, Outcome, parts_found}
 use Rattle.lf_write.proofs.Positions.{change_of}
 
--- the coordinates of a place are some that a text can hold
+-- Holds if a text can hold the coordinates of the place.
 abbrev pub HasPlace : Option Place → Type 0
 HasPlace given = IfSome given (λ p. IsLocation (as_location p))
 
@@ -62,7 +62,7 @@ abbrev kind_of : Option Place → PlacementKind
 kind_of None = Unplaced
 kind_of (Some p) = Placed
 
--- what is known behind the new clause
+-- The state after the new clause.
 abbrev behind_new : Option Place → ComponentParts
 behind_new given = parts_at (Some (placement_at given)) Separator (is_unplaced (kind_of given))
 
@@ -86,7 +86,7 @@ none_alike s s' e a = none_is s'.placement (ap (λ (z : ComponentParts). z.place
 due_alike : (s s' : ComponentParts) (due : Due) → s.due ≡ due → Alike s s' → s'.due ≡ due
 due_alike s s' due e a = ap (λ (z : ComponentParts). z.due) a ∙ e
 
--- the tokens of the new clause, where no clause was read yet
+-- The tokens of the new clause, if no earlier clause was read.
 new_clause : (given : Option Place) → HasPlace given → (s y : ComponentParts) → s.placement ≡ None → (rest : List PlainToken)
     → ((s' : ComponentParts) → Alike (behind_new given) s' → TurnsAt bare_parts component_token s' rest y)
     → (s' : ComponentParts) → Alike s s' → TurnsAt bare_parts component_token s' (map word_of (clause_words given) ++ rest) y
@@ -104,7 +104,7 @@ new_clause (Some p) h s y none rest next s' a =
     (clause_at signed_decimal decimals_are_read Placed (Some (as_location p)) h s1 (none_alike due_word s1 none a1)
     (due_alike due_word s1 Keyword refl a1)) next)
 
--- the semicolon
+-- The semicolon.
 stop_back : (s' y : ComponentParts) (u : Lexeme) → is (codes ";") u ≡ true → Alike y s'
     → BackAt (turn_bare bare_parts) (component_token s') (plain u ∷ []) (turn y false)
 unfolding component_token component_from
@@ -134,7 +134,7 @@ with_names c q na nb us vs ps z fa fb ea eb turns there =
     (at_block bare_parts component_token no_component z ps turns) (λ s es.
     component_is c q n k na nb s.placement (text_alike na n en ∙ ea) (text_alike nb k ek ∙ eb) (ap (λ (x : ComponentParts). x.placement) es ∙ there))))
 
--- the tokens of a component with its clause written anew
+-- The tokens of a component with its clause replaced.
 pub record Renewed (l m : Lexed) (c : Component) (given : Option Place) : Type 0 where
   pub before : List Lexeme
   pub middle : List Lexeme
@@ -154,7 +154,7 @@ makes_other : (p : Option PlacementClause) (semicolon : ℕ) (given : Option Pla
     → ReplacesTokens (clause_splice p semicolon given) (clause_words given) (plus ∷ middle) after
 makes_other p semicolon given q plus middle after e f = rw e f
 
--- the tokens of three runs and what stands behind them
+-- The tokens of three runs and what follows them.
 three_runs : (a b front : List Lexeme) (rest : List PlainToken) → map plain (a ++ (b ++ front)) ++ rest ≡ map plain a ++ (map plain b ++ (map plain front ++ rest))
 three_runs a b front rest =
     ap (λ (z : List PlainToken). z ++ rest) (map-append plain a (b ++ front) ∙ ap (λ (z : List PlainToken). map plain a ++ z) (map-append plain b front))
@@ -169,7 +169,7 @@ three_wholes a b front back l1 l2 l3 m e f g =
     ∙ ap (λ (z : List Lexeme). with_tokens z m)
     (ap (λ (z : List Lexeme). a ++ z) (sym (append_assoc b front back)) ∙ sym (append_assoc a (b ++ front) back))
 
--- where a component has no clause
+-- A component without a clause.
 new_one : (given : Option Place) → HasPlace given → (l1 l2 l3 m : Lexed) (c : Component) (na nb : Lexeme) (a b : List Lexeme) (y : ComponentParts)
     → l1 ≡ with_tokens a l2 → l2 ≡ with_tokens b l3 → BackAt plain name (map plain a) na → BackAt plain name (map plain b) nb
     → na.text ≡ c.name → nb.text ≡ c.mac → c.placement ≡ y.placement → c.semicolon ≡ y.semicolon → y.placement ≡ None → Bare [] l3 m y → Renewed l1 m c given
@@ -190,7 +190,7 @@ new_one given h l1 l2 l3 m c na nb a b y wa wb fa fb ea eb placement semicolon n
 swap_is : (q : PlacementClause) (b : Bool) (s : ComponentParts) → s.due ≡ Separator → bare_parts (parts_at (Some q) Separator b) ≡ bare_parts (swap q b s)
 swap_is q b s e = rw e refl
 
--- where it has one
+-- A component with a clause.
 other_one : (given : Option Place) → HasPlace given → (l1 l2 l3 m : Lexed) (c : Component) (na nb : Lexeme) (a b : List Lexeme) (y : ComponentParts)
     (p : PlacementClause)
     → l1 ≡ with_tokens a l2 → l2 ≡ with_tokens b l3 → BackAt plain name (map plain a) na → BackAt plain name (map plain b) nb
@@ -237,7 +237,7 @@ renewed given h l m c e =
     (sym (ap (λ (z : Component). z.semicolon) g.0))
     (rw g.1 at o)
 
--- A component that may be given a place: what the splices make of its tokens, and what is read from that.
+-- A component that may be given a place: its tokens after the splices, and what is read from them.
 pub record Changed (l m : Lexed) (c : Component) (o : Option (Option Place)) : Type 0 where
   pub run : List Lexeme
   pub whole : l ≡ with_tokens run m

@@ -1,4 +1,4 @@
--- Changes of components stand one behind the other within the text.
+-- Changes of components are in order in the text, without overlap.
 use Rattle.std.proofs.Common.{◌≡◌, ℕ, ◌+◌, ◌≤◌, Bool, true, false, List, [], ◌∷◌, length, Option, Some, None, refl, arith}
 use Rattle.std.specs.List.{cons_option}
 use Rattle.lf_lex.specs.Splices.{Splice, Rising}
@@ -10,7 +10,7 @@ use Rattle.lf_def.specs.Laws as def
 use Rattle.lf_write.specs.Export.{Rise, stands_at, clause_splice, change, changes, given_to}
 use Rattle.lf_write.proofs.Positions.{Given, change_of, changes_from, changes_are}
 
--- from an earlier place on
+-- From an earlier offset on.
 pub earlier : (from more len : ℕ) (ss : List Splice) → more ≤ from → Rising from len ss → Rising more len ss
 earlier from more len [] le h = omega (arith, le, h)
 earlier from more len (s ∷ ss) le h = (omega (arith, le, h.0), h.1, h.2)

@@ -1,4 +1,4 @@
--- A component stands at a place where its location is that place.
+-- A component is at a place if its location is that place.
 use Rattle.std.proofs.Common.{◌≡◌, ◌↔◌, ℕ, Bool, true, false, ◌&&◌, List, ℤ, Option, Some, None, Result, Ok, refl, sym, ap, ◌∙◌}
 use Rattle.std.specs.Prelude.{bytes_eq, IsTrue, option_map}
 use Rattle.std.specs.Ordering.{int_eq}
@@ -29,7 +29,7 @@ read_word FE = refl
 ok_same : (a b : Orient) → ◌≡◌ {A = Result Orient ReadFault} (Ok a) (Ok b) → a ≡ b
 ok_same a b e = cc
 
--- the words of two orientations differ
+-- The words of two orientations differ.
 one_orient : (a b : Orient) → bytes_eq (orient_word a) (orient_word b) ≡ true → a ≡ b
 one_orient a b h =
     let e : orient_word a ≡ orient_word b = (bytes_eq-Decides (orient_word a) (orient_word b)).0 h in

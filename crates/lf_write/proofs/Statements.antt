@@ -1,4 +1,4 @@
--- What splices make of the statements of a text.
+-- The effect of splices on the statements of a text.
 use Rattle.std.proofs.Common.{◌≡◌, ℕ, ◌<◌, Bool, true, false, cond, List, [], ◌∷◌, map, length, Result, Ok, Err, refl, sym, ap, ◌∙◌, arith}
 use Rattle.std.specs.Prelude.{codes}
 use Rattle.std.proofs.lemmas.List.{append-nil}
@@ -26,7 +26,7 @@ use Rattle.lf_write.proofs.Positions.{Given, changes_from}
 use Rattle.lf_write.proofs.Edits.{MadeTurn, edited_behind, same_turn}
 use Rattle.lf_write.proofs.Entries.{HavePlaces, section_made}
 
--- Of other statements components are no part.
+-- Other statements do not depend on components.
 
 abbrev with_components : List Component → DocParts → DocParts
 with_components cs s = record s { components = cs }
@@ -90,7 +90,7 @@ end_same : (cs : List Component) (s : DocParts) (l : Lexed) → end_design (with
 unfolding end_design
 end_same cs s l = refl
 
--- the body of a statement, read with other components
+-- The body of a statement, read with other components.
 body_turn : (cs : List Component) (s : DocParts) (l m : Lexed) (u : Lexeme) (t : Turn DocParts) → is (codes "COMPONENTS") u ≡ false
     → (body_statement s u l >>= λ x. taken (turn x.value true) x.rest) ≡ taken t m
     → TurnUnread cs s (body_statement (with_components cs s) u l >>= λ x. taken (turn x.value true) x.rest) t m
@@ -129,7 +129,7 @@ statement_unread cs s l n m u t w h e = rw w (from_unread cs s n m u t h e)
 
 -- One statement.
 
--- what is known of a text, with its components at their places
+-- The state of a text, with its components at their places.
 abbrev pub placed_doc : Given → DocParts → DocParts
 placed_doc places s = record s { components = with_places places s.components }
 
@@ -163,7 +163,7 @@ other_made places l m s t kept e =
     some_run [] l m w lt = absurd (omega (arith, ap (λ (z : Lexed). length z.tokens) w, lt))
     some_run (u ∷ run) l m w lt = omega arith
 
--- the components of a section, and what is known then
+-- The components of a section, and the state after it.
 abbrev section_read : DocParts → Lexed → Result (ReadValue DocParts) ReadFault
 section_read s l = components s.components l >>= λ x. taken (record s { components = x.value }) x.rest
 

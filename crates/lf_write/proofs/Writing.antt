@@ -17,7 +17,7 @@ use Rattle.lf_write.specs.Export.{ClauseFacts, change, changes, exported, is_unc
 use Rattle.lf_write.specs.Laws.{FitsText}
 use Rattle.lf_write.proofs.Positions.{Given}
 
--- what is written before a place of the text, and what the changes that are left make of the rest
+-- What is written of the text up to an offset, and the effect of the remaining changes on the rest.
 pub record Written (text : List ℕ) (ks : List ClauseFacts) (places : Given) (i at : ℕ) (before now : Option (List ℕ)) : Type 0 where
   pub front : List ℕ
   pub rising : Rising at (length text) (renewals ks (drop i places))
@@ -28,7 +28,7 @@ pub written_first : (text : List ℕ) (ks : List ClauseFacts) (places : Given) (
     → Written text ks places 0 0 before before
 written_first text ks places before r = record { front = []; rising = r; whole = refl; written = Appends-nil before }
 
--- the place that is listed next, and its clause
+-- The next listed place, and its clause.
 pub record Listed (ks : List ClauseFacts) (places : Given) (i : ℕ) (g : ℕ × Option Place) (k : ClauseFacts) : Type 0 where
   pub left : i < length places
   pub there : slice_get places i ≡ Some g
@@ -45,7 +45,7 @@ pub listed_next : {ks : List ClauseFacts} {places : Given} {i : ℕ} {g : ℕ ×
 listed_next {ks = ks} {places = places} {i = i} {g = g} all there clause =
     record { left = slice_get_within places i g there; there = there; within = position_within ks places i g all there; clause = clause }
 
--- the first change that is left
+-- The first of the remaining changes.
 first_left : (ks : List ClauseFacts) (places : Given) (i : ℕ) (g : ℕ × Option Place) (k : ClauseFacts) → Listed ks places i g k
     → renewals ks (drop i places) ≡ cons_option (renewal k g.1) (renewals ks (drop (i + 1) places))
 first_left ks places i g k is =
@@ -70,7 +70,7 @@ rising_within : (at len : ℕ) (ss : List Splice) → Rising at len ss → at �
 rising_within at len [] h = h
 rising_within at len (s ∷ ss) h = omega (arith, h.0, h.1, rising_within s.stop len ss h.2)
 
--- what is left begins with the change of this component
+-- The remaining changes begin with the change of this component.
 pub ready : {text : List ℕ} {ks : List ClauseFacts} {places : Given} {i at : ℕ} {before now : Option (List ℕ)} {g : ℕ × Option Place} {k : ClauseFacts}
     → Listed ks places i g k → is_unchanged k g.1 ≡ false → Written text ks places i at before now → (at ≤ k.start) × (k.start ≤ length text)
 ready {text = text} {ks = ks} {places = places} {i = i} {g = g} {k = k} is moves w =
@@ -127,13 +127,13 @@ no_changes cs (g ∷ places) h =
     (stays (slice_get cs g.0) g.1 (All-head (λ (g : ℕ × Option Place). IfSome (slice_get cs g.0) (λ c. stands_at c g.1 ≡ true)) g places h))
     ∙ no_changes cs places (All-tail (λ (g : ℕ × Option Place). IfSome (slice_get cs g.0) (λ c. stands_at c g.1 ≡ true)) g places h)
 
--- where all stand at their places already, nothing is written anew
+-- If all components are at their places already, nothing is written again.
 pub nothing_written : (text : List ℕ) (cs : List Component) (places : Given) → All (λ g. IfSome (slice_get cs g.0) (λ c. stands_at c g.1 ≡ true)) places
     → exported text cs places ≡ text
 unfolding spliced
 nothing_written text cs places h = ap (λ (ss : List Splice). spliced 0 ss text) (no_changes cs places h)
 
--- the places that were looked at have coordinates that a text can hold
+-- Holds if a text can hold the coordinates of the places so far.
 pub record Looked (places : Given) (i : ℕ) : Type 0 where
   pub fit : (k : ℕ) (d : ℕ × Option Place) → k < i → k < length places → FitsText (get_or places k d).1
 

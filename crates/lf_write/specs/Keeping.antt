@@ -1,4 +1,4 @@
--- What is kept of the components of a text.
+-- The stored clauses of the components of a text.
 use Rattle.std.specs.Prelude.{◌≡◌, ℕ, ℤ, ◌+◌, ◌<◌, ◌≤◌, Bool, true, false, List, [], ◌++◌, map, length, get_or, IfSome, Option, Some, None}
 use Rattle.lf_def.specs.declared.components.Component.{Component}
 use Rattle.lf_def.specs.declared.components.Location.{Location}
@@ -8,7 +8,7 @@ use Rattle.lf_write.specs.declared.kept_clauses.Form.{Form}
 use Rattle.lf_write.specs.declared.kept_clauses.Form.TheVariants.{Plain as PlainForm, Lacking, Located}
 use Rattle.lf_write.specs.Export.{ClauseFacts, no_clause, plain_clause}
 
--- the place of a clause of this form with these coordinates
+-- The place of a clause of this form with these coordinates.
 abbrev pub place_in : ℤ → ℤ → Form → Option Location
 place_in x y (Located orient) = Some (record { x = x; y = y; orient = orient })
 place_in x y _ = None
@@ -21,41 +21,42 @@ abbrev pub is_of_plain : Form → Bool
 is_of_plain PlainForm = true
 is_of_plain _ = false
 
--- the clause of this form between these offsets
+-- The clause of this form between these offsets.
 abbrev pub clause_from_form : ℕ → ℕ → ℤ → ℤ → Form → ClauseFacts
 clause_from_form start stop x y f = record { place = place_in x y f; start = start; stop = stop; lacks = is_lacking f; plain = is_of_plain f }
 
--- the clause that an entry stands for, where these are those that are not plain
+-- The clause of an entry, given the clauses that are not plain.
 abbrev pub clause_in : List ClauseFacts → Entry → ClauseFacts
 clause_in others (Plain bytes start) = plain_clause start (start + bytes)
 clause_in others (Other at) = get_or others at (no_clause 0)
 
--- the clauses that the entries stand for, and those that follow them
+-- The clauses of the entries, and those after them.
 abbrev pub all_in : List ClauseFacts → List Entry → List ClauseFacts → List ClauseFacts
 all_in others entries far = map (clause_in others) entries ++ far
 
--- an entry stands for a clause by itself, or for one of so many others
+-- Holds if the entry is a plain clause, or the position of one of this number of others.
 abbrev pub IsWithin : ℕ → Entry → Type 0
 IsWithin n (Plain bytes start) = Unit {0}
 IsWithin n (Other at) = at < n
 
--- the entry stands for the clause, whatever the others are
+-- Holds if this is the entry of the clause, whatever the others are.
 abbrev pub StandsFor : Entry → ClauseFacts → Type 0
 StandsFor (Plain bytes start) clause = plain_clause start (start + bytes) ≡ clause
 StandsFor (Other at) clause = ⊥
 
--- the entry stands for the clause, once more may be kept behind the others
+-- Holds if this is the entry of the clause, after more clauses may have been appended to the
+-- others.
 pub record IsKept (old new : List ClauseFacts) (entry : Entry) (clause : ClauseFacts) : Type 0 where
   pub more : List ClauseFacts
   pub grown : new ≡ old ++ more
   pub is : clause_in new entry ≡ clause
   pub within : IsWithin (length new) entry
 
--- the same, where no clause stands behind those of the entries
+-- The same, if no clause comes after those of the entries.
 pub record IsNext (old new far : List ClauseFacts) (entry : Entry) (clause : ClauseFacts) : Type 0 where
   pub none : far ≡ []
   pub kept : IsKept old new entry clause
 
--- the clause of the component, if it has one, is in a text of this length
+-- Holds if the clause of the component, if it has one, is in a text of this length.
 abbrev pub IsInText : ℕ → Component → Type 0
 IsInText len c = IfSome c.placement (λ p. (p.start ≤ p.stop) × (p.stop ≤ len))

@@ -7,11 +7,12 @@ use Rattle.lf_def.specs.Document.{Document, document_of}
 use Rattle.lf_def.specs.Laws.{document_without_places}
 use Rattle.lf_write.specs.Export.{AreExportable, CanBeRenewed, Rise, clause_of, location, as_location, stands_at, with_place, exported, given_places, renewed}
 
--- the coordinates of a place that is given are such as a DEF text can hold
+-- Holds if a DEF text can hold the coordinates of the given place.
 abbrev pub FitsText : Option Place → Type 0
 FitsText given = IfSome given (λ p. IsLocation (as_location p))
 
--- Reading the text gives the document with these places in it, except for the positions of its components in the text.
+-- Holds if reading the text gives the document with these places in it, except for the positions of
+-- its components in the text.
 abbrev pub ReadsBack : List ℕ → List (ℕ × Option Place) → Document → Type 0
 ReadsBack text places d =
     (again : Document) × (document_of text ≡ Ok again) × (document_without_places again ≡ document_without_places (given_places places d))
@@ -26,7 +27,7 @@ abbrev pub NothingChanges : Type 0
 NothingChanges = (text : List ℕ) (components : List Component) (places : List (ℕ × Option Place))
     → All (λ g. IfSome (slice_get components g.0) (λ c. stands_at c g.1 ≡ true)) places → exported text components places ≡ text
 
--- What is kept of the components of a text is enough for its export.
+-- The stored clauses of a text's components are enough for its export.
 pub record KeptClausesSuffice : Type 0 where
   pub same : (text : List ℕ) (components : List Component) (places : List (ℕ × Option Place))
       → CanBeRenewed text (map (clause_of text) components) places
@@ -34,7 +35,8 @@ pub record KeptClausesSuffice : Type 0 where
   pub ready : (text : List ℕ) (d : Document) (places : List (ℕ × Option Place)) → document_of text ≡ Ok d → AreExportable d.components places
       → CanBeRenewed text (map (clause_of text) d.components) places
 
--- A component is at a place if and only if its location is that place; without a location it is at none.
+-- A component is at a place if and only if its location is that place. Without a location it is at
+-- no place.
 abbrev pub LocationIsPlace : Type 0
 LocationIsPlace = (c : Component) (given : Option Place) → IsTrue (stands_at c given) ↔ (location c ≡ option_map as_location given)
 

@@ -1,4 +1,4 @@
-//! Placement clauses as they are written.
+//! Placement clauses, as this crate writes them.
 
 ghost use Rattle.std.specs.Prelude.{◌≡◌, ◌++◌, OnOk, Some, codes};
 ghost use Rattle.std.specs.Fmt.{signed_decimal};
@@ -34,7 +34,8 @@ fn put_placed<W: Write>(out: &mut W, at: &Location) -> io::Result<()>
     Ok(())
 }
 
-/// Writes the placement clause of a component at this location: `+ PLACED ( x y ) orient`, or `+ UNPLACED`.
+/// Writes the placement clause of a component at this location: `+ PLACED ( x y ) orient`, or
+/// `+ UNPLACED`.
 fn put_location<W: Write>(out: &mut W, location: &Option<Location>) -> io::Result<()>
     ensures { OnOk result (Appends (W.contents out.old) (W.contents out.new) (joined (location_words location.now))) }
 {
@@ -44,7 +45,7 @@ fn put_location<W: Write>(out: &mut W, location: &Option<Location>) -> io::Resul
     }
 }
 
-/// The place, as a document has it.
+/// Returns the place in the form of a document.
 fn location_of(place: &Option<Place>) -> Option<Location>
     ensures { location_words result ≡ clause_words place.now }
 {
@@ -65,7 +66,7 @@ fn put_clause<W: Write>(out: &mut W, place: &Option<Place>) -> io::Result<()>
     put_location(out, &location_of(place))
 }
 
-/// Writes the placement clause, and a space behind it.
+/// Writes the placement clause and a space.
 fn put_spaced_clause<W: Write>(out: &mut W, place: &Option<Place>) -> io::Result<()>
     ensures { OnOk result (Appends (W.contents out.old) (W.contents out.new) (joined (clause_words place.now) ++ codes " ")) }
 {
@@ -74,7 +75,7 @@ fn put_spaced_clause<W: Write>(out: &mut W, place: &Option<Place>) -> io::Result
     Ok(())
 }
 
-/// Writes the new clause of a component; one that lacked one gets a space behind it.
+/// Writes the new clause of a component. A component that lacked a clause gets a space after it.
 pub(crate) fn put_new_clause<W: Write>(
     out: &mut W,
     lacks: bool,

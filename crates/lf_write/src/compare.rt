@@ -1,5 +1,5 @@
-//! The placement clause that is written for a location, compared with the bytes of a text. It is not written for that: its parts
-//! are taken from the front of the bytes, one after the other.
+//! The placement clause of a location, compared with the bytes of a text. The clause is not written
+//! for that: its parts are removed from the front of the bytes, one after the other.
 
 ghost use Rattle.std.specs.Prelude.{◌≡◌, ◌^◌, ◌<◌, ◌≤◌, ◌++◌, IfSome, Some, bytes_eq, decimal, length, take};
 ghost use Rattle.std.specs.Fmt.{signed_decimal};
@@ -11,15 +11,15 @@ use itoa::Buffer;
 use lf_def::Location;
 use lf_orient::orient_word;
 
-/// What is left behind the bytes that are due; none if others come first.
+/// Returns what is left after `due`, or `None` if the bytes do not begin with it.
 fn behind<'a>(bytes: &'a [u8], due: &[u8]) -> Option<&'a [u8]>
     ensures { IsRestOfText bytes.now (λ rest. due.now ++ rest) result }
 {
     bytes.strip_prefix(due)
 }
 
-/// How many bytes at the front write the number: its digits are read, each once, until they are as large. None if they write
-/// another one, or begin with a 0.
+/// Returns how many bytes at the front denote the number. Reads each digit once, until the value is
+/// at least the number. `None` if the bytes denote another number, or begin with a 0.
 fn number_len(bytes: &[u8], number: u64) -> Option<usize>
     requires { number < 2 ^ 32 }
     ensures within { IfSome result (λ len. len ≤ length bytes.now) }
@@ -44,7 +44,8 @@ fn number_len(bytes: &[u8], number: u64) -> Option<usize>
     None
 }
 
-/// What is left behind the number, if it is not 0 and is found by its digits: faster than to write it.
+/// Returns what is left after the number, if the number is not 0 and the digits denote it. `None`
+/// otherwise. Faster than writing the number.
 fn behind_digits<'a>(bytes: &'a [u8], number: &i32) -> Option<&'a [u8]>
     ensures { IfSome result (λ left. bytes.now ≡ signed_decimal number.now ++ left.now) }
 {
@@ -59,7 +60,7 @@ fn behind_digits<'a>(bytes: &'a [u8], number: &i32) -> Option<&'a [u8]>
     Some(&bytes[len..])
 }
 
-/// What is left behind the number.
+/// Returns what is left after the number, or `None` if the bytes do not begin with it.
 fn behind_number<'a>(bytes: &'a [u8], number: &i32) -> Option<&'a [u8]>
     ensures { IsRestOfText bytes.now (λ rest. signed_decimal number.now ++ rest) result }
 {
@@ -69,7 +70,8 @@ fn behind_number<'a>(bytes: &'a [u8], number: &i32) -> Option<&'a [u8]>
     behind(bytes, Buffer::new().format(*number).as_bytes())
 }
 
-/// What is left behind `+ PLACED ( x y )` and a space.
+/// Returns what is left after `+ PLACED ( x y )` and a space, or `None` if the bytes begin with
+/// something else.
 fn behind_point<'a>(bytes: &'a [u8], at: &Location) -> Option<&'a [u8]>
     ensures { IsRestOfText bytes.now (before_orient at.now) result }
 {
@@ -80,7 +82,7 @@ fn behind_point<'a>(bytes: &'a [u8], at: &Location) -> Option<&'a [u8]>
     behind(left, b" ) ")
 }
 
-/// Whether the bytes are the clause that is written for the location.
+/// True if the bytes are the clause that is written for the location.
 fn is_placed(bytes: &[u8], at: &Location) -> bool
     ensures { result ≡ bytes_eq bytes.now (joined (location_words (Some at.now))) }
 {
@@ -90,7 +92,8 @@ fn is_placed(bytes: &[u8], at: &Location) -> bool
     }
 }
 
-/// Whether the bytes are the clause that is written for the location, or for none.
+/// True if the bytes are the clause that is written for the location. Without a location that is
+/// `+ UNPLACED`.
 pub(crate) fn is_clause_of(bytes: &[u8], location: &Option<Location>) -> bool
     ensures { result ≡ bytes_eq bytes.now (joined (location_words location.now)) }
 {

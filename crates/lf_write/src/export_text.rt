@@ -18,16 +18,17 @@ use std::alloc::{AllocError, Global};
 use std::io;
 use std::io::Write;
 
-/// Places that components are given, which are looked up one by one.
+/// Places that components are given, looked up one by one.
 pub trait NewPlaces {
-    /// The places, each with the position of its component among all components of the text; none unplaces it.
+    /// The places, each with the position of its component among all components of the text. `None`
+    /// unplaces the component.
     ghost places: { Self → List (ℕ × Option Place) };
 
-    /// How many there are.
+    /// Returns the number of places.
     fn count(&self) -> usize
         ensures { result ≡ length (places self.now) };
 
-    /// The one at this position in the list; none behind the last.
+    /// Returns the place at this position in the list, or `None` after the last.
     fn place(&self, at: usize) -> Option<(usize, Option<Place>)>
         ensures { result ≡ slice_get (places self.now) at };
 }
@@ -50,7 +51,7 @@ impl<'a> NewPlaces for Listed<'a> {
     }
 }
 
-/// Whether a component at this location is at the place.
+/// True if a component at this location is at the place.
 fn is_at(location: &Option<Location>, place: &Option<Place>) -> bool
     ensures { result ≡ spec.is_at location.now place.now }
 {
@@ -65,7 +66,7 @@ fn is_at(location: &Option<Location>, place: &Option<Place>) -> bool
     }
 }
 
-/// Whether the clause is left as it is if its component is given the place.
+/// True if the clause is unchanged when its component is given the place.
 fn is_unchanged(clause: &Clause, place: &Option<Place>) -> bool
     ensures { result ≡ spec.is_unchanged clause.now place.now }
 {
@@ -89,7 +90,8 @@ fn put_rest<W: Write>(out: &mut W, text: &[u8], from: usize) -> io::Result<()>
     out.write_all(&text[from..])
 }
 
-/// Writes the text from an offset up to the clause, and the new clause; returns the offset after what it replaces.
+/// Writes the text from an offset up to the clause, and the new clause. Returns the offset after
+/// what the new clause replaces.
 fn put_change<W: Write>(
     out: &mut W,
     text: &[u8],
@@ -108,7 +110,7 @@ fn put_change<W: Write>(
     Ok(clause.stop())
 }
 
-/// The coordinates of a place are such as a DEF text can hold.
+/// Proves that a DEF text can hold the coordinates of a place.
 fn fits_text(place: &Option<Place>)
     ensures { FitsText place.now }
 {
@@ -118,13 +120,16 @@ fn fits_text(place: &Option<Place>)
     }
 }
 
-/// Writes the text with these places given to the components of these clauses: piece by piece, so that nothing is
-/// allocated. Every byte outside the clauses that are written anew is copied: a plain clause is, also if its component
-/// stays, since the same bytes are written then.
+/// Writes the text with these places given to the components of these clauses. Writes piece by
+/// piece and allocates nothing. Every byte outside the clauses that are written again is copied. A
+/// plain clause is always written again. If its component stays, the same bytes are written.
 ///
-/// On success exactly that text is appended to what the writer holds, if its bytes are known; `Err` if a write fails. The places
-/// are those of clauses, which lie one behind the other in the text: so it is where a document's clauses are those of
-/// `clauses_of` and the places can be given in an `export` of it (`kept_clauses_suffice`).
+/// On success exactly that text is appended to the writer's bytes, if contracts know them. `Err` if
+/// a write fails.
+///
+/// The places must be those of clauses that are in order in the text, without overlap. This holds
+/// if the clauses are those of `clauses_of` and the places can be given in an `export` of the
+/// document (`kept_clauses_suffice`).
 pub fn write_export<G: NewPlaces, W: Write>(
     out: &mut W,
     text: &[u8],
@@ -150,14 +155,15 @@ pub fn write_export<G: NewPlaces, W: Write>(
     Ok(())
 }
 
-/// The document's text with the placement clause of each listed component that is given another place than
-/// the document's written anew, from its `+` to the end of its last token: `+ PLACED ( x y ) orient`, or
-/// `+ UNPLACED`. If it has no clause, the new one and a space are put directly before its `;`. Every other byte
-/// is unchanged, and so is each component that is at its place already.
+/// Returns the document's text with a new placement clause for each listed component whose given
+/// place differs from the document's. A new clause replaces the old one, from its `+` to the end of
+/// its last token. It is `+ PLACED ( x y ) orient`, or `+ UNPLACED`. If there is no old clause, the
+/// new one and a space are inserted directly in front of the `;`. Every other byte is unchanged,
+/// and so is each component that is at its place already.
 ///
-/// A component is listed by its position among all components of the text; positions rise, and no listed component
-/// is FIXED or COVER. Reading the text again gives the document with these places in it, except for the positions
-/// of its components in the text. `Err` if an allocation fails.
+/// A component is listed by its position among all components of the text. Positions rise, and no
+/// listed component is FIXED or COVER. Reading the text again gives the document with these places
+/// in it, except for the positions of its components in the text. `Err` if an allocation fails.
 pub fn export(
     alloc: Global,
     document: &DefDoc<'_>,

@@ -1,4 +1,4 @@
-//! What is kept of the components of a document for its export.
+//! What an export needs of the components of a document.
 
 ghost use Rattle.std.specs.Prelude.{◌≡◌, ◌≤◌, ◌<◌, ◌++◌, ◌∷◌, [], All, IfOk, IfSome, MatchOption, OnOk, get_or, length, map};
 ghost use Rattle.lf_write.specs.Keeping.{IsInText, IsKept, IsNext, IsWithin, StandsFor, all_in, clause_in};
@@ -12,10 +12,11 @@ use std::alloc::{AllocError, Global};
 use std::marker::Model;
 use std::mem::size_of;
 
-/// What is kept of a clause beside its offsets.
+/// What is stored of a clause, besides its offsets.
 #[derive(Clone, Copy)]
 enum Form {
-    /// Its bytes are those that are written for the component's place, which is not kept.
+    /// The clause is plain: its bytes are those that are written for the component's place. The
+    /// place is not stored.
     Plain,
     /// There is no clause.
     Lacking,
@@ -25,7 +26,8 @@ enum Form {
     Located(Orient),
 }
 
-/// Where the placement clause of a component is in its text, or where one goes, and the component's place.
+/// The offsets of the placement clause of a component in its text, or the offset of a new one, and
+/// the component's place.
 #[derive(Drop)]
 pub(crate) struct Clause {
     start: usize,
@@ -44,7 +46,7 @@ impl Model for Clause {
     ghost view = { λ k. clause_from_form k.start k.stop k.x k.y k.form };
 }
 
-/// The same with offsets of 32 bits.
+/// A `Clause` with offsets of 32 bits.
 #[derive(Drop)]
 struct ShortClause {
     start: u32,
@@ -63,30 +65,32 @@ impl Model for ShortClause {
     ghost view = { λ k. clause_from_form k.start k.stop k.x k.y k.form };
 }
 
-/// What is kept in 8 bytes of a component.
+/// What is stored in 8 bytes for each component.
 #[derive(Clone, Copy)]
 enum Entry {
-    /// A plain clause has this many bytes and begins at this offset.
+    /// A plain clause with this number of bytes, which begins at this offset.
     Plain { bytes: u16, start: u32 },
-    /// The clause is at this position among those that are not plain.
+    /// The position of the clause among those that are not plain.
     Other(u32),
 }
 
-// fields lie in the order of the source
+// Fields are in the order of the source.
 const _: () = prove!(
     size_of::<Entry>() == 8 && size_of::<ShortClause>() == 20 && size_of::<Clause>() == 32
 );
 
-/// What is kept of the components of a text, in their order: 8 bytes of each whose clause is plain, and 28 of any other. From
-/// the first component on whose offsets take more than 32 bits, which only a text of 4 GiB or more has, it is 32 of each.
+/// What an export needs of the components of a text, in their order. A component with a plain
+/// clause takes 8 bytes, any other 28. From the first component on whose offsets need more than 32
+/// bits, each takes 32. Only a text of 4 GiB or more has such offsets.
 ///
-/// Contracts see a list: of each component the offsets of its clause, or those of its semicolon if it has none, whether the clause
-/// is plain, and if not the component's place.
+/// A contract sees a list with an entry for each component. It has the offsets of the clause, or
+/// those of the semicolon if there is no clause, and whether the clause is plain. If it is not
+/// plain, the entry has the component's place.
 #[derive(Drop)]
 pub struct KeptClauses {
-    /// The first components.
+    /// The entries of the first components.
     entries: Vec<Entry>,
-    /// Those of their clauses that are not plain, or too long for an entry.
+    /// The clauses of the first components that are not plain, or too long for an entry.
     others: Vec<ShortClause>,
     /// The clauses of all further components.
     far: Vec<Clause>,
@@ -104,7 +108,7 @@ impl Model for KeptClauses {
     ghost invariant = { λ k. All (IsWithin (length k.others.items)) k.entries.items };
 }
 
-/// The plain clause between these offsets.
+/// Returns the plain clause between these offsets.
 fn plain_between(start: usize, stop: usize) -> Clause
     ensures { result ≡ plain_clause start stop }
 {
@@ -117,7 +121,7 @@ fn plain_between(start: usize, stop: usize) -> Clause
     }
 }
 
-/// The clause between these offsets of a component with this place.
+/// Returns the clause between these offsets of a component with this place.
 fn clause_between(start: usize, stop: usize, place: &Option<Location>) -> Clause
     ensures { result ≡ clause_at start stop place.now }
 {
@@ -139,7 +143,7 @@ fn clause_between(start: usize, stop: usize, place: &Option<Location>) -> Clause
     }
 }
 
-/// No clause; a new one goes to this offset.
+/// Returns the entry of a component without a clause. A new clause is inserted at this offset.
 fn clause_before(semicolon: usize) -> Clause
     ensures { result ≡ no_clause semicolon }
 {
@@ -152,7 +156,7 @@ fn clause_before(semicolon: usize) -> Clause
     }
 }
 
-/// Whether the clause is plain in the text.
+/// True if the clause is plain in the text.
 fn is_plain(text: &[u8], placement: &PlacementClause) -> bool
     requires order { placement.now.start ≤ placement.now.stop }
     requires within { placement.now.stop ≤ length text.now }
@@ -161,7 +165,7 @@ fn is_plain(text: &[u8], placement: &PlacementClause) -> bool
     is_clause_of(&text[placement.start..placement.stop], &placement.place)
 }
 
-/// The clause of a component with this placement in the text.
+/// Returns the clause of a component with this placement in the text.
 fn clause_with_placement(text: &[u8], placement: &PlacementClause) -> Clause
     requires order { placement.now.start ≤ placement.now.stop }
     requires within { placement.now.stop ≤ length text.now }
@@ -174,7 +178,7 @@ fn clause_with_placement(text: &[u8], placement: &PlacementClause) -> Clause
     }
 }
 
-/// The clause of a component of the text.
+/// Returns the clause of a component of the text.
 fn clause_in_text(text: &[u8], component: &Component) -> Clause
     requires { IsInText (length text.now) component.now }
     ensures { result ≡ clause_of text.now component.now }
@@ -185,7 +189,7 @@ fn clause_in_text(text: &[u8], component: &Component) -> Clause
     }
 }
 
-/// The offset in 32 bits; none if it takes more.
+/// Returns the offset in 32 bits, or `None` if it needs more.
 fn short_offset(offset: usize) -> Option<u32>
     ensures { IfSome result (λ short. short ≡ offset) }
 {
@@ -195,7 +199,7 @@ fn short_offset(offset: usize) -> Option<u32>
     }
 }
 
-/// The same clause with offsets of 32 bits; none if they take more.
+/// Returns the same clause with offsets of 32 bits, or `None` if they need more.
 fn short_clause(clause: &Clause) -> Option<ShortClause>
     ensures { IfSome result (λ short. short ≡ clause.now) }
 {
@@ -210,7 +214,8 @@ fn short_clause(clause: &Clause) -> Option<ShortClause>
     })
 }
 
-/// The entry of the plain clause between these offsets; none if it is longer than 16 bits tell.
+/// Returns the entry of the plain clause between these offsets. `None` if its length does not fit
+/// into 16 bits.
 fn entry_between(start: u32, stop: u32) -> Option<Entry>
     ensures { IfSome result (λ entry. StandsFor entry (plain_clause start stop)) }
 {
@@ -221,7 +226,8 @@ fn entry_between(start: u32, stop: u32) -> Option<Entry>
     }
 }
 
-/// The entry of a plain clause. None of another, or if it is longer than 16 bits tell.
+/// Returns the entry of a plain clause. `None` if the clause is not plain, or if its length does
+/// not fit into 16 bits.
 fn plain_entry(clause: &ShortClause) -> Option<Entry>
     ensures { IfSome result (λ entry. StandsFor entry clause.now) }
 {
@@ -231,8 +237,9 @@ fn plain_entry(clause: &ShortClause) -> Option<Entry>
     }
 }
 
-/// The entry of a clause, which is put behind the others if it is not plain. None if that takes more than 32 bits: the
-/// others are then as they were.
+/// Returns the entry of a clause. A clause that is not plain, or too long for an entry, is appended
+/// to the others. `None` if that needs more than 32 bits; the others are then unchanged. `Err` if
+/// an allocation fails.
 fn entry_of(clause: &Clause, others: &mut Vec<ShortClause>) -> Result<Option<Entry>, AllocError>
     ensures { IfOk result (λ entry. MatchOption entry (others.new.items ≡ others.old.items) (λ entry. IsKept others.old.items others.new.items entry clause.now)) }
 {
@@ -249,7 +256,8 @@ fn entry_of(clause: &Clause, others: &mut Vec<ShortClause>) -> Result<Option<Ent
     Ok(Some(Entry::Other(at)))
 }
 
-/// The entry of the next clause, as long as each one before it has an entry.
+/// Returns the entry of the next clause. `None` if it or an earlier clause has no entry. `Err` if
+/// an allocation fails.
 fn next_entry(
     clause: &Clause,
     others: &mut Vec<ShortClause>,
@@ -264,7 +272,7 @@ fn next_entry(
     }
 }
 
-/// Keeps one clause more.
+/// Stores one more clause.
 fn keep(
     clause: Clause,
     entries: &mut Vec<Entry>,
@@ -282,7 +290,8 @@ fn keep(
     Ok(())
 }
 
-/// What is kept of these components of the text, in their order.
+/// Returns what an export needs of these components of the text, in their order. `Err` if an
+/// allocation fails.
 fn kept_clauses_of(
     alloc: Global,
     text: &[u8],
@@ -305,9 +314,9 @@ fn kept_clauses_of(
     })
 }
 
-/// What an export needs of the document's components, in their order. It does not borrow the document, and takes 8 bytes
-/// of each with a plain clause, 28 of any other, and 32 where the text has 4 GiB or more before it. `Err` if an allocation
-/// fails.
+/// Returns what an export needs of the document's components, in their order. It does not borrow
+/// the document. A component with a plain clause takes 8 bytes, any other 28, and 32 if it is
+/// beyond the first 4 GiB of the text. `Err` if an allocation fails.
 pub fn clauses_of(alloc: Global, document: &DefDoc<'_>) -> Result<KeptClauses, AllocError>
     ensures { IfOk result (λ clauses. clauses ≡ map (clause_of document.now.text.now) document.now.components) }
 {
@@ -315,7 +324,7 @@ pub fn clauses_of(alloc: Global, document: &DefDoc<'_>) -> Result<KeptClauses, A
     kept_clauses_of(alloc, document.text, document.components.as_slice())
 }
 
-/// The clause that an entry stands for.
+/// Returns the clause of an entry.
 fn clause_of_entry(entry: &Entry, others: &[ShortClause]) -> Clause
     requires { IsWithin (length others.now) entry.now }
     ensures { result ≡ clause_in others.now entry.now }
@@ -328,7 +337,7 @@ fn clause_of_entry(entry: &Entry, others: &[ShortClause]) -> Clause
     }
 }
 
-/// What is kept in these lists of the component at this position.
+/// Returns the clause in these lists of the component at this position.
 fn clause_kept(entries: &[Entry], others: &[ShortClause], far: &[Clause], position: usize) -> Clause
     requires listed { position < length (all_in others.now entries.now far.now) }
     requires within { All (IsWithin (length others.now)) entries.now }
@@ -343,7 +352,7 @@ fn clause_kept(entries: &[Entry], others: &[ShortClause], far: &[Clause], positi
 }
 
 impl KeptClauses {
-    /// What is kept of the component at this position.
+    /// Returns the clause of the component at this position.
     pub(crate) fn at(&self, position: usize) -> Clause
         requires { position < length self.now }
         ensures { result ≡ get_or self.now position result }
@@ -353,7 +362,7 @@ impl KeptClauses {
 }
 
 impl ShortClause {
-    /// The same clause with offsets of any size.
+    /// Returns the same clause with offsets of any size.
     fn long(&self) -> Clause
         ensures { result ≡ self.now }
     {
@@ -368,7 +377,7 @@ impl ShortClause {
 }
 
 impl Clause {
-    /// The same clause once more.
+    /// Returns a copy of the clause.
     fn copied(&self) -> Clause
         ensures { result ≡ self.now }
     {
@@ -381,7 +390,7 @@ impl Clause {
         }
     }
 
-    /// The component's place, if it has one and it is kept.
+    /// Returns the component's place. `None` if it has no place or the place is not stored.
     pub(crate) fn place(&self) -> Option<Location>
         ensures { result ≡ self.now.place }
     {
@@ -395,21 +404,21 @@ impl Clause {
         }
     }
 
-    /// The offset at which a new clause begins.
+    /// Returns the offset at which a new clause begins.
     pub(crate) fn start(&self) -> usize
         ensures { result ≡ self.now.start }
     {
         self.start
     }
 
-    /// The offset behind what a new clause replaces.
+    /// Returns the offset after what a new clause replaces.
     pub(crate) fn stop(&self) -> usize
         ensures { result ≡ self.now.stop }
     {
         self.stop
     }
 
-    /// Whether the component has no clause.
+    /// True if the component has no clause.
     pub(crate) fn lacks(&self) -> bool
         ensures { result ≡ self.now.lacks }
     {
@@ -419,7 +428,7 @@ impl Clause {
         }
     }
 
-    /// Whether the clause is plain.
+    /// True if the clause is plain.
     pub(crate) fn is_plain(&self) -> bool
         ensures { result ≡ self.now.plain }
     {

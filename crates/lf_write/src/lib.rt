@@ -1,18 +1,37 @@
-//! Writes a DEF text with components at the places that they are given; every other byte is unchanged.
+//! Writes a DEF text with components at the places that they are given; every other byte is
+//! unchanged.
 //!
-//! A component that is given another place than the document's gets a new placement clause, `+ PLACED ( x y ) orient` or
-//! `+ UNPLACED`, in the place of its old one (LEF/DEF 5.8, DEF COMPONENTS). `export` makes the text of a document. What of the
-//! document an export needs can also be kept once it is gone (`KeptClauses`), and `write_export` writes the text from that piece by piece.
+//! A component that is given another place than the document's gets a new placement clause,
+//! `+ PLACED ( x y ) orient` or `+ UNPLACED`. It replaces the old clause (LEF/DEF 5.8, DEF
+//! COMPONENTS). `export` returns the text of a document. `KeptClauses` has what an export needs of
+//! the document, also after the document is dropped. `write_export` writes the text from it piece
+//! by piece.
 //!
-//! A clause is *plain* if its bytes in the text are those that are written for its component's place; of it no place is kept, and
-//! it is written anew wherever its component is given a place. Contracts see of `KeptClauses` for each component where its clause
-//! begins and ends, whether it has one, whether that is plain, and its place if not; of a `NewPlaces` its places, each with the
-//! position of its component among all components of the text. `team_def` of `lf_team_def` is named here again.
+//! A clause is *plain* if its bytes in the text are those that this crate writes for its
+//! component's place. The place of a plain clause is not stored, and the clause is written again
+//! whenever its component is given a place. A contract sees of `KeptClauses` for each component the
+//! offsets of its clause, whether it has one, whether that is plain, and its place if not. It sees
+//! of `NewPlaces` the places, each with the position of its component among all components of the
+//! text.
+//!
+//! `team_def` of `lf_team_def` can be named from here too.
+//!
+//! Used by `lf_laws_roundtrip`, `lf_task_designs`, `lf_task_files`, `lf_task_serve` and
+//! `lf_task_repair`.
+//!
+//! Modules, in reading order:
+//!
+//! - `clause_text`: placement clauses, as this crate writes them
+//! - `compare`: the clause of a location, compared with the bytes of a text
+//! - `kept_clauses`: what an export needs of the components of a document
+//! - `export_text`: the exported text
+//! - `laws`: laws on exported texts
+//!
+//! From `crates/lefence_rows/src/design.rt`:
 //!
 //! ```
-//! let text = export(alloc, &document, &[(4, Some(place))])?;
-//! let clauses = clauses_of(alloc, &document)?;
-//! write_export(&mut out, document.text, &clauses, &given)?;
+//! let places = floor.committed_places()?;
+//! export(alloc, document, &places)
 //! ```
 #![tactic(auto)]
 

@@ -3,6 +3,6 @@ use Rattle.std.specs.Prelude.{filter}
 use Rattle.lf_frame_checks.specs.Loading.{is_core_row, frame_row}
 use Rattle.lf_frame.proofs.convert.core_rows.Given as goal
 
--- the rows of core sites so far, followed by those among the rows that are left, are all of them
+-- The core rows so far, followed by those among the remaining rows, are all of them.
 abbrev pub invariant-loop-row : goal.invariant-loop-row
 invariant-loop-row l = l.heeded ++ map frame_row (filter (is_core_row l.core) (drop l.row-index l.rows)) ≡ map frame_row (filter (is_core_row l.core) l.rows)

@@ -11,7 +11,7 @@ use Rattle.lf_team_def.specs.TeamText.{line_of, group_lines, group_words, sectio
 use Rattle.lf_team_def.proofs.Lines.{put_three}
 use Rattle.lf_team_def.proofs.team_text.put_groups.Goals as goal
 
--- a team with cells has a group
+-- A team with cells has a group.
 has_group : (fence : Team) (cells : List Cell) (n : ℕ) → n ≡ length cells → (n == 0) ≡ false
     → group_lines (Some fence) cells ≡ section_lines (codes "GROUPS") (group_words fence cells ∷ [])
 has_group fence [] n long some = let none : (0 == 0) ≡ false = subst (λ (k : ℕ). (k == 0) ≡ false) long some in absurd cc

@@ -4,7 +4,7 @@ use Rattle.std.proofs.KnownBytes.{Appends-trans}
 use Rattle.std.proofs.lemmas.List.{append-nil}
 use Rattle.lf_write.proofs.clause_text.put_placed.Goals as goal
 
--- six appends, as one
+-- Six appends, as one.
 in_turn : (o0 o1 o2 o3 o4 o5 o6 : Option (List ℕ)) (a x b y c w : List ℕ) → Appends o0 o1 a → Appends o1 o2 x → Appends o2 o3 b → Appends o3 o4 y
     → Appends o4 o5 c → Appends o5 o6 w → Appends o0 o6 (a ++ (x ++ (b ++ (y ++ (c ++ (w ++ []))))))
 in_turn o0 o1 o2 o3 o4 o5 o6 a x b y c w e1 e2 e3 e4 e5 e6 =

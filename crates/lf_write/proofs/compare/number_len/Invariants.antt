@@ -3,7 +3,7 @@ use Rattle.std.specs.Str.Parse.{digits_value}
 use Rattle.lf_write.proofs.Digits.{Digits}
 use Rattle.lf_write.proofs.compare.number_len.Given as goal
 
--- the bytes so far are digits, and write a number that is no larger
+-- The bytes so far are digits, and denote a number that is no larger.
 abbrev pub invariant-loop-at : goal.invariant-loop-at
 invariant-loop-at l = record {
   digits : Digits (take l.at l.bytes);

@@ -6,7 +6,7 @@ use Rattle.lf_frame_claims.specs.declared.claim.Claim.TheVariants.{Unclaimed}
 use Rattle.lf_frame_claims.specs.ClaimTables.{claim_at}
 use Rattle.lf_frame_claims.proofs.claims.Claims.merge.Goals as goal
 
--- a claim that is put where it is changes nothing
+-- Replacing a claim by itself changes nothing.
 same_put : (claims : List Claim) (number : ℕ) → set claims number (claim_at claims number) ≡ claims
 same_put claims number = ap (set claims number) (unwrap_or-slice_get claims number Unclaimed) ∙ set-get_or claims number Unclaimed
 
