@@ -126,7 +126,7 @@ swapped_own (Some first) (Some second) t session s =
     swapped_from (working_at s.cells first) (working_at s.cells second) t session first second s
 
 -- swap: the two cells exchange their places and orientations; a cell swapped with itself is tested
--- where it is
+-- at its place
 unfoldable pub swapped : TeamRules → ℕ → List ℕ → List ℕ → TeamState → Outcome
 swapped t session first second s = swapped_own (cell_named first s.cells) (cell_named second s.cells) t session s
 

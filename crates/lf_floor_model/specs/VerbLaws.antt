@@ -29,7 +29,7 @@ use Rattle.lf_floor_model.specs.Verbs.{is_recorded, outcome_of}
 abbrev pub outcome_of_asking : TeamRules → ℕ → Change (List ℕ) Place → TeamState → Outcome
 outcome_of_asking t session change s = outcome_of t (Within session (Changing change)) s
 
--- the reply is no refusal
+-- the reply is not a refusal
 abbrev pub is_ok : Reply → Bool
 is_ok (Refused refusal) = false
 is_ok _ = true

@@ -24,14 +24,12 @@
 //! - `report_text`: the text of a report
 //! - `violations`: violations in reports that name cells by their positions
 //!
-//! From `crates/lefence_rows/src/run_requests.rt`:
+//! From `crates/lf_server/src/answer.rt`:
 //!
 //! ```
-//! let mut list = RequestList::new(alloc);
-//! for line in lines.split(|byte| *byte == b'\n') {
-//!     if let Ok(request) = parse_line(line) {
-//!         list.push(&request)?;
-//!     }
+//! match parse_line(line?) {
+//!     Ok(request) => Some(request),
+//!     Err(_) => None,
 //! }
 //! ```
 #![tactic(auto)]

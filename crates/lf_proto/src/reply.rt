@@ -88,8 +88,8 @@ pub enum Refusal {
     Unplaced {
         cell: u32,
     },
-    /// The place breaks this rule first; for `Overlap` the other cell is the first one that the
-    /// cell overlaps.
+    /// The place breaks this rule first; for `Overlap` the other cell is the first one that it
+    /// conflicts with.
     Illegal {
         rule: Rule,
         cell: u32,

@@ -9,11 +9,11 @@ use std::alloc::{AllocError, AllocFailed};
 /// The fault of a text. A fault that readers of other texts know too has their number.
 #[derive(Clone, Copy, Debug, PartialEq, Eq)]
 pub enum FaultNumber {
-    /// The text ends within a line, or the last line is missing.
+    /// The text ends within a line, or lines are missing at its end.
     UnexpectedEnd,
     /// Another word is expected, or there is text after the last line.
     Unexpected,
-    /// A word is not a number below 2^32, not a place or not a slot.
+    /// A word is not the expected number below 2^32, place or slot.
     BadNumber,
     /// The text does not begin with `lefence-state 1`.
     OtherVersion,

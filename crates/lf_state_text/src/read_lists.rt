@@ -75,8 +75,8 @@ pub(crate) fn read_cells<D: DesignSchema>(
     Ok(items)
 }
 
-/// Reads `count` moves of `cells` cells. A text may have any number of them: there is first room
-/// for at most one of each cell.
+/// Reads `count` moves of `cells` cells. A text may have any number of them: at first, room is
+/// reserved for at most one move of each cell.
 fn read_moves(
     alloc: Global,
     cells: usize,
