@@ -6,7 +6,7 @@ use Rattle.lf_undo.specs.declared.moves.Move.{Move}
 use Rattle.lf_placement.specs.Placings.{moves_applied}
 
 -- the new moves, appended to the old ones, move the cell at that position to its committed place,
--- wherever the old moves have put the other cells
+-- wherever the old moves have moved the other cells
 abbrev pub IsRevertMove : List Cell → ℕ → List Move → List Move → Type 0
 IsRevertMove cells own old new =
     (now : List Cell) → moves_applied old cells ≡ now → working_at now own ≡ working_at cells own → committed_at now own ≡ committed_at cells own
