@@ -1,4 +1,5 @@
--- What a state tells of a floor, and the floor that it restores, are those of its design: where the cells stood before plays no part.
+-- The saved state of a floor, and the floor restored from it, depend on the design, not on where
+-- the cells were placed.
 use Rattle.std.proofs.Common.{◌≡◌, ℕ, List, [], ◌∷◌, map, refl, ap, ◌∙◌}
 use Rattle.std.specs.Prelude.{drop, slice_index_or}
 use Rattle.lf_floorplan.specs.declared.frame.Frame.{Frame}
@@ -47,7 +48,7 @@ named_alike a b one =
     ap (λ (f : Frame). record { teams = map_two named_team (team_names f) b.teams; limits = f.limits }) one.frame
     ∙ ap (λ (ts : List NamedTeam). record { teams = ts; limits = a.frame.limits }) (named_each (team_names a.frame) b.teams a.teams one.cells)
 
--- ---- what is restored
+-- ---- restored floors
 
 one_cell : (c d : Cell) (s : SavedCell) → fixed_of c ≡ fixed_of d → restored_cell c s ≡ restored_cell d s
 one_cell c d s is = ap (λ (f : List ℕ × ℕ). record { name = f.0; mac = f.1; working = s.working; committed = s.committed }) is
@@ -77,14 +78,14 @@ teams_alike (s ∷ ss) (u ∷ us) (t ∷ saved) is =
     ap (λ (x : TeamState). x ∷ map_two restored_team ss saved) (one_team s u t (same_head is))
     ∙ ap (λ (xs : List TeamState). restored_team u t ∷ xs) (teams_alike ss us saved (same_tail is))
 
--- floors of one design are restored alike
+-- floors of one design are restored to the same floor
 pub restored_alike : (a b : FloorState) (saved : List SavedTeam) → ShareDesign a b → restored b saved ≡ restored a saved
 restored_alike a b saved one =
     ap (λ (f : Frame). floor_of f b.components (map_two restored_team b.teams saved)) one.frame
     ∙ ap (λ (cs : List (List ℕ)). floor_of a.frame cs (map_two restored_team b.teams saved)) one.components
     ∙ ap (floor_of a.frame a.components) (teams_alike b.teams a.teams saved one.cells)
 
--- a floor of the design of one of the design is one of the design
+-- sharing a design is transitive
 pub of_one_design : (a b c : FloorState) → ShareDesign a b → ShareDesign b c → ShareDesign a c
 of_one_design a b c first next =
     record { frame = next.frame ∙ first.frame; components = next.components ∙ first.components; cells = next.cells ∙ first.cells }

@@ -1,4 +1,4 @@
--- A command that asks for a DEF text.
+-- A command that requests a DEF text.
 use Rattle.std.proofs.Common.{◌≡◌, ℕ, ◌<◌, List, length, Option, Some, None, refl, sym, ap, subst, ◌∙◌}
 use Rattle.std.specs.Prelude.{IfNone, slice_set}
 use Rattle.std.proofs.lemmas.Bool.{false≢true}
@@ -30,17 +30,17 @@ use Rattle.lf_floor_verbs.specs.Tables.{cells_in, floor_in, frame_of, own_team, 
 use Rattle.lf_floor_verbs.specs.declared.tables.Tables.{Tables}
 use Rattle.lf_floor.proofs.Rows.{team_there}
 
--- the order of that session for the DEF text
+-- the command by which that session requests the DEF text
 abbrev pub ask : ℕ → TeamCommand (List ℕ) Place
 ask session = Within session AskDef
 
--- the DEF text of a team by its cells in the table, and of none
+-- the DEF text of the team is made from its cells in the table
 pub text_there : (tables : Tables) (name : List ℕ) (number : ℕ) → Some number ≡ team_number (frame_of tables) name → number < length tables.revisions.items
     → def_text (floor_in tables) name ≡ team_text (frame_of tables) number (cells_in number tables)
 text_there tables name number named within =
     ap (text_at (floor_in tables)) (sym named) ∙ ap (text_by (frame_of tables) number) (team_there tables number within)
 
--- an open session gets the text, and the team stays
+-- an open session gets the text, and the team is unchanged
 text_reached : (l : Legalizer) (f : Frame) (number session seen : ℕ) (s : TeamState) → Some seen ≡ seen_at s.slots session
     → IsOutcome (outcome_by_rules l f number (ask session) s) (Def (team_text f number s.cells)) s
 unfolding written
@@ -65,23 +65,23 @@ def_answers l tables name session seen number named within opened =
     (subst (λ (v : FloorState). IsGivenAnswer (answer_at (Some number) l (floor_in tables) (ask session)) (Def text) v) same
     (gives l f components (teams_in tables) number (ask session) s s (Def text) there (text_reached l f number session seen s opened))))
 
--- what holds, holds if there is none
+-- a fact holds if the option is None
 pub given_none : {X : Type 0} (o : Option X) (P : Type 0) → P → IfNone o P
 given_none None P p = p
 given_none (Some x) P p = tt
 
--- a DEF text is no refusal
+-- a DEF text is not a refusal
 no_refusal : (text : List ℕ) (refusal : Refusal) → Def text ≡ Refused refusal → ⊥
 no_refusal text refusal same = false≢true (sym (ap is_ok same))
 
--- what no team answers is no DEF text
+-- if there is no team of the name, the reply is not a DEF text
 pub none_without_team : (l : Legalizer) (floor : FloorState) (name : List ℕ) (order : TeamCommand (List ℕ) Place) (text : List ℕ) → None ≡ team_number floor.frame name
     → IsAnswerOf l floor (To name order) (Def text) floor → ⊥
 unfolding answer_of
 none_without_team l floor name order text none answers =
     no_refusal text NoTeam (answers.reply_is ∙ ap (λ (n : Option ℕ). (answer_at n l floor order).reply) (sym none))
 
--- and neither is what a session gets that is not open
+-- if the session is not open, the reply is not a DEF text
 pub none_without_session : (l : Legalizer) (tables : Tables) (name : List ℕ) (session number : ℕ) (text : List ℕ)
     → Some number ≡ team_number (frame_of tables) name → number < length tables.revisions.items → None ≡ seen_at (own_team number tables).slots session
     → IsAnswerOf l (floor_in tables) (To name (ask session)) (Def text) (floor_in tables) → ⊥

@@ -1,4 +1,4 @@
--- The teams of a floor seen by their numbers.
+-- The teams of a floor by their numbers.
 use Rattle.std.proofs.Common.{◌≡◌, ◌∙◌, ◌<◌, ℕ, List, length, map, Option, Some, None, sym, ap, subst}
 use Rattle.std.specs.Prelude.{slice_get, option_map}
 use Rattle.std.proofs.lemmas.Option.{slice_get_within}
@@ -15,7 +15,7 @@ use Rattle.lf_floor_verbs.specs.Tables.{cells_in, floor_in, frame_of, own_team, 
 use Rattle.lf_floor_verbs.proofs.Standing.{cell_there}
 use Rattle.lf_floor.proofs.Rows.{count_teams, team_there}
 
--- what is seen of the team of that number
+-- the team of that number in the view
 pub seen_is : (tables : Tables) (view : FloorState) (number : ℕ) (s : TeamState) → floor_in tables ≡ view → slice_get view.teams number ≡ Some s
     → s ≡ own_team number tables
 seen_is tables view number s is there =
@@ -31,7 +31,7 @@ no_cell_at cells number own none within = go (cell_there cells own within) where
     some_none : Some (id_of number own) ≡ None → ⊥
     some_none e = cc
 
--- what is said of the cell of an id in the tables is so of the team of its number as it is seen
+-- the fact on the cell of an id in the tables holds for the team of its number in the view
 pub legal_seen : (tables : Tables) (view : FloorState) (number own sites : ℕ) (id : CellId) (s : TeamState) → floor_in tables ≡ view
     → id_in (cells_in number tables) number own ≡ Some id → sites ≡ padding_of tables number → slice_get view.teams number ≡ Some s
     → IsLegalCell (frame_of tables) id.team sites (map member_of (cells_in id.team tables)) id.own

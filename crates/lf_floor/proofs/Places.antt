@@ -29,7 +29,7 @@ some_team own c (Some s) e = (s, refl)
 within_or_past : (a b : ℕ) → (a < b) ⊎ (b ≤ a)
 within_or_past a b = grind arith
 
--- a list that has an element is one of the rows
+-- a list with an element is one of the rows
 row_within : (rows : List (List ℕ)) (number own position : ℕ) → slice_get (get_or rows number []) own ≡ Some position → number < length rows
 row_within rows number own position e = by (within_or_past number (length rows)) where
   by : (number < length rows) ⊎ (length rows ≤ number) → number < length rows
@@ -52,7 +52,7 @@ module _ (tables : Tables) (are : AreTables tables) where
       omega (arith, row_within tables.placement.cells.components number own position there, are.components, are.revisions)
 
   module _ (ids : List CellId) (all : AreAllIds tables.placement.cells ids) where
-    -- the entry of a cell that is there
+    -- the entry of an existing cell
     entry_is : (id : CellId) (position : ℕ) (c : Cell) → component_at tables.placement.cells id ≡ Some position → cell_at tables.placement.cells id ≡ Some c
         → committed_entry tables.placement.cells id ≡ (position, c.committed)
     entry_is id position c entry cell =
@@ -88,7 +88,7 @@ module _ (tables : Tables) (are : AreTables tables) where
           },
         )
 
-    -- those of all cells of the tables are those of the floor
+    -- the places of all cells of the tables are the committed places of the floor
     pub all_places : AreCommittedPlaces (floor_in tables) (map (committed_entry tables.placement.cells) ids)
     all_places = record {
       rise = pairs_map (committed_entry tables.placement.cells) (λ (a : ℕ × Option Place) (b : ℕ × Option Place). a.0 < b.0) ids all.rise;

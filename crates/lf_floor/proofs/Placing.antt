@@ -1,4 +1,4 @@
--- Tables whose teams' cells are placed first, and that then await their undo entries.
+-- Tables after the placement of all cells and before the undo entries are restored.
 use Rattle.std.proofs.Common.{◌≡◌, ◌≢◌, ◌<◌, ℕ, zero, suc, ◌+◌, List, [], ◌∷◌, ◌++◌, length, map, take, drop, get_or, Option, refl, ap, sym, subst, ◌∙◌, arith, append-nil}
 use Rattle.std.specs.Prelude.{All, slice_index_or}
 use Rattle.std.proofs.lemmas.List.{drop_all, length-map, length-replicate, take_all}
@@ -26,7 +26,7 @@ use Rattle.lf_floor.specs.Saving.{HasNoEntriesYet, FirstHaveNoEntriesYet, Places
 use Rattle.lf_floor_verbs.specs.Tables.{AreTables, EntriesFit, cells_in, floor_in, frame_of, own_team, padding_of, revision_of, team_with, teams_in}
 use Rattle.lf_floor.proofs.Rows.{count_teams, each_team, replicate_each, team_at}
 
--- ---- rows that were lent to be changed, in their list again
+-- ---- rows that were borrowed for a change, in their list again
 
 pub in_place : (many : ℕ) (rows left : List TeamRow) → many ≡ length rows → length left ≡ length rows → take many (left ++ drop (length left) rows) ≡ left
 in_place many rows left is same =
@@ -34,7 +34,7 @@ in_place many rows left is same =
     ∙ ap (λ (all : List TeamRow). take many all) (append-nil left)
     ∙ take_all many left (omega (arith, is, same))
 
--- ---- saved teams whose cells stand
+-- ---- saved teams whose cells are placed
 
 each_told : (teams : List TeamState) (saved : List SavedTeam) (d : TeamState) → length teams ≡ length saved
     → ((k : ℕ) → k < length saved → map saved_cell (get_or teams k d).cells ≡ (saved_at saved k).cells)
@@ -90,7 +90,7 @@ module _ (saved : List SavedTeam) (old : Tables) (are : AreTables old) (due : Ma
         ∙ ap (λ (ss : List (Option ℕ)). record { cells = now; revision = revision_of old k; entries = []; slots = ss; padding = padding_of new k }) slots_are
         ∙ ap (λ (n : ℕ). record { cells = now; revision = revision_of old k; entries = []; slots = slots_of old.sessions k; padding = n }) padding_is
 
-    -- one team more than fences
+    -- there is one team more than fences
     teams_many : length (frame_of old).teams + 1 ≡ length (frame_of new).teams + 1
     teams_many = ap (λ (f : Frame). length f.teams + 1) (sym placed.frame)
 
@@ -160,7 +160,7 @@ module _ (saved : List SavedTeam) (old : Tables) (are : AreTables old) (due : Ma
         ∙ same_restored k less
         ∙ sym (ap (λ (s : TeamState). restored_team s (saved_at saved k)) (team_at old k d (subst (λ (n : ℕ). k < n) long less))))
 
-    -- what is restored of the placed cells is restored of those before
+    -- restoring the teams with placed cells gives the same floor as restoring the old ones
     pub floor_placed : (floor : FloorState) → floor ≡ restored (floor_in new) saved → floor ≡ restored (floor_in old) saved
     floor_placed floor is =
         is
@@ -168,7 +168,7 @@ module _ (saved : List SavedTeam) (old : Tables) (are : AreTables old) (due : Ma
         ∙ ap (λ (cs : List (List ℕ)). floor_of (frame_of old) cs (map_two restored_team (teams_in new) saved)) placed.cells.components
         ∙ ap (floor_of (frame_of old) old.placement.cells.components) same_teams
 
-    -- the saved teams are those that are left of them, with the cells as they stand
+    -- the saved teams without cells, with the cells of the tables, are the saved teams
     pub still_told : saved_teams_at new (map without_cells saved) ≡ saved
     still_told =
         let d = own_team 0 old in
@@ -178,7 +178,7 @@ module _ (saved : List SavedTeam) (old : Tables) (are : AreTables old) (due : Ma
         ∙ saved_restored (cells_in k old) (saved_at saved k).cells (as_many k less))
 
     module _ (rows left : List TeamRow) (same : rows ≡ left) (emptied : team_views left ≡ map without_cells saved) where
-      -- so do the rows that are left of them
+      -- the same for the remaining rows
       pub rows_told : saved_teams_at new (team_views rows) ≡ saved
       rows_told = ap (λ (l : List TeamRow). saved_teams_at new (team_views l)) same ∙ ap (saved_teams_at new) emptied ∙ still_told
 
@@ -188,7 +188,7 @@ module _ (saved : List SavedTeam) (old : Tables) (are : AreTables old) (due : Ma
           ap (λ (l : List TeamRow). length l) same ∙ sym (length-map left team_view) ∙ ap (λ (l : List SavedTeam). length l) emptied
           ∙ length-map saved without_cells ∙ sym new_many
 
--- ---- one team after the other gets its entries
+-- ---- the teams get their entries one after another
 
 pub still_awaits : (other : ℕ) (before after : List ℕ) (old mid new : Tables) → mid.placement.cells ≡ old.placement.cells
     → stack_of mid.undo other ≡ stack_of old.undo other → new.placement ≡ mid.placement → new.undo ≡ mid.undo
@@ -202,7 +202,7 @@ still_awaits other before after old mid new cells stack placement undo bounds aw
       (bounds (places_of (cells_in other old)) awaits.bounds));
 }
 
--- the teams before the last one await theirs still
+-- the teams up to the last one have no entries yet
 pub rest_awaits : (count more : ℕ) (before after : List ℕ) (old new : Tables) → more ≡ count + 1 → FirstHaveNoEntriesYet more before old
     → ((other : ℕ) → other ≢ count → HasNoEntriesYet other before old → HasNoEntriesYet other after new) → FirstHaveNoEntriesYet count after new
 rest_awaits count more before after old new is each stay = λ k less.

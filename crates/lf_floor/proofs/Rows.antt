@@ -1,4 +1,4 @@
--- The teams of a floor, whose parts stand in tables of all teams.
+-- The teams of a floor, whose parts are in tables of all teams.
 use Rattle.std.proofs.Common.{◌≡◌, ◌≢◌, ◌<◌, ℕ, zero, suc, ◌+◌, List, [], length, map, set, get_or, Option, Some, None, ⊎_elim, refl, ap, sym, ◌∙◌, zero-add, subst}
 use Rattle.std.specs.Prelude.{◌↔◌, slice_get, slice_set, slice_index_or, replicate, option_and_then, All}
 use Rattle.std.specs.List.{range_with_len}
@@ -43,13 +43,13 @@ team_there tables k within =
     slice_get_read (teams_in tables) (length tables.revisions.items) k (own_team k tables) (sym (count_teams tables)) within
     (sym (team_at tables k (own_team k tables) within))
 
--- what holds of all teams holds of each
+-- a fact on all teams holds for each
 pub each_team : (P : TeamState → Type 0) (tables : Tables) (k : ℕ) → All P (teams_in tables) → k < length tables.revisions.items → P (own_team k tables)
 each_team P tables k all within =
     let t = own_team k tables in
     subst P (team_at tables k t within) (all k t (rw (count_teams tables) within))
 
--- if the other teams stay, one team alone has changed
+-- if the other teams are unchanged, only one team has changed
 pub one_changed : (old new : Tables) (k : ℕ) → KeepsOtherTeams k old new → teams_in new ≡ slice_set (teams_in old) k (own_team k new)
 one_changed old new k others =
     let here : TeamState = own_team k new in
@@ -67,7 +67,7 @@ one_changed old new k others =
         (λ (differ : i ≢ k). get_or-set_other (teams_in old) k i (own_team k new) here differ ∙ team_at old i here there ∙ sym (others.teams i differ))
         (cases_eq i k)
 
--- what is seen of a team of that number is what is seen of its cells
+-- a view of the cells of the team of that number is a view of its cells in the tables
 pub cells_seen : {Y : Type 0} (F : List Cell → Option Y) (tables : Tables) (view : FloorState) (team : List ℕ) (number : ℕ)
     → floor_in tables ≡ view → Some number ≡ team_number (frame_of tables) team → number < length tables.revisions.items
     → option_and_then (λ (s : TeamState). F s.cells) (state_of view team) ≡ F (cells_in number tables)
@@ -88,7 +88,7 @@ served tables number are within = record {
   fit = are.fit number;
 }
 
--- where the team's entries fit, and the others have not changed, all fit
+-- if the team's entries fit and the other teams are unchanged, all entries fit
 pub all_fit : (number : ℕ) (old new : Tables) → KeepsOtherTeams number old new → ((other : ℕ) → EntriesFit other old) → EntriesFit number new
     → (other : ℕ) → EntriesFit other new
 all_fit number old new others fit own other = ⊎_elim
@@ -96,7 +96,7 @@ all_fit number old new others fit own other = ⊎_elim
     (λ (differ : other ≢ number). entries_stay other old new others.ground (others.teams other differ) (fit other))
     (cases_eq other number)
 
--- the floor, where one team alone has changed
+-- the floor after a change of one team alone
 pub floor_changed : (old new : Tables) (k : ℕ) → KeepsOtherTeams k old new
     → floor_in new ≡ floor_of (frame_of old) old.placement.cells.components (slice_set (teams_in old) k (own_team k new))
 floor_changed old new k others =
@@ -122,7 +122,7 @@ tables_still old new k others are own fit =
       fit = all_fit k old new others are.fit fit;
     }
 
--- ---- the teams of a design as it is loaded
+-- ---- the teams of a design as loaded
 
 pub replicate_each : (n k : ℕ) → get_or (replicate {A = List (List Move)} n []) k [] ≡ []
 replicate_each zero k = refl
@@ -156,7 +156,7 @@ module _ (design : Loaded) (tables : Tables) (opens : AreInitial design tables) 
       ∙ ap (λ (ss : List (Option ℕ)). record { cells = own_cells k design.cells; revision = 0; entries = []; slots = ss; padding = padding_of tables k }) slots
       ∙ ap (λ (n : ℕ). record { cells = own_cells k design.cells; revision = 0; entries = []; slots = replicate design.frame.limits.sessions None; padding = n }) padding
 
-  -- the tables that are built of a design give its opening teams
+  -- the tables built from a design have its first teams
   pub opened_teams : teams_in tables ≡ initial_teams design 0 count
   opened_teams =
       let d = initial_team design 0 in

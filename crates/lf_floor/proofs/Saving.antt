@@ -1,4 +1,4 @@
--- What is told of a floor's tables, and tables whose teams are restored.
+-- The saved state of a floor's tables, and tables whose teams are restored.
 use Rattle.std.proofs.Common.{◌≡◌, ◌≢◌, ◌<◌, ◌≤◌, ℕ, zero, suc, ◌+◌, List, [], ◌∷◌, ◌++◌, length, map, take, drop, set, get_or, Option, Some, None, Result, Ok, Err, refl, ap, sym, subst, ◌∙◌, arith, append-nil, zero-add}
 use Rattle.std.specs.Prelude.{◌↔◌, All, IfOk, option_map, slice_get, slice_index_or, slice_set}
 use Rattle.std.specs.List.{AllByRecursion, range_with_len}
@@ -65,7 +65,7 @@ past_end [] k d past = refl
 past_end (x ∷ xs) zero d past = absurd (omega (arith, past))
 past_end (x ∷ xs) (suc k) d past = past_end xs k d (omega (arith, past))
 
--- one name for each fence, and one for the ground
+-- there is one name for each fence, and one for the ground team
 pub names_many : (f : Frame) → length (team_names f) ≡ length f.teams + 1
 names_many f = length-append (map (λ (t : Team). t.name) f.teams) (ground_name ∷ []) ∙ ap (λ (n : ℕ). n + 1) (length-map f.teams (λ (t : Team). t.name))
 
@@ -89,7 +89,7 @@ module _ (tables : Tables) (are : AreTables tables) where
   none_named k past =
       ap (λ (t : NamedTeam). t.cells) (past_end (named (floor_in tables)).teams k record { name = []; cells = [] } (subst (λ (n : ℕ). n ≤ k) (sym named_many) past))
 
--- ---- what is told
+-- ---- saved teams
 
 pub told_many : (tables : Tables) → length (saved_teams_of tables) ≡ length tables.revisions.items
 told_many tables = length-map-range_with_len (λ (number : ℕ). saved_team_of number tables) 0 (length tables.revisions.items)
@@ -102,7 +102,7 @@ told_at tables k less =
 pub one_told : (tables : Tables) (k : ℕ) → k < length (saved_teams_of tables) → saved_at (saved_teams_of tables) k ≡ saved_team_of k tables
 one_told tables k less = told_at tables k (subst (λ (n : ℕ). k < n) (told_many tables) less)
 
--- a team that is told of has an undo stack
+-- a saved team has an undo stack
 pub there_told : (tables : Tables) → AreTables tables → (k : ℕ) → k < length (saved_teams_of tables) → k < length tables.undo.lists
 there_told tables are k less = subst (λ (n : ℕ). k < n) (told_many tables ∙ are.revisions ∙ sym are.undo) less
 
@@ -132,7 +132,7 @@ tables_told tables are few range =
 all_of : {X : Type 0} (P Q : X → Type 0) → ((x : X) → P x → Q x) → (xs : List X) → AllByRecursion P xs → All Q xs
 all_of P Q weaker xs all = All-weaker P Q weaker xs (All-from_recursion P xs all)
 
--- each move that is told names a cell
+-- each saved move names a cell
 pub own_cells : (cells n : ℕ) (entries : List (List Move)) → n ≡ cells → AllByRecursion (λ moves. AllByRecursion (λ m. m.own < n) moves) entries
     → All (λ moves. All (λ m. m.own < cells) moves) entries
 own_cells cells n entries is own =
@@ -214,7 +214,7 @@ module _ (k : ℕ) (old new : Tables) (mid : Tables) (revision padding : ℕ) (s
 
 -- ---- all teams
 
--- what is left to restore makes the whole of what is so far
+-- restoring the remaining teams completes the restored floor
 pub record AreLeft (start now : Tables) (all left : List SavedTeam) : Type 0 where
   pub tables : AreTables now
   pub frame : frame_of now ≡ frame_of start
@@ -245,7 +245,7 @@ first_left tables saved are due many = record {
       ∙ append-nil (map_two restored_team (teams_in tables) saved);
 }
 
--- the last one that is left
+-- the last of the remaining teams
 module _ (start now : Tables) (all rest left : List SavedTeam) (t : SavedTeam) (so_far : AreLeft start now all left) (is : left ≡ rest ++ t ∷ []) where
   long : length left ≡ length rest + 1
   long = ap (λ (l : List SavedTeam). length l) is ∙ length-append rest (t ∷ [])
@@ -299,7 +299,7 @@ module _ (start now : Tables) (all rest left : List SavedTeam) (t : SavedTeam) (
             ∙ so_far.whole;
       }
 
-  -- the same of its number
+  -- the team of that number is served
   pub number_served : (k : ℕ) → k ≡ length rest → IsServed k now
   number_served k at = subst (λ (n : ℕ). IsServed n now) (sym at) last_served
 
@@ -326,9 +326,9 @@ all_left start now all left so_far none =
     ∙ ap (λ (cs : List (List ℕ)). floor_of (frame_of start) cs (teams_in now)) so_far.components
     ∙ ap (floor_of (frame_of start) start.placement.cells.components) whole
 
--- ---- what was read
+-- ---- saved teams that were read
 
--- each team that was read is one of the floor's
+-- each team that was read is a team of the floor
 due_of : (tables : Tables) → AreTables tables → (saved : List SavedTeam) → AreOf (named (floor_in tables)) saved → MatchDesign (frame_of tables).limits (teams_in tables) saved
 due_of tables are saved of = all_due (frame_of tables).limits (team_names (frame_of tables)) (teams_in tables) saved (as_many tables are) of
 
@@ -350,13 +350,13 @@ pub no_views : (rows : List TeamRow) → length rows ≤ 0 → team_views rows �
 no_views [] few = refl
 no_views (r ∷ rows) few = absurd (omega (arith, few))
 
--- what is restored is of the design
+-- the restored floor has the same design
 pub of_design : (start now : Tables) (saved : List SavedTeam) → MatchDesign (frame_of start).limits (teams_in start) saved → floor_in now ≡ restored (floor_in start) saved
     → ShareDesign (floor_in start) (floor_in now)
 of_design start now saved due is =
     subst (λ (f : FloorState). ShareDesign (floor_in start) f) (sym is) (still_of_design (floor_in start) saved due)
 
--- ---- what a text says
+-- ---- the contents of a text
 
 same_ok : {X E : Type 0} {x y : X} → ◌≡◌ {A = Result X E} (Ok x) (Ok y) → x ≡ y
 same_ok e = cc

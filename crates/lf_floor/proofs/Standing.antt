@@ -1,4 +1,4 @@
--- Teams whose cells stand already, restored one after the other, from the last to the first.
+-- Teams whose cells are placed already, restored one after another, from the last to the first.
 use Rattle.std.proofs.Common.{◌≡◌, ◌<◌, ◌≤◌, ℕ, suc, ◌+◌, List, [], ◌∷◌, ◌++◌, length, map, get_or, refl, ap, sym, subst, ◌∙◌, arith}
 use Rattle.std.proofs.lemmas.List.{length-append}
 use Rattle.lf_cells.specs.Cells.{Cells, cells_of}
@@ -29,13 +29,13 @@ standing_last (s ∷ u ∷ teams) [] t d less = refl
 standing_last (s ∷ teams) (r ∷ rest) t d less =
     ap (λ (l : List SavedTeam). saved_team_at s r ∷ l) (standing_last teams rest t d (omega (arith, less)))
 
--- the last team of those that are left
+-- the last of the remaining teams
 module _ (start now : Tables) (all left rest : List SavedTeam) (t : SavedTeam) (k : ℕ) (is : left ≡ rest ++ t ∷ []) (at : k ≡ length rest)
     (few : length left ≤ length (teams_in start)) (cells : now.placement.cells ≡ start.placement.cells) (so_far : AreLeft start now all (saved_teams_at start left)) where
   long : length left ≡ length rest + 1
   long = ap (λ (l : List SavedTeam). length l) is ∙ length-append rest (t ∷ [])
 
-  -- as it stood at the start
+  -- the saved team with the cells of the start
   abbrev stood : SavedTeam
   stood = saved_team_at (own_team k start) t
 
@@ -50,7 +50,7 @@ module _ (start now : Tables) (all left rest : List SavedTeam) (t : SavedTeam) (
   number_is : k ≡ length (saved_teams_at start rest)
   number_is = at ∙ sym (standing_many (teams_in start) rest (omega (arith, few, long)))
 
-  -- it stands so still
+  -- its cells are unchanged
   same : saved_team_at (own_team k now) t ≡ stood
   same = ap (λ (cs : Cells). record t { cells = map saved_cell (cells_of cs k) }) cells
 

@@ -1,4 +1,4 @@
--- Tables of a design of which no cell is placed yet, and the floor that they are.
+-- Tables of a design without placed cells, and their floor.
 use Rattle.std.proofs.Common.{◌≡◌, ◌≢◌, ◌<◌, ◌≤◌, ℕ, zero, suc, Bool, true, false, nat_lt, ◌+◌, List, [], ◌∷◌, length, map, get_or, Option, refl, ap, sym, subst, ◌∙◌, arith, zero-add}
 use Rattle.std.specs.Prelude.{All, AllPairs, slice_set, slice_index_or}
 use Rattle.std.specs.List.{range_with_len}
@@ -50,7 +50,7 @@ set_fixed (cs ∷ table) zero cells same (suc k) = refl
 set_fixed (cs ∷ table) (suc team) cells same zero = refl
 set_fixed (cs ∷ table) (suc team) cells same (suc k) = set_fixed table team cells same k
 
--- the cells of one team are changed, and stay the same
+-- the cells of one team are changed, and are still the same cells
 one_set : (old new : Cells) (team : ℕ) (cells : List Cell) → map fixed_of cells ≡ map fixed_of (cells_of old team)
     → new.cells ≡ slice_set old.cells team cells → new.components ≡ old.components → AreSameCells old new
 one_set old new team cells same is components = record {
@@ -98,7 +98,7 @@ cells_printed (c ∷ cs) (d ∷ ds) same all =
     (subst (λ (n : List ℕ). IsName n) name (All-head (λ (c : Cell). IsName c.name) d ds all))
     (cells_printed cs ds (same_tail same) (All-tail (λ (c : Cell). IsName c.name) d ds all))
 
--- a team with these cells, wherever they stand, and nothing to undo
+-- a team with these cells, wherever they are placed, and no undo entry
 team_like : (f : Frame) (s : TeamState) (cells : List Cell) → IsTeamOf f s → map fixed_of cells ≡ map fixed_of s.cells
     → IsTeamOf f record { cells = cells; revision = s.revision; entries = []; slots = s.slots; padding = s.padding }
 team_like f s cells is same = record {
@@ -120,7 +120,7 @@ past_end [] k d past = refl
 past_end (x ∷ xs) zero d past = absurd (omega (arith, past))
 past_end (x ∷ xs) (suc k) d past = past_end xs k d (omega (arith, past))
 
--- what holds of the cells that a team is loaded with, and of none, holds of the cells of each team
+-- a fact on the cells that a team is loaded with, and on no cells, holds for the cells of each team
 each_loaded : (P : List Cell → Type 0) (design : Loaded) → ((k : ℕ) → P (own_cells k design.cells)) → P [] → (team : ℕ) → P (cells_of (loaded_cells design) team)
 each_loaded P design own none team = by (nat_lt team (length design.frame.teams + 1)) refl where
   by : (b : Bool) → nat_lt team (length design.frame.teams + 1) ≡ b → P (cells_of (loaded_cells design) team)
@@ -148,7 +148,7 @@ few_bare design cells same = λ team.
 
 -- ---- all teams
 
--- teams of the same cells
+-- teams with the same cells
 fixed_each : (teams others : List TeamState) (d e : TeamState) → length teams ≡ length others
     → ((k : ℕ) → k < length others → fixed_cells (get_or teams k d) ≡ fixed_cells (get_or others k e)) → map fixed_cells teams ≡ map fixed_cells others
 fixed_each [] [] d e many each = refl
@@ -160,7 +160,7 @@ fixed_each (s ∷ ss) (u ∷ us) d e many each =
     (fixed_each ss us d e (omega (arith, many)) (λ k less. each (suc k) (omega (arith, less))))
 
 module _ (design : Loaded) (tables : Tables) (are : AreOfDesign design tables) where
-  -- the same tables with the cells as they are loaded
+  -- the same tables with the cells as loaded
   abbrev opened : Tables
   opened = record tables { placement = record tables.placement { cells = loaded_cells design } }
 

@@ -1,4 +1,4 @@
--- The tables of a design of which no cell is placed yet.
+-- The tables of a design without placed cells.
 use Rattle.std.specs.Prelude.{◌≡◌, ℕ, ◌+◌, [], None, length, map, replicate}
 use Rattle.lf_floorplan.specs.declared.loaded.Loaded.{Loaded}
 use Rattle.lf_cells.specs.Cells.{Cells, cells_of}
@@ -7,16 +7,16 @@ use Rattle.lf_state_restore.specs.Saved.{fixed_of}
 use Rattle.lf_floor_verbs.specs.declared.tables.Tables.{Tables}
 use Rattle.lf_floor_verbs.specs.Tables.{frame_of, sites_in}
 
--- the cells of each team are the same, wherever they stand
+-- the cells of each team are the same, wherever they are placed
 pub record AreSameCells (old new : Cells) : Type 0 where
   pub cells : (team : ℕ) → map fixed_of (cells_of new team) ≡ map fixed_of (cells_of old team)
   pub components : new.components ≡ old.components
 
--- the cells of a design as it is loaded
+-- the cells of a design as loaded
 abbrev pub loaded_cells : Loaded → Cells
 loaded_cells design = record { cells = initial_cells design; components = initial_components design }
 
--- the tables are those of the design as it is loaded, wherever its cells stand
+-- the tables are those of the design as loaded, wherever its cells are placed
 pub record AreOfDesign (design : Loaded) (tables : Tables) : Type 0 where
   pub frame : frame_of tables ≡ design.frame
   pub cells : AreSameCells (loaded_cells design) tables.placement.cells

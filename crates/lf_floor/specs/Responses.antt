@@ -1,4 +1,4 @@
--- Replies whose DEF text is put apart.
+-- Replies whose DEF text is written separately.
 use Rattle.std.specs.Prelude.{◌≡◌, ◌⊎◌, ℕ, ◌^◌, ◌≤◌, List, [], length, Option, Some, None}
 use Rattle.lf_floorplan.specs.declared.frame.Frame.{Frame}
 use Rattle.lf_floorplan.specs.declared.place.Place.{Place}
@@ -17,17 +17,18 @@ use Rattle.lf_floor_model.specs.Teams.{state_at, team_number}
 use Rattle.lf_floor.specs.declared.response.Response.{Response}
 use Rattle.lf_floor.specs.declared.response.Response.TheVariants.{Whole, Def as Apart}
 
--- the team that a command is to; 'bye' is to none
+-- the team of a command; bye has no team
 abbrev pub team_of : Command (List ℕ) Place → List ℕ
 team_of Bye = []
 team_of (To team order) = team
 
--- the DEF text of a team in that state, its cells at their working places; none: there is no such team
+-- the DEF text of a team in that state, with its cells at their working places; empty if there is
+-- no such team
 abbrev pub text_by : Frame → ℕ → Option TeamState → List ℕ
 text_by f number None = []
 text_by f number (Some s) = team_text f number s.cells
 
--- by the team's number
+-- the DEF text of the team of that number
 abbrev pub text_at : FloorState → Option ℕ → List ℕ
 text_at floor None = []
 text_at floor (Some number) = text_by floor.frame number (state_at floor.teams (Some number))
@@ -36,22 +37,23 @@ text_at floor (Some number) = text_by floor.frame number (state_at floor.teams (
 abbrev pub def_text : FloorState → List ℕ → List ℕ
 def_text floor team = text_at floor (team_number floor.frame team)
 
--- the reply to a command of the team of that name, of which the floor has the DEF text
+-- the reply to a command of the team of that name, with the DEF text of the floor
 abbrev pub reply_in : FloorState → List ℕ → Response → Reply
 reply_in floor team (Whole reply) = reply
 reply_in floor team (Apart length) = Def (def_text floor team)
 
--- the order asks for the team's DEF text
+-- the team's command requests its DEF text
 abbrev pub AsksForTeamText : TeamCommand (List ℕ) Place → Type 0
 AsksForTeamText (Within session AskDef) = Unit {0}
 AsksForTeamText _ = ⊥
 
--- the same of a command
+-- the command requests a DEF text
 abbrev pub AsksForText : Command (List ℕ) Place → Type 0
 AsksForText Bye = ⊥
 AsksForText (To team order) = AsksForTeamText order
 
--- a DEF text that the rules answer is the response; but one of 2^64 bytes or more, which cannot be counted, may be refused
+-- if the reply by the rules is a DEF text, the response is that text; a text of 2^64 bytes or more,
+-- which cannot be counted, may be refused
 abbrev pub RespondsWithText : FloorState → Command (List ℕ) Place → Response → Type 0
 RespondsWithText floor command response =
     (l : Legalizer) (text : List ℕ) → AsksForText command → IsAnswerOf l floor command (Def text) floor

@@ -1,4 +1,4 @@
--- What a state text tells of the tables of a floor.
+-- The contents of a state text of the tables of a floor.
 use Rattle.std.specs.Prelude.{◌≡◌, ℕ, ◌+◌, ◌<◌, List, [], Option, length, map, replicate, slice_set}
 use Rattle.std.specs.List.{range_with_len}
 use Rattle.lf_undo.specs.Stacks.{stack_of}
@@ -12,7 +12,7 @@ use Rattle.lf_floor_verbs.specs.declared.tables.Tables.{Tables}
 use Rattle.lf_floor_verbs.specs.Tables.{cells_in, frame_of, padding_of, revision_of, sites_in, teams_in}
 use Rattle.lf_sessions.specs.Slots.{slots_of}
 
--- what is told of the team of that number: of its undo entries the moves of its cells
+-- the saved team of that number; its undo entries have the moves of its cells
 abbrev pub saved_team_of : ℕ → Tables → SavedTeam
 saved_team_of number tables = record {
   revision = revision_of tables number;
@@ -22,7 +22,7 @@ saved_team_of number tables = record {
   entries = map (moves_within (length (cells_in number tables))) (stack_of tables.undo number);
 }
 
--- of all teams
+-- the saved teams
 abbrev pub saved_teams_of : Tables → List SavedTeam
 saved_teams_of tables = map (λ number. saved_team_of number tables) (range_with_len 0 (length tables.revisions.items))
 
@@ -30,7 +30,7 @@ saved_teams_of tables = map (λ number. saved_team_of number tables) (range_with
 abbrev pub state_text_of : NamedDesign × List SavedTeam → List ℕ
 state_text_of saved = state_text saved.0 saved.1
 
--- the team has these numbers and slots, and nothing else differs
+-- the team has this revision, padding and slots, and nothing else differs
 pub record HasNumbers (number revision padding : ℕ) (slots : List (Option ℕ)) (old new : Tables) : Type 0 where
   pub placement : new.placement ≡ old.placement
   pub undo : new.undo ≡ old.undo
@@ -38,7 +38,7 @@ pub record HasNumbers (number revision padding : ℕ) (slots : List (Option ℕ)
   pub revisions : new.revisions.items ≡ slice_set old.revisions.items number revision
   pub paddings : sites_in new ≡ slice_set (sites_in old) number padding
 
--- the teams' cells are where the saved teams tell, and there is nothing to undo
+-- the teams' cells are at the places of the saved teams, and there are no undo entries
 pub record PlacesTeams (saved : List SavedTeam) (old new : Tables) : Type 0 where
   pub frame : frame_of new ≡ frame_of old
   pub cells : ArePlaced saved old.placement.cells new.placement.cells
@@ -48,19 +48,19 @@ pub record PlacesTeams (saved : List SavedTeam) (old new : Tables) : Type 0 wher
   pub revisions : new.revisions ≡ old.revisions
   pub paddings : new.paddings ≡ old.paddings
 
--- the team has nothing to undo, and the tally bounds its working places
+-- the team has no undo entry, and the tally bounds its working places
 pub record HasNoEntriesYet (number : ℕ) (tally : List ℕ) (tables : Tables) : Type 0 where
   pub none : stack_of tables.undo number ≡ []
   pub bounds : BoundsAt tables.placement number (places_of (cells_in number tables)) tally
 
--- so it is for the first so many teams
+-- the same for the first count teams
 abbrev pub FirstHaveNoEntriesYet : ℕ → List ℕ → Tables → Type 0
 FirstHaveNoEntriesYet count tally tables = (number : ℕ) → number < count → HasNoEntriesYet number tally tables
 
--- the saved team with the team's cells as they stand: it tells all else of the team
+-- the saved team with the present places of the team's cells; the rest is the saved team's
 abbrev pub saved_team_at : TeamState → SavedTeam → SavedTeam
 saved_team_at s t = record t { cells = map saved_cell s.cells }
 
--- so it is for each team of the tables
+-- the same for each team of the tables
 abbrev pub saved_teams_at : Tables → List SavedTeam → List SavedTeam
 saved_teams_at tables saved = map_two saved_team_at (teams_in tables) saved

@@ -21,7 +21,9 @@ fn committed_entry(cells: &CellTable, id: CellId) -> (usize, Option<Place>)
     }
 }
 
-/// Those of all cells, in loading order.
+/// Returns the entries and committed places of all cells, in loading order.
+///
+/// `Err` if an allocation fails.
 pub(crate) fn all_committed(
     alloc: Global,
     cells: &CellTable,
@@ -36,9 +38,10 @@ pub(crate) fn all_committed(
     Ok(places)
 }
 
-/// The committed places of all cells, in loading order, which are looked up one by one.
+/// The committed places of all cells, in loading order, looked up one by one.
 ///
-/// Contracts see the list: the position of each cell's entry among all COMPONENTS of the DEF text, and its committed place.
+/// Contracts see the list: the position of each cell's entry among all COMPONENTS of the DEF text,
+/// and its committed place.
 #[derive(Drop)]
 pub struct CommittedPlaces<'a> {
     cells: &'a CellTable,
@@ -58,7 +61,7 @@ impl<'a> Model for CommittedPlaces<'a> {
     ghost invariant = { λ p. AreAllIds p.cells.now p.ids.now };
 }
 
-/// Those of the cells.
+/// The committed places of the cells of the table.
 pub(crate) fn committed_of(cells: &CellTable) -> CommittedPlaces<'_>
     ensures { (ids : List CellId) × AreAllIds cells.now ids × (result ≡ map (committed_entry cells.now) ids) }
 {
@@ -68,7 +71,7 @@ pub(crate) fn committed_of(cells: &CellTable) -> CommittedPlaces<'_>
     }
 }
 
-/// The entry of the cell at that position of the list.
+/// Returns the list's element at that position.
 fn entry_at(cells: &CellTable, ids: &[CellId], at: usize) -> Option<(usize, Option<Place>)>
     requires { AreAllIds cells.now ids.now }
     ensures { result ≡ slice_get (map (committed_entry cells.now) ids.now) at }
@@ -80,14 +83,14 @@ fn entry_at(cells: &CellTable, ids: &[CellId], at: usize) -> Option<(usize, Opti
 }
 
 impl<'a> CommittedPlaces<'a> {
-    /// How many cells there are.
+    /// Returns the number of cells.
     pub fn len(&self) -> usize
         ensures { result ≡ length self.now }
     {
         self.ids.len()
     }
 
-    /// The one at this position in the list; none behind the last.
+    /// Returns the element at this position of the list. `None` if the position is `len` or more.
     pub fn at(&self, at: usize) -> Option<(usize, Option<Place>)>
         ensures { result ≡ slice_get self.now at }
     {

@@ -31,15 +31,18 @@ use lf_rules::{legal_in_range, legalizer_exists};
 use std::alloc::{AllocError, Global};
 use std::marker::Model;
 
-/// The teams of a design in their common frame: the fence teams in the frame's order, then `-`,
-/// the team of the ground outside all fences.
+/// The teams of a design in their common frame: the fence teams in the frame's order, then `-`, the
+/// ground team outside all fences.
 ///
 /// Contracts see the frame, each team's state and the positions of the cells' entries among all
-/// COMPONENTS: the search for best places plays no part in the replies.
+/// COMPONENTS. The replies do not depend on how best places are searched for.
 ///
-/// A floor keeps of each team that the names of its cells differ and are names of a text, that there are
-/// no more undo entries and revisions than the limits allow, that each undo entry has a place for each
-/// cell, and that no session has seen a later revision than the team's.
+/// A floor guarantees of each team:
+///
+/// - The names of its cells differ and are names of a text.
+/// - The numbers of undo entries and revisions are within the limits.
+/// - Each undo entry has a place for each cell.
+/// - No session has seen a revision above the team's.
 #[derive(Drop)]
 pub struct Floor<S: Seeker> {
     pub(crate) alloc: Global,
@@ -58,15 +61,15 @@ impl<S: Seeker> Model for Floor<S> {
     ghost invariant = { λ f. AreTables f.tables };
 }
 
-/// Whether this is the name of the team outside all fences.
+/// Returns true if this is the name of the team outside all fences.
 fn is_outside(name: &[u8]) -> bool
     ensures { result ≡ bytes_eq ground_name name.now }
 {
     matches!(name, [b'-'])
 }
 
-/// The number of the team of that name: the fence teams in the frame's order, then the one
-/// named `-`.
+/// Returns the number of the team of that name: the fence teams in the frame's order, then the one
+/// named `-`. `None` if no team has the name.
 pub(crate) fn team_with_name(frame: &Frame, name: &[u8]) -> Option<usize>
     ensures found { result ≡ team_number frame.now name.now }
     ensures within { IfSome result (λ number. number < length frame.now.teams + 1) }
@@ -82,7 +85,7 @@ pub(crate) fn team_with_name(frame: &Frame, name: &[u8]) -> Option<usize>
     }
 }
 
-/// The number of the fence of that name.
+/// Returns the number of the fence of that name. `None` if no fence has the name.
 fn fence_named(frame: &Frame, name: &[u8]) -> Option<usize>
     ensures found { result ≡ position (λ t. bytes_eq t.name name.now) frame.now.teams }
     ensures within { IfSome result (λ number. number < length frame.now.teams) }
@@ -94,7 +97,9 @@ fn fence_named(frame: &Frame, name: &[u8]) -> Option<usize>
         .position(|team| team.name.is(name))
 }
 
-/// Answers an order to the team of that number, unless an allocation fails.
+/// Runs a command of the team of that number.
+///
+/// `Err` if an allocation fails; then the floor is unchanged.
 fn run_team_command<S: Seeker>(
     alloc: Global,
     seeker: &S,
@@ -124,7 +129,7 @@ fn run_team_command<S: Seeker>(
     tables.run_command(&around, order)
 }
 
-/// Appends a reply, if there is room.
+/// Appends a reply, for which there is room.
 fn push_within(replies: &mut Vec<Reply>, reply: Reply)
     requires { vec_len replies.old < vec_capacity replies.old }
     ensures items { replies.new.items ≡ replies.old.items ++ reply ∷ [] }
@@ -137,9 +142,10 @@ fn push_within(replies: &mut Vec<Reply>, reply: Reply)
 }
 
 impl<S: Seeker + Drop> Floor<S> {
-    /// The floor of a design as it is loaded: each team has its own cells at their places in the
-    /// DEF text and committed there, at revision 0, with nothing to undo and no session open. `seeker` is
-    /// the search for best places. The committed design is fully legal iff the loaded design is.
+    /// Makes the floor of a design as loaded. Each team has its own cells at their places in the
+    /// DEF text, which are committed. Its revision is 0, it has no undo entry and no open session.
+    /// `seeker` is the search for best places. The committed design is fully legal if and only if
+    /// the loaded design is.
     ///
     /// `Err` if an allocation fails; the design and the seeker are then dropped.
     pub fn start(alloc: Global, loaded: Loaded, seeker: S) -> Result<Floor<S>, AllocError>
@@ -155,9 +161,10 @@ impl<S: Seeker + Drop> Floor<S> {
         })
     }
 
-    /// The working place of the team's cell of that position in loading order, the first at 0.
+    /// Returns the working place of the team's cell at that position in loading order, the first at
+    /// 0.
     ///
-    /// None if the cell is unplaced, the team has no such cell, or there is no such team.
+    /// `None` if the cell is unplaced, the team has no such cell, or there is no such team.
     pub fn place_of(&self, team: &[u8], own: usize) -> Option<Place>
         ensures { result ≡ option_and_then (λ s. working_at s.cells own) (state_of self.now team.now) }
     {
@@ -165,10 +172,10 @@ impl<S: Seeker + Drop> Floor<S> {
         self.tables.working(self.tables.cell_at(number, own)?)
     }
 
-    /// The name of the team's cell of that position in loading order, the first at 0. Replies name
-    /// cells by their positions. It is a name of a text.
+    /// Returns the name of the team's cell at that position in loading order, the first at 0.
+    /// Replies name cells by these positions. The name is a name of a text.
     ///
-    /// None if the team has no such cell, or there is no such team.
+    /// `None` if the team has no such cell, or there is no such team.
     pub fn name_of(&self, team: &[u8], own: usize) -> Option<&[u8]>
         ensures name { option_map (λ name. name.now) result ≡ option_and_then (λ s. name_at s.cells own) (state_of self.now team.now) }
         ensures printed { IfSome result (λ name. IsName name.now) }
@@ -178,8 +185,9 @@ impl<S: Seeker + Drop> Floor<S> {
         Some(self.tables.placement.cells().cell(id)?.name)
     }
 
-    /// All movable components: the positions of their entries among all COMPONENTS of the DEF text,
-    /// in rising order, each with the committed place of its cell; none if that is unplaced.
+    /// Returns all movable components: the positions of their entries among all COMPONENTS of the
+    /// DEF text, ascending, each with the committed place of its cell. The place is `None` if the
+    /// cell has no committed place.
     ///
     /// `Err` if an allocation fails.
     pub fn committed_places(&self) -> Result<Vec<(usize, Option<Place>)>, AllocError>
@@ -188,18 +196,19 @@ impl<S: Seeker + Drop> Floor<S> {
         all_committed(self.alloc, self.tables.placement.cells())
     }
 
-    /// The same list, of which nothing is made: its places are looked up one by one.
+    /// The same list, without allocating: its places are looked up one by one.
     pub fn committed(&self) -> CommittedPlaces<'_>
         ensures { AreCommittedPlaces self.now result }
     {
         committed_of(self.tables.placement.cells())
     }
 
-    /// Each team of a floor is one of its frame, whatever commands came before: its cells' macros and names, and the
-    /// numbers of its cells, session slots, undo entries and revisions, are within the frame's bounds, and no session has
-    /// seen a later revision than the team's.
+    /// A law: each team of a floor is a team of its frame, whatever commands the floor has run. Its
+    /// cells' macros and names, and the numbers of its cells, session slots, undo entries and
+    /// revisions, are within the frame's limits. No session has seen a revision above the team's.
     ///
-    /// The laws on runs ask this of the floor before them (as `run_stays_legal` does): call this first.
+    /// The laws on runs require this of the floor at the start, as `run_stays_legal` does. Call
+    /// this before them.
     pub fn teams_match_frame(&self)
         ensures { All (λ s. IsTeamOf self.now.frame s) self.now.teams }
     {
@@ -208,7 +217,9 @@ impl<S: Seeker + Drop> Floor<S> {
 }
 
 impl<S: Seeker + Drop> Floor<S> {
-    /// Answers one command, unless an allocation fails.
+    /// Runs one command.
+    ///
+    /// `Err` if an allocation fails; then the floor is unchanged.
     fn try_step(&mut self, request: &Request) -> Result<Reply, AllocError>
         ensures ok { (l : Legalizer) → IfOk result (λ reply. IsAnswerOf l self.old (command_of request.now) reply self.new) }
         ensures err { (l : Legalizer) → OnErr result (MayRunOutOfMemory l self.old (command_of request.now) self.new) }
@@ -224,15 +235,18 @@ impl<S: Seeker + Drop> Floor<S> {
         }
     }
 
-    /// Answers one command by the rules (`Step` of `lf_floor_model`): the team that it names answers by its own
-    /// state alone, and no other team changes, nor does the frame, nor the positions of components.
+    /// Runs one command by the rules (`Step` of `lf_floor_model`). The reply depends on the state
+    /// of the named team alone. No other team changes, nor the frame, nor the positions of
+    /// components.
     ///
-    /// `NoTeam` comes before any refusal of a team. `OutOfMemory` only replaces the reply to an accepted
-    /// change, a broken rule, a best place, the lack of one, a report or a DEF text, and never that to
-    /// an undo or a pad, nor to a place that breaks a rule; the floor is then unchanged. A refusal leaves the whole floor unchanged; after an
-    /// accepted place or legalize the cell is team-legal, after
-    /// a swap both cells are, and after a tidy or a commit every cell of the team. A committed design
-    /// that is fully legal stays so after any command.
+    /// `NoTeam` comes before all refusals of a team. A refusal leaves the whole floor unchanged.
+    /// `OutOfMemory` replaces only the reply to an accepted change, a broken rule, a best place or
+    /// the lack of one, a report or a DEF text. It never replaces the reply to an undo or a pad,
+    /// nor to a place that breaks a rule.
+    ///
+    /// After an accepted place or legalize the cell is team-legal, after a swap both cells are, and
+    /// after a tidy or a commit every cell of the team is. A fully legal committed design stays so
+    /// after any command.
     pub fn step(&mut self, request: &Request) -> Reply
         ensures step { (l : Legalizer) → Step l self.old (command_of request.now) result self.new }
         ensures others { (team : List ℕ) → ¬ IsTo team (command_of request.now) → state_of self.new team ≡ state_of self.old team }
@@ -255,19 +269,19 @@ impl<S: Seeker + Drop> Floor<S> {
         }
     }
 
-    /// Answers requests in order, each as `step` does, with one reply to each. Each team's replies and its
-    /// last state are those of its own requests alone, one after the other.
+    /// Runs requests in order, each as `step` does, with one reply to each. Each team's replies and
+    /// its last state are those of its own requests alone, run in order.
     ///
-    /// A committed design that is fully legal is so after each of them; one that was not is fully
-    /// legal at the end if of each team that has a cell a commit was accepted. A commit that is a
-    /// team's next accepted change after a tidy is never refused for a cell.
+    /// A fully legal committed design is so after each of them. Otherwise it is fully legal at the
+    /// end if a commit of each team that has a cell was accepted. A commit that is a team's next
+    /// accepted change after a tidy is never refused for a cell.
     ///
-    /// Any requests that were refused (`OutOfMemory` included) and any looks (bye, check, def, where, find) may be left
-    /// out: the others, run from the same floor, end in the same floor with the replies that they had. With all of these
-    /// left out, what is left is a whole backup: run again from the same floor, with memory for each request, it ends in this one.
+    /// Refused requests (`OutOfMemory` included) and queries (bye, check, def, where, find) may be
+    /// left out. The remaining requests, run from the same floor, get the same replies and end in
+    /// the same floor. Without all of those, the remaining requests are a complete backup: run from
+    /// the same floor, with memory for each request, they end in this floor.
     ///
-    /// Memory for all replies is allocated first: `Err` if that fails, and then no request was
-    /// answered.
+    /// Memory for all replies is allocated first. `Err` if that fails; then no request was run.
     pub fn run(&mut self, requests: &RequestList) -> Result<Vec<Reply>, AllocError>
         ensures run { (l : Legalizer) → IfOk result (λ replies. Run l self.old requests.now replies.items self.new) }
         ensures isolated { (l : Legalizer) → IfOk result (λ replies. IsIsolated l self.old requests.now replies.items self.new) }

@@ -1,24 +1,42 @@
-//! The floor of all teams: a step for each command, and runs of many.
+//! The teams of a design on one floor: a step for each command, runs of many, saving and restoring.
 //!
-//! A floor is made of a loaded design. Each of its teams has its own cells, revision, undo entries, session slots and padding, and
-//! what other teams have and send plays no part in its replies. `step` answers one command, `respond` the same without making a DEF
-//! text, and `run` a list of them; the laws of `lf_floor_model` on runs are named here again, and `lf_proto` as `proto`.
+//! A `Floor` is made from a loaded design. Each of its teams has its own cells, revision, undo
+//! entries, session slots and padding. A team's replies do not depend on other teams. `step` runs
+//! one command, `respond` does so without making a DEF text, and `run` runs a list of commands. The
+//! laws of `lf_floor_model` are exported here too, and `lf_proto` as `proto`.
 //!
-//! Contracts see of a `Floor` its frame, the state of each team, and the positions of its cells' entries among all COMPONENTS of the
-//! DEF text: not how best places are searched for. The *committed design* is the cells of all teams at their committed places. Once
-//! it is fully legal, it stays so whatever is asked.
+//! Contracts see of a `Floor` its frame, the state of each team, and the positions of its cells'
+//! entries among all COMPONENTS of the DEF text. They do not see how best places are searched for.
+//! The *committed design* has the cells of all teams at their committed places. Once it is fully
+//! legal, it stays so after every command.
 //!
-//! `restore` brings a floor into the state of a state text. Where the text is large, `read_state_chunks` reads its rows of a floor on which
-//! no cell is placed (`start_unplaced`), piece by piece, and `restore_saved` restores them.
+//! `restore` brings a floor into the state of a state text. For large texts, `start_unplaced` makes
+//! a floor without placed cells, `read_state_chunks` reads the rows from the text in chunks, and
+//! `restore_saved` restores them.
+//!
+//! Used by `lf_repair_team`, `lf_repair_report`, `lf_server`, `lf_task_files`, `lf_task_serve` and
+//! `lf_task_repair`.
+//!
+//! Modules, in reading order:
+//!
+//! - `floor`: the floor, its steps and runs
+//! - `committed`: the committed places of all cells
+//! - `queries`: queries of teams by their numbers
+//! - `response`: replies whose DEF text is written separately
+//! - `state_view`: a floor as the contents of a state text
+//! - `snapshot`: the saved state of a floor as a value
+//! - `start_unplaced`: the floor of a design without placed cells
+//! - `restore`: floors restored from state texts
+//!
+//! From `crates/lf_tests_floor/src/floors.rt`:
 //!
 //! ```
-//! let mut floor = Floor::start(alloc, loaded, seeker)?;
-//! let reply = floor.step(&parse_line(b"open A")?);
-//! let replies = floor.run(&requests)?;
+//! let replies = floor.run(&requests(alloc)?)?;
+//! text_of(alloc, &replies)
 //! ```
 #![tactic(auto)]
 
-/// Requests and replies, which the floor's calls take and return.
+/// Requests and replies, the arguments and results of the floor's methods.
 pub use lf_proto as proto;
 
 mod committed;

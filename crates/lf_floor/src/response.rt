@@ -1,4 +1,4 @@
-//! Replies whose DEF text is put apart, piece by piece.
+//! Replies whose DEF text is written separately, piece by piece.
 
 ghost use Rattle.std.specs.Prelude.{◌≡◌, IfNone, IfSome, List, ℕ, length};
 ghost use Rattle.lf_rules.specs.Legalizer.{Legalizer};
@@ -19,16 +19,17 @@ use lf_legalize::Seeker;
 use lf_proto::{Action, Command, Refusal, Reply, Request, TeamCommand};
 use lf_team_def::{Output, team_def_length, write_team_def};
 
-/// The reply to a request, but for a DEF text, of which it has the length.
+/// The reply to a request; of a DEF text it has the length alone.
 #[derive(Drop)]
 pub enum Response {
     /// The reply.
     Whole(Reply),
-    /// The DEF text of the team that was asked, of so many bytes: `Floor::write_def` puts it.
+    /// The DEF text of the requested team, with its length in bytes; `Floor::write_def` writes it.
     Def(usize),
 }
 
-/// The session for which the order asks for the team's DEF text, if it does.
+/// Returns the session that requests the team's DEF text by this command. `None` if the command
+/// does not request it.
 fn def_session(order: &TeamCommand<&[u8]>) -> Option<u32>
     ensures is { IfSome result (λ session. order_of order.now ≡ Within session AskDef) }
     ensures none { IfNone result (AsksForTeamText (order_of order.now) → ⊥) }
@@ -43,8 +44,8 @@ fn def_session(order: &TeamCommand<&[u8]>) -> Option<u32>
 }
 
 impl<S: Seeker + Drop> Floor<S> {
-    /// Puts the DEF text of the team of that name, its cells at their working places, and takes no memory. Nothing is put
-    /// if there is no such team.
+    /// Writes the DEF text of the team of that name, with its cells at their working places. Writes
+    /// nothing if no team has the name. Does not allocate.
     pub fn write_def<O: Output>(&self, team: &[u8], out: &mut O)
         ensures { PutsText O.took out.old out.new (def_text self.now team.now) }
     {
@@ -59,7 +60,7 @@ impl<S: Seeker + Drop> Floor<S> {
         );
     }
 
-    /// How many bytes that text has; none just if they are 2^64 or more.
+    /// Returns the length of that text in bytes. `None` only if it has 2^64 bytes or more.
     fn def_length(&self, team: &[u8]) -> Option<usize>
         ensures { IsLengthOf (def_text self.now team.now) result }
     {
@@ -73,7 +74,8 @@ impl<S: Seeker + Drop> Floor<S> {
         )
     }
 
-    /// The team of which the request asks for the DEF text, if that is its reply.
+    /// Returns the team whose DEF text is the reply to the request. `None` if the reply is not a
+    /// DEF text.
     fn def_asked<'a>(&self, request: &Request<'a>) -> Option<&'a [u8]>
         ensures asked { (l : Legalizer) → IfSome result (λ team. IsAnswerOf l self.now (command_of request.now) (Def (def_text self.now team.now)) self.now) }
         ensures team { IfSome result (λ team. team.now ≡ team_of (command_of request.now)) }
@@ -91,8 +93,9 @@ impl<S: Seeker + Drop> Floor<S> {
         Some(*team)
     }
 
-    /// Answers one command as `step` does, but that no DEF text is made: the floor is not changed by that command, so its text
-    /// can be put as long as no other is answered. A DEF text is never answered `OutOfMemory`, unless it has 2^64 bytes or more.
+    /// Runs one command as `step` does, but makes no DEF text. A command for a DEF text does not
+    /// change the floor: its text can be written until the next command runs. The reply to it is
+    /// never `OutOfMemory`, unless the text has 2^64 bytes or more.
     pub fn respond(&mut self, request: &Request) -> Response
         ensures step { (l : Legalizer) → Step l self.old (command_of request.now) (reply_in self.new (team_of (command_of request.now)) result) self.new }
         ensures length { (count : ℕ) → result ≡ Apart count → count ≡ length (def_text self.new (team_of (command_of request.now))) }

@@ -1,4 +1,4 @@
-//! A floor that is restored from a state text.
+//! Floors restored from state texts.
 
 ghost use Rattle.std.specs.Prelude.{◌≡◌, ◌≢◌, ◌↔◌, ◌≤◌, ℕ, [], List, IfErr, IfOk, OnOk, Ok, length, map};
 ghost use Rattle.lf_occupancy.specs.Occupied.{KeepsCapacities};
@@ -35,7 +35,7 @@ fn slots_are_few(frame: &Frame)
     let _most = frame.limits.sessions;
 }
 
-/// Gives the team this revision, this padding and these slots.
+/// Sets the team's revision, padding and session slots.
 fn set_numbers(
     tables: &mut Tables,
     number: usize,
@@ -52,8 +52,8 @@ fn set_numbers(
     tables.sessions.set_slots(number, slots);
 }
 
-/// Restores the team of that number, whose cells stand already, and of which the row tells all else; it has nothing to undo, and the
-/// tally bounds its working places.
+/// Restores the team of that number from its row, except its cells, which are placed already. The
+/// team has no undo entry, and the tally bounds its working places.
 ///
 /// `Err` if an allocation fails.
 fn restore_team(
@@ -94,7 +94,8 @@ fn restore_team(
     Ok(())
 }
 
-/// Restores the teams, whose cells stand already, and of which the rows tell all else, from the last to the first.
+/// Restores the teams from their rows, from the last to the first, except their cells, which are
+/// placed already.
 ///
 /// `Err` if an allocation fails.
 fn restore_teams(
@@ -122,7 +123,10 @@ fn restore_teams(
     Ok(())
 }
 
-/// The tables with the cells of all teams where the rows tell, and nothing to undo. The rows no longer have the cells then.
+/// Returns the tables with the cells of all teams at the places of the rows, and without undo
+/// entries. Removes the cells from the rows.
+///
+/// `Err` if an allocation fails; the tables are then dropped.
 fn place_cells(alloc: Global, tables: Tables, rows: &mut [TeamRow]) -> Result<Tables, AllocError>
     requires tables { AreTables tables }
     requires due { MatchDesign (frame_of tables).limits (teams_in tables) (team_views rows.old) }
@@ -149,9 +153,10 @@ fn place_cells(alloc: Global, tables: Tables, rows: &mut [TeamRow]) -> Result<Ta
     })
 }
 
-/// The tables in the state of which the rows tell: first all cells are placed, and then all else of each team is restored.
+/// Returns the tables in the state of the rows. First all cells are placed, then the rest of each
+/// team is restored.
 ///
-/// `Err` if an allocation fails.
+/// `Err` if an allocation fails; the tables are then dropped.
 fn restored_by(alloc: Global, tables: Tables, rows: Vec<TeamRow>) -> Result<Tables, AllocError>
     requires tables { AreTables tables }
     requires due { MatchDesign (frame_of tables).limits (teams_in tables) (team_views rows.items) }
@@ -165,7 +170,9 @@ fn restored_by(alloc: Global, tables: Tables, rows: Vec<TeamRow>) -> Result<Tabl
     Ok(placed)
 }
 
-/// What the text tells of the teams.
+/// Reads a state text of the teams.
+///
+/// `Err` with the first fault of the text and its line, or if an allocation fails.
 fn read_rows(alloc: Global, tables: &Tables, text: &[u8]) -> Result<Vec<TeamRow>, StateError>
     requires { AreTables tables.now }
     ensures exact { ReturnsAt (λ rows. team_views rows.items) result (state_of (named (floor_in tables.now)) text.now) }
@@ -175,7 +182,10 @@ fn read_rows(alloc: Global, tables: &Tables, text: &[u8]) -> Result<Vec<TeamRow>
     read_state(alloc, &told, text)
 }
 
-/// The same of the text of which these are the pieces.
+/// Reads a state text of the teams given in chunks.
+///
+/// `Err` with the first fault of the text, its line and the end of the text, or if an allocation
+/// fails.
 fn read_pieces_of(
     alloc: Global,
     tables: &Tables,
@@ -190,7 +200,9 @@ fn read_pieces_of(
     read_chunks(alloc, &told, pieces)
 }
 
-/// The tables in the state that the text tells.
+/// Returns the tables in the state of the text.
+///
+/// `Err` with the first fault of the text and its line, or if an allocation fails.
 fn restore_tables(alloc: Global, tables: Tables, text: &[u8]) -> Result<Tables, StateError>
     requires { AreTables tables }
     ensures tables { IfOk result AreTables }
@@ -206,12 +218,13 @@ fn restore_tables(alloc: Global, tables: Tables, text: &[u8]) -> Result<Tables, 
 }
 
 impl<S: Seeker + Drop> Floor<S> {
-    /// The floor in the state that a state text tells of its design: each cell's working and committed place, and each team's
-    /// revision, padding, session slots and undo entries. A text of a floor of the design brings that floor back. The committed
-    /// design is fully legal iff the committed places that the text tells are.
+    /// Brings the floor into the state of a state text of its design: each cell's working and
+    /// committed place, and each team's revision, padding, session slots and undo entries. A state
+    /// text of a floor of the design restores that floor. The committed design is fully legal if
+    /// and only if the committed places in the text are.
     ///
-    /// `Err` with the first fault of a text that tells no state of the design, and its line; or if an allocation fails. The floor
-    /// is then dropped.
+    /// `Err` with the first fault, and its line, of a text that is not a state of the design; or if
+    /// an allocation fails. The floor is then dropped.
     pub fn restore(self, text: &[u8]) -> Result<Floor<S>, StateError>
         ensures restored { IfOk result (λ floor. IsRestoredFrom self text.now floor) }
         ensures fault { IfErr result (λ error. FailsAt error (state_of (named self) text.now)) }
@@ -239,11 +252,11 @@ impl<S: Seeker + Drop> Floor<S> {
         }
     }
 
-    /// What a state text tells of the teams of the floor's design, of which these are the pieces: each is let go once it was read, and
-    /// `restore_saved` brings the floor into that state.
+    /// Reads a state text of the floor's design given in chunks. Each chunk is freed as soon as it
+    /// has been read. `restore_saved` brings the floor into the state of the rows.
     ///
-    /// `Err` with the first fault of a text that tells no state of the design, its line, and the end of the text; or if an allocation
-    /// fails.
+    /// `Err` with the first fault of a text that is not a state of the design, its line, and the
+    /// end of the text; or if an allocation fails.
     pub fn read_state_chunks(&self, pieces: VecDeque<Vec<u8>>) -> Result<Vec<TeamRow>, ChunkError>
         ensures exact { ReturnsIn (λ rows. team_views rows.items) result (state_of (named self.now) (joined pieces.items)) }
         ensures due { IfOk result (λ rows. MatchDesign self.now.frame.limits self.now.teams (team_views rows.items)) }
@@ -252,8 +265,9 @@ impl<S: Seeker + Drop> Floor<S> {
         read_pieces_of(self.alloc, &self.tables, pieces)
     }
 
-    /// The floor in the state of which the rows tell, as `read_chunks` reads them of a state text: each cell's working and committed
-    /// place, and each team's revision, padding, session slots and undo entries.
+    /// Brings the floor into the state of these rows, which `read_state_chunks` has read: each
+    /// cell's working and committed place, and each team's revision, padding, session slots and
+    /// undo entries.
     ///
     /// `Err` if an allocation fails; the floor is then dropped.
     pub fn restore_saved(self, rows: Vec<TeamRow>) -> Result<Floor<S>, AllocError>

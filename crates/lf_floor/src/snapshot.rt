@@ -1,4 +1,4 @@
-//! What is saved of a floor, as a value of which a text is put.
+//! The saved state of a floor, as a value from which its text is written.
 
 ghost use Rattle.std.specs.Prelude.{All, ⊤};
 ghost use Rattle.lf_team_def.specs.Output.{PutsText};
@@ -15,7 +15,7 @@ use lf_state_text::write_state;
 use lf_team_def::Output;
 use std::marker::Model;
 
-/// An output that drops what is put.
+/// An output that drops its input.
 #[derive(Drop)]
 struct NullOutput;
 
@@ -25,9 +25,9 @@ impl Output for NullOutput {
     fn put(&mut self, _bytes: &[u8]) {}
 }
 
-/// What is saved of a floor, of which a text is put from the floor itself.
+/// The saved state of a floor, whose text is written from the floor itself.
 ///
-/// Contracts see the design by its names, and the saved teams.
+/// Contracts see the names of the design, and the saved teams.
 #[derive(Drop)]
 pub struct StateSnapshot<'a> {
     tables: &'a Tables,
@@ -48,7 +48,7 @@ impl<'a> Model for StateSnapshot<'a> {
     ghost invariant = { λ s. AreTables s.tables.now };
 }
 
-/// Puts the text of what is told of the tables.
+/// Writes the state text of the tables.
 fn write_tables<O: Output>(out: &mut O, tables: &Tables)
     requires { AreTables tables.now }
     ensures text { PutsText O.took out.old out.new (state_text (named (floor_in tables.now)) (saved_teams_of tables.now)) }
@@ -59,7 +59,7 @@ fn write_tables<O: Output>(out: &mut O, tables: &Tables)
 }
 
 impl<'a> StateSnapshot<'a> {
-    /// Puts the text, and takes no memory.
+    /// Writes the state text. Does not allocate.
     pub fn write_text<O: Output>(&self, out: &mut O)
         ensures { PutsText O.took out.old out.new (state_text_of self.now) }
     {
@@ -67,7 +67,7 @@ impl<'a> StateSnapshot<'a> {
     }
 }
 
-/// What is saved of the floor of the tables. Each place is looked at, so that it has a text.
+/// The saved state of the floor of the tables. Each place is checked, so that it has a text.
 fn snapshot_of(tables: &Tables) -> StateSnapshot<'_>
     requires { AreTables tables.now }
     ensures { IsStateText (floor_in tables.now) (state_text_of result) }
@@ -78,7 +78,7 @@ fn snapshot_of(tables: &Tables) -> StateSnapshot<'_>
 }
 
 impl<S: Seeker + Drop> Floor<S> {
-    /// What is saved of the floor: a text of its state, from which `restore` brings it back.
+    /// The saved state of the floor: `restore` restores the floor from its text.
     pub fn snapshot(&self) -> StateSnapshot<'_>
         ensures { IsStateText self.now (state_text_of result) }
     {

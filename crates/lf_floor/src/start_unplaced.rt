@@ -1,4 +1,4 @@
-//! The floor of a design of which no cell is placed yet.
+//! The floor of a design without placed cells.
 
 ghost use Rattle.std.specs.Prelude.{◌≡◌, IfOk, map, replicate};
 ghost use Rattle.lf_floor_model.specs.Designs.{initial_floor};
@@ -16,21 +16,21 @@ use lf_sessions::SessionTable;
 use lf_undo::UndoStore;
 use std::alloc::{AllocError, Global};
 
-/// Takes a cell off its working place.
+/// Unplaces a cell.
 fn unplace(cells: &mut CellTable, id: CellId)
     ensures { AreSameCells cells.old cells.new }
 {
     cells.set_working(id, None);
 }
 
-/// Commits the team's cells where they stand.
+/// Commits the working places of the team's cells.
 fn commit(cells: &mut CellTable, team: usize)
     ensures { AreSameCells cells.old cells.new }
 {
     cells.commit_team(team);
 }
 
-/// Takes the cell, and those before it in its team, off their working places.
+/// Unplaces the cell and the cells with lower positions in its team.
 fn unplace_up_to(cells: &mut CellTable, last: CellId)
     ensures { AreSameCells cells.old cells.new }
 {
@@ -44,7 +44,7 @@ fn unplace_up_to(cells: &mut CellTable, last: CellId)
     unplace(cells, last);
 }
 
-/// Takes the team's cells off their working and committed places.
+/// Removes the working and committed places of the team's cells.
 fn unplace_team(cells: &mut CellTable, team: usize)
     ensures { AreSameCells cells.old cells.new }
 {
@@ -55,7 +55,7 @@ fn unplace_team(cells: &mut CellTable, team: usize)
     commit(cells, team);
 }
 
-/// The same of the cells of the first so many teams.
+/// Removes the working and committed places of the cells of the first `teams` teams.
 fn without_places(cells: CellTable, teams: usize) -> CellTable
     ensures { AreSameCells cells result }
 {
@@ -66,9 +66,9 @@ fn without_places(cells: CellTable, teams: usize) -> CellTable
     bare
 }
 
-/// The placement of a design of which no cell is placed.
+/// The placement of a design without placed cells.
 ///
-/// `Err` if an allocation fails; the design is then gone.
+/// `Err` if an allocation fails; the design is then dropped.
 fn bare_placement(alloc: Global, loaded: Loaded) -> Result<Placement, AllocError>
     ensures frame { IfOk result (λ placement. placement.frame ≡ loaded.frame) }
     ensures cells { IfOk result (λ placement. AreSameCells (loaded_cells loaded) placement.cells) }
@@ -79,17 +79,19 @@ fn bare_placement(alloc: Global, loaded: Loaded) -> Result<Placement, AllocError
     Placement::of(alloc, frame, bare)
 }
 
-/// The paddings of this many teams that have none.
+/// Returns a padding of 0 for each of `teams` teams.
+///
+/// `Err` if an allocation fails.
 fn unpadded(alloc: Global, teams: usize) -> Result<Vec<Padding>, AllocError>
     ensures { IfOk result (λ paddings. map (λ padding. padding.sites) paddings.items ≡ replicate teams 0) }
 {
     vec![in alloc; Padding::none(); teams]
 }
 
-/// The tables of a design of which no cell is placed: no change is made, nothing can be undone, no session is open, and no team
-/// has a padding.
+/// The tables of a design without placed cells. There is no change, undo entry or open session, and
+/// no team has a padding.
 ///
-/// `Err` if an allocation fails; the design is then gone.
+/// `Err` if an allocation fails; the design is then dropped.
 fn bare_tables(alloc: Global, loaded: Loaded) -> Result<Tables, AllocError>
     ensures { IfOk result (λ tables. AreOfDesign loaded tables) }
 {
@@ -109,8 +111,9 @@ fn bare_tables(alloc: Global, loaded: Loaded) -> Result<Tables, AllocError>
 }
 
 impl<S: Seeker + Drop> Floor<S> {
-    /// A floor of a loaded design for `restore_saved`, which alone says what stands on it: the contract tells whose design it is, and no
-    /// more. No cell is placed yet, so that no strip is filled with the places of the DEF text. `seeker` is the search for best places.
+    /// Makes a floor of a loaded design for `restore_saved`. The contract specifies its design and
+    /// nothing else. No cell is placed, so no strip is filled with the places of the DEF text.
+    /// `seeker` is the search for best places.
     ///
     /// `Err` if an allocation fails; the design and the seeker are then dropped.
     pub fn start_unplaced(alloc: Global, loaded: Loaded, seeker: S) -> Result<Floor<S>, AllocError>

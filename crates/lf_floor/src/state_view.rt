@@ -1,4 +1,4 @@
-//! What a state text tells of a floor.
+//! A floor as the contents of a state text.
 
 ghost use Rattle.std.specs.Prelude.{◌≡◌, ◌<◌, ◌≤◌, List, ℕ, length, map, option_map, slice_get};
 ghost use Rattle.lf_cells.specs.Cells.{cells_of};
@@ -21,7 +21,8 @@ use lf_team_def::Output;
 use lf_undo::Moves;
 use std::marker::Model;
 
-/// The name of the team of that number, the ground team's last; none iff there is no such team.
+/// Returns the name of the team of that number, the ground team's last. `None` if and only if there
+/// is no such team.
 pub fn team_name(frame: &Frame, team: usize) -> Option<&[u8]>
     ensures { option_map (λ name. name.now) result ≡ slice_get (team_names frame.now) team }
 {
@@ -36,7 +37,8 @@ pub fn team_name(frame: &Frame, team: usize) -> Option<&[u8]>
     }
 }
 
-/// The name of the team's cell of that position; none iff it has no such cell.
+/// Returns the name of the team's cell at that position. `None` if and only if there is no such
+/// cell.
 fn cell_name(cells: &CellTable, team: usize, own: usize) -> Option<&[u8]>
     ensures { option_map (λ name. name.now) result ≡ slice_get (map (λ c. c.name) (cells_of cells.now team)) own }
 {
@@ -44,7 +46,8 @@ fn cell_name(cells: &CellTable, team: usize, own: usize) -> Option<&[u8]>
     Some(cells.cell(id)?.name)
 }
 
-/// Where the team's cell of that position stands; none iff it has no such cell.
+/// Returns the places of the team's cell at that position. `None` if and only if there is no such
+/// cell.
 fn saved_cell(cells: &CellTable, team: usize, own: usize) -> Option<SavedCell>
     ensures { result ≡ slice_get (map saved_cell (cells_of cells.now team)) own }
 {
@@ -63,7 +66,7 @@ pub(crate) fn fences_are_few(frame: &Frame)
     let _ = &frame.teams;
 }
 
-/// How many teams there are.
+/// Returns the number of teams.
 fn count_teams(tables: &Tables) -> usize
     requires { AreTables tables.now }
     ensures { result ≡ length (named (floor_in tables.now)).teams }
@@ -71,7 +74,7 @@ fn count_teams(tables: &Tables) -> usize
     tables.placement.frame().teams.len() + 1
 }
 
-/// The name of the team of that number; none iff there is no such team.
+/// Returns the name of the team of that number. `None` if and only if there is no such team.
 fn name_of_team(tables: &Tables, team: usize) -> Option<&[u8]>
     requires { AreTables tables.now }
     ensures { option_map (λ name. name.now) result ≡ option_map (λ t. t.name) (slice_get (named (floor_in tables.now)).teams team) }
@@ -79,7 +82,7 @@ fn name_of_team(tables: &Tables, team: usize) -> Option<&[u8]>
     team_name(tables.placement.frame(), team)
 }
 
-/// How many cells the team has; 0 if there is no such team.
+/// Returns the number of the team's cells; 0 if there is no such team.
 fn count_cells(tables: &Tables, team: usize) -> usize
     requires { AreTables tables.now }
     ensures { result ≡ length (team_of (named (floor_in tables.now)) team).cells }
@@ -90,7 +93,8 @@ fn count_cells(tables: &Tables, team: usize) -> usize
     tables.placement.cells().cells_of(team).len()
 }
 
-/// The name of the team's cell of that position; none iff it has no such cell.
+/// Returns the name of the team's cell at that position. `None` if and only if there is no such
+/// cell.
 fn name_of_cell(tables: &Tables, team: usize, own: usize) -> Option<&[u8]>
     requires { AreTables tables.now }
     ensures { option_map (λ name. name.now) result ≡ slice_get (team_of (named (floor_in tables.now)) team).cells own }
@@ -101,7 +105,7 @@ fn name_of_cell(tables: &Tables, team: usize, own: usize) -> Option<&[u8]>
     cell_name(tables.placement.cells(), team, own)
 }
 
-/// What is told of the team's revision.
+/// Returns the saved revision of the team.
 fn saved_revision(tables: &Tables, team: usize) -> u32
     requires { team < length (saved_teams_of tables.now) }
     ensures { result ≡ (saved_at (saved_teams_of tables.now) team).revision }
@@ -109,7 +113,7 @@ fn saved_revision(tables: &Tables, team: usize) -> u32
     tables.revision(team)
 }
 
-/// What is told of its padding.
+/// Returns the saved padding of the team.
 fn told_padding(tables: &Tables, team: usize) -> Padding
     requires { team < length (saved_teams_of tables.now) }
     ensures { result.sites ≡ (saved_at (saved_teams_of tables.now) team).padding }
@@ -117,7 +121,7 @@ fn told_padding(tables: &Tables, team: usize) -> Padding
     tables.padding(team)
 }
 
-/// What is told of its session slots.
+/// Returns the saved session slots of the team.
 fn told_slots(tables: &Tables, team: usize) -> &[Option<u32>]
     requires { team < length (saved_teams_of tables.now) }
     ensures { result.now ≡ (saved_at (saved_teams_of tables.now) team).slots }
@@ -125,7 +129,7 @@ fn told_slots(tables: &Tables, team: usize) -> &[Option<u32>]
     tables.sessions.slots(team)
 }
 
-/// How many of its cells are told of.
+/// Returns the number of the team's saved cells.
 fn told_cells(tables: &Tables, team: usize) -> usize
     requires { team < length (saved_teams_of tables.now) }
     ensures { result ≡ length (saved_at (saved_teams_of tables.now) team).cells }
@@ -133,7 +137,8 @@ fn told_cells(tables: &Tables, team: usize) -> usize
     tables.placement.cells().cells_of(team).len()
 }
 
-/// What is told of its cell of that position; none iff it has no such cell.
+/// Returns the saved places of the team's cell at that position. `None` if and only if there is no
+/// such cell.
 fn told_cell(tables: &Tables, team: usize, own: usize) -> Option<SavedCell>
     requires { team < length (saved_teams_of tables.now) }
     ensures { result ≡ slice_get (saved_at (saved_teams_of tables.now) team).cells own }
@@ -141,7 +146,7 @@ fn told_cell(tables: &Tables, team: usize, own: usize) -> Option<SavedCell>
     saved_cell(tables.placement.cells(), team, own)
 }
 
-/// How many of its undo entries are told of.
+/// Returns the number of the team's saved undo entries.
 fn told_entries(tables: &Tables, team: usize) -> usize
     requires tables { AreTables tables.now }
     requires team { team < length (saved_teams_of tables.now) }
@@ -150,7 +155,8 @@ fn told_entries(tables: &Tables, team: usize) -> usize
     tables.undo.depth(team)
 }
 
-/// What is told of its undo entry before which there are so many newer ones; none iff it has no more entries.
+/// Returns the moves of the team's undo entry that has `newer` newer ones. `None` if and only if
+/// there is no such entry.
 fn told_entry(tables: &Tables, team: usize, newer: usize) -> Option<&Moves>
     requires tables { AreTables tables.now }
     requires team { team < length (saved_teams_of tables.now) }
@@ -160,7 +166,7 @@ fn told_entry(tables: &Tables, team: usize, newer: usize) -> Option<&Moves>
     tables.undo.at(team, newer)
 }
 
-/// The teams of a floor, by their names and as they stand. Contracts see the tables.
+/// The teams of a floor, by their names and with their present state. Contracts see the tables.
 #[derive(Drop)]
 pub(crate) struct StateView<'a> {
     pub(crate) tables: &'a Tables,
@@ -238,7 +244,7 @@ impl<'a> TeamViews for StateView<'a> {
     }
 }
 
-/// Puts a state text of the tables.
+/// Writes a state text of the tables.
 fn put_tables<O: Output>(out: &mut O, tables: &Tables)
     requires { AreTables tables.now }
     ensures { (text : List ℕ) × IsStateText (floor_in tables.now) text × PutsText O.took out.old out.new text }
@@ -249,7 +255,8 @@ fn put_tables<O: Output>(out: &mut O, tables: &Tables)
 }
 
 impl<S: Seeker + Drop> Floor<S> {
-    /// Puts a text of the floor's state, from which `restore` brings it back, and takes no memory.
+    /// Writes a text of the floor's state, from which `restore` restores the floor. Does not
+    /// allocate.
     pub fn write_state<O: Output>(&self, out: &mut O)
         ensures { (text : List ℕ) × IsStateText self.now text × PutsText O.took out.old out.new text }
     {

@@ -1,4 +1,4 @@
--- What the answer to a command is: from the team's part in it to the step.
+-- The answer to a command: from the team's outcome to the step.
 use Rattle.std.proofs.Common.{◌≡◌, ◌≢◌, ℕ, zero, suc, ◌<◌, List, [], ◌∷◌, Bool, true, false, set, length, get_or, Option, Some, None, refl, ap, sym, ◌∙◌, subst, arith}
 use Rattle.std.specs.Prelude.{slice_get, bytes_eq, MatchBool}
 use Rattle.std.proofs.lemmas.List.Quantifiers.{position-Some}
@@ -48,7 +48,7 @@ some_answers l old new name order number reply some given =
     let P : Answer → Type 0 = λ a. IsGivenAnswer a reply new in
     subst P (sym (answer_some l old name order number some)) given
 
--- ---- each answer is plain, and one that is short is to an order that allocates
+-- ---- no answer is OutOfMemory, and only commands that allocate get that reply
 
 by_plain : (l : Legalizer) (floor : FloorState) (number : ℕ) (order : TeamCommand (List ℕ) Place) (o : Option TeamState)
     → is_short (answer_by o l floor number order).reply ≡ false
@@ -129,14 +129,14 @@ others_at : (l : Legalizer) (floor : FloorState) (name team : List ℕ) (order :
 others_at l floor name team order None named ne = refl
 others_at l floor name team order (Some number) named ne = others_by l floor name team number order (slice_get floor.teams number) named ne
 
--- an answer leaves the other teams as they were
+-- an answer leaves the other teams unchanged
 pub others_kept : (l : Legalizer) (floor : FloorState) (command : Command (List ℕ) Place) (team : List ℕ) → ¬ IsTo team command
     → state_of (answer_of l floor command).floor team ≡ state_of floor team
 unfolding answer_of
 others_kept l floor Bye team other = refl
 others_kept l floor (To name order) team other = others_at l floor name team order (team_number floor.frame name) refl other
 
--- what no change of the teams changes no answer changes
+-- a part of the floor that does not depend on the teams is unchanged by each answer
 module _ {Y : Type 0} (part : FloorState → Y) (apart : (floor : FloorState) (teams : List TeamState) → part (record floor { teams = teams }) ≡ part floor) where
   part_by : (l : Legalizer) (floor : FloorState) (number : ℕ) (order : TeamCommand (List ℕ) Place) (o : Option TeamState)
       → part (answer_by o l floor number order).floor ≡ part floor
@@ -168,7 +168,7 @@ own_at : (l : Legalizer) (floor : FloorState) (team : List ℕ) (number : ℕ) (
 own_at l floor team number order s named there =
     answer_some l floor team order number (sym named) ∙ ap (λ (o : Option TeamState). answer_by o l floor number order) there
 
--- a command to a team is answered by its outcome there, which is its state afterwards
+-- the answer to a team's command is the team's outcome, whose state the team gets
 pub own_answer : (l : Legalizer) (floor : FloorState) (team : List ℕ) (number : ℕ) (order : TeamCommand (List ℕ) Place) (s : TeamState)
     → team_number floor.frame team ≡ Some number → state_of floor team ≡ Some s
     → ((answer_of l floor (To team order)).reply ≡ (outcome_by_rules l floor.frame number order s).reply) × (state_of (answer_of l floor (To team order)).floor team ≡ Some (outcome_by_rules l floor.frame number order s).team)

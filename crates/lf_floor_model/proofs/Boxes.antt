@@ -1,4 +1,4 @@
--- The boxes of a team's placed cells, and the first broken rule beside them.
+-- The boxes of a team's placed cells, and the first rule broken among them.
 use Rattle.std.proofs.Common.{◌≡◌, ℕ, List, map, Option, Some, ap, sym, ◌∙◌}
 use Rattle.std.specs.Prelude.{slice_get}
 use Rattle.lf_floorplan.specs.declared.frame.Frame.{Frame}
@@ -14,7 +14,7 @@ use Rattle.lf_cells.specs.declared.cell.Cell.{Cell}
 use Rattle.lf_floor_model.specs.Teams.{team_rules, broken_at, broken_by}
 use Rattle.lf_legalize.specs.Members.{member_of}
 
--- a verdict on the cell's trial is what every legalizer says
+-- a verdict on the cell's candidate is the result of every legalizer
 pub broken_is : (l : Legalizer) (f : Frame) (team padding : ℕ) (cells : List Cell) (own : ℕ) (c : Cell) (mac : Macro) (place : Place) (others : List Placed) (found : Option Broken)
     → VerdictIsUnique → slice_get cells own ≡ Some c → mac ≡ macro_of f c.mac → others ≡ boxes_beside f (map member_of cells) own → IsSized f mac
     → IsVerdict (candidate_of f team padding mac place others) found → found ≡ broken_at (team_rules l f team padding) cells own place

@@ -1,4 +1,4 @@
--- What each order leaves: one case analysis of the outcomes, for every law about them.
+-- The effects of each command: one case analysis of the outcomes, for all laws on them.
 use Rattle.std.proofs.Common.{◌≡◌, ◌⊎◌, inl, inr, ℕ, zero, suc, ◌+◌, ◌≤◌, List, [], ◌∷◌, Bool, true, false, cond, eqb, ltb, Option, Some, None, map, refl, ap, sym, ◌∙◌, arith}
 use Rattle.std.specs.Prelude.{IfSome, MatchBool, position, is_none}
 use Rattle.std.proofs.lemmas.Bool.{eqb-true, ltb-true, false≢true}
@@ -31,13 +31,13 @@ use Rattle.lf_floor_model.specs.Changes.{placed, placed_own, placed_unless, unpl
 use Rattle.lf_floor_model.specs.Verbs.{is_recorded, unless_spent, unless_stale, outcome_within, outcome_by_slot, outcome_of, takes_memory}
 use Rattle.lf_floor_model.specs.VerbLaws.{MayChange, is_accepted, is_change, is_commit, replied_revision, outcome_of_asking}
 
--- the session asks this change
+-- the command of a session's change
 abbrev pub asking : ℕ → Change (List ℕ) Place → TeamCommand (List ℕ) Place
 asking session change = Within session (Changing change)
 
 -- ---- the cells after an accepted change
 
--- after place: the cell of that name is at the place, at which it breaks no rule
+-- after place: the cell of that name is at the place and breaks no rule there
 pub record ArePlaced (t : TeamRules) (s : TeamState) (name : List ℕ) (place : Place) (cells : List Cell) : Type 0 where
   pub own : ℕ
   pub named : cell_named name s.cells ≡ Some own
@@ -52,7 +52,7 @@ pub record AreLegalized (t : TeamRules) (s : TeamState) (name : List ℕ) (targe
   pub best : best_at t s.cells own target ≡ Some place
   pub are : cells ≡ moved s.cells own (Some place)
 
--- after tidy: the cells are where tidying puts them
+-- after tidy: the cells are at the places that tidying finds
 pub record AreTidied (t : TeamRules) (s : TeamState) (cells : List Cell) : Type 0 where
   pub members : List Member
   pub count : ℕ
@@ -64,7 +64,8 @@ pub record AreUnplaced (s : TeamState) (cells : List Cell) : Type 0 where
   pub own : ℕ
   pub are : cells ≡ moved s.cells own None
 
--- after swap: the cells of these names, which were placed, have exchanged their places, and break no rule there
+-- after swap: the cells of these names, both placed, have exchanged their places and break no rule
+-- there
 pub record AreSwapped (t : TeamRules) (s : TeamState) (name other : List ℕ) (cells : List Cell) : Type 0 where
   pub first : ℕ
   pub second : ℕ
@@ -101,9 +102,9 @@ CellsAfter t s Commit cells = AreCommitted t s cells
 CellsAfter t s Revert cells = cells ≡ map back_to_committed s.cells
 CellsAfter t s (Pad padding) cells = cells ≡ s.cells
 
--- ---- what a change leaves of the cells
+-- ---- what a change keeps of the cells
 
--- a part of a cell that its working place is none of
+-- a part of a cell that does not depend on its working place
 abbrev pub IsFixed : {X : Type 0} → (Cell → X) → Type 0
 IsFixed part = (c : Cell) (place : Option Place) → part (record c { working = place }) ≡ part c
 
@@ -138,7 +139,7 @@ committed_names : (cells : List Cell) → map (λ c. c.name) (map as_committed c
 committed_names [] = refl
 committed_names (c ∷ cs) = ap (λ xs. c.name ∷ xs) (committed_names cs)
 
--- a change leaves such a part of each cell, or is a commit
+-- a change keeps this part of each cell, or is a commit
 pub part_stays : {X : Type 0} (part : Cell → X) → IsFixed part → (t : TeamRules) (s : TeamState) (session : ℕ) (change : Change (List ℕ) Place) (cells : List Cell)
     → CellsAfter t s change cells → (map part cells ≡ map part s.cells) ⊎ ((is_commit (asking session change) ≡ true) × AreCommitted t s cells)
 part_stays part fixed t s session (PlaceAt name place) cells after = inl (ap (map part) after.are ∙ moved_part part fixed s.cells after.own (Some place))
@@ -153,7 +154,7 @@ part_stays part fixed t s session Commit cells after = inr (refl, after)
 part_stays part fixed t s session Revert cells after = inl (ap (map part) after ∙ back_part part fixed s.cells)
 part_stays part fixed t s session (Pad padding) cells after = inl (ap (map part) after)
 
--- a change leaves the macros of the cells
+-- a change keeps the macros of the cells
 pub macs_stay : (t : TeamRules) (s : TeamState) (change : Change (List ℕ) Place) (cells : List Cell) → CellsAfter t s change cells
     → map (λ c. c.mac) cells ≡ map (λ c. c.mac) s.cells
 macs_stay t s change cells after = elim (part_stays (λ c. c.mac) (λ c p. refl) t s 0 change cells after) [
@@ -161,7 +162,7 @@ macs_stay t s change cells after = elim (part_stays (λ c. c.mac) (λ c p. refl)
   | inr commits ↦ ap (map (λ (c : Cell). c.mac)) commits.1.are ∙ committed_macs s.cells
 ]
 
--- and their names
+-- a change keeps the names of the cells
 pub names_stay : (t : TeamRules) (s : TeamState) (change : Change (List ℕ) Place) (cells : List Cell) → CellsAfter t s change cells
     → map (λ c. c.name) cells ≡ map (λ c. c.name) s.cells
 names_stay t s change cells after = elim (part_stays (λ c. c.name) (λ c p. refl) t s 0 change cells after) [
@@ -171,15 +172,15 @@ names_stay t s change cells after = elim (part_stays (λ c. c.name) (λ c p. ref
 
 -- ---- what is known of an outcome
 
--- the undo entries are those before, or all of those but the newest
+-- the undo entries are the old ones, with or without the newest
 abbrev pub AreLeft : TeamState → List (List (Option Place)) → Type 0
 AreLeft s entries = (entries ≡ s.entries) ⊎ ((old : List (Option Place)) × (s.entries ≡ old ∷ entries))
 
--- the undo entries after an accepted change, by whether undo takes it back
+-- the undo entries after an accepted change; they depend on whether undo reverts it
 abbrev pub EntriesAfter : TeamRules → TeamState → Change (List ℕ) Place → List (List (Option Place)) → Type 0
 EntriesAfter t s change entries = MatchBool (is_recorded change) (entries ≡ with_entry t.frame.limits s) (AreLeft s entries)
 
--- the padding after an accepted change: that of a pad, else that before
+-- the padding after an accepted change: that of a pad, otherwise the old one
 abbrev pub PaddingAfter : Change (List ℕ) Place → TeamState → ℕ → Type 0
 PaddingAfter (Pad padding) s new = new ≡ padding.sites
 PaddingAfter _ s new = new ≡ s.padding
@@ -188,8 +189,8 @@ PaddingAfter _ s new = new ≡ s.padding
 abbrev pub with_padding : ℕ → TeamState → TeamState
 with_padding padding s = record s { padding = padding }
 
--- an accepted change: the session might change, one more revision is counted, which the reply gives and the session has
--- seen, and cells, undo entries and padding are those after this change
+-- an accepted change: the session may make it; the revision is one more, the reply contains it and
+-- the session has seen it; cells, undo entries and padding are those after this change
 pub record IsChangeOf (t : TeamRules) (session : ℕ) (change : Change (List ℕ) Place) (s : TeamState) (o : Outcome) : Type 0 where
   pub allowed : MayChange t session s
   pub told : replied_revision o.reply ≡ Some (s.revision + 1)
@@ -198,41 +199,41 @@ pub record IsChangeOf (t : TeamRules) (session : ℕ) (change : Change (List ℕ
   pub entries : EntriesAfter t s change o.team.entries
   pub padding : PaddingAfter change s o.team.padding
 
--- a refusal, for a reason that is not memory
+-- a refusal for a reason other than memory
 pub record IsRefusal (s : TeamState) (o : Outcome) : Type 0 where
   pub refusal : Refusal
   pub plain : is_short (Refused refusal) ≡ false
   pub is : o ≡ refused refusal s
 
--- the slot of one session is another, and its session has seen no revision to come
+-- one session's slot is replaced, and its session has seen no revision above the present one
 pub record HasSlot (s new : TeamState) : Type 0 where
   pub session : ℕ
   pub seen : Option ℕ
   pub past : IfSome seen (λ n. n ≤ s.revision)
   pub is : new ≡ with_slot session seen s
 
--- the reply carries a report or a DEF text
+-- the reply contains a report or a DEF text
 abbrev pub has_text : Reply → Bool
 has_text (Report text) = true
 has_text (DefText text) = true
 has_text _ = false
 
--- an accepted order that is no change: one slot at most is another, and a text is given by an order that takes memory and
--- leaves the team as it was
+-- an accepted command that is not a change: at most one slot differs; only a command that may
+-- allocate has a text as its reply, and then the team is unchanged
 pub record IsLook (s : TeamState) (order : TeamCommand (List ℕ) Place) (o : Outcome) : Type 0 where
   pub look : is_change order ≡ false
   pub accepted : is_accepted o ≡ true
   pub team : (o.team ≡ s) ⊎ HasSlot s o.team
   pub text : has_text o.reply ≡ true → (o.team ≡ s) × (takes_memory order ≡ true)
 
--- the order asks a change, and it is accepted
+-- the command is a change, and it is accepted
 pub record IsDone (t : TeamRules) (s : TeamState) (order : TeamCommand (List ℕ) Place) (o : Outcome) : Type 0 where
   pub session : ℕ
   pub change : Change (List ℕ) Place
   pub order_is : order ≡ asking session change
   pub is : IsChangeOf t session change s o
 
--- an outcome is a refusal, a look or a change
+-- an outcome is a refusal, a query or a change
 abbrev pub Facts : TeamRules → TeamState → TeamCommand (List ℕ) Place → Outcome → Type 0
 Facts t s order o = IsRefusal s o ⊎ (IsLook s order o ⊎ IsDone t s order o)
 
@@ -384,7 +385,7 @@ module _ (t : TeamRules) (s : TeamState) (session : ℕ) where
   slot_by change None seen = denied change NoSession refl
   slot_by change (Some n) seen = stale_by change n seen
 
--- a change is refused, or done
+-- a change is refused or done
 asked_by : (t : TeamRules) (session : ℕ) (change : Change (List ℕ) Place) (s : TeamState) → Ends t s session change (outcome_of_asking t session change s)
 asked_by t session change s = slot_by t s session change (seen_at s.slots session) refl
 
@@ -396,24 +397,24 @@ accepted_is t session change s accepted = by (asked_by t session change s) where
   by (inl r) = absurd (false≢true (sym (ap is_accepted r.is) ∙ accepted))
   by (inr is) = is
 
--- ---- the orders
+-- ---- the commands
 
 module _ (t : TeamRules) (s : TeamState) where
   refuse : (order : TeamCommand (List ℕ) Place) (r : Refusal) → is_short (Refused r) ≡ false → Facts t s order (refused r s)
   refuse order r plain = inl (record { refusal = r; plain = plain; is = refl })
 
-  -- the reply changes nothing and carries no text
+  -- the reply contains no text, and the team is unchanged
   tells : (order : TeamCommand (List ℕ) Place) (reply : Reply) → is_change order ≡ false → is_accepted (record { reply = reply; team = s }) ≡ true → has_text reply ≡ false
       → Facts t s order (record { reply = reply; team = s })
   tells order reply look accepted short =
       inr (inl (record { look = look; accepted = accepted; team = inl refl; text = λ long. absurd (false≢true (sym short ∙ long)) }))
 
-  -- the reply carries a text
+  -- the reply contains a text
   shows : (order : TeamCommand (List ℕ) Place) (reply : Reply) → is_change order ≡ false → is_accepted (record { reply = reply; team = s }) ≡ true → takes_memory order ≡ true
       → Facts t s order (record { reply = reply; team = s })
   shows order reply look accepted takes = inr (inl (record { look = look; accepted = accepted; team = inl refl; text = λ long. (refl, takes) }))
 
-  -- the session's slot is another
+  -- the session's slot is replaced
   slots : (order : TeamCommand (List ℕ) Place) (reply : Reply) (session : ℕ) (seen : Option ℕ) → is_change order ≡ false
       → is_accepted (record { reply = reply; team = with_slot session seen s }) ≡ true → has_text reply ≡ false → IfSome seen (λ n. n ≤ s.revision)
       → Facts t s order (record { reply = reply; team = with_slot session seen s })
@@ -472,7 +473,7 @@ module _ (t : TeamRules) (s : TeamState) where
   action_by session action None seen = refuse _ NoSession refl
   action_by session action (Some n) seen = session_by session n action seen
 
--- what is known of the outcome of any order
+-- the case of the outcome of any command
 pub order_facts : (t : TeamRules) (order : TeamCommand (List ℕ) Place) (s : TeamState) → Facts t s order (outcome_of t order s)
 order_facts t Open s = opened_by t s
 order_facts t (Within session action) s = action_by t s session action (seen_at s.slots session) refl

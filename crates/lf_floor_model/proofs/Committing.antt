@@ -1,4 +1,4 @@
--- The committed places of a team: which orders change them, and that they stay legal.
+-- The committed places of a team: which commands change them, and why they stay legal.
 use Rattle.std.proofs.Common.{◌≡◌, inl, inr, ℕ, List, [], ◌∷◌, true, map, Option, refl, ap, sym, subst, arith}
 use Rattle.lf_floorplan.specs.declared.place.Place.{Place}
 use Rattle.lf_rules.specs.Team.{Member, IsLegalCell}
@@ -19,7 +19,7 @@ use Rattle.lf_floor_model.proofs.Cases.{AreCommitted, Facts, accepted_is, order_
 use Rattle.lf_rules.proofs.TidyLemmas.{less_stands}
 use Rattle.lf_floor_model.proofs.Tidying.{committed_stand}
 
--- after a commit the committed places are the working ones
+-- after a commit the committed places are the working places
 committed_as : (cells : List Cell) → map committed_member (map as_committed cells) ≡ map member_of (map as_committed cells)
 committed_as [] = refl
 committed_as (c ∷ cs) = ap (λ (ms : List Member). committed_member (as_committed c) ∷ ms) (committed_as cs)
@@ -28,13 +28,13 @@ places_as : (cells : List Cell) → map (λ (c : Cell). c.committed) (map as_com
 places_as [] = refl
 places_as (c ∷ cs) = ap (λ (ps : List (Option Place)). c.working ∷ ps) (places_as cs)
 
--- the working places are committed, and team-legal
+-- the working places are committed and team-legal
 pub record Commits (t : TeamRules) (s : TeamState) : Type 0 where
   pub same : committed_places s ≡ places_of s.cells
   pub legal : AreLegal t s
   pub committed : AreCommittedLegal t.frame t.number s
 
--- cells of the same macros and committed places keep what was legal
+-- legal committed places stay legal if the macros and the committed places are unchanged
 alike : (t : TeamRules) (s : TeamState) (cells : List Cell) → map committed_member cells ≡ map committed_member s.cells → AreCommittedLegal t.frame t.number s
     → (own : ℕ) → IsLegalCell t.frame t.number 0 (map committed_member cells) own
 alike t s cells same before own = subst (λ (ms : List Member). IsLegalCell t.frame t.number 0 ms own) (sym same) (before own)
@@ -51,7 +51,7 @@ module _ (t : TeamRules) (s : TeamState) (known : IsTeamOf t.frame s) where
             (less_stands t.frame t.number 0 t.padding (map member_of (map as_committed s.cells)) own (omega arith) (legal own)));
       }
 
-  -- legal committed places stay legal after any order
+  -- legal committed places stay legal after any command
   pub order_keeps : (order : TeamCommand (List ℕ) Place) → AreCommittedLegal t.frame t.number s → AreCommittedLegal t.frame t.number (outcome_of t order s).team
   order_keeps order before = by (outcome_of t order s) (order_facts t order s) where
     kept : (new old : TeamState) → new ≡ old → AreCommittedLegal t.frame t.number old → AreCommittedLegal t.frame t.number new
@@ -65,7 +65,7 @@ module _ (t : TeamRules) (s : TeamState) (known : IsTeamOf t.frame s) where
       | inr commits ↦ (commit_ends o.team commits.1).committed
     ]
 
-  -- after an accepted commit the working places are committed, and legal
+  -- after an accepted commit the working places are committed and legal
   pub commit_commits : (session : ℕ) → is_accepted (outcome_of t (Within session (Changing Commit)) s) ≡ true
       → Commits t (outcome_of t (Within session (Changing Commit)) s).team
   commit_commits session accepted = commit_ends (outcome_of t (Within session (Changing Commit)) s).team (accepted_is t session Commit s accepted).cells

@@ -1,4 +1,4 @@
--- A run of the floor is, for each team, the run of its own orders.
+-- A run of the floor is, for each team, the run of its own commands.
 use Rattle.std.proofs.Common.{◌≡◌, ℕ, zero, suc, ◌+◌, ◌≤◌, List, [], ◌∷◌, ◌++◌, Bool, true, false, ◌&&◌, not, cond, length, drop, Option, Some, None, refl, ap, sym, ◌∙◌, subst, arith, append_assoc, append-nil, add-one}
 use Rattle.std.specs.Prelude.{slice_get, bytes_eq, MatchBool}
 use Rattle.std.proofs.lemmas.Slice.Eq.{bytes_eq-Decides}
@@ -54,9 +54,10 @@ and_false : (b : Bool) → (b && false) ≡ false
 and_false true = refl
 and_false false = refl
 
--- a step of a floor of that frame and the run after it, on which the team of that name and number was served as if alone
+-- a step of a floor of that frame and the run after it, in which the replies and the state of the
+-- team of that name and number are those of its own commands
 module _ (l : Legalizer) (frame : Frame) (team : List ℕ) (number : ℕ) (named : team_number frame team ≡ Some number) (cs : List (Command (List ℕ) Place)) (rs : List Reply) (old mid new : FloorState) (same_frame : old.frame ≡ frame) (later : (s : TeamState) → state_of mid team ≡ Some s → IsOwnRun l frame number team s cs rs new) where
-  -- a command that leaves the team alone
+  -- a command that does not change the team
   skip : (c : Command (List ℕ) Place) (r : Reply) → own_reply_before team c r (own_replies_in team cs rs) ≡ own_replies_in team cs rs
       → own_command_before team c r (own_commands team cs rs) ≡ own_commands team cs rs → state_of mid team ≡ state_of old team → (s : TeamState) → state_of old team ≡ Some s
       → IsOwnRun l frame number team s (c ∷ cs) (r ∷ rs) new
@@ -67,7 +68,7 @@ module _ (l : Legalizer) (frame : Frame) (team : List ℕ) (number : ℕ) (named
         state_is = rest.state_is ∙ ap (λ (os : List (TeamCommand (List ℕ) Place)). Some (own_state l frame number os s)) (sym asked_same);
       }
 
-  -- a command of the team's own
+  -- a command of this team
   turn : (name : List ℕ) (order : TeamCommand (List ℕ) Place) (r : Reply) (s : TeamState) → r ≡ (outcome_by_rules l frame number order s).reply
       → state_of mid team ≡ Some (outcome_by_rules l frame number order s).team → (own_reply_before team (To name order) r (own_replies_in team cs rs) ≡ r ∷ own_replies_in team cs rs)
       → (own_command_before team (To name order) r (own_commands team cs rs) ≡ order ∷ own_commands team cs rs)
@@ -153,7 +154,7 @@ number_of : (teams : List TeamState) (o : Option ℕ) (s : TeamState) → state_
 number_of teams None s has = absurd cc
 number_of teams (Some number) s has = (number, refl)
 
--- a name that has a state has a number
+-- a name with a state has a number
 pub has_number : (floor : FloorState) (team : List ℕ) (s : TeamState) → state_of floor team ≡ Some s
     → (number : ℕ) × (team_number floor.frame team ≡ Some number)
 has_number floor team s has = number_of floor.teams (team_number floor.frame team) s has

@@ -1,4 +1,4 @@
--- A run without its looks and refusals, and its journal.
+-- A run without its queries and refusals, and its journal.
 use Rattle.std.proofs.Common.{◌≡◌, ℕ, List, [], ◌∷◌, Bool, true, false, not, ◌&&◌, Option, Some, None, refl, ap, sym, ◌∙◌, subst}
 use Rattle.std.specs.Prelude.{All, MatchBool, slice_get, slice_set}
 use Rattle.std.proofs.lemmas.List.{set-get_or}
@@ -29,7 +29,7 @@ use Rattle.lf_floor_model.proofs.Kept.{false_true, granted_plain}
 use Rattle.lf_floor_model.proofs.Promises.{keeps_refused}
 use Rattle.lf_floor_model.proofs.Running.{plain_answers}
 
--- ---- looks leave the team
+-- ---- queries leave the team unchanged
 
 module _ (t : TeamRules) (s : TeamState) where
   located_same : (name : List ℕ) → (located name s).team ≡ s
@@ -74,7 +74,7 @@ module _ (t : TeamRules) (s : TeamState) where
   look_same name Open look = absurd (false_true look)
   look_same name (Within session action) look = slot_same name session action (seen_at s.slots session) look
 
--- ---- looks and refusals leave the floor
+-- ---- queries and refusals leave the floor unchanged
 
 by_look : (l : Legalizer) (floor : FloorState) (name : List ℕ) (number : ℕ) (order : TeamCommand (List ℕ) Place) (o : Option TeamState) → slice_get floor.teams number ≡ o
     → is_query (To name order) ≡ true → (answer_by o l floor number order).floor ≡ floor
@@ -100,7 +100,7 @@ looks_if true true idle is = refl
 looks_if true false idle is = absurd (false_true (sym idle))
 looks_if false look idle is = absurd (false_true is)
 
--- a command that does not last keeps the floor
+-- a command that does not last leaves the floor unchanged
 idle_keeps : (l : Legalizer) (old new : FloorState) (command : Command (List ℕ) Place) (reply : Reply) (short : Bool)
     → MatchBool short (MayRunOutOfMemory l old command new) (IsAnswerOf l old command reply new) → is_lasting command reply ≡ false → new ≡ old
 idle_keeps l old new command reply true step idle = step.short.kept
@@ -158,7 +158,8 @@ lasting_plain [] replies = All-nil IsPlain
 lasting_plain (c ∷ cs) [] = All-nil IsPlain
 lasting_plain (c ∷ cs) (r ∷ rs) = plain_with c r cs rs (is_lasting c r) refl (lasting_plain cs rs)
 
--- two runs of the same commands from the same floor, none of which ran out of memory, are the same
+-- two runs of the same commands from the same floor have the same replies and floor, if neither ran
+-- out of memory
 pub one_end : (l : Legalizer) (commands : List (Command (List ℕ) Place)) (replies answers : List Reply) (old new end : FloorState)
     → Run l old commands replies new → Run l old commands answers end → All IsPlain replies → All IsPlain answers → (answers ≡ replies) × (end ≡ new)
 one_end l [] [] [] old new end run again plain others = (refl, again ∙ sym run)

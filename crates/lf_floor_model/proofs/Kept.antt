@@ -1,4 +1,4 @@
--- What an order leaves as it was, and what a change counts.
+-- What a command leaves unchanged, and what a change counts.
 use Rattle.std.proofs.Common.{◌≡◌, ◌≢◌, inl, inr, ℕ, zero, suc, ◌+◌, ◌<◌, ◌≤◌, List, [], ◌∷◌, Bool, true, false, length, map, get_or, Option, Some, None, refl, ap, sym, ◌∙◌, subst, arith}
 use Rattle.std.specs.Prelude.{All, AllPairs, IfSome, MatchBool, slice_set}
 use Rattle.std.proofs.lemmas.List.{length-set, length-map, length-take}
@@ -32,12 +32,12 @@ pub granted_plain : (reply : Reply) → is_ok reply ≡ true → is_short reply 
 granted_plain (Refused refusal) granted = absurd (false_true granted)
 granted_plain _ granted = refl
 
--- a reply that gives a revision is no refusal
+-- a reply that contains a revision is not a refusal
 told_granted : (reply : Reply) (revision : ℕ) → replied_revision reply ≡ Some revision → is_ok reply ≡ true
 told_granted (Refused refusal) revision told = absurd cc
 told_granted _ revision told = refl
 
--- the rules never say that memory ran out
+-- the rules never have the outcome OutOfMemory
 pub never_short : (t : TeamRules) (verb : TeamCommand (List ℕ) Place) (s : TeamState) → is_short (outcome_of t verb s).reply ≡ false
 never_short t verb s = by (outcome_of t verb s) (order_facts t verb s) where
   by : (o : Outcome) → Facts t s verb o → is_short o.reply ≡ false
@@ -45,7 +45,7 @@ never_short t verb s = by (outcome_of t verb s) (order_facts t verb s) where
   by o (inr (inl look)) = granted_plain o.reply look.accepted
   by o (inr (inr done)) = granted_plain o.reply (told_granted o.reply (s.revision + 1) done.is.told)
 
--- the outcome leaves the team, if it is a refusal
+-- if the outcome is a refusal, the team is unchanged
 abbrev pub LeavesIfRefused : TeamState → Outcome → Type 0
 LeavesIfRefused s o = (refusal : Refusal) → o.reply ≡ Refused refusal → o.team ≡ s
 
@@ -94,7 +94,7 @@ change_counted t session change s accepted =
 same_cells : (s : TeamState) (slots : List (Option ℕ)) → KeepsCells s (record s { slots = slots })
 same_cells s slots = record { cells = refl; revision = refl; entries = refl; padding = refl }
 
--- the verb leaves the cells, if it is no change
+-- if the verb is not a change, the cells are unchanged
 pub look_kept : (t : TeamRules) (verb : TeamCommand (List ℕ) Place) (s : TeamState) → is_change verb ≡ false → KeepsCells s (outcome_of t verb s).team
 look_kept t verb s no_change = by (outcome_of t verb s) (order_facts t verb s) where
   kept : (new : TeamState) (slots : List (Option ℕ)) → new ≡ record s { slots = slots } → KeepsCells s new
@@ -134,7 +134,7 @@ name_at (b ∷ bs) (c ∷ cs) same (suc i) d =
     let rest : map (λ c. c.name) cs ≡ map (λ c. c.name) bs = cc in
     name_at bs cs rest i d
 
--- the slots have seen no revision to come
+-- no slot has seen a revision above the present one
 abbrev SeenPast : ℕ → List (Option ℕ) → Type 0
 SeenPast revision slots = All (λ slot. IfSome slot (λ seen. seen ≤ revision)) slots
 
@@ -144,12 +144,12 @@ seen_later old new slots more past i d within = later (get_or slots i d) (past i
   later None seen = tt
   later (Some seen) is = omega (arith, is, more)
 
--- what is asked of new cells: their macros and names are the old ones
+-- the new cells have the old macros and names
 record AreAlike (old new : List Cell) : Type 0 where
   macs : map (λ c. c.mac) new ≡ map (λ c. c.mac) old
   names : map (λ c. c.name) new ≡ map (λ c. c.name) old
 
--- a change to cells that are alike, with entries that are whole and few
+-- a change to cells with the same macros and names, with complete entries within the limit
 changed_team : (t : TeamRules) (s : TeamState) (session : ℕ) (cells : List Cell) (entries : List (List (Option Place))) → IsTeamOf t.frame s
     → s.revision < t.frame.limits.revisions → AreAlike s.cells cells
     → All (λ places. length places ≡ length s.cells) entries → length entries ≤ t.frame.limits.undo → IsTeamOf t.frame (changed session cells entries s).team
@@ -169,7 +169,7 @@ changed_team t s session cells entries h left alike whole few =
           (seen_later s.revision (s.revision + 1) s.slots (omega arith) h.seen_past);
     }
 
--- another padding plays no part
+-- another padding does not matter
 padded_team : (t : TeamRules) (s : TeamState) (padding : ℕ) → IsTeamOf t.frame s → IsTeamOf t.frame (with_padding padding s)
 padded_team t s padding h = record {
   sized = h.sized;
@@ -183,7 +183,7 @@ padded_team t s padding h = record {
   seen_past = h.seen_past;
 }
 
--- one slot is written, with a revision that is past
+-- one slot is written, with a revision not above the present one
 with_slot_team : (t : TeamRules) (s : TeamState) (session : ℕ) (seen : Option ℕ) → IfSome seen (λ n. n ≤ s.revision) → IsTeamOf t.frame s
     → IsTeamOf t.frame (with_slot session seen s)
 with_slot_team t s session seen past h = record {
@@ -198,11 +198,11 @@ with_slot_team t s session seen past h = record {
   seen_past = All-set (λ slot. IfSome slot (λ seen. seen ≤ s.revision)) s.slots session seen past h.seen_past;
 }
 
--- undo entries have a place for each cell, and are few
+-- undo entries have a place for each cell and are within the limit
 abbrev AreWhole : TeamRules → TeamState → List (List (Option Place)) → Type 0
 AreWhole t s entries = All (λ places. length places ≡ length s.cells) entries × (length entries ≤ t.frame.limits.undo)
 
--- the working places in front of the entries
+-- the entries with the working places added as the newest
 newest : (t : TeamRules) (s : TeamState) → IsTeamOf t.frame s → AreWhole t s (with_entry t.frame.limits s)
 newest t s h =
     let whole = λ (places : List (Option Place)). length places ≡ length s.cells in
@@ -236,7 +236,7 @@ change_keeps t s session change o h c =
     subst (λ (n : TeamState). IsTeamOf t.frame n) (sym c.team)
     (changed_team t (with_padding o.team.padding s) session o.team.cells o.team.entries (padded_team t s o.team.padding h) c.allowed.left alike entries.0 entries.1)
 
--- after any order a team of the frame is still one
+-- after any command a team of the frame is still a team of the frame
 pub verb_keeps : (t : TeamRules) (verb : TeamCommand (List ℕ) Place) (s : TeamState) → IsTeamOf t.frame s → IsTeamOf t.frame (outcome_of t verb s).team
 verb_keeps t verb s h = by (outcome_of t verb s) (order_facts t verb s) where
   kept : (new old : TeamState) → new ≡ old → IsTeamOf t.frame old → IsTeamOf t.frame new
@@ -252,7 +252,7 @@ verb_keeps t verb s h = by (outcome_of t verb s) (order_facts t verb s) where
 
 -- ---- committed places
 
--- the committed places stay, unless the verb is a commit
+-- the committed places are unchanged, unless the verb is a commit
 pub committed_stay : (t : TeamRules) (verb : TeamCommand (List ℕ) Place) (s : TeamState) → is_commit verb ≡ false
     → committed_places (outcome_of t verb s).team ≡ committed_places s
 committed_stay t verb s other = by (outcome_of t verb s) (order_facts t verb s) where
@@ -266,7 +266,7 @@ committed_stay t verb s other = by (outcome_of t verb s) (order_facts t verb s) 
 
 -- ---- the padding
 
--- the padding stays, unless the verb is a pad
+-- the padding is unchanged, unless the verb is a pad
 pub padding_stays : (t : TeamRules) (verb : TeamCommand (List ℕ) Place) (s : TeamState) → is_pad verb ≡ false → (outcome_of t verb s).team.padding ≡ s.padding
 padding_stays t verb s other = by (outcome_of t verb s) (order_facts t verb s) where
   changes : (session : ℕ) (change : Change (List ℕ) Place) (new : ℕ) → is_pad (Within session (Changing change)) ≡ false → PaddingAfter change s new → new ≡ s.padding

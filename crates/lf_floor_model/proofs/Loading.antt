@@ -1,4 +1,4 @@
--- The committed design with which a floor begins is the loaded one, in another order.
+-- When a floor begins, its committed design is the loaded one, in another order.
 use Rattle.std.proofs.Common.{◌≡◌, ℕ, ◌+◌, ◌<◌, ◌≤◌, List, [], ◌∷◌, Bool, true, false, eqb, length, map, filter, Option, Some, None, ◌⊎◌, inl, inr, refl, ap, sym, ◌∙◌, subst, arith, zero-add}
 use Rattle.std.specs.Prelude.{All, slice_get, unwrap_or, option_map}
 use Rattle.std.proofs.lemmas.Bool.{eqb-true}
@@ -26,7 +26,7 @@ own_members team cells = map committed_member (own_cells team cells)
 abbrev at_places : List LoadedCell → List DesignCell
 at_places cells = design_cells_at cells (map (λ c. c.place) cells)
 
--- the part of a team in the loaded design is its own cells
+-- the part of a team in the loaded design has its own cells
 loaded_part : (team : ℕ) (cells : List LoadedCell) → part_of team (at_places cells) ≡ with_team team (own_members team cells) []
 loaded_part team [] = refl
 loaded_part team (c ∷ cs) = by (eqb c.team team) refl (loaded_part team cs) where
@@ -42,7 +42,7 @@ loaded_part team (c ∷ cs) = by (eqb c.team team) refl (loaded_part team cs) wh
       ∙ rest
       ∙ ap (λ (ds : List LoadedCell). with_team team (map committed_member (map initial_cell ds)) []) (sym (passed (λ d. eqb d.team team) c cs is))
 
--- a number past the ground team's has no cells
+-- no cells have a team number above the ground team's
 none_past : (team count : ℕ) (cells : List LoadedCell) → All (λ c. c.team ≤ count) cells → count < team → filter (λ c. eqb c.team team) cells ≡ []
 none_past team count [] known past = refl
 none_past team count (c ∷ cs) known past =
@@ -59,7 +59,7 @@ past_end {X} xs i past = go (slice_get xs i) refl where
 within_or_past : (a b : ℕ) → (a < b) ⊎ (b ≤ a)
 within_or_past a b = grind arith
 
--- the cells with which the team of a number begins
+-- the first cells of the team of a number
 opening_part : (design : Loaded) (team : ℕ) → unwrap_or (slice_get (map committed_members (initial_floor design).teams) team) [] ≡ own_members team design.cells
 opening_part design team = elim (within_or_past team (length design.frame.teams + 1)) [
   | inl within ↦
@@ -82,7 +82,7 @@ same_designs design team =
     ∙ ap (λ (ms : List Member). with_team team ms []) (opening_part design team)
     ∙ sym (loaded_part team design.cells)
 
--- a floor begins fully legal if and only if the loaded design is
+-- when a floor begins, its committed design is fully legal if and only if the loaded design is
 pub loaded_committed : LoadedIsCommitted
 loaded_committed design = (
   λ legal. same_parts design.frame (committed_design (initial_floor design)) (loaded_design design) (same_designs design) legal,
@@ -97,7 +97,7 @@ committed_opening : (cells : List LoadedCell) → map (λ c. c.committed) (map i
 committed_opening [] = refl
 committed_opening (c ∷ cs) = ap (λ (ps : List (Option Place)). c.place ∷ ps) (committed_opening cs)
 
--- each team begins with its cells where they were loaded
+-- each team begins with its cells at their loaded places
 pub loaded_places : (design : Loaded) (team : List ℕ) (number : ℕ) (s : TeamState) → team_number design.frame team ≡ Some number
     → state_of (initial_floor design) team ≡ Some s
     → AreAtPlaces s (map (λ c. c.place) (filter (λ c. eqb c.team number) design.cells))

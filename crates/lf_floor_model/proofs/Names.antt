@@ -8,7 +8,7 @@ use Rattle.lf_floorplan.specs.declared.parts.Team.{Team}
 use Rattle.lf_floorplan.specs.Fences.{ground_name}
 use Rattle.lf_floor_model.specs.Teams.{team_number}
 
--- a fence's number, or else that of the team outside all fences
+-- the number of a fence, or otherwise that of the team outside all fences
 or_outside : Option ℕ → List ℕ → ℕ → Option ℕ
 or_outside (Some i) name last = Some i
 or_outside None name last = cond (bytes_eq ground_name name) (Some last) None

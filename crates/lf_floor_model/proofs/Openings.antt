@@ -1,4 +1,4 @@
--- The floor with which a design begins, team by team.
+-- The first floor of a design, team by team.
 use Rattle.std.proofs.Common.{◌≡◌, ◌≢◌, ℕ, zero, suc, ◌+◌, ◌<◌, ◌≤◌, List, [], ◌∷◌, length, map, filter, get_or, eqb, Bool, true, false, cond, Option, Some, None, refl, ap, sym, ◌∙◌, add-zero, zero-add, arith}
 use Rattle.std.specs.Prelude.{slice_get, unwrap_or, bytes_eq, replicate, All, AllPairs, IfSome}
 use Rattle.std.proofs.lemmas.List.{length-append, length-map, length-replicate, get_or-replicate}
@@ -62,13 +62,13 @@ unfolding fresh
 same_opening a b number frames own =
     ap (λ (f : Frame). fresh f.limits.sessions (own_cells number a.cells)) frames ∙ ap (λ (cs : List Cell). fresh b.frame.limits.sessions cs) own
 
--- two designs that agree for a team begin with one state of it
+-- two designs that agree for a team have the same first state of it
 pub agreeing_is : (a b : Loaded) (team : List ℕ) (agree : AgreeFor team a b) → state_of (initial_floor b) team ≡ Some (initial_team a agree.number)
 agreeing_is a b team agree =
     opening_is b team agree.number (ap (λ (f : Frame). team_number f team) (sym agree.frames) ∙ agree.named)
     ∙ ap (λ (s : TeamState). Some s) (sym (same_opening a b agree.number agree.frames agree.cells))
 
--- ---- each team of the opening floor is one of the frame
+-- ---- each team of the first floor is a team of the frame
 
 sized_cell : (f : Frame) (c : LoadedCell) → IsCell f c → IsSizedCell f (initial_cell c)
 sized_cell f c known = go (slice_get_some f.macros c.mac known.mac_known) where
@@ -82,7 +82,7 @@ map_at f [] i d e within = absurd (omega (arith, within))
 map_at f (x ∷ xs) zero d e within = refl
 map_at f (x ∷ xs) (suc i) d e within = map_at f xs i d e (omega (arith, within))
 
--- what holds of each two elements' parts holds of each two parts
+-- a relation of each two elements' images holds for each two elements of the mapped list
 pub pairs_map : {X Y : Type 0} (f : X → Y) (R : Y → Y → Type 0) (xs : List X) → AllPairs (λ a b. R (f a) (f b)) xs → AllPairs R (map f xs)
 pairs_map f R [] all i j d less within = absurd (omega (arith, within))
 pairs_map f R (x ∷ xs) all i j d less within =

@@ -1,4 +1,5 @@
--- A fully legal design, team by team: each team's part of it is fully legal, and the parts together make it.
+-- A fully legal design, team by team: each team's part is fully legal, and the parts together make
+-- it fully legal.
 use Rattle.std.proofs.Common.{◌≡◌, ◌≢◌, ℕ, zero, suc, ◌+◌, ◌<◌, List, [], ◌∷◌, Bool, true, false, cond, eqb, filter, get_or, Option, Some, None, ◌⊎◌, inl, inr, refl, ap, sym, ◌∙◌, subst, arith}
 use Rattle.std.specs.Prelude.{All, AllPairs, IsSome, MatchOption, slice_get, unwrap_or}
 use Rattle.std.specs.Option.{ForSome}
@@ -46,7 +47,7 @@ module _ {X : Type 0} where
   pairs_tail : (R : X → X → Type 0) (x : X) (xs : List X) → AllPairs R (x ∷ xs) → AllPairs R xs
   pairs_tail R x xs all i j d less within = all (suc i) (suc j) d (omega (arith, less)) (omega (arith, within))
 
-  -- what holds of the elements that pass the test holds of each that passes it
+  -- a fact on the elements of the filtered list holds for each element that passes the test
   filtered_each : (P : X → Type 0) (p : X → Bool) (xs : List X) → All P (filter p xs) → All (λ x. p x ≡ true → P x) xs
   filtered_each P p [] h = All-nil (λ x. p x ≡ true → P x)
   filtered_each P p (x ∷ xs) h = by (p x) refl h (λ g. filtered_each P p xs g) where
@@ -76,7 +77,7 @@ other_part team other differ (m ∷ ms) rest =
 pub not_equal : (a b : ℕ) → a ≢ b → eqb a b ≡ false
 not_equal a b differ = elim (eqb_tells a b) [ inl same ↦ absurd (differ same.1) | inr other ↦ other.0 ]
 
--- no team before the first has a part
+-- no team with a number below the first has a part
 none_before : (team from : ℕ) → team < from → (teams : List (List Member)) → part_of team (design_cells_from from teams) ≡ []
 none_before team from less [] = refl
 none_before team from less (cells ∷ teams) =
@@ -95,7 +96,7 @@ part_from team from (suc k) is (cells ∷ teams) =
     other_part team from (not_equal from team (λ e. omega (arith, is, e))) cells (design_cells_from (from + 1) teams)
     ∙ part_from team (from + 1) k (omega (arith, is)) teams
 
--- the part of a team in the design of all teams is its own cells
+-- the part of a team in the design of all teams has its own cells
 pub part_is : (team : ℕ) (teams : List (List Member)) → part_of team (design_cells_from 0 teams) ≡ with_team team (unwrap_or (slice_get teams team) []) []
 part_is team teams = part_from team 0 team (omega arith) teams
 
@@ -123,7 +124,7 @@ not_placed : (o : Option SpotPlace) → o ≡ None → IsSome o → ⊥
 not_placed None is placed = cc
 not_placed (Some p) is placed = cc
 
--- a team that is fully legal by itself stands legal, cell by cell
+-- each cell of a team that is fully legal by itself is placed legally
 module _ (f : Frame) (team : ℕ) (cells : List Member) (legal : IsFullyLegal f (with_team team cells [])) where
   two_apart : (i j : ℕ) (a b : Member) (p q : SpotPlace) → i < j → slice_get cells i ≡ Some a → slice_get cells j ≡ Some b → a.place ≡ Some p → b.place ≡ Some q
       → SharesPoint (box_in f a.mac p) (box_in f b.mac q) → ⊥
@@ -170,7 +171,7 @@ legal_teams f teams legal team cells there own =
 
 -- ---- a design from its parts
 
--- what holds of each team's cells after the first holds of those after it
+-- a fact on each team's cells in a list holds for those of its tail
 part_tail : (P : DesignCell → Type 0) (c : DesignCell) (cs : List DesignCell) (team : ℕ) → All P (part_of team (c ∷ cs)) → All P (part_of team cs)
 part_tail P c cs team = by (eqb c.team team) where
   by : (b : Bool) → All P (cond b (c ∷ part_of team cs) (part_of team cs)) → All P (part_of team cs)
@@ -187,7 +188,7 @@ pairs_part_tail R c cs team = by (eqb c.team team) where
 part_head : (c : DesignCell) (cs : List DesignCell) → part_of c.team (c ∷ cs) ≡ c ∷ part_of c.team cs
 part_head c cs = taken (λ d. eqb d.team c.team) c cs (eq-eqb c.team c.team refl)
 
--- what holds of each team's cells holds of all
+-- a fact on each team's cells holds for all cells
 all_by_parts : (P : DesignCell → Type 0) (cells : List DesignCell) → ((team : ℕ) → All P (part_of team cells)) → All P cells
 all_by_parts P [] parts = All-nil P
 all_by_parts P (c ∷ cs) parts =
@@ -195,7 +196,8 @@ all_by_parts P (c ∷ cs) parts =
     (All-head P c (part_of c.team cs) (subst (λ (xs : List DesignCell). All P xs) (part_head c cs) (parts c.team)))
     (all_by_parts P cs (λ team. part_tail P c cs team (parts team)))
 
--- what holds between each two cells of one team, and between cells of different teams, holds between each two
+-- a relation of each two cells of one team, and of cells of different teams, holds for each two
+-- cells
 pairs_by_parts : (R : DesignCell → DesignCell → Type 0) (cells : List DesignCell) → ((team : ℕ) → AllPairs R (part_of team cells))
     → AllPairs (λ a b. a.team ≢ b.team → R a b) cells → AllPairs R cells
 pairs_by_parts R [] parts across = λ i j d less within. absurd (omega arith)
@@ -213,7 +215,8 @@ pairs_by_parts R (c ∷ cs) parts across =
       | inr other ↦ pairs_head (λ a b. a.team ≢ b.team → R a b) c cs across i d within (λ e. other.1 (sym e))
     ]
 
--- a design with the parts of a fully legal one is fully legal: the order of the cells plays no part
+-- a design with the parts of a fully legal one is fully legal: the order of the cells does not
+-- matter
 pub same_parts : (f : Frame) (a b : List DesignCell) → ((team : ℕ) → part_of team a ≡ part_of team b) → IsFullyLegal f a → IsFullyLegal f b
 same_parts f a b same legal = record {
   placed = all_by_parts (λ c. IsSome c.place) b (λ team. (own team).placed);

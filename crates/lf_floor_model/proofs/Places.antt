@@ -1,4 +1,4 @@
--- The committed places of all movable components, and the loaded design that a floor begins with.
+-- The committed places of all movable components, and the loaded design of a floor.
 use Rattle.std.proofs.Common.{◌≡◌, ℕ, zero, suc, ◌+◌, ◌<◌, ◌≤◌, Bool, true, false, cond, eqb, List, [], ◌∷◌, length, map, filter, get_or}
 use Rattle.std.proofs.Common.{Option, Some, None, ◌⊎◌, inl, inr, refl, ap, sym, ◌∙◌, subst, arith, zero-add}
 use Rattle.std.specs.Prelude.{AllPairs, Contains, option_and_then, option_map, slice_get}
@@ -18,9 +18,9 @@ use Rattle.lf_floor_model.specs.Places.{IsCommittedAt, PlacesBeginAsLoaded, Plac
 use Rattle.lf_floor_model.proofs.Openings.{map_at, pairs_map, team_of}
 use Rattle.lf_floor_model.proofs.Standing.{some_one}
 
--- ---- lists that rise
+-- ---- ascending lists
 
--- two lists along which a key rises, and which have the same elements, are one
+-- two lists that ascend by a key and have the same elements are equal
 module _ {X : Type 0} (key : X → ℕ) where
   abbrev Rises : List X → Type 0
   Rises xs = AllPairs (λ x later. key x < key later) xs
@@ -74,7 +74,7 @@ module _ {X : Type 0} (key : X → ℕ) where
 contains_mapped : {X Y : Type 0} (f : X → Y) (xs : List X) (x : X) → Contains xs x → Contains (map f xs) (f x)
 contains_mapped f xs x (k, within, is) = (k, rw (length-map xs f) within, map_at f xs k (f x) x within ∙ ap f is)
 
--- an element of a mapped list is that of an element
+-- an element of a mapped list is the image of an element
 comes_from : {X Y : Type 0} (f : X → Y) (xs : List X) (y : Y) → Contains (map f xs) y → (x : X) × Contains xs x × (f x ≡ y)
 comes_from f [] y (k, within, is) = absurd (omega (arith, within))
 comes_from f (x ∷ xs) y (zero, within, is) = (x, (0, omega arith, refl), is)
@@ -82,7 +82,7 @@ comes_from f (x ∷ xs) y (suc k, within, is) =
     let found = comes_from f xs y (k, omega (arith, within), is) in
     (found.0, (suc found.1.0, omega (arith, found.1.1), found.1.2), found.2)
 
--- what passes a test is among what is kept
+-- an element that passes the test is in the filtered list
 kept_at : {X : Type 0} (p : X → Bool) (xs : List X) (x : X) → Contains xs x → p x ≡ true → (own : ℕ) × (slice_get (filter p xs) own ≡ Some x)
 kept_at p [] x (k, within, is) passes = absurd (omega (arith, within))
 kept_at {X} p (y ∷ ys) x (zero, within, is) passes =
@@ -100,7 +100,7 @@ contains_at xs k x there = (k, slice_get_within xs k x there, get_or_from_slice_
 abbrev is_own : ℕ → LoadedCell → Bool
 is_own number c = eqb c.team number
 
--- a cell of the team of that number, at that position among the team's cells
+-- the cell is at that position among the cells of the team of that number
 record IsOwn (design : Loaded) (number own : ℕ) (c : LoadedCell) : Type 0 where
   held : Contains design.cells c
   there : slice_get (filter (is_own number) design.cells) own ≡ Some c
@@ -125,7 +125,7 @@ row_is : (design : Loaded) (number : ℕ) → number < length design.frame.teams
 row_is design number within =
     get_or-map-range_with_len (λ (n : ℕ). own_components n design.cells) 0 (length design.frame.teams + 1) number number [] within (zero-add number)
 
--- an entry is that of one of the team's cells
+-- an entry is that of a cell of the team
 entry_from : (design : Loaded) (number own position : ℕ) → slice_get (get_or (initial_components design) number []) own ≡ Some position
     → (c : LoadedCell) × IsOwn design number own c × (c.component ≡ position)
 entry_from design number own position e = by (within_or_past number (length design.frame.teams + 1)) where
@@ -144,7 +144,7 @@ entry_from design number own position e = by (within_or_past number (length desi
       ap (λ (row : List ℕ). slice_get row own) (sym (get_or_past (initial_components design) number [] (rw long past))) ∙ e in
       absurd (cc)
 
--- each cell is its team's, and has its entry there
+-- each cell is in its team, and has its entry there
 entry_to : (design : Loaded) (c : LoadedCell) → Contains design.cells c
     → (own : ℕ) × IsOwn design c.team own c × (slice_get (get_or (initial_components design) c.team []) own ≡ Some c.component)
 entry_to design c held =
@@ -185,7 +185,7 @@ places_follow design floor places same are =
         subst (λ (k : ℕ). Contains (map (λ (e : ℕ × Option Place). e.0) places) k) cell.2
         (contains_mapped (λ (e : ℕ × Option Place). e.0) places (cell.0.component, found.0.committed) found.2)
 
--- the cell of a team of the opening floor
+-- the cell of a team of the first floor
 opening_at : (design : Loaded) (number own : ℕ) (c : LoadedCell) → number < length design.frame.teams + 1 → IsOwn design number own c
     → cell_in (initial_floor design) number own ≡ Some (initial_cell c)
 opening_at design number own c within is =

@@ -53,14 +53,14 @@ unfolding answer_of
 answer_refused l floor Bye denied = refl
 answer_refused l floor (To name order) denied = at_refused l floor order (team_number floor.frame name) denied
 
--- a refusal leaves the whole floor as it was
+-- a refusal leaves the whole floor unchanged
 pub keeps_refused : (l : Legalizer) (old new : FloorState) (command : Command (List ℕ) Place) (reply : Reply) → IsAnswerOf l old command reply new
     → KeepsIfRefused reply old new
 keeps_refused l old new command reply answers denied = answers.floor_is ∙ answer_refused l old command (sym (ap is_ok answers.reply_is) ∙ denied)
 
 -- ---- accepted changes
 
--- the team of that name is in a state of which this holds
+-- the state of the team of that name has this property
 pub record Ends (l : Legalizer) (floor : FloorState) (team : List ℕ) (Good : TeamRules → TeamState → Type 0) : Type 0 where
   pub number : ℕ
   pub state : TeamState
@@ -68,7 +68,7 @@ pub record Ends (l : Legalizer) (floor : FloorState) (team : List ℕ) (Good : T
   pub there : state_of floor team ≡ Some state
   pub good : Good (team_rules l floor.frame number state.padding) state
 
--- what holds of a team after an order that it accepts
+-- a property of a team after an accepted command
 abbrev pub Makes : TeamCommand (List ℕ) Place → (TeamRules → TeamState → Type 0) → Type 0
 Makes order Good = (t : TeamRules) (s : TeamState) → IsTeamOf t.frame s → is_ok (outcome_of t order s).reply ≡ true → Good t (outcome_of t order s).team
 
@@ -109,7 +109,7 @@ module _ (l : Legalizer) (old new : FloorState) (known : All (λ s. IsTeamOf old
       by_number None named = denied (ap (λ (o : Option ℕ). is_ok (answer_at o l old order).reply) named)
       by_number (Some number) named = by_state number (slice_get old.teams number) named refl
 
--- after an accepted order its team is in such a state
+-- after an accepted command its team has this property
 pub ends_good : (l : Legalizer) (old new : FloorState) (command : Command (List ℕ) Place) (reply : Reply) (team : List ℕ) (order : TeamCommand (List ℕ) Place)
     (Good : TeamRules → TeamState → Type 0) → All (λ s. IsTeamOf old.frame s) old.teams → IsAnswerOf l old command reply new → command ≡ To team order
     → is_ok reply ≡ true → is_pad order ≡ false → Makes order Good → Ends l new team Good
@@ -127,7 +127,7 @@ module _ (l : Legalizer) (in_range : LegalInRange) (old new : FloorState) (comma
         (λ t s one_of accepted. verb_legal t s one_of in_range session (PlaceAt name place) accepted) in
         record { number = end.number; state = end.state; named = end.named; there = end.there; legal = end.good }
 
-    -- after an accepted legalize too
+    -- after an accepted legalize the cell is team-legal
     pub legalizes_legally : LegalizesLegally l command reply new
     legalizes_legally team name session target is granted =
         let order : TeamCommand (List ℕ) Place = Within session (Changing (Legalize name target)) in
@@ -135,7 +135,7 @@ module _ (l : Legalizer) (in_range : LegalInRange) (old new : FloorState) (comma
         (λ t s one_of accepted. verb_legal t s one_of in_range session (Legalize name target) accepted) in
         record { number = end.number; state = end.state; named = end.named; there = end.there; legal = end.good }
 
-    -- after an accepted tidy every cell of the team is
+    -- after an accepted tidy every cell of the team is team-legal
     pub tidies_legally : TidiesLegally l command reply new
     tidies_legally team session is granted =
         let order : TeamCommand (List ℕ) Place = Within session (Changing Tidy) in
@@ -143,7 +143,7 @@ module _ (l : Legalizer) (in_range : LegalInRange) (old new : FloorState) (comma
         (λ t s one_of accepted. verb_legal t s one_of in_range session Tidy accepted) in
         record { number = end.number; state = end.state; named = end.named; there = end.there; legal = end.good }
 
-    -- after an accepted swap both cells are
+    -- after an accepted swap both cells are team-legal
     pub swaps_legally : SwapsLegally l command reply new
     swaps_legally team first second session is granted =
         let order : TeamCommand (List ℕ) Place = Within session (Changing (Swap first second)) in
@@ -153,7 +153,7 @@ module _ (l : Legalizer) (in_range : LegalInRange) (old new : FloorState) (comma
           record { number = end.number; state = end.state; named = end.named; there = end.there; legal = end.good.1 },
         )
 
-    -- after an accepted commit every cell of the team is, at its committed place
+    -- after an accepted commit every cell of the team is team-legal at its committed place
     pub commits_legally : CommitsLegally l command reply new
     commits_legally team session is granted =
         let order : TeamCommand (List ℕ) Place = Within session (Changing Commit) in

@@ -27,7 +27,7 @@ use Rattle.lf_floor_model.proofs.Promises.{Ends, ends_good}
 use Rattle.lf_floor_model.proofs.Standing.{some_one, none_some}
 use Rattle.lf_floor_model.proofs.Stepping.{CommittedAt, step_teams, step_committed, teams_committed, step_keeps}
 
--- a run keeps that each team is one of the frame
+-- after a run each team is still a team of the frame
 pub run_teams : (l : Legalizer) (commands : List (Command (List ℕ) Place)) (replies : List Reply) (old new : FloorState) → HasFrameTeams old
     → Run l old commands replies new → HasFrameTeams new
 run_teams l [] [] old new known run = subst HasFrameTeams (sym run) known
@@ -35,7 +35,7 @@ run_teams l [] (r ∷ rs) old new known run = absurd run
 run_teams l (c ∷ cs) [] old new known run = absurd run
 run_teams l (c ∷ cs) (r ∷ rs) old new known run = run_teams l cs rs run.0 new (step_teams l old run.0 c r known run.1) run.2
 
--- a run from a fully legal committed design has one all along
+-- a run from a fully legal committed design has one after each command
 pub legal_run : (l : Legalizer) (commands : List (Command (List ℕ) Place)) (replies : List Reply) (old new : FloorState) → HasFrameTeams old
     → Run l old commands replies new → IsCommittedLegal old → LegalRun l old commands replies new
 legal_run l [] [] old new known run legal = run
@@ -80,7 +80,7 @@ module _ (l : Legalizer) (old mid : FloorState) (team : List ℕ) (session : ℕ
 
 -- ---- runs in which each team commits
 
--- an accepted commit of a run is its first command's, or a later one's
+-- an accepted commit of a run is its first command or a later one
 record IsFirst (team : List ℕ) (c : Command (List ℕ) Place) (r : Reply) : Type 0 where
   session : ℕ
   is : c ≡ commit_to team session
@@ -94,7 +94,8 @@ first_or_later team c r cs rs zero session reply commit answer accepted =
 first_or_later team c r cs rs (suc at) session reply commit answer accepted =
     inr (record { at = at; session = session; reply = reply; commit = commit; answer = answer; accepted = accepted })
 
--- a team whose committed places are legal, or of which a commit is accepted, has legal ones at the end
+-- the committed places of a team are legal at the end if they were legal at the start or a commit
+-- of the team is accepted
 run_commits : (l : Legalizer) (k : ℕ) (commands : List (Command (List ℕ) Place)) (replies : List Reply) (old new : FloorState) → HasFrameTeams old
     → Run l old commands replies new
     → CommittedAt old k ⊎ NumberHasCommitted old.frame k commands replies → CommittedAt new k
@@ -128,7 +129,7 @@ run_frame l [] (r ∷ rs) old new run = absurd run
 run_frame l (c ∷ cs) [] old new run = absurd run
 run_frame l (c ∷ cs) (r ∷ rs) old new run = run_frame l cs rs run.0 new run.2 ∙ step_frame l old run.0 c r (is_short r) run.1
 
--- a commit that was accepted lasts
+-- an accepted commit lasts
 pub commit_lasts : CommitLasts
 commit_lasts l old new commands replies known run team number s had named there =
     let before : team_number old.frame team ≡ Some number = ap (λ (f : Frame). team_number f team) (sym (run_frame l commands replies old new run)) ∙ named in
@@ -142,7 +143,7 @@ none_stand l floor k s there none t here own m at =
     let cells : committed_members t ≡ [] = ap committed_members same ∙ ap (λ (cs : List Cell). map committed_member cs) none in
     absurd (none_some (sym (ap (λ (ms : List Member). slice_get ms own) cells) ∙ at))
 
--- if of each team that has a cell a commit was accepted, the committed design is fully legal
+-- if a commit of each team with a cell was accepted, the committed design is fully legal
 pub commits_legal : (l : Legalizer) (commands : List (Command (List ℕ) Place)) (replies : List Reply) (old new : FloorState) → HasFrameTeams old
     → Run l old commands replies new → CommitsMakeLegal old commands replies new
 commits_legal l commands replies old new known run all =

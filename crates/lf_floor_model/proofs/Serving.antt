@@ -1,4 +1,4 @@
--- What the outcome of the team at one position is to the floor.
+-- The effect on the floor of an outcome of the team at one position.
 use Rattle.std.proofs.Common.{◌≡◌, ℕ, false, List, Option, Some, Result, Ok, Err, ap, sym, ◌∙◌, subst}
 use Rattle.std.specs.Prelude.{IfOk, OnErr, slice_get, slice_set}
 use Rattle.std.specs.declared.alloc.AllocError.{AllocError}
@@ -14,7 +14,7 @@ use Rattle.lf_floor_model.specs.States.{TeamState}
 use Rattle.lf_floor_model.specs.Verbs.{is_tested}
 use Rattle.lf_floor_model.specs.Steps.{outcome_by_rules, answer_by, IsGivenAnswer, IsOutOfMemoryAnswer, floor_of}
 
--- what holds of the team before and of its outcome holds of the team afterwards
+-- a fact on the old team and on its outcome holds for the new team
 pub kept_by : (P : TeamState → Type 0) (o : Outcome) (old new : TeamState) (result : Result Reply AllocError) → IfOk result (λ reply. IsOutcome o reply new)
     → OnErr result (IsOutOfMemory o old new) → P old → P o.team → P new
 kept_by P o old new (Ok reply) ok err before after = subst P (sym ok.team_is) after
@@ -56,7 +56,7 @@ stays_untested l f components teams number order s there untested =
     let P : Option TeamState → Type 0 = λ o. is_tested order (answer_by o l (floor_of f components teams) number order).reply ≡ false in
     subst P (sym there) untested
 
--- two facts that hold if an allocation fails hold together
+-- two facts that each hold if an allocation fails hold together
 pub on_err_both : {T E A B C : Type 0} (result : Result T E) → (A → B → C) → OnErr result A → OnErr result B → OnErr result C
 on_err_both (Ok x) both a b = tt
 on_err_both (Err e) both a b = both a b

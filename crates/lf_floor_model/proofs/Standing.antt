@@ -1,4 +1,4 @@
--- When the cells of a team stand at team-legal places.
+-- When the cells of a team are at team-legal places.
 use Rattle.std.proofs.Common.{◌≡◌, ◌≢◌, ℕ, zero, suc, ◌+◌, ◌<◌, List, [], ◌∷◌, not, cond, eqb, length, map, filter, Option, Some, None, refl, ap, sym, ◌∙◌, subst, arith}
 use Rattle.std.specs.Prelude.{All, slice_get, bytes_eq, option_map, option_and_then, MatchOption}
 use Rattle.std.specs.List.{position_from}
@@ -33,7 +33,7 @@ some_one {X} {a} {b} e = ap (λ (o : Option X). or_else o) e where
 pub none_some : {X : Type 0} {x : X} → None ≡ Some x → ⊥
 none_some e = cc
 
--- the cell of that position is a member there
+-- a member at that position is the cell there
 pub member_there : (cells : List Cell) (own : ℕ) (m : Member) → slice_get (map member_of cells) own ≡ Some m
     → (c : Cell) × (slice_get cells own ≡ Some c) × (member_of c ≡ m)
 member_there cells own m there = go (slice_get cells own) refl (sym (slice_get-map member_of cells own) ∙ there) where
@@ -44,7 +44,7 @@ member_there cells own m there = go (slice_get cells own) refl (sym (slice_get-m
 pub member_is : (cells : List Cell) (own : ℕ) (c : Cell) → slice_get cells own ≡ Some c → slice_get (map member_of cells) own ≡ Some (member_of c)
 member_is cells own c there = slice_get-map member_of cells own ∙ ap (λ (o : Option Cell). option_map member_of o) there
 
--- a placed cell of that position
+-- a placed cell at that position
 pub working_is : (cells : List Cell) (own : ℕ) (place : Place) → working_at cells own ≡ Some place
     → (c : Cell) × (slice_get cells own ≡ Some c) × (c.working ≡ Some place)
 working_is cells own place e = go (slice_get cells own) refl e where
@@ -61,7 +61,7 @@ there_within [] own within = absurd (omega (arith, within))
 there_within (c ∷ cs) zero within = (c, refl)
 there_within (c ∷ cs) (suc own) within = there_within cs own (omega (arith, within))
 
--- a cell that is named is there
+-- the cell of a name exists
 pub named_there : (name : List ℕ) (cells : List Cell) (own : ℕ) → cell_named name cells ≡ Some own → (c : Cell) × (slice_get cells own ≡ Some c)
 named_there name cells own named = there_within cells own (position-Some (λ (c : Cell). bytes_eq c.name name) cells own no_cell named).0
 
@@ -70,7 +70,7 @@ from_named : (name : List ℕ) (i : ℕ) (cells : List Cell)
 from_named name i [] = refl
 from_named name i (c ∷ cs) = ap (λ (o : Option ℕ). cond (bytes_eq c.name name) (Some i) o) (from_named name (i + 1) cs)
 
--- the names of the cells say which is named
+-- lists with the same names have the cell of a name at the same position
 pub named_alike : (name : List ℕ) (old new : List Cell) → map (λ c. c.name) new ≡ map (λ c. c.name) old → cell_named name new ≡ cell_named name old
 named_alike name old new same =
     position_from-zero (λ (c : Cell). bytes_eq c.name name) new
@@ -79,16 +79,16 @@ named_alike name old new same =
     ∙ sym (from_named name 0 old)
     ∙ sym (position_from-zero (λ (c : Cell). bytes_eq c.name name) old)
 
--- ---- a place over whole numbers as one of the program
+-- ---- a place in integers as a place of the program
 
--- a legal place is one of the program
+-- a legal place is a place of the program
 pub place_is : LegalInRange → (c : PlacementQuery) (p : SpotPlace) → IsSized c.frame c.mac → IsLegalAt c p → (q : Place) × (place_of_spot p ≡ Some q) × (spot_of q ≡ p)
 place_is in_range c p sized legal =
     let fits = in_range (candidate_at c p) sized legal in
     let q : Place = record { x = p.x; y = p.y; orient = p.orient; x_in_def = fits.0.above; y_in_def = fits.1.above } in
     (q, place_at-some q, refl)
 
--- ---- standing at a legal place
+-- ---- cells at legal places
 
 pub sized_at : (f : Frame) (cells : List Cell) (own : ℕ) (c : Cell) → All (λ c. IsSizedCell f c) cells → slice_get cells own ≡ Some c
     → IsSized f (macro_of f c.mac)
@@ -110,7 +110,7 @@ unbroken t cells own c place there sized none =
     let verdict : t.legalizer.first_broken trial ≡ None = sym (ap (λ (o : Option Cell). broken_by o t cells own place) there) ∙ none in
     subst (λ (o : Option Broken). IsVerdict trial o) verdict (t.legalizer.finds_first_broken trial sized)
 
--- a placed cell that breaks no rule where it stands
+-- a placed cell that breaks no rule at its working place
 pub stands_where : (t : TeamRules) (cells : List Cell) (own : ℕ) (place : Place) → All (λ c. IsSizedCell t.frame c) cells → working_at cells own ≡ Some place
     → broken_where t cells own ≡ None
     → IsLegalCell t.frame t.number t.padding (map member_of cells) own
@@ -157,14 +157,14 @@ beside_from f (c ∷ cs) n (suc k) place =
     let at : n + suc k ≡ n + 1 + k = omega arith in
     rw at (kept_beside f (n + 1 + k) n c.mac (option_map spot_of c.working) (boxes_from f (n + 1) (map member_of (moved cs k place))) (boxes_from f (n + 1) (map member_of cs)) (beside_from f cs (n + 1) k place))
 
--- the boxes beside a cell do not depend on where it stands
+-- the boxes of the other cells do not depend on the place of a cell
 pub beside_moved : (f : Frame) (cells : List Cell) (own : ℕ) (place : Option Place)
     → boxes_beside f (map member_of (moved cells own place)) own ≡ boxes_beside f (map member_of cells) own
 beside_moved f cells own place =
     let at : 0 + own ≡ own = omega arith in
     rw at at (beside_from f cells 0 own place)
 
--- a cell that goes to a legal place stands there
+-- a cell that is moved to a legal place is legal there
 pub stands_moved : (t : TeamRules) (cells : List Cell) (own : ℕ) (c : Cell) (place : Place) → slice_get cells own ≡ Some c
     → IsLegalAt (query_of_cell t cells own c) (spot_of place)
     → IsLegalCell t.frame t.number t.padding (map member_of (moved cells own (Some place))) own

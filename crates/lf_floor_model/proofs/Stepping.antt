@@ -1,4 +1,4 @@
--- A step, team by team: what it keeps of each, and of the committed design.
+-- A step, team by team: what it keeps of each team and of the committed design.
 use Rattle.std.proofs.Common.{◌≡◌, ℕ, zero, suc, List, [], ◌∷◌, Bool, true, false, map, Option, Some, None, ◌⊎◌, inl, inr, refl, ap, sym, ◌∙◌, subst}
 use Rattle.std.specs.Prelude.{slice_get, slice_set, MatchBool, option_map}
 use Rattle.std.proofs.lemmas.Option.{slice_get-map}
@@ -24,9 +24,9 @@ use Rattle.lf_floor_model.proofs.Kept.{verb_keeps}
 use Rattle.lf_floor_model.proofs.Parts.{each, all_there, legal_teams}
 use Rattle.lf_floor_model.proofs.Standing.{some_one}
 
--- ---- what each team was before a step
+-- ---- the state of each team before a step
 
--- the state of the team of that number comes from one that it had before: it is the same, or what an order made of it
+-- the state of the team of that number is the old one, or the result of a command on the old one
 pub record Was (l : Legalizer) (f : Frame) (teams : List TeamState) (number : ℕ) (new : TeamState) : Type 0 where
   pub old : TeamState
   pub there : slice_get teams number ≡ Some old
@@ -75,7 +75,7 @@ step_each l old new command reply false step k s there =
 
 -- ---- what a step keeps
 
--- the team of that number has legal committed places, if there is one
+-- the committed places of the team of that number are legal, if there is such a team
 abbrev pub CommittedAt : FloorState → ℕ → Type 0
 CommittedAt floor number = (s : TeamState) → slice_get floor.teams number ≡ Some s → AreCommittedLegal floor.frame number s
 
@@ -90,7 +90,7 @@ module _ (l : Legalizer) (old new : FloorState) (command : Command (List ℕ) Pl
   one_of : (k : ℕ) (s : TeamState) → slice_get old.teams k ≡ Some s → IsTeamOf old.frame s
   one_of k s there = each (λ (t : TeamState). IsTeamOf old.frame t) old.teams k s known there
 
-  -- the teams stay the frame's
+  -- the teams are still teams of the frame
   pub step_teams : HasFrameTeams new
   step_teams = all_there (λ (s : TeamState). IsTeamOf new.frame s) new.teams (λ k s there.
       subst (λ (f : Frame). IsTeamOf f s) (sym frame) (by k s (was k s there))) where
@@ -133,11 +133,11 @@ pub step_keeps : (l : Legalizer) (old new : FloorState) (command : Command (List
 step_keeps l old new command reply known step legal =
     teams_committed new (λ k. step_committed l old new command reply known step k (committed_teams old legal k))
 
--- so does a command that memory sufficed for
+-- a command for which memory sufficed keeps a fully legal committed design
 pub answer_keeps : (l : Legalizer) (old new : FloorState) (command : Command (List ℕ) Place) (reply : Reply) → HasFrameTeams old
     → IsAnswerOf l old command reply new → KeepsCommittedLegal old new
 answer_keeps l old new command reply known answers = step_keeps l old new command reply known (step_of_answer l old new command reply answers)
 
--- and one that it did not
+-- a command for which memory did not suffice keeps it too
 pub short_keeps : (l : Legalizer) (old new : FloorState) (command : Command (List ℕ) Place) → MayRunOutOfMemory l old command new → KeepsCommittedLegal old new
 short_keeps l old new command short legal = subst IsCommittedLegal (sym short.short.kept) legal

@@ -1,4 +1,4 @@
--- Runs in which each team is sent the same orders end in the same floor.
+-- Runs in which each team is sent the same commands end in the same floor.
 use Rattle.std.proofs.Common.{◌≡◌, ◌≢◌, ℕ, zero, suc, ◌<◌, List, [], ◌∷◌, Bool, true, false, eqb, get_or, Option, Some, None, ◌⊎◌, inl, inr, refl, ap, sym, ◌∙◌, subst}
 use Rattle.std.specs.Prelude.{bytes_eq, MatchBool, slice_get}
 use Rattle.std.proofs.lemmas.Bool.{eq-eqb, eqb-true}
@@ -47,13 +47,13 @@ has_name f k name is (inr unnamed) = inr (λ team named.
     (bytes_eq-Decides (get_or (team_names f) k []) team).0 (position-Some (λ n. bytes_eq n team) (team_names f) k [] named).1 in
     unnamed (subst (λ (n : List ℕ). team_number f n ≡ Some k) (sym (is ∙ there)) named))
 
--- the number is a team's, or no team's
+-- the number has a team name, or no name has it
 has_team : (f : Frame) (k : ℕ) → ((team : List ℕ) × (team_number f team ≡ Some k)) ⊎ ((team : List ℕ) → team_number f team ≢ Some k)
 has_team f k =
     let name : List ℕ = get_or (team_names f) k [] in
     has_name f k name refl (is_number (team_number f name) k)
 
--- ---- a team that no name is of
+-- ---- a team number without a name
 
 module _ (l : Legalizer) (floor : FloorState) (k : ℕ) (unnamed : (team : List ℕ) → team_number floor.frame team ≢ Some k) where
   apart_by : (number : ℕ) (order : TeamCommand (List ℕ) Place) (o : Option TeamState) → number ≢ k
@@ -76,7 +76,7 @@ module _ (l : Legalizer) (floor : FloorState) (k : ℕ) (unnamed : (team : List 
   step_apart new c r true step = ap (λ (f : FloorState). slice_get f.teams k) step.short.kept
   step_apart new c r false step = ap (λ (f : FloorState). slice_get f.teams k) step.floor_is ∙ apart c
 
--- no step makes a team
+-- no step adds a team
 none_stays : (l : Legalizer) (old new : FloorState) (c : Command (List ℕ) Place) (r : Reply) → Step l old c r new → (k : ℕ)
     → slice_get old.teams k ≡ None → slice_get new.teams k ≡ None
 none_stays l old new c r step k none = by (slice_get new.teams k) refl where
@@ -91,7 +91,7 @@ none_stays l old new c r step k none = by (slice_get new.teams k) refl where
 
 -- ---- runs
 
--- the frame, the positions of entries, and each team that no command can reach
+-- unchanged: the frame, the positions of entries, and each team that no command can address
 pub record Rests (old new : FloorState) : Type 0 where
   pub frame : new.frame ≡ old.frame
   pub components : new.components ≡ old.components
@@ -148,7 +148,7 @@ module _ (l : Legalizer) (old a b : FloorState) (commands others : List (Command
   rests_b : Rests old b
   rests_b = run_rests l others answers old b other
 
-  -- the state of the team of that number by its name
+  -- the state of the team of that number, found by its name
   at_number : (new : FloorState) → new.frame ≡ old.frame → (team : List ℕ) (k : ℕ) → team_number old.frame team ≡ Some k → state_of new team ≡ slice_get new.teams k
   at_number new frame team k named = ap (state_at new.teams) (ap (λ (f : Frame). team_number f team) frame ∙ named)
 

@@ -64,7 +64,7 @@ unbroken_is t None legal verdict = refl
 unbroken_is t (Some b) legal verdict = absurd (verdict.broken (legal b.rule))
 
 module _ (t : TeamRules) (s : TeamState) (known : IsTeamOf t.frame s) (legal : AreLegal t s) where
-  -- the cell of a position is placed, and legal there
+  -- the cell at a position is placed, and legal there
   stands_at : (own : ℕ) (c : Cell) → slice_get s.cells own ≡ Some c
       → (place : Place) × (c.working ≡ Some place) × IsLegalAt (query_of_cell t s.cells own c) (spot_of place)
   stands_at own c there = go c.working refl (legal own (member_of c) (member_is s.cells own c there)) where
@@ -121,9 +121,9 @@ module _ (t : TeamRules) (s : TeamState) (known : IsTeamOf t.frame s) (legal : A
     slot None = refl
     slot (Some seen) = stale (eqb seen s.revision)
 
--- ---- orders between a tidy and a commit
+-- ---- commands between a tidy and a commit
 
--- what is no change, and a change that is refused, leave legal cells legal
+-- a command that is not a change, and a refused change, leave legal cells legal
 still_legal : (t : TeamRules) (s : TeamState) (order : TeamCommand (List ℕ) Place) → AreLegal t s
     → (is_change order ≡ true → is_ok (outcome_of t order s).reply ≡ false) → AreLegal t (outcome_of t order s).team
 still_legal t s order legal quiet = by (is_change order) refl where
@@ -134,12 +134,12 @@ still_legal t s order legal quiet = by (is_change order) refl where
       let refusal = denied_is (outcome_of t order s).reply (quiet change) in
       subst (λ (after : TeamState). AreLegal t after) (sym (refusal_leaves t order s refusal.0 refusal.1)) legal
 
--- cells that are legal with the padding before are so with that after, if it is the same
+-- cells that are legal with the old padding are legal with the new one, if it is the same
 at_padding : (l : Legalizer) (f : Frame) (number : ℕ) (s after : TeamState) → after.padding ≡ s.padding → AreLegal (team_rules l f number s.padding) after
     → AreLegal (team_rules l f number after.padding) after
 at_padding l f number s after same legal = subst (λ (n : ℕ). AreLegal (team_rules l f number n) after) (sym same) legal
 
--- the padding stays too
+-- the padding is unchanged too
 still_padded : (t : TeamRules) (s : TeamState) (order : TeamCommand (List ℕ) Place) → (is_change order ≡ true → is_ok (outcome_of t order s).reply ≡ false)
     → (outcome_of t order s).team.padding ≡ s.padding
 still_padded t s order quiet = by (is_change order) refl where
@@ -157,7 +157,7 @@ still_there l f number s order legal quiet =
     (still_legal (team_rules l f number s.padding) s order legal quiet)
 
 module _ (l : Legalizer) (f : Frame) (number : ℕ) where
-  -- from a team whose cells are all legal on
+  -- a run that starts with a team whose cells are all legal
   after_legal : (orders : List (TeamCommand (List ℕ) Place)) (s : TeamState) → IsTeamOf f s → AreLegal (team_rules l f number s.padding) s → (j second : ℕ) (reply : Reply)
       → slice_get orders j ≡ Some (Within second (Changing Commit)) → slice_get (own_replies l f number orders s) j ≡ Some reply
       → ((k : ℕ) (order : TeamCommand (List ℕ) Place) (told : Reply) → k < j → slice_get orders k ≡ Some order
@@ -183,7 +183,7 @@ module _ (l : Legalizer) (f : Frame) (number : ℕ) where
       (padding_stays (team_rules l f number s.padding) (Within first (Changing Tidy)) s refl)
       (verb_legal (team_rules l f number s.padding) s known in_range first Tidy granted))
 
-  -- a team's own orders
+  -- a team's own commands
   own_tidied : LegalInRange → (orders : List (TeamCommand (List ℕ) Place)) (s : TeamState) → IsTeamOf f s → (i j : ℕ) (reply : Reply)
       → TidyThenCommit orders (own_replies l f number orders s) i j → slice_get (own_replies l f number orders s) j ≡ Some reply → finds_no_fault reply ≡ true
   own_tidied in_range [] s known i j reply h answer = absurd cc

@@ -1,4 +1,4 @@
--- What tidying makes of a team's cells, and what a commit has tested.
+-- The effect of a tidy on a team's cells, and what a commit tests.
 use Rattle.std.proofs.Common.{◌≡◌, ℕ, zero, suc, ◌+◌, ◌<◌, List, [], ◌∷◌, Bool, true, false, cond, length, map, Option, Some, None, refl, ap, sym, ◌∙◌, subst, arith}
 use Rattle.std.specs.Prelude.{All, slice_get, slice_set, is_none, filter_map, option_map, option_and_then, MatchOption}
 use Rattle.std.specs.List.{range_with_len, position_from, cons_option}
@@ -24,7 +24,7 @@ use Rattle.lf_reports.specs.declared.broken_cell.BrokenCell.{BrokenCell}
 use Rattle.lf_floor_model.specs.Changes.{restored, places_in, broken_where, first_unplaced, broken_cells}
 use Rattle.lf_floor_model.proofs.Standing.{some_one, none_some, member_there, place_is, sized_at, stands_where}
 
--- ---- the macros stay
+-- ---- the macros are unchanged
 
 abbrev macs : List Member → List ℕ
 macs members = map (λ (m : Member). m.mac) members
@@ -70,7 +70,7 @@ tidied_macs l f team padding cells new moved is = subst (λ (t : Tidied). SameMa
 
 -- ---- the cells of a tidied team
 
--- the cell stands at a place of the program
+-- the cell is at a place of the program
 abbrev IsPlacedAt : Member → Type 0
 IsPlacedAt m = (q : Place) × (m.place ≡ Some (spot_of q)) × (place_of_spot (spot_of q) ≡ Some q)
 
@@ -86,7 +86,7 @@ placed_member c m mac at =
     ap (λ (o : Option SpotPlace). option_map spot_of (option_and_then place_of_spot o)) at.1 ∙ ap (λ (o : Option Place). option_map spot_of o) at.2 ∙ sym at.1 in
     same_member c.mac m.mac (option_map spot_of (option_and_then place_of_spot m.place)) m.place (sym mac) place
 
--- where each cell stands at a place of the program, the team's cells are the tidied ones
+-- if each cell is at a place of the program, the team's cells are the tidied ones
 restored_members : (new : List Member) (cells : List Cell) → macs new ≡ macs (map member_of cells)
     → ((k : ℕ) (m : Member) → slice_get new k ≡ Some m → IsPlacedAt m)
     → map member_of (restored (places_in new) cells) ≡ new
@@ -127,7 +127,7 @@ module _ (t : TeamRules) (cells : List Cell) (sized : All (λ c. IsSizedCell t.f
       let found = place_is in_range (query_from t.frame t.number t.padding new k m.mac) p whole legal in
       (found.0, is ∙ ap (λ (s : SpotPlace). Some s) (sym found.2), ap (λ (s : SpotPlace). place_of_spot s) found.2 ∙ found.1)
 
-  -- a tidied team's cells stand at team-legal places
+  -- a tidied team's cells are at team-legal places
   pub tidied_stand : (new : List Member) (moved : ℕ) → tidied t.legalizer t.frame t.number t.padding (map member_of cells) ≡ Going new moved
       → (own : ℕ) → IsLegalCell t.frame t.number t.padding (map member_of (restored (places_in new) cells)) own
   tidied_stand new moved is own =
@@ -136,7 +136,8 @@ module _ (t : TeamRules) (cells : List Cell) (sized : All (λ c. IsSizedCell t.f
       let at : (k : ℕ) (m : Member) → slice_get new k ≡ Some m → IsPlacedAt m = λ k m there. placed_legal new k m (mac_there new k m same there) m.place refl (legal k m there) in
       subst (λ (ms : List Member). IsLegalCell t.frame t.number t.padding ms own) (sym (restored_members new cells same at)) (legal own)
 
-  -- the place that is found for a cell is its best place; none is found only if it may go to none
+  -- the place found for a cell is its best place; no place is found only if no place is legal for
+  -- it
   pub best_choice : (own : ℕ) (c : Cell) (target : Point) → slice_get cells own ≡ Some c
       → IsChoice (query_of_cell t cells own c) target (option_map spot_of (best_at t cells own target))
   best_choice own c target there =
@@ -158,14 +159,14 @@ module _ (t : TeamRules) (cells : List Cell) (sized : All (λ c. IsSizedCell t.f
           let place = place_is in_range lifted p whole choice.may_go.legal in
           subst (λ (q : Option SpotPlace). IsChoice lifted target q) (sym (ap (λ (q : Option Place). option_map spot_of q) place.1 ∙ ap (λ (s : SpotPlace). Some s) place.2)) choice
 
-  -- the place that is found is team-legal
+  -- the place found is team-legal
   pub best_legal : (own : ℕ) (c : Cell) (target : Point) (place : Place) → slice_get cells own ≡ Some c → best_at t cells own target ≡ Some place
       → IsLegalAt (query_of_cell t cells own c) (spot_of place)
   best_legal own c target place there is =
       let choice = subst (λ (o : Option Place). IsChoice (query_of_cell t cells own c) target (option_map spot_of o)) is (best_choice own c target there) in
       choice.may_go.legal
 
--- ---- what a commit has tested
+-- ---- what a commit tests
 
 abbrev NoneUnplaced : List Cell → Type 0
 NoneUnplaced cells = (k : ℕ) (c : Cell) → slice_get cells k ≡ Some c → is_none c.working ≡ false
@@ -179,7 +180,7 @@ none_first i (d ∷ ds) none k c there = go (is_none d.working) refl none (λ re
   go false is e rest zero c there = subst (λ (x : Cell). is_none x.working ≡ false) (some_one there) is
   go false is e rest (suc k) c there = rest e k c there
 
--- if no cell is the first unplaced one, each is placed
+-- if there is no first unplaced cell, each cell is placed
 each_placed : (cells : List Cell) → first_unplaced cells ≡ None → (k : ℕ) (c : Cell) → slice_get cells k ≡ Some c → (place : Place) × (c.working ≡ Some place)
 each_placed cells none k c there =
     go c.working refl (none_first 0 cells (sym (position_from-zero (λ (c : Cell). is_none c.working) cells) ∙ none) k c there) where
@@ -203,7 +204,7 @@ no_filtered h a (suc n) none (suc k) within =
 abbrev cell_at : ℕ → Broken → BrokenCell
 cell_at own broken = record { own = own; broken = broken }
 
--- if no cell breaks a rule where it stands, each breaks none
+-- if no cell breaks a rule at its working place, each has no broken rule
 each_unbroken : (t : TeamRules) (cells : List Cell) → broken_cells t cells ≡ [] → (k : ℕ) → k < length cells → broken_where t cells k ≡ None
 each_unbroken t cells none k within =
     let at : 0 + k ≡ k = omega arith in
@@ -217,7 +218,7 @@ committed_members : (cells : List Cell) → map member_of (map as_committed cell
 committed_members [] = refl
 committed_members (c ∷ cs) = ap (λ (ms : List Member). member_of c ∷ ms) (committed_members cs)
 
--- after a commit each cell stands at a team-legal place
+-- after a commit each cell is at a team-legal place
 pub committed_stand : (t : TeamRules) (cells : List Cell) → All (λ c. IsSizedCell t.frame c) cells → first_unplaced cells ≡ None → broken_cells t cells ≡ []
     → (own : ℕ) → IsLegalCell t.frame t.number t.padding (map member_of (map as_committed cells)) own
 committed_stand t cells sized placed unbroken own =

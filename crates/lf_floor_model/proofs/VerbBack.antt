@@ -1,4 +1,4 @@
--- What undo and revert bring back.
+-- What undo and revert restore.
 use Rattle.std.proofs.Common.{◌≡◌, ℕ, zero, suc, ◌+◌, ◌<◌, ◌≤◌, List, [], ◌∷◌, Bool, true, cond, map, take, length, Option, Some, None, refl, ap, sym, ◌∙◌, subst, arith}
 use Rattle.std.specs.Prelude.{MatchBool}
 use Rattle.std.proofs.lemmas.Bool.{eq-eqb, lt-ltb}
@@ -36,7 +36,7 @@ slot_is t session change s (Some n) seen left =
     some_one : {a b : ℕ} → Some a ≡ Some b → a ≡ b
     some_one e = cc
 
--- the outcome of a change that a session asks for and may make
+-- the outcome of a change that the session may make
 pub may_is : (t : TeamRules) (session : ℕ) (change : Change (List ℕ) Place) (s : TeamState) → MayChange t session s
     → outcome_of_asking t session change s ≡ outcome_of_change t session change s
 may_is t session change s may = slot_is t session change s (seen_at s.slots session) may.seen may.left
@@ -61,7 +61,7 @@ restored_places (b ∷ bs) (c ∷ cs) same =
     let rest : length cs ≡ length bs = omega (arith, same) in
     ap (λ (places : List (Option Place)). b.working ∷ places) (restored_places bs cs rest)
 
--- the working places before are the newest entry, and there are as many cells
+-- the old working places are the newest entry, and the number of cells is the same
 pub record IsRecorded (t : TeamRules) (s new : TeamState) : Type 0 where
   pub entries : new.entries ≡ with_entry t.frame.limits s
   pub many : length new.cells ≡ length s.cells
@@ -94,7 +94,7 @@ undo_leads t session other change s is accepted may =
 
 -- ---- revert after a commit
 
--- going back to the places just committed moves nothing
+-- moving back to the places just committed moves no cell
 back_committed : (cells : List Cell) → places_of (map back_to_committed (map as_committed cells)) ≡ places_of cells
 back_committed [] = refl
 back_committed (c ∷ cs) = ap (λ (places : List (Option Place)). c.working ∷ places) (back_committed cs)

@@ -30,7 +30,7 @@ MakesLegal t Tidy s = AreLegal t s
 MakesLegal t Commit s = AreLegal t s
 MakesLegal t _ s = Unit {0}
 
--- ---- where the cells stand after an exchange
+-- ---- the places of the cells after an exchange
 
 working_moved : (cells : List Cell) (own : ℕ) (place : Option Place) (c : Cell) → slice_get cells own ≡ Some c → working_at (moved cells own place) own ≡ place
 working_moved cells own place c there = ap (λ (o : Option Cell). option_and_then (λ (d : Cell). d.working) o) (moved_here cells own place c there)
@@ -42,7 +42,7 @@ module _ (cells : List Cell) (first second : ℕ) (p q : Place) (at_first : work
   same_or_not : (first ≡ second) ⊎ (second ≢ first)
   same_or_not = elim (eqb_tells first second) [ inl same ↦ inl same.1 | inr differs ↦ inr (λ e. differs.1 (sym e)) ]
 
-  -- the second cell is there still
+  -- the second cell is still in the list
   half_there : (c : Cell) × (slice_get (moved cells first (working_at cells second)) second ≡ Some c)
   half_there = elim same_or_not [
     | inl same ↦

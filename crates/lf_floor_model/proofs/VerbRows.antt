@@ -9,7 +9,7 @@ use Rattle.lf_floor_model.specs.Looks.{located, found}
 use Rattle.lf_floor_model.specs.Changes.{placed, unplaced, legalized, tidied_team, swapped, reverted, undone, committed, padded}
 use Rattle.lf_floor_model.specs.VerbRows.{HasRoom, SessionRow, StaleRow, UndoRow, SpentRow, BestRow, NoPlaceRow, TidyRow, TidyCommitRow, CommitRow, RefusedRow, SwapRow, PadRow}
 
--- a revision is left at each number up to nine
+-- each revision up to nine is below the limit
 more_left : (t : TeamRules) (n : ℕ) → 9 < t.frame.limits.revisions → n < 10 → ltb n t.frame.limits.revisions ≡ true
 more_left t n room small = lt-ltb n t.frame.limits.revisions (omega (arith, room, small))
 

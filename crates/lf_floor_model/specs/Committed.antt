@@ -16,7 +16,7 @@ use Rattle.lf_floor_model.specs.Verbs.{outcome_of}
 use Rattle.lf_floor_model.specs.VerbLaws.{outcome_of_asking, is_accepted, committed_places}
 use Rattle.lf_floor_model.specs.Designs.{initial_floor}
 
--- the macro and the committed place of a cell, as the rules see it
+-- the macro and the committed place of a cell, as the rules use them
 abbrev pub committed_member : Cell → Member
 committed_member c = record { mac = c.mac; place = option_map spot_of c.committed }
 
@@ -24,7 +24,7 @@ committed_member c = record { mac = c.mac; place = option_map spot_of c.committe
 abbrev pub committed_members : TeamState → List Member
 committed_members s = map committed_member s.cells
 
--- the committed design: all teams' cells at their committed places, team after team
+-- the committed design: the cells of all teams at their committed places, in the order of the teams
 abbrev pub committed_design : FloorState → List DesignCell
 committed_design floor = design_cells_from 0 (map committed_members floor.teams)
 
@@ -36,11 +36,12 @@ IsCommittedLegal floor = IsFullyLegal floor.frame (committed_design floor)
 abbrev pub KeepsCommittedLegal : FloorState → FloorState → Type 0
 KeepsCommittedLegal old new = IsCommittedLegal old → IsCommittedLegal new
 
--- every cell of the team has a committed place, which is team-legal among the team's other committed places; no padding plays a part
+-- every cell of the team has a committed place that is team-legal among the team's other committed
+-- places; padding is ignored
 abbrev pub AreCommittedLegal : Frame → ℕ → TeamState → Type 0
 AreCommittedLegal f team s = (own : ℕ) → IsLegalCell f team 0 (committed_members s) own
 
--- in a fully legal design each team's cells are placed and, with no padding, team-legal
+-- in a fully legal design the cells of each team are placed and, with no padding, team-legal
 abbrev pub LegalMakesTeams : Type 0
 LegalMakesTeams =
     (f : Frame) (teams : List (List Member)) → IsFullyLegal f (design_cells_from 0 teams) →
@@ -58,16 +59,17 @@ CommittedByTeams =
 abbrev pub loaded_design : Loaded → List DesignCell
 loaded_design design = design_cells_at design.cells (map (λ c. c.place) design.cells)
 
--- a floor begins with a fully legal committed design if and only if the loaded design is fully legal
+-- when a floor begins, its committed design is fully legal if and only if the loaded design is
 abbrev pub LoadedIsCommitted : Type 0
 LoadedIsCommitted = (design : Loaded) → IsCommittedLegal (initial_floor design) ↔ IsFullyLegal design.frame (loaded_design design)
 
--- a team's working places and its committed places are these
+-- these are both the team's working places and its committed places
 pub record AreAtPlaces (s : TeamState) (places : List (Option Place)) : Type 0 where
   pub working : places_of s.cells ≡ places
   pub committed : committed_places s ≡ places
 
--- each team's cells are at their places in the DEF text, in loading order, and are committed there
+-- the cells of each team are at their places in the DEF text, in loading order, and these places
+-- are committed
 abbrev pub AreAtLoadedPlaces : Loaded → FloorState → Type 0
 AreAtLoadedPlaces design floor =
     (team : List ℕ) (number : ℕ) (s : TeamState) → team_number design.frame team ≡ Some number → state_of floor team ≡ Some s →
@@ -77,15 +79,16 @@ AreAtLoadedPlaces design floor =
 abbrev pub LoadedPlacesAreCommitted : Type 0
 LoadedPlacesAreCommitted = (design : Loaded) → AreAtLoadedPlaces design (initial_floor design)
 
--- ---- orders
+-- ---- commands of a team
 
--- no order makes a team's legal committed places illegal
+-- no command makes a team's legal committed places illegal
 abbrev pub CommandKeepsCommitted : Type 0
 CommandKeepsCommitted =
     (t : TeamRules) (order : TeamCommand (List ℕ) Place) (s : TeamState) → IsTeamOf t.frame s
     → AreCommittedLegal t.frame t.number s → AreCommittedLegal t.frame t.number (outcome_of t order s).team
 
--- after an accepted commit the committed places are the working places, and are legal, whatever was committed before
+-- after an accepted commit the committed places are the working places, and are legal, whatever was
+-- committed earlier
 abbrev pub CommitMakesCommitted : Type 0
 CommitMakesCommitted =
     (t : TeamRules) (session : ℕ) (s : TeamState) → IsTeamOf t.frame s →

@@ -1,4 +1,4 @@
--- What commands do to the committed design, one after the other.
+-- What a sequence of commands does to the committed design.
 use Rattle.std.specs.Prelude.{◌≡◌, ℕ, ◌<◌, List, [], ◌∷◌, length, Bool, true, false, Some, All, slice_get}
 use Rattle.lf_floorplan.specs.declared.frame.Frame.{Frame}
 use Rattle.lf_floorplan.specs.declared.loaded.Loaded.{Loaded}
@@ -23,7 +23,7 @@ use Rattle.lf_floor_model.specs.Runs.{Run, own_commands, own_replies_in}
 use Rattle.lf_floor_model.specs.Committed.{AreCommittedLegal, IsCommittedLegal, KeepsCommittedLegal, loaded_design}
 use Rattle.lf_floor_model.specs.Designs.{initial_floor}
 
--- each team of the floor is one of its frame
+-- each team of the floor is a team of its frame
 abbrev pub HasFrameTeams : FloorState → Type 0
 HasFrameTeams floor = All (λ s. IsTeamOf floor.frame s) floor.teams
 
@@ -35,13 +35,13 @@ StepKeepsCommitted =
 
 -- ---- runs
 
--- a run keeps that each team of the floor is one of its frame
+-- after a run each team of the floor is still a team of its frame
 abbrev pub RunKeepsTeams : Type 0
 RunKeepsTeams =
     (l : Legalizer) (old new : FloorState) (commands : List (Command (List ℕ) Place)) (replies : List Reply) → HasFrameTeams old
     → Run l old commands replies new → HasFrameTeams new
 
--- a run after each of whose commands the committed design is fully legal
+-- a run in which the committed design is fully legal after each command
 abbrev pub LegalRun : Legalizer → FloorState → List (Command (List ℕ) Place) → List Reply → FloorState → Type 0
 LegalRun l old [] [] new = new ≡ old
 LegalRun l old (command ∷ commands) (reply ∷ replies) new =
@@ -49,7 +49,7 @@ LegalRun l old (command ∷ commands) (reply ∷ replies) new =
 LegalRun l old [] (reply ∷ replies) new = ⊥
 LegalRun l old (command ∷ commands) [] new = ⊥
 
--- in a run from a fully legal committed design, it is fully legal after each command
+-- in a run that starts with a fully legal committed design, it is fully legal after each command
 abbrev pub RunStaysLegal : Type 0
 RunStaysLegal =
     (l : Legalizer) (old new : FloorState) (commands : List (Command (List ℕ) Place)) (replies : List Reply) → HasFrameTeams old
@@ -73,8 +73,8 @@ pub record HasCommitted (team : List ℕ) (commands : List (Command (List ℕ) P
   pub answer : slice_get replies at ≡ Some reply
   pub accepted : is_ok reply ≡ true
 
--- once a commit of a team was accepted in a run, the team's committed places are legal at its end, whatever they were before and
--- whatever commands came later
+-- after an accepted commit of a team in a run, the team's committed places are legal at the end,
+-- whatever they were at the start and whatever commands come later
 abbrev pub CommitLasts : Type 0
 CommitLasts =
     (l : Legalizer) (old new : FloorState) (commands : List (Command (List ℕ) Place)) (replies : List Reply) → HasFrameTeams old
@@ -87,13 +87,14 @@ pub record NumberHasCommitted (f : Frame) (number : ℕ) (commands : List (Comma
   pub named : team_number f team ≡ Some number
   pub committed : HasCommitted team commands replies
 
--- a commit was accepted of each team that has a cell
+-- a commit of each team that has a cell was accepted
 abbrev pub AllHaveCommitted : FloorState → List (Command (List ℕ) Place) → List Reply → Type 0
 AllHaveCommitted floor commands replies =
     (number : ℕ) (s : TeamState) → slice_get floor.teams number ≡ Some s → 0 < length s.cells
     → NumberHasCommitted floor.frame number commands replies
 
--- if a commit was accepted of each team that has a cell, the committed design is fully legal at the end, whatever it was before
+-- if a commit of each team that has a cell was accepted, the committed design is fully legal at the
+-- end, whatever it was at the start
 abbrev pub CommitsMakeLegal : FloorState → List (Command (List ℕ) Place) → List Reply → FloorState → Type 0
 CommitsMakeLegal old commands replies new = AllHaveCommitted old commands replies → IsCommittedLegal new
 
@@ -105,14 +106,15 @@ RunCommitsMakeLegal =
 
 -- ---- a commit after a tidy
 
--- the refusal is for the session or for the team's revision, whatever the cells are
+-- the refusal is for the session or for the team's revision, independent of the cells
 abbrev pub is_for_session : Refusal → Bool
 is_for_session NoSession = true
 is_for_session (Stale revision) = true
 is_for_session RevisionsSpent = true
 is_for_session _ = false
 
--- no fault is found in the cells: the command is accepted, or refused only for its session or the revision
+-- no fault is found in the cells: the command is accepted, or refused only for its session or the
+-- revision
 abbrev pub finds_no_fault : Reply → Bool
 finds_no_fault (Refused refusal) = is_for_session refusal
 finds_no_fault _ = true
@@ -123,8 +125,8 @@ LegalCommits =
     (t : TeamRules) (session : ℕ) (s : TeamState) → IsTeamOf t.frame s → AreLegal t s
     → finds_no_fault (outcome_of_asking t session Commit s).reply ≡ true
 
--- among a team's orders and the replies to them: a tidy at i was accepted, a commit at j comes later, and each change between
--- them was refused
+-- the team's commands at i and j, with their replies: a tidy at i was accepted, a commit at j comes
+-- later, and each change between them was refused
 pub record TidyThenCommit (orders : List (TeamCommand (List ℕ) Place)) (replies : List Reply) (i j : ℕ) : Type 0 where
   pub first : ℕ
   pub second : ℕ
@@ -138,12 +140,12 @@ pub record TidyThenCommit (orders : List (TeamCommand (List ℕ) Place)) (replie
       (k : ℕ) (order : TeamCommand (List ℕ) Place) (own_replies_in : Reply) → i < k → k < j
       → slice_get orders k ≡ Some order → slice_get replies k ≡ Some own_replies_in → is_change order ≡ true → is_ok own_replies_in ≡ false
 
--- such a commit finds no fault
+-- the commit at j finds no fault
 abbrev pub TidiedCommits : List (TeamCommand (List ℕ) Place) → List Reply → Type 0
 TidiedCommits orders replies =
     (i j : ℕ) (reply : Reply) → TidyThenCommit orders replies i j → slice_get replies j ≡ Some reply → finds_no_fault reply ≡ true
 
--- this holds for each team's orders among these commands, without those answered OutOfMemory
+-- this holds for each team's commands among these, without those with the reply OutOfMemory
 abbrev pub EachTidiedCommits : FloorState → List (Command (List ℕ) Place) → List Reply → Type 0
 EachTidiedCommits old commands replies =
     (team : List ℕ) (s : TeamState) → state_of old team ≡ Some s → TidiedCommits (own_commands team commands replies) (own_replies_in team commands replies)

@@ -1,4 +1,4 @@
--- Questions, which change nothing: the outcomes of where, check, def and find.
+-- Queries, which change nothing: the outcomes of where, check, def and find.
 use Rattle.std.specs.Prelude.{ℕ, List, Option, Some, None, map, slice_get}
 use Rattle.lf_units.specs.declared.geometry.Point.{Point}
 use Rattle.lf_floorplan.specs.declared.place.Place.{Place}
@@ -18,12 +18,12 @@ use Rattle.lf_cells.specs.Cells.{cell_named, working_at}
 use Rattle.lf_legalize.specs.Members.{member_of}
 use Rattle.lf_floor_model.specs.Outcomes.{Outcome, refused}
 
--- by the cell's working place; None: it is unplaced
+-- the outcome of where, given the cell's working place; None if it is unplaced
 abbrev pub located_at : Option Place → ℕ → TeamState → Outcome
 located_at None own s = refused (Unplaced own) s
 located_at (Some place) own s = record { reply = At place; team = s }
 
--- by the position of the cell; None: the team has no such cell
+-- the outcome of where, given the position of the cell; None if the team has no such cell
 abbrev pub located_own : Option ℕ → TeamState → Outcome
 located_own None s = refused NoCell s
 located_own (Some own) s = located_at (working_at s.cells own) own s
@@ -32,37 +32,38 @@ located_own (Some own) s = located_at (working_at s.cells own) own s
 unfoldable pub located : List ℕ → TeamState → Outcome
 located name s = located_own (cell_named name s.cells) s
 
--- check: the report of the team's cells at their working places, with its padding
+-- check: the report of the team's cells at their working places, with the team's padding
 unfoldable pub checked : TeamRules → TeamState → Outcome
 checked t s = record { reply = Report (report_text (report_of t.legalizer t.frame t.padding (map (listed_of t.number) s.cells))); team = s }
 
--- def: the team's DEF text, its cells at their working places
+-- def: the team's DEF text, with its cells at their working places
 unfoldable pub written : TeamRules → TeamState → Outcome
 written t s = record { reply = Def (team_text t.frame t.number s.cells); team = s }
 
 -- ---- the best place of a cell
 
--- a place over whole numbers as one of the program, if a DEF text can hold its corner, as it can for each legal place
+-- a place in integers as a place of the program; None if a DEF text cannot hold its corner, which
+-- it can for each legal place
 abbrev pub place_of_spot : SpotPlace → Option Place
 place_of_spot p = place_at p.x p.y p.orient
 
--- the cell of that position, taken from its place among its team's cells
+-- the search for a place of the cell at that position, with the cell removed from its own place
 abbrev pub query_of_cell : TeamRules → List Cell → ℕ → Cell → PlacementQuery
 query_of_cell t cells own c = query_from t.frame t.number t.padding (map member_of cells) own c.mac
 
--- the best place for a target of the cell of that position
+-- the best place of the cell at that position for a target
 abbrev pub best_at : TeamRules → List Cell → ℕ → Point → Option Place
 best_at t cells own target = do
   c ← slice_get cells own
   best ← t.legalizer.best_place (query_of_cell t cells own c) target
   place_of_spot best
 
--- by the cell's best place; None: it has none
+-- the outcome of find, given the cell's best place; None if it has no best place
 abbrev pub found_at : Option Place → ℕ → TeamState → Outcome
 found_at None own s = refused (NoPlace own) s
 found_at (Some place) own s = record { reply = At place; team = s }
 
--- by the position of the cell; None: the team has no such cell
+-- the outcome of find, given the position of the cell; None if the team has no such cell
 abbrev pub found_own : Option ℕ → TeamRules → Point → TeamState → Outcome
 found_own None t target s = refused NoCell s
 found_own (Some own) t target s = found_at (best_at t s.cells own target) own s

@@ -1,4 +1,5 @@
--- The outcome of an order to a team: the reply, and the team afterwards; and what a change does to a team.
+-- The outcome of a team's command: the reply, and the team afterwards; and what a change does to a
+-- team.
 use Rattle.std.specs.Prelude.{◌≡◌, ℕ, ◌+◌, List, ◌∷◌, Option, Some, Bool, true, false, map, take, slice_set, slice_get, option_map}
 use Rattle.lf_floorplan.specs.declared.place.Place.{Place}
 use Rattle.lf_floorplan.specs.declared.limits.Limits.{Limits}
@@ -10,12 +11,12 @@ use Rattle.lf_cells.specs.declared.cell.Cell.{Cell}
 use Rattle.lf_floor_model.specs.States.{TeamState}
 use Rattle.lf_floor_model.specs.Teams.{TeamRules}
 
--- the reply to an order, and the team afterwards
+-- the reply to a command, and the team afterwards
 pub record Outcome : Type 0 where
   pub reply : Reply
   pub team : TeamState
 
--- the reply and the team are those of the outcome
+-- the reply and the team are the outcome's
 pub record IsOutcome (outcome : Outcome) (reply : Reply) (team : TeamState) : Type 0 where
   pub reply_is : reply ≡ outcome.reply
   pub team_is : team ≡ outcome.team
@@ -31,9 +32,9 @@ abbrev pub is_short : Reply → Bool
 is_short (Refused OutOfMemory) = true
 is_short _ = false
 
--- the replies that OutOfMemory may replace: to an accepted change, which allocates its undo entry; a broken rule, a best place
--- or the lack of one, for which the boxes of the other cells are collected; a report and a DEF text. Sync and where have such
--- replies too, but allocate nothing
+-- the replies that OutOfMemory may replace: of an accepted change, which allocates its undo entry;
+-- of a broken rule, a best place or the lack of one, which collect the boxes of the other cells;
+-- and a report and a DEF text. Sync and where have replies of these forms, but allocate nothing
 abbrev pub may_be_short : Reply → Bool
 may_be_short (Revision revision) = true
 may_be_short (Legalized revision place) = true
@@ -45,7 +46,7 @@ may_be_short (Refused (Illegal rule cell other)) = true
 may_be_short (Refused (NoPlace cell)) = true
 may_be_short _ = false
 
--- memory ran out: the outcome is one that OutOfMemory may replace, and the team is unchanged
+-- memory ran out: OutOfMemory may replace the outcome's reply, and the team is unchanged
 pub record IsOutOfMemory (outcome : Outcome) (old new : TeamState) : Type 0 where
   pub kept : new ≡ old
   pub may : may_be_short outcome.reply ≡ true
@@ -56,13 +57,14 @@ pub record IsOutOfMemory (outcome : Outcome) (old new : TeamState) : Type 0 wher
 abbrev pub places_of : List Cell → List (Option Place)
 places_of cells = map (λ c. c.working) cells
 
--- the name of the cell of that position; None if there is no such cell
+-- the name of the cell at that position; None if there is no such cell
 abbrev pub name_at : List Cell → ℕ → Option (List ℕ)
 name_at cells own = option_map (λ c. c.name) (slice_get cells own)
 
 -- ---- changes
 
--- an accepted change: these are the cells and the undo entries, the revision is one more, and the session has seen it
+-- an accepted change: the team gets these cells and undo entries, the revision is one more, and the
+-- session has seen it
 abbrev pub changed : ℕ → List Cell → List (List (Option Place)) → TeamState → Outcome
 changed session cells entries s =
     record {
@@ -70,11 +72,12 @@ changed session cells entries s =
       team = record s { cells = cells; revision = s.revision + 1; entries = entries; slots = slice_set s.slots session (Some (s.revision + 1)) };
     }
 
--- the undo entries with the present working places in front, the oldest dropped past the limit
+-- the undo entries with the present working places added as the newest; beyond the limit the oldest
+-- is dropped
 abbrev pub with_entry : Limits → TeamState → List (List (Option Place))
 with_entry limits s = take limits.undo (places_of s.cells ∷ s.entries)
 
--- an accepted change to these cells, with the working places before it as the newest undo entry
+-- an accepted change to these cells, with the old working places as the newest undo entry
 abbrev pub recorded : TeamRules → ℕ → List Cell → TeamState → Outcome
 recorded t session cells s = changed session cells (with_entry t.frame.limits s) s
 

@@ -1,4 +1,5 @@
--- What many commands do: to the floor, step by step, and to one team, by its own commands alone.
+-- What a sequence of commands does: to the floor, step by step, and to one team, by its own
+-- commands alone.
 use Rattle.std.specs.Prelude.{◌≡◌, ℕ, List, [], ◌∷◌, Some, ◌&&◌, not, bytes_eq, if◌then◌else◌}
 use Rattle.lf_floorplan.specs.declared.frame.Frame.{Frame}
 use Rattle.lf_floorplan.specs.declared.place.Place.{Place}
@@ -12,7 +13,7 @@ use Rattle.lf_floor_model.specs.Teams.{team_number, state_of}
 use Rattle.lf_floor_model.specs.Steps.{Step, outcome_by_rules}
 use Rattle.lf_floor_model.specs.Outcomes.{is_short}
 
--- the floor goes from old to new by these commands in order, with one reply to each
+-- these commands in order take the floor from old to new, with one reply to each
 abbrev pub Run : Legalizer → FloorState → List (Command (List ℕ) Place) → List Reply → FloorState → Type 0
 Run l old [] [] new = new ≡ old
 Run l old (command ∷ commands) (reply ∷ replies) new = (mid : FloorState) × Step l old command reply mid × Run l mid commands replies new
@@ -21,28 +22,28 @@ Run l old (command ∷ commands) [] new = ⊥
 
 -- ---- one team
 
--- the replies to a team's own orders, one after the other
+-- the replies to a team's own commands, run in order
 abbrev pub own_replies : Legalizer → Frame → ℕ → List (TeamCommand (List ℕ) Place) → TeamState → List Reply
 own_replies l f number [] s = []
 own_replies l f number (order ∷ orders) s = (outcome_by_rules l f number order s).reply ∷ own_replies l f number orders (outcome_by_rules l f number order s).team
 
--- the team after its own orders
+-- the team after its own commands
 abbrev pub own_state : Legalizer → Frame → ℕ → List (TeamCommand (List ℕ) Place) → TeamState → TeamState
 own_state l f number [] s = s
 own_state l f number (order ∷ orders) s = own_state l f number orders (outcome_by_rules l f number order s).team
 
--- an order to the team that was not answered OutOfMemory is put before the later ones
+-- the later commands, preceded by this command if it is the team's and its reply is not OutOfMemory
 abbrev pub own_command_before : List ℕ → Command (List ℕ) Place → Reply → List (TeamCommand (List ℕ) Place) → List (TeamCommand (List ℕ) Place)
 own_command_before team Bye reply later = later
 own_command_before team (To name order) reply later = if bytes_eq name team && not (is_short reply) then order ∷ later else later
 
--- the orders of a run to the team of that name, without those answered OutOfMemory
+-- the commands of a run to the team of that name, without those with the reply OutOfMemory
 abbrev pub own_commands : List ℕ → List (Command (List ℕ) Place) → List Reply → List (TeamCommand (List ℕ) Place)
 own_commands team [] replies = []
 own_commands team (command ∷ commands) [] = []
 own_commands team (command ∷ commands) (reply ∷ replies) = own_command_before team command reply (own_commands team commands replies)
 
--- the reply to an order of the team, if it is not OutOfMemory, is put before the later ones
+-- the later replies, preceded by this reply if its command is the team's and it is not OutOfMemory
 abbrev pub own_reply_before : List ℕ → Command (List ℕ) Place → Reply → List Reply → List Reply
 own_reply_before team Bye reply later = later
 own_reply_before team (To name order) reply later = if bytes_eq name team && not (is_short reply) then reply ∷ later else later
@@ -53,12 +54,12 @@ own_replies_in team [] replies = []
 own_replies_in team (command ∷ commands) [] = []
 own_replies_in team (command ∷ commands) (reply ∷ replies) = own_reply_before team command reply (own_replies_in team commands replies)
 
--- the team's replies and its state are those of its own orders alone from its state at the start
+-- the team's replies and state are those of its own commands alone from its first state
 pub record IsOwnRun (l : Legalizer) (frame : Frame) (number : ℕ) (team : List ℕ) (s : TeamState) (commands : List (Command (List ℕ) Place)) (replies : List Reply) (new : FloorState) : Type 0 where
   pub replies_are : own_replies_in team commands replies ≡ own_replies l frame number (own_commands team commands replies) s
   pub state_is : state_of new team ≡ Some (own_state l frame number (own_commands team commands replies) s)
 
--- each team's replies and state are those of its own orders alone
+-- each team's replies and state are those of its own commands alone
 abbrev pub IsIsolated : Legalizer → FloorState → List (Command (List ℕ) Place) → List Reply → FloorState → Type 0
 IsIsolated l old commands replies new =
     (team : List ℕ) (number : ℕ) (s : TeamState) → team_number old.frame team ≡ Some number → state_of old team ≡ Some s

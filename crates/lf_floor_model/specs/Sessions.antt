@@ -10,16 +10,16 @@ use Rattle.lf_floor_model.specs.Outcomes.{Outcome, refused}
 abbrev pub with_slot : ℕ → Option ℕ → TeamState → TeamState
 with_slot session seen s = record s { slots = slice_set s.slots session seen }
 
--- the session takes this slot; None: all slots are taken
+-- the outcome of open, given the slot for the session; None if all slots are taken
 abbrev pub opened_at : Option ℕ → TeamState → Outcome
 opened_at None s = refused SessionsFull s
 opened_at (Some session) s = record { reply = Opened session s.revision; team = with_slot session (Some s.revision) s }
 
--- open: the least free slot is taken, and its session has seen the present revision
+-- open: the session gets the least free slot, and has seen the present revision
 unfoldable pub opened : TeamState → Outcome
 opened s = opened_at (position is_none s.slots) s
 
--- close: the session's slot is free
+-- close: the session's slot becomes free
 unfoldable pub closed : ℕ → TeamState → Outcome
 closed session s = record { reply = Done; team = with_slot session None s }
 

@@ -4,9 +4,10 @@ use Rattle.lf_floorplan.specs.declared.frame.Frame.{Frame}
 use Rattle.lf_floorplan.specs.declared.place.Place.{Place}
 use Rattle.lf_cells.specs.declared.cell.Cell.{Cell}
 
--- a team: its cells in loading order; its revision, which is how many changes it has made; the working places before each
--- change that can be undone, the newest first; for each session slot the revision that its session has seen, None if the slot
--- is free; and its padding, how many core sites apart along x it keeps its own cells
+-- a team. cells: in loading order. revision: the count of its changes. entries: the working places
+-- before each change that can be undone, the newest first. slots: for each session slot the
+-- revision that its session has seen, None if the slot is free. padding: the least distance of its
+-- own cells along x, in core sites
 pub record TeamState : Type 0 where
   pub cells : List Cell
   pub revision : ℕ
@@ -14,9 +15,10 @@ pub record TeamState : Type 0 where
   pub slots : List (Option ℕ)
   pub padding : ℕ
 
--- a floor: its frame; a state for each team: the fence teams in the frame's order, then the team of the ground outside all
--- fences; and for each team the positions of its cells' entries among all COMPONENTS of the DEF text, which no command changes.
--- These are no part of a team's state: they depend on the components of others between its own
+-- a floor. frame: its frame. teams: the fence teams in the frame's order, then the ground team
+-- outside all fences. components: for each team the positions of its cells' entries among all
+-- COMPONENTS of the DEF text, which no command changes. The positions are not in a team's state,
+-- because they depend on other teams' components
 pub record FloorState : Type 0 where
   pub frame : Frame
   pub teams : List TeamState

@@ -28,11 +28,11 @@ pub record Answer : Type 0 where
   pub reply : Reply
   pub floor : FloorState
 
--- the outcome of an order to the team of that number, in this state of the team and so with its padding
+-- the outcome of a command to the team of that number in this state, whose padding it uses
 abbrev pub outcome_by_rules : Legalizer → Frame → ℕ → TeamCommand (List ℕ) Place → TeamState → Outcome
 outcome_by_rules l f number order s = outcome_of (team_rules l f number s.padding) order s
 
--- the team's outcome on the floor: this team gets the outcome's state, the others are unchanged
+-- the team's outcome on the floor: this team gets the outcome's state, and the others are unchanged
 abbrev pub answer_of_outcome : FloorState → ℕ → Outcome → Answer
 answer_of_outcome floor number o = record { reply = o.reply; floor = record floor { teams = slice_set floor.teams number o.team } }
 
@@ -40,38 +40,40 @@ answer_of_outcome floor number o = record { reply = o.reply; floor = record floo
 abbrev pub no_team : FloorState → Answer
 no_team floor = record { reply = Refused NoTeam; floor = floor }
 
--- the answer of the team in this state; None: there is no such team
+-- the answer of the team in this state; None if there is no such team
 abbrev pub answer_by : Option TeamState → Legalizer → FloorState → ℕ → TeamCommand (List ℕ) Place → Answer
 answer_by None l floor number order = no_team floor
 answer_by (Some s) l floor number order = answer_of_outcome floor number (outcome_by_rules l floor.frame number order s)
 
--- the answer of the team of that number; None: there is no such team
+-- the answer of the team of that number; None if there is no such team
 abbrev pub answer_at : Option ℕ → Legalizer → FloorState → TeamCommand (List ℕ) Place → Answer
 answer_at None l floor order = no_team floor
 answer_at (Some number) l floor order = answer_by (slice_get floor.teams number) l floor number order
 
--- the answer to bye, the end of a connection: its sessions stay open
+-- the answer to bye, the end of a connection; its sessions stay open
 abbrev pub answer_to_bye : FloorState → Answer
 answer_to_bye floor = record { reply = Done; floor = floor }
 
--- the answer to a command: the team of that name answers by its own state alone, and only its state changes
+-- the answer to a command: it depends on the state of the team of that name alone, and only that
+-- state changes
 unfoldable pub answer_of : Legalizer → FloorState → Command (List ℕ) Place → Answer
 answer_of l floor Bye = answer_to_bye floor
 answer_of l floor (To team order) = answer_at (team_number floor.frame team) l floor order
 
 -- ---- a step
 
--- the commands that allocate nothing, so that they are never answered OutOfMemory: bye, open, close, sync, where, undo and pad
+-- the commands that never allocate, and so never have the reply OutOfMemory: bye, open, close,
+-- sync, where, undo and pad
 abbrev pub AllocatesNothing : Command (List ℕ) Place → Type 0
 AllocatesNothing Bye = Unit {0}
 AllocatesNothing (To team order) = takes_memory order ≡ false
 
--- the command allocates nothing for this reply, though it may for another one: a place that is refused
+-- the command allocates nothing for this reply, though it may for another: a place that is refused
 abbrev pub IsTested : Command (List ℕ) Place → Reply → Type 0
 IsTested Bye reply = ⊥
 IsTested (To team order) reply = is_tested order reply ≡ true
 
--- the reply and the floor are those of the answer
+-- the reply and the floor are the answer's
 pub record IsGivenAnswer (answer : Answer) (reply : Reply) (floor : FloorState) : Type 0 where
   pub reply_is : reply ≡ answer.reply
   pub floor_is : floor ≡ answer.floor
@@ -80,19 +82,19 @@ pub record IsGivenAnswer (answer : Answer) (reply : Reply) (floor : FloorState) 
 abbrev pub IsAnswerOf : Legalizer → FloorState → Command (List ℕ) Place → Reply → FloorState → Type 0
 IsAnswerOf l old command reply new = IsGivenAnswer (answer_of l old command) reply new
 
--- memory ran out: the answer is one that OutOfMemory may replace, and the floor is unchanged
+-- memory ran out: OutOfMemory may replace the answer's reply, and the floor is unchanged
 pub record IsOutOfMemoryAnswer (answer : Answer) (old new : FloorState) : Type 0 where
   pub kept : new ≡ old
   pub may : may_be_short answer.reply ≡ true
 
--- the same, and the command is one that may allocate, and does so for this answer
+-- the same, and the command may allocate and does so for this answer
 pub record MayRunOutOfMemory (l : Legalizer) (old : FloorState) (command : Command (List ℕ) Place) (new : FloorState) : Type 0 where
   pub short : IsOutOfMemoryAnswer (answer_of l old command) old new
   pub takes : AllocatesNothing command → ⊥
   pub untested : IsTested command (answer_of l old command).reply → ⊥
 
--- a command is answered with this reply, and the floor goes from old to new: the reply is OutOfMemory and the floor stays, or
--- both are the answer's
+-- a command gets this reply, and the floor changes from old to new: either the reply is OutOfMemory
+-- and the floor is unchanged, or both are the answer's
 abbrev pub Step : Legalizer → FloorState → Command (List ℕ) Place → Reply → FloorState → Type 0
 Step l old command reply new = MatchBool (is_short reply) (MayRunOutOfMemory l old command new) (IsAnswerOf l old command reply new)
 
@@ -138,7 +140,8 @@ SwapsLegally l command reply new =
     → command ≡ To team (Within session (Changing (Swap first second))) → is_ok reply ≡ true
     → IsLegalCellOf l new team first × IsLegalCellOf l new team second
 
--- the team of that name has all its cells placed, team-legal, and committed where they stand
+-- all cells of the team of that name are placed and team-legal, and their working places are
+-- committed
 pub record AllCommittedIn (l : Legalizer) (floor : FloorState) (team : List ℕ) : Type 0 where
   pub number : ℕ
   pub state : TeamState
@@ -147,7 +150,8 @@ pub record AllCommittedIn (l : Legalizer) (floor : FloorState) (team : List ℕ)
   pub legal : AreLegal (team_rules l floor.frame number state.padding) state
   pub committed : committed_places state ≡ places_of state.cells
 
--- after an accepted commit every cell of the team is placed and team-legal, and its committed place is its working place
+-- after an accepted commit every cell of the team is placed and team-legal, and its committed place
+-- is its working place
 abbrev pub CommitsLegally : Legalizer → Command (List ℕ) Place → Reply → FloorState → Type 0
 CommitsLegally l command reply new =
     (team : List ℕ) (session : ℕ) → command ≡ To team (Within session (Changing Commit)) → is_ok reply ≡ true → AllCommittedIn l new team

@@ -1,4 +1,5 @@
--- Teams and cells by their names, and a team's cells beside each other (LEF/DEF 5.8, DEF REGIONS, GROUPS and COMPONENTS).
+-- Teams and cells by their names, and the other cells of a cell's team (LEF/DEF 5.8, DEF REGIONS,
+-- GROUPS and COMPONENTS).
 use Rattle.std.specs.Prelude.{◌≡◌, ◌≢◌, ℕ, ◌≤◌, List, [], ◌∷◌, ◌++◌, length, map, position, bytes_eq, All, AllPairs, IfSome, Option, Some, None, slice_get}
 use Rattle.lf_floorplan.specs.declared.frame.Frame.{Frame}
 use Rattle.lf_floorplan.specs.declared.place.Place.{Place}
@@ -14,7 +15,7 @@ use Rattle.lf_cells.specs.declared.cell.Cell.{Cell}
 use Rattle.lf_legalize.specs.Members.{IsSizedCell, member_of}
 use Rattle.lf_floor_model.specs.States.{FloorState, TeamState}
 
--- the names of all teams: those of the fences, in the frame's order, and last '-'
+-- the names of all teams: those of the fences, in the frame's order, then '-'
 abbrev pub team_names : Frame → List (List ℕ)
 team_names f = map (λ t. t.name) f.teams ++ ground_name ∷ []
 
@@ -31,13 +32,14 @@ state_at teams (Some number) = slice_get teams number
 abbrev pub state_of : FloorState → List ℕ → Option TeamState
 state_of floor name = state_at floor.teams (team_number floor.frame name)
 
--- the cell as the report of its team lists it
+-- the cell as an element of its team's report
 abbrev pub listed_of : ℕ → Cell → Listed (List ℕ)
 listed_of number c = record { name = c.name; team = number; mac = c.mac; place = c.working }
 
--- a team of the frame: the macros of its cells are the frame's, of whole size, their names can be written in a text and differ;
--- the numbers of cells, undo entries and revisions are bounded; it has as many slots as the limits say, an undo entry has a place for
--- each cell, and no session has seen a revision above the team's
+-- a team of the frame: the macros of its cells are the frame's, with whole sizes; their names can
+-- be written in a text and differ; the numbers of cells, undo entries and revisions are within the
+-- limits; the slots are as many as the limits say, an undo entry has a place for each cell, and no
+-- session has seen a revision above the team's
 pub record IsTeamOf (f : Frame) (s : TeamState) : Type 0 where
   pub sized : All (λ c. IsSizedCell f c) s.cells
   pub printed : All (λ c. IsName c.name) s.cells
@@ -49,18 +51,19 @@ pub record IsTeamOf (f : Frame) (s : TeamState) : Type 0 where
   pub few_revisions : s.revision ≤ f.limits.revisions
   pub seen_past : All (λ slot. IfSome slot (λ seen. seen ≤ s.revision)) s.slots
 
--- what the rules use besides the team's cells: the frame, the team's number in it, its padding, and the legalizer of its places
+-- what the rules use besides the team's cells: the frame, the team's number in it, its padding, and
+-- the legalizer that finds its places
 pub record TeamRules : Type 0 where
   pub legalizer : Legalizer
   pub frame : Frame
   pub number : ℕ
   pub padding : ℕ
 
--- the setting of the team of that number, with that padding
+-- the rules of the team of that number, with that padding
 abbrev pub team_rules : Legalizer → Frame → ℕ → ℕ → TeamRules
 team_rules l f number padding = record { legalizer = l; frame = f; number = number; padding = padding }
 
--- the cell of that position, tried at a place beside the team's other placed cells
+-- the candidate: the cell at that position, tested at a place among the team's other placed cells
 abbrev pub candidate_of_cell : TeamRules → List Cell → ℕ → Cell → Place → Candidate
 candidate_of_cell t cells own c place =
     candidate_of t.frame t.number t.padding (macro_of t.frame c.mac) place (boxes_beside t.frame (map member_of cells) own)
@@ -70,6 +73,7 @@ abbrev pub broken_by : Option Cell → TeamRules → List Cell → ℕ → Place
 broken_by None t cells own place = None
 broken_by (Some c) t cells own place = t.legalizer.first_broken (candidate_of_cell t cells own c place)
 
--- the first rule that the cell of that position breaks at a place, beside the working places of its own team alone
+-- the first rule that the cell at that position breaks at a place, among the working places of its
+-- own team alone
 abbrev pub broken_at : TeamRules → List Cell → ℕ → Place → Option Broken
 broken_at t cells own place = broken_by (slice_get cells own) t cells own place

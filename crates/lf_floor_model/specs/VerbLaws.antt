@@ -25,11 +25,11 @@ use Rattle.lf_floor_model.specs.Sessions.{seen_at}
 use Rattle.lf_floor_model.specs.Looks.{query_of_cell, best_at}
 use Rattle.lf_floor_model.specs.Verbs.{is_recorded, outcome_of}
 
--- the outcome of a change that a session asks for
+-- the outcome of a session's change
 abbrev pub outcome_of_asking : TeamRules → ℕ → Change (List ℕ) Place → TeamState → Outcome
 outcome_of_asking t session change s = outcome_of t (Within session (Changing change)) s
 
--- the reply is no refusal
+-- the reply is not a refusal
 abbrev pub is_ok : Reply → Bool
 is_ok (Refused refusal) = false
 is_ok _ = true
@@ -38,14 +38,14 @@ is_ok _ = true
 abbrev pub is_accepted : Outcome → Bool
 is_accepted o = is_ok o.reply
 
--- the session has seen the team's revision, and a revision is left
+-- the session has seen the team's revision, and the revision limit is not reached
 pub record MayChange (t : TeamRules) (session : ℕ) (s : TeamState) : Type 0 where
   pub seen : seen_at s.slots session ≡ Some s.revision
   pub left : s.revision < t.frame.limits.revisions
 
 -- ---- refusals
 
--- no verb's outcome is OutOfMemory: memory plays no part in the rules
+-- no verb's outcome is OutOfMemory: the rules do not depend on memory
 abbrev pub NeverOutOfMemory : Type 0
 NeverOutOfMemory = (t : TeamRules) (verb : TeamCommand (List ℕ) Place) (s : TeamState) → is_short (outcome_of t verb s).reply ≡ false
 
@@ -55,7 +55,7 @@ RefusalKeepsState =
     (t : TeamRules) (verb : TeamCommand (List ℕ) Place) (s : TeamState) (refusal : Refusal)
     → (outcome_of t verb s).reply ≡ Refused refusal → (outcome_of t verb s).team ≡ s
 
--- a tidy in which a cell has no best place names that cell, and leaves the team unchanged
+-- a tidy in which a cell has no best place names that cell and leaves the team unchanged
 abbrev pub RefusedTidyKeepsState : Type 0
 RefusedTidyKeepsState =
     (t : TeamRules) (session stuck : ℕ) (s : TeamState) → MayChange t session s
@@ -64,21 +64,22 @@ RefusedTidyKeepsState =
 
 -- ---- revisions
 
--- the revision that the reply to a change gives
+-- the revision in the reply to a change
 abbrev pub replied_revision : Reply → Option ℕ
 replied_revision (Revision revision) = Some revision
 replied_revision (Legalized revision place) = Some revision
 replied_revision (TidyDone revision count) = Some revision
 replied_revision _ = None
 
--- one more revision, which the reply gives, and which this session has seen and no other
+-- the revision is one more, the reply contains it, and this session has seen it and no other
 pub record IsCounted (session : ℕ) (old : TeamState) (o : Outcome) : Type 0 where
   pub counted : o.team.revision ≡ old.revision + 1
   pub told : replied_revision o.reply ≡ Some (old.revision + 1)
   pub seen : seen_at o.team.slots session ≡ Some (old.revision + 1)
   pub others : (other : ℕ) → other ≢ session → seen_at o.team.slots other ≡ seen_at old.slots other
 
--- an accepted change came from a session that had seen the revision, while one was left, and counts one more
+-- an accepted change comes from a session that has seen the revision, the limit is not reached, and
+-- one more revision is counted
 pub record CountsOne (t : TeamRules) (session : ℕ) (old : TeamState) (o : Outcome) : Type 0 where
   pub allowed : MayChange t session old
   pub counts : IsCounted session old o
@@ -89,7 +90,7 @@ ChangeCounts =
     (t : TeamRules) (session : ℕ) (change : Change (List ℕ) Place) (s : TeamState)
     → is_accepted (outcome_of_asking t session change s) ≡ true → CountsOne t session s (outcome_of_asking t session change s)
 
--- the verb changes a team's places
+-- the verb is a change of the team
 abbrev pub is_change : TeamCommand (List ℕ) Place → Bool
 is_change (Within session (Changing change)) = true
 is_change _ = false
@@ -101,7 +102,7 @@ pub record KeepsCells (old new : TeamState) : Type 0 where
   pub entries : new.entries ≡ old.entries
   pub padding : new.padding ≡ old.padding
 
--- a verb that is no change leaves cells, revision, undo entries and padding unchanged
+-- a verb that is not a change leaves cells, revision, undo entries and padding unchanged
 abbrev pub QueryKeepsState : Type 0
 QueryKeepsState = (t : TeamRules) (verb : TeamCommand (List ℕ) Place) (s : TeamState) → is_change verb ≡ false → KeepsCells s (outcome_of t verb s).team
 
@@ -112,7 +113,8 @@ pub record LeadsToPlaces (o : Outcome) (places : List (Option Place)) : Type 0 w
   pub told : o.reply ≡ Revision o.team.revision
   pub places_are : places_of o.team.cells ≡ places
 
--- undo after an accepted place, legalize, tidy, unplace, swap or revert brings back the working places before it
+-- undo after an accepted place, legalize, tidy, unplace, swap or revert restores the previous
+-- working places
 abbrev pub UndoBringsBack : Type 0
 UndoBringsBack =
     (t : TeamRules) (session other : ℕ) (change : Change (List ℕ) Place) (s : TeamState) →
@@ -136,7 +138,7 @@ is_commit _ = false
 abbrev pub committed_places : TeamState → List (Option Place)
 committed_places s = map (λ c. c.committed) s.cells
 
--- no verb but commit changes a committed place
+-- only commit changes a committed place
 abbrev pub OnlyCommitCommits : Type 0
 OnlyCommitCommits =
     (t : TeamRules) (verb : TeamCommand (List ℕ) Place) (s : TeamState) → is_commit verb ≡ false
@@ -149,17 +151,18 @@ abbrev pub is_pad : TeamCommand (List ℕ) Place → Bool
 is_pad (Within session (Changing (Pad padding))) = true
 is_pad _ = false
 
--- no verb but pad changes the padding
+-- only pad changes the padding
 abbrev pub OnlyPadPads : Type 0
 OnlyPadPads = (t : TeamRules) (verb : TeamCommand (List ℕ) Place) (s : TeamState) → is_pad verb ≡ false → (outcome_of t verb s).team.padding ≡ s.padding
 
--- the team has this padding, and its cells, at their working and committed places, and its undo entries as before
+-- the team has this padding; its working places, committed places and undo entries are unchanged
 pub record IsPadded (sites : Padding) (old new : TeamState) : Type 0 where
   pub padding : new.padding ≡ sites.sites
   pub cells : new.cells ≡ old.cells
   pub entries : new.entries ≡ old.entries
 
--- a pad that its session may make is accepted wherever the cells stand, and changes the padding and the revision alone
+-- a pad from a session that may change the team is accepted wherever the cells are placed, and
+-- changes the padding and the revision alone
 abbrev pub PadKeeps : Type 0
 PadKeeps =
     (t : TeamRules) (session : ℕ) (padding : Padding) (s : TeamState) → MayChange t session s →
@@ -168,7 +171,8 @@ PadKeeps =
 
 -- ---- legal places
 
--- the place that find and legalize take is the best place; they find none only if the cell may go to no place
+-- the place that find and legalize choose is the best place; they find no place only if no place is
+-- legal for the cell
 abbrev pub BestIsFound : Type 0
 BestIsFound =
     (t : TeamRules) (s : TeamState) (own : ℕ) (c : Cell) (target : Point) → IsTeamOf t.frame s → slice_get s.cells own ≡ Some c
@@ -190,7 +194,7 @@ TidyMakesLegal =
     (t : TeamRules) (session : ℕ) (s : TeamState) → IsTeamOf t.frame s
     → is_accepted (outcome_of_asking t session Tidy s) ≡ true → AreLegal t (outcome_of_asking t session Tidy s).team
 
--- after an accepted commit too
+-- after an accepted commit every cell of the team is placed and team-legal
 abbrev pub CommitFindsLegal : Type 0
 CommitFindsLegal =
     (t : TeamRules) (session : ℕ) (s : TeamState) → IsTeamOf t.frame s
@@ -217,6 +221,6 @@ SwapMakesLegal =
     let after = outcome_of_asking t session (Swap first second) s in
     is_accepted after ≡ true → HasLegal t first after.team × HasLegal t second after.team
 
--- after any verb a team of the frame is still one
+-- after any verb a team of the frame is still a team of the frame
 abbrev pub VerbKeepsTeam : Type 0
 VerbKeepsTeam = (t : TeamRules) (verb : TeamCommand (List ℕ) Place) (s : TeamState) → IsTeamOf t.frame s → IsTeamOf t.frame (outcome_of t verb s).team

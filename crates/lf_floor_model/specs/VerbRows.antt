@@ -21,12 +21,12 @@ use Rattle.lf_floor_model.specs.Looks.{best_at}
 use Rattle.lf_floor_model.specs.Changes.{broken_where, exchanged, broken_cells}
 use Rattle.lf_floor_model.specs.Verbs.{outcome_of}
 
--- the replies to these verbs, one after the other
+-- the replies to these verbs, run in order
 abbrev pub replies_to : TeamRules → List (TeamCommand (List ℕ) Place) → TeamState → List Reply
 replies_to t [] s = []
 replies_to t (verb ∷ verbs) s = (outcome_of t verb s).reply ∷ replies_to t verbs (outcome_of t verb s).team
 
--- a cell of that name and macro at this working place, and at no committed one
+-- a cell with that name, macro and working place, and no committed place
 abbrev pub cell_at : List ℕ → ℕ → Option Place → Cell
 cell_at name mac place = record { name = name; mac = mac; working = place; committed = None }
 
@@ -34,11 +34,11 @@ cell_at name mac place = record { name = name; mac = mac; working = place; commi
 abbrev pub three : Option Place → Option Place → Option Place → List Cell
 three p q r = cell_at (codes "a1") 0 p ∷ cell_at (codes "a2") 0 q ∷ cell_at (codes "a3") 1 r ∷ []
 
--- a team that has made this many changes, the last of which its one session has seen
+-- a team that has made this many changes; its one session has seen the last of them
 abbrev pub team_after : ℕ → List (List (Option Place)) → List Cell → TeamState
 team_after revision entries cells = record { cells = cells; revision = revision; entries = entries; slots = Some revision ∷ []; padding = 0 }
 
--- that session's question for a cell's place
+-- that session's query for a cell's place
 abbrev pub where_is : List ℕ → TeamCommand (List ℕ) Place
 where_is name = Within 0 (Where name)
 
@@ -51,7 +51,7 @@ pub record HasRoom (t : TeamRules) : Type 0 where
   pub revisions : 9 < t.frame.limits.revisions
   pub undo : t.frame.limits.undo ≡ 64
 
--- eight sessions are opened, a ninth is not; a closed one leaves its slot to the next
+-- eight sessions are opened, a ninth is refused; after a close the next open gets the free slot
 abbrev pub SessionRow : Type 0
 SessionRow =
     (t : TeamRules) (cells : List Cell) →
@@ -87,7 +87,7 @@ SpentRow =
     (t : TeamRules) (change : Change (List ℕ) Place) (entries : List (List (Option Place))) (cells : List Cell) → t.frame.limits.revisions ≡ 3 →
     replies_to t (change_to change ∷ []) (team_after 3 entries cells) ≡ (Refused RevisionsSpent ∷ [])
 
--- find changes nothing, and legalize puts the cell where find says
+-- find changes nothing, and legalize moves the cell to the place that find returns
 abbrev pub BestRow : Type 0
 BestRow =
     (t : TeamRules) (target : Point) (best : Place) → HasRoom t → best_at t (three None None None) 0 target ≡ Some best →
@@ -96,7 +96,8 @@ BestRow =
     (team_after 0 [] (three None None None))
     ≡ (At best ∷ Refused (Unplaced 0) ∷ Legalized 1 best ∷ At best ∷ [])
 
--- a cell without a best place stops find, legalize and tidy, which found places for the two before it, and nothing is changed
+-- find, legalize and tidy are refused if a cell has no best place, though tidy finds places for the
+-- two earlier cells; nothing is changed
 abbrev pub NoPlaceRow : Type 0
 NoPlaceRow =
     (t : TeamRules) (target : Point) → HasRoom t → best_at t (three None None None) 2 target ≡ None →
@@ -106,7 +107,7 @@ NoPlaceRow =
     (team_after 0 [] (three None None None))
     ≡ (Refused (NoPlace 2) ∷ Refused (NoPlace 2) ∷ Refused (NoPlace 2) ∷ Refused (Unplaced 0) ∷ Refused NothingToUndo ∷ [])
 
--- the reply to a tidy counts the cells that went to their best place
+-- the reply to a tidy counts the cells moved to their best place
 abbrev pub TidyRow : Type 0
 TidyRow =
     (t : TeamRules) (p q r : Place) → HasRoom t →
@@ -115,7 +116,7 @@ TidyRow =
     (team_after 0 [] (three None None None))
     ≡ (TidyDone 1 3 ∷ At p ∷ At q ∷ At r ∷ [])
 
--- after a tidy, and a question, the team can be committed
+-- after a tidy and a query the team can be committed
 abbrev pub TidyCommitRow : Type 0
 TidyCommitRow =
     (t : TeamRules) (p q r : Place) → HasRoom t →
@@ -124,7 +125,7 @@ TidyCommitRow =
     replies_to t (change_to Tidy ∷ where_is (codes "a3") ∷ change_to Commit ∷ []) (team_after 0 [] (three None None None))
     ≡ (TidyDone 1 3 ∷ At r ∷ Revision 2 ∷ [])
 
--- after a commit, revert brings back what was unplaced
+-- after a commit, revert restores the place of an unplaced cell
 abbrev pub CommitRow : Type 0
 CommitRow =
     (t : TeamRules) (p q r : Place) → HasRoom t → broken_cells t (three (Some p) (Some q) (Some r)) ≡ [] →
@@ -133,7 +134,7 @@ CommitRow =
     (team_after 1 [] (three (Some p) (Some q) (Some r)))
     ≡ (Revision 2 ∷ Revision 3 ∷ Refused (Unplaced 0) ∷ Revision 4 ∷ At p ∷ [])
 
--- a commit with an unplaced cell is refused, and a cell of another team is answered NoCell
+-- a commit with an unplaced cell is refused, and the reply for a cell of another team is NoCell
 abbrev pub RefusedRow : Type 0
 RefusedRow =
     (t : TeamRules) (p q : Place) → HasRoom t →
@@ -141,7 +142,8 @@ RefusedRow =
     (team_after 1 [] (three (Some p) None None))
     ≡ (Refused (Unplaced 1) ∷ Refused NoCell ∷ Refused NoCell ∷ Refused (Unplaced 1) ∷ [])
 
--- a1 and a2 exchange their places, undo exchanges them back, and a1 and a3 are refused since a3 would meet a2
+-- a1 and a2 exchange their places, undo exchanges them back, and the swap of a1 and a3 is refused
+-- because a3 would overlap a2
 abbrev pub SwapRow : Type 0
 SwapRow =
     (t : TeamRules) (p q r : Place) → HasRoom t →
@@ -153,7 +155,7 @@ SwapRow =
     (team_after 3 [] cells)
     ≡ (Revision 4 ∷ At q ∷ Revision 5 ∷ Refused (Illegal Overlap 2 (Some 1)) ∷ [])
 
--- pad moves no cell, and undo takes back the change before it and not the padding
+-- pad moves no cell, and undo reverts the change before the pad and not the padding
 abbrev pub PadRow : Type 0
 PadRow =
     (t : TeamRules) (padding : Padding) (p q : Place) → HasRoom t → broken_at t (three (Some p) None None) 1 q ≡ None →

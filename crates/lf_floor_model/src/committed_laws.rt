@@ -8,46 +8,47 @@ ghost use Rattle.lf_floor_model.specs.CommittedRuns.{RunKeepsTeams, RunStaysLega
 
 use lf_rules::legal_in_range;
 
-/// In a fully legal design each team's cells are placed and team-legal.
+/// In a fully legal design the cells of each team are placed and team-legal.
 pub fn legal_makes_teams()
     ensures { LegalMakesTeams }
 {}
 
-/// The committed design, in which the cells of all teams are at their committed places, is fully legal if and only if each
-/// team's committed places are team-legal.
+/// The committed design has the cells of all teams at their committed places. It is fully legal if
+/// and only if each team's committed places are team-legal.
 pub fn committed_by_teams()
     ensures { CommittedByTeams }
 {}
 
-/// A floor begins with a fully legal committed design if and only if the loaded design is fully legal.
+/// When a floor begins, its committed design is fully legal if and only if the loaded design is.
 pub fn loaded_is_committed()
     ensures { LoadedIsCommitted }
 {}
 
-/// Each team begins with its cells at their places in the DEF text, in loading order, and has
-/// committed them there.
+/// When a floor begins, each team's cells are at their places in the DEF text, in loading order.
+/// These places are both working and committed.
 pub fn loaded_places_are_committed()
     ensures { LoadedPlacesAreCommitted }
 {}
 
-/// On a floor with the entries of a loaded design, the entries in the list of committed places are
-/// those of the design's cells, in loading order, whatever commands came before.
+/// On a floor with the entries of a loaded design, the list of committed places has the entries of
+/// the design's cells. They are in loading order, whatever commands the floor has run.
 pub fn places_follow_design()
     ensures { PlacesFollowDesign }
 {}
 
-/// When a floor begins, the committed places are the cells' places in the DEF text, in loading order.
+/// When a floor begins, the committed places are the cells' places in the DEF text, in loading
+/// order.
 pub fn places_begin_as_loaded()
     ensures { PlacesBeginAsLoaded }
 {}
 
-/// No order to a team makes its legal committed places illegal.
+/// No command makes a team's legal committed places illegal.
 pub fn command_keeps_committed()
     ensures { CommandKeepsCommitted }
 {}
 
-/// After an accepted commit the committed places are the working places, and are legal, whatever was
-/// committed before.
+/// After an accepted commit the committed places are the working places, and are legal. What was
+/// committed earlier does not matter.
 pub fn commit_makes_committed()
     ensures { CommitMakesCommitted }
 {}
@@ -57,12 +58,14 @@ pub fn step_keeps_committed()
     ensures { StepKeepsCommitted }
 {}
 
-/// A run keeps that each team of the floor is one of its frame, which the laws on runs ask of the floor before.
+/// After a run each team of the floor is still a team of its frame. The laws on runs require this
+/// of the floor at the start.
 pub fn run_keeps_teams()
     ensures { RunKeepsTeams }
 {}
 
-/// In a run from a fully legal committed design, it is fully legal after each command.
+/// In a run that starts with a fully legal committed design, the committed design is fully legal
+/// after each command.
 pub fn run_stays_legal()
     ensures { RunStaysLegal }
 {}
@@ -72,26 +75,26 @@ pub fn loaded_run_stays_legal()
     ensures { LoadedRunStaysLegal }
 {}
 
-/// Once a commit of a team was accepted in a run, the team's committed places are legal at its end,
-/// whatever commands came later, to this team or others.
+/// After an accepted commit of a team in a run, the team's committed places are legal at the end of
+/// the run. This holds whatever commands come later, to this team or to others.
 pub fn commit_lasts()
     ensures { CommitLasts }
 {}
 
-/// If in a run a commit was accepted of each team that has a cell, the committed design is fully legal
-/// at the end, whatever it was before.
+/// If a run has an accepted commit of each team that has a cell, the committed design is fully
+/// legal at the end. It does not matter what it was at the start.
 pub fn run_commits_make_legal()
     ensures { RunCommitsMakeLegal }
 {}
 
-/// A commit of a team whose cells are all placed and team-legal finds no fault in them: it is accepted, or
-/// refused only for its session or the revision.
+/// A commit of a team whose cells are all placed and team-legal finds no fault in the cells. It is
+/// accepted, or refused only for its session or the revision.
 pub fn legal_commits()
     ensures { LegalCommits }
 {}
 
-/// In each run, a commit after an accepted tidy, with no accepted change of the team between them,
-/// finds no fault in the cells: it is accepted, or refused only for its session or the revision.
+/// In each run, a commit after an accepted tidy finds no fault in the cells, if no change of the
+/// team was accepted between them. It is accepted, or refused only for its session or the revision.
 pub fn run_tidied_commits()
     ensures { RunTidiedCommits }
 {

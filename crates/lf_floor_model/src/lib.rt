@@ -1,20 +1,41 @@
-//! The teams of a floor: the outcome of each command by the written rules, and the laws that follow.
+//! What each command does to the teams of a floor, and the laws that follow.
 //!
-//! No code runs here. `specs` defines what each verb does to one team, what a floor of all teams answers to a command (`Step`), and
-//! what a run of many commands is (`Run`); a floor (`lf_floor`) is proved to do what these definitions say. Each function is a law:
-//! its contract is a theorem, and the definition that its `ensures` names states it.
+//! No code runs here. `specs` defines the outcome of each verb for one team, the answer of a floor
+//! to one command (`Step`), and a run of many commands (`Run`). `lf_floor` is proved to follow
+//! these definitions. Each function is a law: its contract is a theorem, and its `ensures` names
+//! the definition that states it.
 //!
-//! The state of a team is its cells with their working and committed places, its revision, its undo entries (the working places
-//! before each change that is kept), its session slots, each free or with the revision that the session has seen, and its padding. A
-//! floor is its frame, a state for each team, and the positions of the teams' cells among the COMPONENTS of the DEF text.
+//! The state of a team is its:
 //!
-//! A command is *refused* if its reply is a refusal; one that is answered `OutOfMemory` changes nothing and counts as not asked.
-//! A *change* is a verb that counts the team's revision on; a *look* is `bye`, `check`, `def`, `where` or `find`.
+//! - cells, with their working and committed places
+//! - revision
+//! - undo entries: the working places before each recorded change
+//! - session slots, each free or with the revision that its session has seen
+//! - padding
+//!
+//! A floor is its frame, a state for each team, and the positions of the teams' cells among the
+//! COMPONENTS of the DEF text.
+//!
+//! A command is *refused* if its reply is a refusal. A command with the reply `OutOfMemory` changes
+//! nothing and counts as not sent. A *change* is a verb that adds one to the team's revision. A
+//! *query* is `bye`, `check`, `def`, `where` or `find`.
+//!
+//! Used by most other crates.
+//!
+//! Modules, in reading order:
+//!
+//! - `verb_laws`: laws on the outcome of one verb for one team
+//! - `laws`: laws on whole runs: isolation of teams, journals
+//! - `committed_laws`: laws on the committed design
+//!
+//! From `crates/lf_tests_floor/src/connections.rt`:
 //!
 //! ```
-//! let replies = floor.run(&requests)?;
+//! floor.teams_match_frame();
+//! serving_runs();
 //! run_stays_legal();
 //! journal_restores();
+//! serve(alloc, floor, source, sink, limits)
 //! ```
 #![tactic(auto)]
 

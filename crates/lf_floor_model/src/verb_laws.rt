@@ -8,7 +8,8 @@ ghost use Rattle.lf_floor_model.specs.VerbRows.{VerbRows};
 
 use lf_rules::legal_in_range;
 
-/// By the rules no verb's outcome is `OutOfMemory`: that reply comes only from an allocation that fails.
+/// The definition of no verb has the outcome `OutOfMemory`: only a failed allocation causes that
+/// reply.
 pub fn never_out_of_memory()
     ensures { NeverOutOfMemory }
 {}
@@ -18,50 +19,54 @@ pub fn refusal_keeps_state()
     ensures { RefusalKeepsState }
 {}
 
-/// A tidy in which a cell has no best place names that cell, and leaves the team unchanged.
+/// A tidy in which a cell has no best place names that cell and leaves the team unchanged.
 pub fn refused_tidy_keeps_state()
     ensures { RefusedTidyKeepsState }
 {}
 
-/// An accepted change was asked by a session that had seen the team's revision, while there was one left; it adds one to the
-/// revision, and this session, and no other, has seen the new one.
+/// An accepted change comes from a session that has seen the team's revision, and the revision
+/// limit is not reached. The change adds one to the revision. Only this session has seen the new
+/// revision.
 pub fn change_counts()
     ensures { ChangeCounts }
 {}
 
-/// A verb that is no change leaves the team's cells, revision, undo entries and padding unchanged; only its session slots may
-/// differ.
+/// A verb that is not a change leaves the team's cells, revision, undo entries and padding
+/// unchanged. Only its session slots may differ.
 pub fn query_keeps_state()
     ensures { QueryKeepsState }
 {}
 
-/// Undo after an accepted place, legalize, tidy, unplace, swap or revert brings back the working places before it.
+/// Undo after an accepted place, legalize, tidy, unplace, swap or revert restores the previous
+/// working places.
 pub fn undo_brings_back()
     ensures { UndoBringsBack }
 {}
 
-/// Revert after an accepted commit leaves the working places as they were before the commit.
+/// Revert after an accepted commit leaves the working places unchanged.
 pub fn revert_after_commit_keeps()
     ensures { RevertAfterCommitKeeps }
 {}
 
-/// No verb but commit changes a committed place.
+/// Only commit changes a committed place.
 pub fn only_commit_commits()
     ensures { OnlyCommitCommits }
 {}
 
-/// No verb but pad changes a team's padding.
+/// Only pad changes a team's padding.
 pub fn only_pad_pads()
     ensures { OnlyPadPads }
 {}
 
-/// A pad that its session may make is accepted wherever the cells stand. It changes the padding and the revision; the cells, at
-/// their working and committed places, and the undo entries are as before.
+/// A pad from a session that may change the team is accepted wherever the cells are placed. It
+/// changes the padding and the revision. The working places, committed places and undo entries stay
+/// the same.
 pub fn pad_keeps()
     ensures { PadKeeps }
 {}
 
-/// The place that find and legalize take is the best place; they find none only if the cell may go to no place.
+/// The place that find and legalize choose is the best place. They find no place only if no place
+/// is legal for the cell.
 pub fn best_is_found()
     ensures { BestIsFound }
 {
@@ -103,7 +108,8 @@ pub fn swap_makes_legal()
     legal_in_range();
 }
 
-/// After any verb a team of the frame is still one: this is what a floor keeps of each team (`teams_are_of_the_frame`).
+/// After any verb a team of the frame is still a team of the frame. A floor guarantees this of each
+/// team (`teams_match_frame`).
 pub fn verb_keeps_team()
     ensures { VerbKeepsTeam }
 {}

@@ -79,7 +79,7 @@ committed_reaches t k session revision old new placing rows none first are count
           ∙ ap (λ (o : Outcome). o.team) (sym outcome);
     }
 
--- the entries are the same, and fit still
+-- the entries are the same, and their places still fit
 pub committed_fit : (k session : ℕ) (old new : Tables) (placing : Placing) → HasRows k old → cells_of placing.cells k ≡ map as_committed (cells_in k old)
     → KeepsRest old.placement placing → CountsChange k session (record old { placement = placing }) new → EntriesFit k old → EntriesFit k new
 committed_fit k session old new placing rows are rest counts fit =

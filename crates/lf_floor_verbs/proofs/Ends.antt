@@ -1,4 +1,4 @@
--- What the end of a change makes of the tables.
+-- The effect of the end of a change on the tables.
 use Rattle.std.proofs.Common.{◌≡◌, ℕ, ◌+◌, List, [], ◌∷◌, length, map, take, Option, Some, refl, ap, subst, ◌∙◌}
 use Rattle.std.specs.Prelude.{slice_set, slice_index_or}
 use Rattle.std.proofs.lemmas.List.{length-set, get_or-set_same}
@@ -24,7 +24,7 @@ use Rattle.lf_floor_verbs.specs.declared.tidy.Tidy.TheVariants.{Done, Stopped}
 use Rattle.lf_floor_verbs.specs.Tidying.{TidiesCells}
 use Rattle.lf_floor_verbs.proofs.Sending.{tidied_done, tidied_short, tidied_stuck}
 
--- a team of these parts
+-- a team with these parts
 abbrev pub team_of : List Cell → ℕ → List (List (Option Place)) → List (Option ℕ) → ℕ → TeamState
 team_of cells revision entries slots padding =
     record { cells = cells; revision = revision; entries = entries; slots = slots; padding = padding }
@@ -44,7 +44,7 @@ counted_slots k session old new rows counts =
 counted_padding : (k session : ℕ) (old new : Tables) → CountsChange k session old new → padding_of new k ≡ padding_of old k
 counted_padding k session old new counts = rw counts.paddings refl
 
--- the team, with these cells, after a change was counted
+-- the team, with these cells, after a change is counted
 pub counted_team : (k session : ℕ) (cells : List Cell) (old new : Tables) → HasRows k old → CountsChange k session old new
     → team_with k cells new
     ≡ team_of cells (revision_of old k + 1) (entries_of (places_of cells) (stack_of old.undo k))
@@ -67,14 +67,14 @@ counted_own k session old new rows counts =
 
 -- ---- a stack changes
 
--- ---- a change is kept
+-- ---- a change is recorded
 
--- the rows are still there if only the undo stacks have changed
+-- the rows are still there if only the undo stacks change
 pub rows_by_undo : (k : ℕ) (old : Tables) (undo : Stacks (List Move)) → length undo.lists ≡ length old.undo.lists → HasRows k old
     → HasRows k (record old { undo = undo })
 rows_by_undo k old undo same rows = record { undo = rw same rows.undo; sessions = rows.sessions; revisions = rows.revisions; paddings = rows.paddings }
 
--- the team whose moves are kept
+-- the team whose moves are recorded
 pub kept_team : (k session : ℕ) (before : List Cell) (moves : List Move) (old : Tables) (undo : Stacks (List Move)) (new : Tables) → HasRows k old
     → undo.lists ≡ slice_set old.undo.lists k (take old.undo.limit (moves ∷ stack_of old.undo k)) → CountsChange k session (record old { undo = undo }) new
     → HaveMoved before moves (cells_in k old) → own_team k new ≡ team_after_change k session before (cells_in k old) old
@@ -92,14 +92,14 @@ kept_team k session before moves old undo new rows lists counts have =
 
 -- ---- a change of a whole team
 
--- the team that is kept is what the rules record
+-- the team with the recorded change is the one of the rules
 pub recorded_team : (t : TeamRules) (k session : ℕ) (old new : Tables) (now : List Cell) → old.undo.limit ≡ t.frame.limits.undo
     → own_team k new ≡ team_after_change k session (cells_in k old) now old → own_team k new ≡ (recorded t session now (own_team k old)).team
 recorded_team t k session old new now limit is =
     let s = own_team k old in
     is ∙ ap (λ (n : ℕ). (changed session now (take n (places_of s.cells ∷ s.entries)) s).team) limit
 
--- the team whose cells are back
+-- the team whose cells are moved back
 pub back_to : (k : ℕ) (old : Tables) (placing : Placing) → cells_of placing.cells k ≡ cells_in k old
     → own_team k (record old { placement = placing }) ≡ own_team k old
 back_to k old placing back = ap (λ (cs : List Cell). team_with k cs old) back

@@ -1,4 +1,4 @@
--- The first of a team's cells that breaks a rule where it stands.
+-- The first of a team's cells that breaks a rule at its working place.
 use Rattle.std.proofs.Common.{◌≡◌, ◌≢◌, ⊎_elim, ◌∙◌, ◌<◌, ℕ, zero, suc, ◌+◌, List, [], length, Option, Some, None, refl, sym, ap, zero-add, arith}
 use Rattle.std.specs.Prelude.{slice_get, filter_map, option_map}
 use Rattle.std.specs.List.{range_with_len, cons_option}
@@ -36,7 +36,7 @@ none_of {Y = Y} g a (suc n) none =
 abbrev numbered : ℕ → Option Broken → Option BrokenCell
 numbered own verdict = option_map (λ broken. record { own = own; broken = broken }) verdict
 
--- the cells before it break no rule, and it does
+-- the cells up to it break no rule, and it breaks one
 pub first_found : (t : TeamRules) (cells : List Cell) (own : ℕ) (broken : Broken) → ((i : ℕ) → i < own → None ≡ broken_where t cells i) → own < length cells
     → Some broken ≡ broken_where t cells own → Some (record { own = own; broken = broken }) ≡ slice_get (broken_cells t cells) 0
 first_found t cells own broken before within here =
@@ -51,7 +51,7 @@ none_found t cells none =
     (none_of (λ (k : ℕ). numbered k (broken_where t cells k)) 0 (length cells)
     (λ i less. ap (λ (k : ℕ). numbered k (broken_where t cells k)) (zero-add i) ∙ ap (numbered i) (sym (none i less)))))
 
--- one cell more breaks none
+-- one more cell breaks no rule
 pub one_more_unbroken : (t : TeamRules) (cells : List Cell) (k : ℕ) → ((i : ℕ) → i < k → None ≡ broken_where t cells i) → None ≡ broken_where t cells k
     → (i : ℕ) → i < k + 1 → None ≡ broken_where t cells i
 one_more_unbroken t cells k before here i less = ⊎_elim

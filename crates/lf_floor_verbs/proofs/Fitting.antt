@@ -1,4 +1,4 @@
--- What fits still does where only places change, and room grows.
+-- What fits still fits if only places change and rooms grow.
 use Rattle.std.proofs.Common.{◌≡◌, ℕ, ◌+◌, List, ◌∷◌, length, map, take, Some, refl, ap, sym, ◌∙◌, subst, arith}
 use Rattle.std.specs.Prelude.{All, slice_set}
 use Rattle.std.proofs.lemmas.List.Elements.{All-cons, All-take}
@@ -77,19 +77,19 @@ pub fits_as : (k : ℕ) (old new : Placing) (places : Places) → KeepsRooms old
     → Fits new k places
 fits_as k old new places ground macros fits = last old new k places ground.frame ground.index ground.site ground.rooms macros fits
 
--- entries that stay fit still
+-- the places of unchanged entries still fit
 pub entries_as : (k : ℕ) (old new : Tables) → KeepsRooms old.placement new.placement → SameMacros (cells_in k old) (cells_in k new)
     → (own_team k new).entries ≡ (own_team k old).entries → EntriesFit k old → EntriesFit k new
 entries_as k old new ground macros entries fit =
     subst (λ (es : List Places). All (λ places. Fits new.placement k places) es) (sym entries)
     (λ i d within. fits_as k old.placement new.placement _ ground macros (fit i d within))
 
--- those of a team that has not changed
+-- the places of the entries of an unchanged team still fit
 pub entries_stay : (k : ℕ) (old new : Tables) → KeepsRooms old.placement new.placement → own_team k new ≡ own_team k old → EntriesFit k old → EntriesFit k new
 entries_stay k old new ground same fit =
     entries_as k old new ground (ap (λ (s : TeamState). map (λ c. c.mac) s.cells) same) (ap (λ (s : TeamState). s.entries) same) fit
 
--- a change of places that stood before it
+-- a change of places, if the old places fit
 pub kept_fit : (k session : ℕ) (now : List Cell) (old new : Tables) → OnlyMovesTeam k old.placement new.placement
     → Fits old.placement k (places_of (cells_in k old)) → own_team k new ≡ team_after_change k session (cells_in k old) now old → EntriesFit k old → EntriesFit k new
 kept_fit k session now old new only stood is fit =
@@ -99,7 +99,7 @@ kept_fit k session now old new only stood is fit =
     (fits_only k old.placement new.placement (places_of (cells_in k old)) only stood)
     (λ i d within. fits_only k old.placement new.placement _ only (fit i d within))))
 
--- the moves may be taken back, where the places before them stood
+-- the moves may be reverted, if the old places fit
 pub back_fits : (k : ℕ) (moves : List Move) (before : List Cell) (first now : Placing) → OnlyMovesTeam k first now → Fits first k (places_of before)
     → HaveMoved before moves (cells_of now.cells k) → Fits now k (moves_taken_back moves (places_of (cells_of now.cells k)))
 back_fits k moves before first now only stood have =
@@ -119,7 +119,7 @@ others_stay number tables = record {
   limit = refl;
 }
 
--- ---- room has grown
+-- ---- rooms have grown
 
 lists_grown : (old new : Stacks (List Move)) → new ≡ record old { room = new.room } → new.lists ≡ old.lists
 lists_grown old new is = ap (λ (s : Stacks (List Move)). s.lists) is
@@ -127,7 +127,7 @@ lists_grown old new is = ap (λ (s : Stacks (List Move)). s.lists) is
 limit_grown : (old new : Stacks (List Move)) → new ≡ record old { room = new.room } → new.limit ≡ old.limit
 limit_grown old new is = ap (λ (s : Stacks (List Move)). s.limit) is
 
--- these cells, as the team's, are the same team
+-- the team with these cells is the same in both tables
 pub grown_with : (k : ℕ) (cells : List Cell) (old new : Tables) → OnlyGainRoom old new → team_with k cells new ≡ team_with k cells old
 grown_with k cells old new grown = go where
   go : team_with k cells new ≡ team_with k cells old

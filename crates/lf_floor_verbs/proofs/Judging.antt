@@ -1,4 +1,4 @@
--- What the tests of a cell at a place say in the rules' words.
+-- The tests of a cell at a place, in the words of the rules.
 use Rattle.std.proofs.Common.{◌≡◌, ◌<◌, ℕ, zero, suc, List, [], ◌∷◌, length, get_or, set, Option, Some, None, refl, ap, sym, subst, ◌∙◌, arith}
 use Rattle.std.specs.Prelude.{All, MatchOption, slice_get}
 use Rattle.std.proofs.lemmas.List.{get_or-set_same}
@@ -22,7 +22,7 @@ pub sized_there : (f : Frame) (cells : List Cell) (own : ℕ) (c : Cell) → All
 sized_there f cells own c all there =
     subst (λ (x : Cell). IsSizedCell f x) (get_or_from_slice_get cells own c c there) (all own c (slice_get_within cells own c there))
 
--- the one verdict of a cell is the one that the legalizer gives
+-- the unique verdict on a cell is the legalizer's
 the_verdict : (t : TeamRules) (cells : List Cell) (own : ℕ) (place : Place) (broken : Option Broken) (o : Option Cell) → VerdictIsUnique
     → All (IsSizedCell t.frame) cells → slice_get cells own ≡ o
     → MatchOption o (broken ≡ None) (λ c. IsVerdict (candidate_of_cell t cells own c place) broken) → broken ≡ broken_by o t cells own place
@@ -37,7 +37,7 @@ pub broken_there : (l : Legalizer) (p : Placing) (padding : ℕ) (id : CellId) (
 broken_there l p padding id place broken one sized is =
     the_verdict (team_rules l p.frame id.team padding) (cells_of p.cells id.team) id.own place broken (cell_at p.cells id) one sized refl is
 
--- ---- the rules but overlap, which other cells play no part in
+-- ---- the rules except overlap, which do not depend on other cells
 
 abbrev pub first_broken : Rule → Option Broken
 first_broken rule = Some record { rule = rule; other = None }
@@ -60,7 +60,7 @@ row_there [] (suc k) own place is = absurd cc
 row_there (r ∷ rows) zero own place is = omega arith
 row_there (r ∷ rows) (suc k) own place is = let h = row_there rows k own place is in omega (arith, h)
 
--- such a rule is the first that the cell breaks, wherever the team's cells are
+-- such a rule is the first that the cell breaks, wherever the other cells of the team are
 pub alone_anywhere : (l : Legalizer) (p : Placing) (padding : ℕ) (id : CellId) (place was : Place) (rule : Rule) (now : List Cell) → VerdictIsUnique
     → All (IsSizedCell p.frame) (cells_of p.cells id.team) → working_at (cells_of p.cells id.team) id.own ≡ Some was
     → SameButPlaces (cells_of p.cells id.team) now → IsBrokenFrameRule p id place (Some rule)

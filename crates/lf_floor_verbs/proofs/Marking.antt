@@ -1,4 +1,4 @@
--- Cells that stand legally, and what tidying may take from it.
+-- Legal cells, and why tidying keeps them legal.
 use Rattle.std.proofs.Common.{◌≡◌, ◌≢◌, ◌∙◌, ⊎_elim, ℕ, zero, suc, List, map, set, replicate, Bool, true, false, Option, Some, None, refl, sym, ap, subst}
 use Rattle.std.specs.Prelude.{All, MatchOption, is_none, slice_get, option_map, option_and_then}
 use Rattle.std.proofs.lemmas.Bool.{cases_eq}
@@ -33,13 +33,13 @@ no_true zero own e = cc
 no_true (suc n) zero e = cc
 no_true (suc n) (suc own) e = no_true n own e
 
--- where nothing is marked each mark is right
+-- if no mark is set, each mark is right
 pub none_marked : (f : Frame) (number padding count : ℕ) (cells : List Cell) (marks : List Bool) → marks ≡ replicate count false →
     AreMarked f number padding cells marks
 none_marked f number padding count cells marks are own marked =
     absurd (no_true count own (subst (λ (ms : List Bool). slice_get ms own ≡ Some true) are marked))
 
--- one cell more is marked, which stands legally
+-- one more cell is marked, and it is legal
 pub one_more_mark : (f : Frame) (number padding own : ℕ) (cells : List Cell) (old new : List Bool) → new ≡ set old own true →
     IsLegalCell f number padding (map member_of cells) own → AreMarked f number padding cells old → AreMarked f number padding cells new
 one_more_mark f number padding own cells old new is stands are other marked = ⊎_elim
@@ -48,7 +48,7 @@ one_more_mark f number padding own cells old new is stands are other marked = �
     are other (sym (slice_get-set_other old own other true differ) ∙ subst (λ (ms : List Bool). slice_get ms other ≡ Some true) is marked))
     (cases_eq other own)
 
--- ---- a cell that stands legally breaks no rule there
+-- ---- a legal cell breaks no rule
 
 no_rule : (t : TeamRules) (cells : List Cell) (own : ℕ) (c : Cell) (place : Place) → VerdictIsUnique → IsSizedCell t.frame c →
     IsTeamLegal (candidate_of_cell t cells own c place) → t.legalizer.first_broken (candidate_of_cell t cells own c place) ≡ None
@@ -71,7 +71,7 @@ legal_breaks_none t cells own one all stands = go (slice_get cells own) refl whe
       by c c.working (sized_there t.frame cells own c all there)
       (stands (member_of c) (slice_get-map member_of cells own ∙ ap (option_map member_of) there))
 
--- ---- a cell that stands legally is not tidied
+-- ---- a legal cell is not tidied
 
 pub legal_stays : (t : TeamRules) (cells : List Cell) (own : ℕ) → VerdictIsUnique → All (IsSizedCell t.frame) cells →
     IsLegalCell t.frame t.number t.padding (map member_of cells) own → None ≡ target_at t cells own
@@ -88,7 +88,7 @@ legal_stays t cells own one all stands = go (slice_get cells own) refl where
       by c c.working (sized_there t.frame cells own c all there)
       (stands (member_of c) (slice_get-map member_of cells own ∙ ap (option_map member_of) there))
 
--- marked cells stay legal while a cell is tidied
+-- cells with marks stay legal while a cell is tidied
 pub marked_through : (t : TeamRules) (own moved count : ℕ) (old new : List Cell) (marks : List Bool) → TidyKeepsLegal → All (IsSizedCell t.frame) old →
     tidy_cell t.legalizer t.frame t.number t.padding (Going (map member_of old) moved) own ≡ Going (map member_of new) count →
     AreMarked t.frame t.number t.padding old marks → AreMarked t.frame t.number t.padding new marks
@@ -98,7 +98,7 @@ marked_through t own moved count old new marks keeps all is are other marked =
     sized : All (λ m. IsSized t.frame (macro_of t.frame m.mac)) (map member_of old)
     sized = All-map (λ m. IsSized t.frame (macro_of t.frame m.mac)) member_of old (λ i d within. (all i d within).sized)
 
--- ---- a placed cell that breaks no rule stands legally
+-- ---- a placed cell that breaks no rule is legal
 
 pub stands_by : (t : TeamRules) (cells : List Cell) (own : ℕ) (broken : Option Broken) → All (IsSizedCell t.frame) cells → false ≡ is_none (working_at cells own)
     → broken ≡ broken_where t cells own → is_none broken ≡ true → IsLegalCell t.frame t.number t.padding (map member_of cells) own
@@ -111,7 +111,7 @@ stands_by t cells own broken sized placed is none = go (working_at cells own) re
   go None at e = absurd cc
   go (Some p) at e = stands_where t cells own p sized at (sym is ∙ no_broken broken none)
 
--- the id of the team's cell of that position
+-- the id of the team's cell at that position
 pub id_is : (cells : List Cell) (number own : ℕ) (id : CellId) → Some id ≡ id_in cells number own → id ≡ id_of number own
 id_is cells number own id is = go (slice_get cells own) is where
   go : (o : Option Cell) → Some id ≡ option_map (λ (c : Cell). id_of number own) o → id ≡ id_of number own

@@ -1,4 +1,4 @@
--- Moves of cells, and what they are when they are taken back.
+-- Moves of cells, and the effect of reverting them.
 use Rattle.std.proofs.Common.{◌≡◌, ℕ, zero, suc, List, [], ◌∷◌, ◌++◌, refl, ap, sym, ◌∙◌}
 use Rattle.lf_cells.specs.declared.cell.Cell.{Cell}
 use Rattle.lf_cells.specs.Cells.{moved, working_at}
@@ -8,7 +8,7 @@ use Rattle.lf_placement.proofs.Changing.{first_same, rest_same}
 use Rattle.lf_floor_model.specs.Outcomes.{places_of}
 use Rattle.lf_floor_model.specs.Changes.{restored}
 
--- the working places make the one list of the other
+-- the working places of the new list turn the old list into the new one
 pub restored_is : (old new : List Cell) → SameButPlaces old new → restored (places_of new) old ≡ new
 restored_is [] [] same = refl
 restored_is [] (c ∷ cs) same = absurd cc
@@ -24,13 +24,13 @@ none_yet cells = record { places = refl; same = refl }
 pub from_none : (before : List Cell) (moves : List Move) → moves ≡ [] → HaveMoved before moves before
 from_none before moves none = rw none (none_yet before)
 
--- a cell that is moved to where it stands
+-- a cell that is moved to its own place
 pub not_moved : (cells : List Cell) (own : ℕ) → moved cells own (working_at cells own) ≡ cells
 not_moved [] own = refl
 not_moved (c ∷ cs) zero = refl
 not_moved (c ∷ cs) (suc own) = ap (λ (r : List Cell). c ∷ r) (not_moved cs own)
 
--- one more move behind the others
+-- one more move appended to the others
 pub made_more : (moves : List Move) (m : Move) (cells : List Cell) → moves_applied (moves ++ m ∷ []) cells ≡ moved (moves_applied moves cells) m.own m.old
 made_more [] m cells = refl
 made_more (x ∷ moves) m cells = made_more moves m (moved cells x.own x.old)

@@ -1,4 +1,4 @@
--- A team gets another padding, and nothing else of it changes but its revision.
+-- A team gets another padding: except for it only the revision changes.
 use Rattle.std.proofs.Common.{◌≡◌, ℕ, ◌+◌, List, Some, length, map, refl, ap, ◌∙◌}
 use Rattle.std.specs.Prelude.{slice_index_or, slice_set}
 use Rattle.std.proofs.lemmas.List.{length-set, get_or-set_same}
@@ -19,7 +19,7 @@ use Rattle.lf_floor_verbs.proofs.Ends.{counted_own, team_of}
 use Rattle.lf_floor_verbs.proofs.Fitting.{entries_as, rooms_stay}
 
 module _ (k session : ℕ) (padding : Sites) (old mid new : Tables) (rows : HasRows k old) (pads : SetsPadding k padding old mid) where
-  -- a part that is no padding is as before
+  -- a part without the paddings is unchanged
   kept_part : {X : Type 0} (part : Tables → X) → part (record old { paddings = mid.paddings }) ≡ part old → part mid ≡ part old
   kept_part part same = ap part pads.rest ∙ same
 
@@ -37,7 +37,7 @@ module _ (k session : ℕ) (padding : Sites) (old mid new : Tables) (rows : HasR
   padding_now = ap (λ (xs : List ℕ). slice_index_or xs k 0) pads.paddings ∙ get_or-set_same (sites_in old) k padding.sites 0 rows.paddings
 
   module _ (counts : CountsChange k session mid new) where
-    -- the team afterwards
+    -- the team after the pad
     pub padded_team : own_team k new ≡ (padded padding session (own_team k old)).team
     unfolding padded
     padded_team =
@@ -54,7 +54,7 @@ module _ (k session : ℕ) (padding : Sites) (old mid new : Tables) (rows : HasR
       team_is = padded_team;
     }
 
-    -- the places before its undo entries fit still
+    -- the places of its undo entries still fit
     pub padded_fit : EntriesFit k old → EntriesFit k new
     unfolding padded
     padded_fit fit =

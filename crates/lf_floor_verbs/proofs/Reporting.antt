@@ -1,4 +1,4 @@
--- What is reported of a team's cells is what the report of their list says.
+-- The violations of a team's cells are those of the report of their list.
 use Rattle.std.proofs.Common.{◌≡◌, ◌∙◌, ℕ, ◌+◌, List, [], ◌∷◌, ◌++◌, length, map, Option, Some, None, cond, refl, sym, ap, append_assoc}
 use Rattle.std.specs.Prelude.{All, count_by, filter_map, is_none, slice_get, option_map, option_and_then}
 use Rattle.std.specs.List.{range_with_len, cons_option}
@@ -38,7 +38,7 @@ members_listed : (number : ℕ) (cells : List Cell) → map listed_member (map (
 members_listed number [] = refl
 members_listed number (c ∷ cells) = ap (λ (members : List Member). member_of c ∷ members) (members_listed number cells)
 
--- the same rule is broken by the cell of a number
+-- the cell at a position breaks the same rule in both
 broken_listed : (t : TeamRules) (cells : List Cell) (own : ℕ) (c : Cell) →
     broken_among t.legalizer t.frame t.padding (map (listed_of t.number) cells) own (listed_of t.number c)
     ≡ option_and_then (λ place. broken_by (Some c) t cells own place) c.working
@@ -58,7 +58,7 @@ other_listed : (listed : List (Listed (List ℕ))) (other : Option ℕ) →
 other_listed listed None = refl
 other_listed listed (Some own) = slice_get-map (λ (c : Listed (List ℕ)). c.name) listed own
 
--- what the names and the verdict of a listed cell say is its violation
+-- the names and the verdict of a listed cell give its violation
 pub violation_listed : (l : Legalizer) (f : Frame) (padding : ℕ) (listed : List (Listed (List ℕ))) (own : ℕ) (verdict : Option Broken) →
     ((c : Listed (List ℕ)) → slice_get listed own ≡ Some c → verdict ≡ broken_among l f padding listed own c) →
     option_and_then (violation_in (listed_names listed) own) verdict ≡ violation_at l f padding listed own
@@ -101,7 +101,7 @@ where_listed t cells own =
         sym (broken_listed t cells own k)
         ∙ ap (broken_among t.legalizer t.frame t.padding (map (listed_of t.number) cells) own) (some_one e)
 
--- so are those of all cells
+-- the violations of all cells are those of the list
 pub violations_listed : (t : TeamRules) (cells : List Cell) →
     filter_map (violation_where t cells) (range_with_len 0 (length cells)) ≡ violations_in t.legalizer t.frame t.padding (map (listed_of t.number) cells)
 violations_listed t cells =
@@ -111,7 +111,7 @@ violations_listed t cells =
 
 -- ---- the whole report
 
--- as many cells are unplaced
+-- the same number of cells is unplaced
 pub unplaced_listed : (number : ℕ) (cells : List Cell) → count_by (λ c. is_none c.working) cells ≡ count_by (λ c. is_none c.place) (map (listed_of number) cells)
 unplaced_listed number [] = refl
 unplaced_listed number (c ∷ cells) =
@@ -119,13 +119,13 @@ unplaced_listed number (c ∷ cells) =
     ∙ ap (λ (n : ℕ). cond (is_none c.working) 1 0 + n) (unplaced_listed number cells)
     ∙ sym (sum_by-cons (λ (x : Listed (List ℕ)). cond (is_none x.place) 1 0) (listed_of number c) (map (listed_of number) cells))
 
--- the names of cells that have names of a text
+-- the names of cells, each of which a text can have
 pub names_printed : (cells : List Cell) → All (λ c. IsName c.name) cells → All IsName (names_of cells)
 names_printed cells printed = All-map IsName (λ (c : Cell). c.name) cells printed
 
 -- ---- the text
 
--- the violation of one more cell stands behind those of the cells before it
+-- the violation of one more cell comes after those of the earlier cells
 pub one_more_violation : {Y : Type 0} (g : ℕ → Option Y) (k : ℕ) (rest : List Y) →
     filter_map g (range_with_len 0 k) ++ cons_option (g k) rest ≡ filter_map g (range_with_len 0 (k + 1)) ++ rest
 one_more_violation {Y = Y} g k rest =

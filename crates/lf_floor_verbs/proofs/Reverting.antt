@@ -1,4 +1,4 @@
--- Cells that go back to their committed places one after another.
+-- Cells that are moved back to their committed places one after another.
 use Rattle.std.proofs.Common.{◌≡◌, ◌≤◌, ℕ, zero, suc, ◌+◌, List, [], ◌∷◌, ◌++◌, length, map, Option, refl, ap, sym, ◌∙◌, arith}
 use Rattle.lf_floorplan.specs.declared.place.Place.{Place}
 use Rattle.lf_cells.specs.declared.cell.Cell.{Cell}
@@ -40,7 +40,7 @@ committed_still (suc n) (c ∷ cs) = committed_still n cs
 
 -- ---- the moves
 
--- a cell that is at its committed place needs none
+-- a cell at its committed place needs no move
 pub stays_noted : (cells : List Cell) (own : ℕ) (moves : List Move) → working_at cells own ≡ committed_at cells own → IsRevertMove cells own moves moves
 stays_noted cells own moves same = λ now are working committed.
     are ∙ sym (ap (λ (p : Option Place). moved now own p) (committed ∙ sym same ∙ sym working) ∙ not_moved now own)
@@ -57,7 +57,7 @@ pub one_more_noted : (n : ℕ) (cells : List Cell) (old new : List Move) → mov
     → moves_applied new cells ≡ back_first (n + 1) cells
 one_more_noted n cells old new so_far noted = noted (back_first n cells) so_far (working_still n cells) (committed_still n cells) ∙ one_more_back n cells
 
--- the places that the moves lead to
+-- the places to which the moves lead
 pub places_reverted : (cells now : List Cell) → now ≡ map back_to_committed cells → places_of now ≡ committed_of cells
 places_reverted cells now is = ap places_of is ∙ go cells where
   go : (cs : List Cell) → places_of (map back_to_committed cs) ≡ committed_of cs

@@ -1,4 +1,4 @@
--- What a seeker finds is what the rules of find, legalize and tidy name.
+-- The result of a seeker is the one in the rules of find, legalize and tidy.
 use Rattle.std.proofs.Common.{◌≡◌, ℕ, List, get_or, Option, Some, None, refl, ap, sym, ◌∙◌, subst}
 use Rattle.std.specs.Prelude.{All, slice_get, option_map, option_and_then}
 use Rattle.std.proofs.lemmas.Option.{slice_get_within, get_or_from_slice_get}
@@ -41,7 +41,7 @@ sought t cells own target found is = go (slice_get cells own) is where
   go None e = sym (none_found found e)
   go (Some c) e = ap (λ (p : Option SpotPlace). option_and_then place_of_spot p) (sym e) ∙ found_back found
 
--- ---- how a cell stands
+-- ---- the place of a cell
 
 pub names_none : (cells : List Cell) (number own : ℕ) → id_in cells number own ≡ None → name_at cells own ≡ None
 names_none cells number own none = go (slice_get cells own) none where
@@ -49,7 +49,7 @@ names_none cells number own none = go (slice_get cells own) none where
   go None e = refl
   go (Some c) e = absurd cc
 
--- a name that is told is that of a cell that is there
+-- a name that is returned is that of an existing cell
 pub name_printed : (cells : List Cell) (own : ℕ) (name : List ℕ) → All (λ c. IsName c.name) cells → Some name ≡ name_at cells own → IsName name
 name_printed cells own name printed is = go (slice_get cells own) refl is where
   go : (o : Option Cell) → slice_get cells own ≡ o → Some name ≡ option_map (λ (c : Cell). c.name) o → IsName name
@@ -59,7 +59,7 @@ name_printed cells own name printed is = go (slice_get cells own) refl is where
       let same : name ≡ c.name = some_one e in
       subst IsName (ap (λ (x : Cell). x.name) at ∙ sym same) (printed own c (slice_get_within cells own c there))
 
--- the name that is returned of the cell of this id
+-- the name that is returned for the cell of this id
 pub name_told : (table : Cells) (number own : ℕ) (id : CellId) (facts : CellFacts) → id_in (cells_of table number) number own ≡ Some id
     → option_map (λ (f : CellFacts). f.name.now) (Some facts) ≡ option_map (λ (c : Cell). c.name) (cell_at table id)
     → Some facts.name.now ≡ name_at (cells_of table number) own

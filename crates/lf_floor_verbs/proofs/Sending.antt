@@ -1,4 +1,4 @@
--- Cells that tidying sends.
+-- Cells that tidying moves.
 use Rattle.std.proofs.Common.{◌≡◌, ◌<◌, ◌≤◌, ℕ, zero, suc, ◌+◌, ◌-◌, List, [], ◌∷◌, map, length, get_or, Option, Some, None, true, refl, ap, sym, ◌∙◌, arith}
 use Rattle.std.specs.Prelude.{slice_get, slice_set, option_map, option_and_then}
 use Rattle.std.proofs.lemmas.List.{length-map}
@@ -33,9 +33,9 @@ use Rattle.lf_floor_verbs.proofs.Moves.{restored_is}
 use Rattle.lf_floor_verbs.proofs.Seeking.{back}
 use Rattle.lf_floor_model.proofs.Standing.{some_one}
 
--- ---- one cell that is sent
+-- ---- one cell that is moved
 
--- where a placed cell is tidied to
+-- the target to which a placed cell is tidied
 pub target_placed : (t : TeamRules) (cells : List Cell) (own : ℕ) (s : CellPlacement) (place : Place) (broken : Option Broken)
     → Some s ≡ option_map placement_of (slice_get cells own) → s.working ≡ Some place → broken ≡ broken_at t cells own place
     → option_map (λ (b : Broken). point_of (spot_of place)) broken ≡ target_at t cells own
@@ -83,7 +83,7 @@ moved_members (d ∷ ds) zero c place there =
     ap (λ (x : Cell). record { mac = x.mac; place = Some (spot_of place) } ∷ map member_of ds) (sym (some_one there))
 moved_members (d ∷ ds) (suc own) c place there = ap (λ (r : List Member). member_of d ∷ r) (moved_members ds own c place there)
 
--- a cell with a target goes to the place that was found for it, or nowhere
+-- a cell with a target is moved to the place that is found for it, or has no best place
 abbrev pub sent_by : Option Place → List Cell → ℕ → ℕ → Tidied
 sent_by None cells own moved = Stuck own
 sent_by (Some place) cells own n = Going (map member_of (moved cells own (Some place))) (n + 1)
@@ -107,7 +107,7 @@ one_sent t cells own n target found aimed best = tidy_one_is t cells own n ∙ g
 
 -- ---- all cells
 
--- the team has as many cells at each turn
+-- the team has the same number of cells at each turn
 pub still_within : (number own : ℕ) (first now : List Cell) (all ids : List CellId) → all ≡ ids_of number first → ids ≡ ids_of number now
     → SameButPlaces first now → own < length all → own < length ids
 still_within number own first now all ids all_are are same within =
@@ -122,7 +122,7 @@ pub id_at_turn : (number own : ℕ) (first now : List Cell) (all ids : List Cell
 id_at_turn number own first now all ids id all_are are same within is =
     ids_read number own now ids id are (still_within number own first now all ids all_are are same within) is
 
--- one cell less to go
+-- one cell less remains
 pub one_less : (l : Legalizer) (f : Frame) (team padding own last : ℕ) (t now : Tidied) → own < last → tidy_cell l f team padding t own ≡ now
     → tidied_from l f team padding own (last - own) t ≡ tidied_from l f team padding (own + 1) (last - (own + 1)) now
 one_less l f team padding own last t now within is =
@@ -143,7 +143,7 @@ all_to_go l f team padding last cells is =
     let count : last - 0 ≡ length (map member_of cells) = omega (arith, is, length-map cells member_of) in
     rw count refl
 
--- tidying goes on after a cell as it would have gone on from it
+-- tidying continues after a cell as it would have continued from it
 pub on_going : (t : TeamRules) (own last moved : ℕ) (first old new : List Cell) (sent : TidyStep) (now : Tidied) → own < last → TidiesOneCell t own old new sent
     → tidy_result_of sent new moved own ≡ now
     → tidied_from t.legalizer t.frame t.number t.padding own (last - own) (Going (map member_of old) moved) ≡ tidied t.legalizer t.frame t.number t.padding (map member_of first)
@@ -161,7 +161,7 @@ places_back (c ∷ cs) =
       at None = refl
       at (Some q) = back q
 
--- all cells went where they could
+-- each cell was moved to its best place or stayed
 pub tidied_done : (t : TeamRules) (session : ℕ) (s : TeamState) (new : List Cell) (count : ℕ) → TidiesCells t s.cells new (Done count) → SameButPlaces s.cells new
     → tidied_team t session s ≡ with_reply (TidyDone (s.revision + 1) count) (recorded t session new s)
 unfolding tidied_team

@@ -1,4 +1,4 @@
--- Cells that do not stand legally: those that are unplaced, and those that break a rule.
+-- Cells that are not legal: unplaced cells, and cells that break a rule.
 use Rattle.std.proofs.Common.{◌≡◌, ◌∙◌, ◌<◌, ℕ, zero, suc, List, [], ◌∷◌, length, map, true, false, Option, Some, None, refl, sym, ap, subst, arith}
 use Rattle.std.specs.Prelude.{All, MatchOption, is_none, slice_get, option_map, option_and_then}
 use Rattle.std.proofs.lemmas.Option.{slice_get-map}
@@ -20,7 +20,7 @@ cell_there [] own within = absurd (omega arith)
 cell_there (c ∷ cs) zero within = (c, refl)
 cell_there (c ∷ cs) (suc own) within = cell_there cs own (omega arith)
 
--- an unplaced cell does not stand legally
+-- an unplaced cell is not legal
 pub unplaced_is_not : (t : TeamRules) (cells : List Cell) (own : ℕ) → own < length cells → IsLegalCell t.frame t.number t.padding (map member_of cells) own
     → true ≡ is_none (working_at cells own) → ⊥
 unplaced_is_not t cells own within stands none = by found.0.working refl where
@@ -37,7 +37,7 @@ unplaced_is_not t cells own within stands none = by found.0.working refl where
         false_true : false ≡ true → ⊥
         false_true e = cc
 
--- nor does one that breaks a rule where it stands
+-- a cell that breaks a rule at its working place is not legal
 pub broken_is_not : (t : TeamRules) (cells : List Cell) (own : ℕ) (broken : Broken) → VerdictIsUnique → All (IsSizedCell t.frame) cells
     → IsLegalCell t.frame t.number t.padding (map member_of cells) own → Some broken ≡ broken_where t cells own → ⊥
 broken_is_not t cells own broken one all stands is = none_some (legal_breaks_none t cells own one all stands ∙ sym is) where

@@ -1,4 +1,4 @@
--- What the swap of two cells comes to.
+-- The outcome of the swap of two cells.
 use Rattle.std.proofs.Common.{◌≡◌, ◌≢◌, ◌⊎◌, inl, inr, ℕ, zero, suc, List, [], ◌∷◌, Option, Some, None, true, refl, ap, sym, ◌∙◌}
 use Rattle.std.specs.Prelude.{option_and_then}
 use Rattle.std.proofs.lemmas.Bool.{cases_eq}
@@ -22,7 +22,7 @@ use Rattle.lf_floor_verbs.proofs.Judging.{first_broken}
 some_same : {X : Type 0} {x y : X} → Some x ≡ Some y → x ≡ y
 some_same e = cc
 
--- ---- where exchanged cells are
+-- ---- the places of exchanged cells
 
 working_here : (cells : List Cell) (own : ℕ) (place : Option Place) (was : Place) → working_at cells own ≡ Some was
     → working_at (moved cells own place) own ≡ place
@@ -84,7 +84,7 @@ pub exchange_made : (number : ℕ) (x : Exchange) (cells : List Cell) → IsExch
     → moves_applied (exchange_moves x) cells ≡ exchanged cells x.first.own x.second.own
 exchange_made number x cells are = moved_both cells x.first.own x.second.own x.from x.to are.from are.to
 
--- ---- what the swap comes to
+-- ---- the outcome of the swap
 
 pub swap_refused : (t : TeamRules) (session first second : ℕ) (s : TeamState) (refusal : Refusal)
     → Some refusal ≡ swap_refusal t (exchanged s.cells first second) first second → swapped_here t session first second s ≡ refused refusal s
@@ -106,7 +106,7 @@ swap_short t session first second s =
     go None (Some broken) = refl
     go None None = refl
 
--- the swap of two cells of the team that are placed
+-- the swap of two placed cells of the team
 pub swapped_is : (t : TeamRules) (session : ℕ) (first second : List ℕ) (a b : ℕ) (from to : Place) (s : TeamState) → Some a ≡ cell_named first s.cells
     → Some b ≡ cell_named second s.cells
     → working_at s.cells a ≡ Some from → working_at s.cells b ≡ Some to → swapped t session first second s ≡ swapped_here t session a b s

@@ -1,4 +1,4 @@
--- What taking the newest undo entry back makes of a team.
+-- The effect on a team of reverting the newest undo entry.
 use Rattle.std.proofs.Common.{◌≡◌, ℕ, suc, ◌+◌, List, [], ◌∷◌, length, drop, map, Option, Some, None, refl, ap, sym, ◌∙◌, subst, arith}
 use Rattle.std.specs.Prelude.{All, slice_get, slice_set, slice_index_or}
 use Rattle.std.proofs.lemmas.List.{length-map, length-set, get_or-set_same}
@@ -40,11 +40,11 @@ places_before : (moves : List Move) (cells : List Cell) → places_of (cells_bef
 places_before moves cells =
     places_restored (moves_taken_back moves (places_of cells)) cells (taken_back_length moves (places_of cells) ∙ length-map cells (λ (c : Cell). c.working))
 
--- the moves have led from there
+-- the moves lead from these places to the present ones
 pub led_from : (moves : List Move) (cells : List Cell) → HaveMoved (cells_before moves cells) moves cells
 led_from moves cells = record { places = sym (places_before moves cells); same = sym (same_restored (moves_taken_back moves (places_of cells)) cells) }
 
--- the team whose newest entry's moves were taken back
+-- the team after the moves of its newest entry were reverted
 pub undone_reaches : (k session revision : ℕ) (moves : List Move) (old new : Tables) (undo : Stacks (List Move)) (placing : Placing) → HasRows k old
     → Some moves ≡ slice_get (stack_of old.undo k) 0 → undo.lists ≡ slice_set old.undo.lists k (drop 1 (stack_of old.undo k))
     → cells_of placing.cells k ≡ cells_before moves (cells_in k old)
@@ -76,7 +76,7 @@ undone_reaches k session revision moves old new undo placing rows front lists ba
           ∙ ap (λ (o : Outcome). o.team) (sym outcome);
     }
 
--- no entry, nothing to undo
+-- without an entry there is nothing to undo
 pub none_reaches : (k session : ℕ) (old : Tables) → None ≡ slice_get (stack_of old.undo k) 0
     → IsOutcome (undone session (own_team k old)) (Refused NothingToUndo) (own_team k old)
 unfolding undone
@@ -104,11 +104,11 @@ module _ (k session : ℕ) (moves : List Move) (old : Tables) (front : Some move
   all_of : All (λ (places : Places). Fits old.placement k places) (head ∷ tail)
   all_of = subst (λ (es : List Places). All (λ (places : Places). Fits old.placement k places) es) entries_are fit
 
-  -- the cells fit at the places before the newest entry
+  -- the cells fit at the places of the newest entry
   pub newest_fits : Fits old.placement k head
   newest_fits = all_of 0 [] (omega arith)
 
-  -- and then at those before the others
+  -- afterwards they fit at the places of the other entries
   pub undone_fit : (new : Tables) → own_team k new ≡ (undone session (own_team k old)).team → OnlyMovesTeam k old.placement new.placement → EntriesFit k new
   unfolding undone
   undone_fit new is only =
@@ -117,7 +117,7 @@ module _ (k session : ℕ) (moves : List Move) (old : Tables) (front : Some move
       subst (λ (es : List Places). All (λ (places : Places). Fits new.placement k places) es) (sym entries)
       (λ i d within. fits_only k old.placement new.placement _ only (all_of (suc i) d (omega (arith, within))))
 
--- only places have changed
+-- only places change
 pub undone_moves : (k : ℕ) (moves : List Move) (old back new : Placing) → new ≡ back
     → ((before : List Cell) → HaveMoved before moves (cells_of old.cells k) → cells_of back.cells k ≡ before)
     → OtherCellsStay k old.cells back.cells → KeepsRest old back → OnlyMovesTeam k old new

@@ -1,4 +1,4 @@
--- Where a design is opened, no team has a padding.
+-- When a design is opened, no team has a padding.
 use Rattle.std.proofs.Common.{◌≡◌, ℕ, zero, suc, List, ◌∷◌, map, replicate, Result, Ok, Err, IfOk, refl, ap, ap₂, ◌∙◌}
 use Rattle.lf_rules.specs.declared.padding.Padding.{Padding as Sites}
 

@@ -1,4 +1,4 @@
--- The unplaced cells of a team: the first, and how many there are.
+-- The unplaced cells of a team: the first, and their number.
 use Rattle.std.proofs.Common.{◌≡◌, ◌≢◌, ⊎_elim, ◌<◌, ℕ, zero, suc, ◌+◌, List, [], ◌∷◌, length, get_or, Bool, true, false, cond, ltb, Some, None, refl, ap, sym, take, ◌∙◌, arith}
 use Rattle.std.specs.Prelude.{count_by, is_none}
 use Rattle.std.proofs.lemmas.Bool.{cases_eq, lt-ltb, ltb-true}
@@ -15,7 +15,7 @@ stands_at [] k d within = absurd (omega (arith, within))
 stands_at (c ∷ cs) zero d within = refl
 stands_at (c ∷ cs) (suc k) d within = stands_at cs k d (omega (arith, within))
 
--- the cells before it are placed, and it is not
+-- the cells up to it are placed, and it is not
 pub first_at : (cells : List Cell) (k : ℕ) → ((i : ℕ) → i < k → is_none (working_at cells i) ≡ false) → k < length cells → is_none (working_at cells k) ≡ true
     → first_unplaced cells ≡ Some k
 first_at cells k before within here =
@@ -25,7 +25,7 @@ first_at cells k before within here =
     (λ less. ap is_none (stands_at cells k no_cell within) ∙ here))
     ∙ ap (λ (b : Bool). cond b (Some k) None) (lt-ltb k (length cells) within)
 
--- all are placed
+-- all cells are placed
 pub none_at : (cells : List Cell) → ((i : ℕ) → i < length cells → is_none (working_at cells i) ≡ false) → first_unplaced cells ≡ None
 none_at cells placed =
     ap (λ (n : ℕ). cond (ltb n (length cells)) (Some n) None)
@@ -37,7 +37,7 @@ none_at cells placed =
     never false is = refl
     never true is = absurd (omega (arith, ltb-true (length cells) (length cells) is))
 
--- one more is placed
+-- one more cell is placed
 pub one_more_placed : (cells : List Cell) (k : ℕ) → ((i : ℕ) → i < k → is_none (working_at cells i) ≡ false) → is_none (working_at cells k) ≡ false
     → (i : ℕ) → i < k + 1 → is_none (working_at cells i) ≡ false
 one_more_placed cells k before here i less = ⊎_elim
@@ -45,16 +45,16 @@ one_more_placed cells k before here i less = ⊎_elim
     (λ (differ : i ≢ k). before i (omega (arith, less, differ)))
     (cases_eq i k)
 
--- ---- how many are unplaced
+-- ---- the number of unplaced cells
 
--- one more is unplaced
+-- one more cell is unplaced
 pub counted_yes : (cells : List Cell) (k count : ℕ) → k < length cells → is_none (working_at cells k) ≡ true → count ≡ count_by (λ c. is_none c.working) (take k cells)
     → count + 1 ≡ count_by (λ c. is_none c.working) (take (k + 1) cells)
 counted_yes cells k count within here is =
     ap (λ (n : ℕ). n + 1) is
     ∙ sym (count_by_more_yes (λ (c : Cell). is_none c.working) cells k no_cell within (ap is_none (stands_at cells k no_cell within) ∙ here))
 
--- one more is placed
+-- one more cell is placed
 pub counted_no : (cells : List Cell) (k count : ℕ) → k < length cells → is_none (working_at cells k) ≡ false → count ≡ count_by (λ c. is_none c.working) (take k cells)
     → count ≡ count_by (λ c. is_none c.working) (take (k + 1) cells)
 counted_no cells k count within here is =

@@ -1,4 +1,4 @@
--- How two cells that were exchanged are tested; no public clause cites it.
+-- The tests of two exchanged cells; no public clause cites it.
 use Rattle.std.specs.Prelude.{◌≡◌, ℕ, List, [], ◌∷◌, Option, Some, None, option_map}
 use Rattle.lf_rules.specs.declared.rule.Broken.{Broken}
 use Rattle.lf_rules.specs.declared.rule.Rule.{Rule}
@@ -14,7 +14,7 @@ use Rattle.lf_floor_model.specs.Outcomes.{Outcome}
 use Rattle.lf_floor_model.specs.Changes.{broken_where, exchanged, swapped_to}
 use Rattle.lf_floor_verbs.specs.declared.swap.Exchange.{Exchange}
 
--- the cells are the team's, at these places
+-- the cells are the team's, and at these places
 pub record IsExchange (number : ℕ) (cells : List Cell) (x : Exchange) : Type 0 where
   pub first : x.first.team ≡ number
   pub second : x.second.team ≡ number
@@ -25,7 +25,8 @@ pub record IsExchange (number : ℕ) (cells : List Cell) (x : Exchange) : Type 0
 abbrev pub exchange_moves : Exchange → List Move
 exchange_moves x = record { own = x.first.own; old = Some x.to } ∷ record { own = x.second.own; old = Some x.from } ∷ []
 
--- the cells were exchanged; the first keeps all rules but overlap, and this is the first of them that the second breaks
+-- the cells are exchanged; the first breaks no rule except overlap, and alone is the first rule
+-- except overlap that the second breaks
 pub record IsExchanged (p : Placing) (x : Exchange) (alone : Option Rule) : Type 0 where
   pub team : x.second.team ≡ x.first.team
   pub first : IsBrokenFrameRule p x.first x.to None
@@ -33,16 +34,16 @@ pub record IsExchanged (p : Placing) (x : Exchange) (alone : Option Rule) : Type
   pub to : working_at (cells_of p.cells x.first.team) x.first.own ≡ Some x.to
   pub from : working_at (cells_of p.cells x.first.team) x.second.own ≡ Some x.from
 
--- why a cell that breaks this rule is refused
+-- the refusal of a cell that breaks this rule
 abbrev pub illegal_by : Option Broken → ℕ → Option Refusal
 illegal_by broken own = option_map (λ b. Illegal b.rule own b.other) broken
 
--- this refusal, else the other
+-- this refusal, otherwise the other
 abbrev pub first_of : Option Refusal → Option Refusal → Option Refusal
 first_of None other = other
 first_of (Some refusal) other = Some refusal
 
--- why two cells are refused where they stand, the first before the second
+-- the refusal of two cells at their working places; the first is tested first
 abbrev pub swap_refusal : TeamRules → List Cell → ℕ → ℕ → Option Refusal
 swap_refusal t cells first second = first_of (illegal_by (broken_where t cells first) first) (illegal_by (broken_where t cells second) second)
 

@@ -1,5 +1,5 @@
--- The teams of a floor, of which cells, undo entries, session slots, revisions and paddings stand in one table of each kind for all
--- teams.
+-- The teams of a floor: cells, undo entries, session slots, revisions and paddings are in one table
+-- of each kind for all teams.
 use Rattle.std.specs.Prelude.{◌≡◌, ◌≢◌, ℕ, ◌+◌, ◌<◌, All, List, [], length, map, replicate, take, ◌∷◌, None, Some, slice_index_or, slice_set}
 use Rattle.std.specs.List.{range_with_len}
 use Rattle.lf_floorplan.specs.declared.frame.Frame.{Frame}
@@ -31,7 +31,7 @@ frame_of tables = tables.placement.frame
 abbrev pub cells_in : ℕ → Tables → List Cell
 cells_in number tables = cells_of tables.placement.cells number
 
--- how many changes the team of that number has made
+-- the number of changes that the team of that number has made
 abbrev pub revision_of : Tables → ℕ → ℕ
 revision_of tables number = slice_index_or tables.revisions.items number 0
 
@@ -43,7 +43,7 @@ sites_in tables = map (λ p. p.sites) tables.paddings.items
 abbrev pub padding_of : Tables → ℕ → ℕ
 padding_of tables number = slice_index_or (sites_in tables) number 0
 
--- the team of that number, with these cells; an undo entry gives the places before its moves, the newest taken back first
+-- the team of that number, with these cells; an undo entry has the places before its moves
 abbrev pub team_with : ℕ → List Cell → Tables → TeamState
 team_with number cells tables =
     record {
@@ -58,15 +58,15 @@ team_with number cells tables =
 abbrev pub own_team : ℕ → Tables → TeamState
 own_team number tables = team_with number (cells_in number tables) tables
 
--- the team in its surroundings
+-- the team of the context
 abbrev pub team_in : {S : Type 0} → TeamContext S → Tables → TeamState
 team_in around tables = own_team around.number tables
 
--- the setting that a team's surroundings are, with a legalizer and the frame of the cells
+-- the rules of the team of the context, with a legalizer and the frame of the placement
 abbrev pub context_at : {S : Type 0} → Legalizer → TeamContext S → Placing → TeamRules
 context_at l around placing = team_rules l placing.frame around.number around.padding.sites
 
--- so they are with the tables
+-- the same, with the frame of the tables
 abbrev pub context_in : {S : Type 0} → Legalizer → TeamContext S → Tables → TeamRules
 context_in l around tables = context_at l around tables.placement
 
@@ -74,11 +74,11 @@ context_in l around tables = context_at l around tables.placement
 abbrev pub teams_in : Tables → List TeamState
 teams_in tables = map (λ number. own_team number tables) (range_with_len 0 (length tables.revisions.items))
 
--- the floor that the tables are
+-- the floor of these tables
 abbrev pub floor_in : Tables → FloorState
 floor_in tables = floor_of (frame_of tables) tables.placement.cells.components (teams_in tables)
 
--- ---- what a verb may rely on, and what it leaves
+-- ---- what a verb may rely on, and what it keeps
 
 -- each table has a row for the team of that number
 pub record HasRows (number : ℕ) (tables : Tables) : Type 0 where
@@ -87,12 +87,13 @@ pub record HasRows (number : ℕ) (tables : Tables) : Type 0 where
   pub revisions : number < length tables.revisions.items
   pub paddings : number < length (sites_in tables)
 
--- the team's cells fit at the places before each of its undo entries
+-- the team's cells fit at the places of each of its undo entries
 abbrev pub EntriesFit : ℕ → Tables → Type 0
 EntriesFit number tables = All (Fits tables.placement number) (own_team number tables).entries
 
--- the tables have a row for each team of the frame, an undo stack takes as many entries as the limits allow, each team is one of the frame,
--- and the places before each entry fit
+-- the tables have a row for each team of the frame; an undo stack holds as many entries as the
+-- limits allow; each team is a team of the frame; its cells fit at the places of each of its
+-- entries
 pub record AreTables (tables : Tables) : Type 0 where
   pub components : length tables.placement.cells.components ≡ length (frame_of tables).teams + 1
   pub undo : length tables.undo.lists ≡ length (frame_of tables).teams + 1
@@ -108,33 +109,34 @@ pub record IsCurrent (number session : ℕ) (tables : Tables) : Type 0 where
   pub seen : seen_at (slots_of tables.sessions number) session ≡ Some (revision_of tables number)
   pub left : revision_of tables number < 4294967295
 
--- the tables have a row for the team of that number, which is one of the frame, an undo stack takes as many entries as the limits allow, and
--- the places before each of the team's entries fit
+-- the tables have a row for the team of that number, which is a team of the frame; an undo stack
+-- holds as many entries as the limits allow, and the team's cells fit at the places of each of its
+-- entries
 pub record IsServed (number : ℕ) (tables : Tables) : Type 0 where
   pub rows : HasRows number tables
   pub limit : tables.undo.limit ≡ (frame_of tables).limits.undo
   pub team : IsTeamOf (frame_of tables) (own_team number tables)
   pub fit : EntriesFit number tables
 
--- and the session may change the team
+-- the same, and the session may change the team
 pub record CanChange (number session : ℕ) (tables : Tables) : Type 0 where
   pub served : IsServed number tables
   pub current : IsCurrent number session tables
 
--- the frame and the strips stay, and no room is less
+-- the frame and the strips are unchanged, and no strip's room shrinks
 pub record KeepsRooms (old new : Placing) : Type 0 where
   pub frame : new.frame ≡ old.frame
   pub index : new.held.index ≡ old.held.index
   pub site : new.held.site ≡ old.held.site
   pub rooms : KeepsCapacities old.held.rooms new.held.rooms
 
--- so it is, and but for the rooms only working places of that team's cells differ
+-- the same, and except for the rooms only working places of that team's cells differ
 pub record OnlyMovesTeam (number : ℕ) (old new : Placing) : Type 0 where
   pub ground : KeepsRooms old new
   pub same : SameButPlaces (cells_of old.cells number) (cells_of new.cells number)
   pub others : OtherCellsStay number old.cells new.cells
 
--- only the team of that number may differ, the tables keep their rows, and no room is less
+-- only the team of that number may differ, the tables keep their rows, and no strip's room shrinks
 pub record KeepsOtherTeams (number : ℕ) (old new : Tables) : Type 0 where
   pub teams : (other : ℕ) → other ≢ number → own_team other new ≡ own_team other old
   pub components : new.placement.cells.components ≡ old.placement.cells.components
@@ -145,7 +147,7 @@ pub record KeepsOtherTeams (number : ℕ) (old new : Tables) : Type 0 where
   pub paddings : length (sites_in new) ≡ length (sites_in old)
   pub limit : new.undo.limit ≡ old.undo.limit
 
--- there may be more room, and nothing else differs
+-- rooms may grow, and nothing else differs
 pub record OnlyGainRoom (old new : Tables) : Type 0 where
   pub placement : SameButRooms old.placement new.placement
   pub undo : new.undo ≡ record old.undo { room = new.undo.room }
@@ -166,13 +168,14 @@ pub record SetsPadding (number : ℕ) (padding : Padding) (old new : Tables) : T
   pub rest : new ≡ record old { paddings = new.paddings }
   pub paddings : sites_in new ≡ slice_set (sites_in old) number padding.sites
 
--- the team after a change that the session makes, from the cells before to those now: the places before are its newest undo entry
+-- the team after a change of the session that takes its cells from `before` to `now`: the old
+-- places are its newest undo entry
 abbrev pub team_after_change : ℕ → ℕ → List Cell → List Cell → Tables → TeamState
 team_after_change number session before now tables =
     let s = team_with number before tables in
     (changed session now (take tables.undo.limit (places_of before ∷ s.entries)) s).team
 
--- ---- the tables of a design as it is loaded
+-- ---- the tables of a design as loaded
 
 pub record AreInitial (design : Loaded) (tables : Tables) : Type 0 where
   pub frame : frame_of tables ≡ design.frame

@@ -1,11 +1,11 @@
-//! Cells in the order of their places.
+//! Cells sorted by their places.
 
 ghost use Rattle.std.specs.Prelude.{◌≡◌, IfOk, IsPermutation, OnOk, map};
 
 use lf_cells::{CellId, CellTable};
 use std::alloc::{AllocError, Global};
 
-/// A cell's position among its team's cells, and its working place; 0 if it has none.
+/// A cell's position among its team's cells, and its working place; 0 if it is unplaced.
 #[derive(Clone, Copy)]
 pub(crate) struct ByPlace {
     pub(crate) own: u32,
@@ -32,6 +32,8 @@ fn standing_cell(cells: &CellTable, id: CellId) -> ByPlace
 }
 
 /// The cells of these ids with their working places.
+///
+/// `Err` if an allocation fails.
 fn all_standing(
     alloc: Global,
     cells: &CellTable,
@@ -46,15 +48,15 @@ fn all_standing(
     Ok(list)
 }
 
-/// Sorts the cells by y, and those of one y by x.
+/// Sorts the cells by y, and those of equal y by x.
 fn sort_by_place(list: &mut Vec<ByPlace>)
     ensures { IsPermutation list.old.items list.new.items }
 {
     list.sort_unstable_by_key(|cell| (cell.y, cell.x));
 }
 
-/// The cells of these ids in the order of their working places, from row to row and from left to right, so
-/// that those which are asked one after another lie side by side. Who calls it relies on no order.
+/// Returns the cells of these ids sorted by working place, from row to row and from left to right.
+/// Successive cells are then close to each other. Callers do not rely on the order.
 ///
 /// `Err` if an allocation fails.
 pub(crate) fn by_place(

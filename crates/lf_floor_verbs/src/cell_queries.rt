@@ -1,4 +1,4 @@
-//! A team's own cells where they stand.
+//! Broken rules and best places of a team's own cells.
 
 ghost use Rattle.std.specs.Prelude.{◌≡◌, IfOk, count_by, is_none, option_map};
 ghost use Rattle.lf_rules.specs.Choice.{spot_of};
@@ -19,8 +19,8 @@ use lf_rules::{Broken, Padding, verdict_is_unique};
 use lf_units::Point;
 use std::alloc::AllocError;
 
-/// The first rule that the team's cell of that id breaks at the place, beside the others of its team,
-/// which has this padding; none where there is no such cell. It allocates nothing.
+/// Returns the first rule that the cell breaks at the place, among the other cells of its team with
+/// this padding. `None` if it breaks no rule, or there is no such cell. Does not allocate.
 pub(crate) fn broken_at(
     placement: &Placement,
     id: CellId,
@@ -35,8 +35,9 @@ pub(crate) fn broken_at(
     placement.first_broken(id, place, padding)
 }
 
-/// The first rule that the team's cell of that id breaks where it stands, beside the others of its team,
-/// which has this padding; none where it is unplaced, or there is no such cell. It allocates nothing.
+/// Returns the first rule that the cell breaks at its working place, among the other cells of its
+/// team with this padding. `None` if it breaks no rule or is unplaced, or if there is no such cell.
+/// Does not allocate.
 pub(crate) fn broken_where(placement: &Placement, id: CellId, padding: Padding) -> Option<Broken>
     ensures { (l : Legalizer) → result
         ≡ broken_where (team_rules l placement.now.frame id.team padding.sites) (cells_of placement.now.cells id.team) id.own }
@@ -45,7 +46,7 @@ pub(crate) fn broken_where(placement: &Placement, id: CellId, padding: Padding) 
     broken_at(placement, id, &place, padding)
 }
 
-/// The best place of the team's cell of that id for a target; none if it has none.
+/// Returns the best place of the team's cell for a target. `None` if it has no best place.
 ///
 /// `Err` if an allocation fails.
 pub(crate) fn best_place<S: Seeker>(
@@ -63,8 +64,8 @@ pub(crate) fn best_place<S: Seeker>(
     placement.best_place(around.alloc, around.seeker, id, target, around.padding)
 }
 
-/// The position of the team's first unplaced cell, in loading order, found without allocating; none
-/// if every cell is placed.
+/// Returns the position of the team's first unplaced cell, in loading order. `None` if every cell
+/// is placed. Does not allocate.
 pub(crate) fn first_unplaced(cells: &CellTable, number: usize) -> Option<u32>
     ensures { result ≡ first_unplaced (cells_of cells.now number) }
 {
@@ -76,7 +77,7 @@ pub(crate) fn first_unplaced(cells: &CellTable, number: usize) -> Option<u32>
     None
 }
 
-/// How many of the team's cells are unplaced.
+/// Returns the number of the team's unplaced cells.
 pub(crate) fn unplaced_in(cells: &CellTable, number: usize) -> usize
     ensures { result ≡ count_by (λ c. is_none c.working) (cells_of cells.now number) }
 {
@@ -89,7 +90,7 @@ pub(crate) fn unplaced_in(cells: &CellTable, number: usize) -> usize
     unplaced
 }
 
-/// Whether the cell is unplaced.
+/// Returns true if the cell is unplaced.
 pub(crate) fn is_unplaced(cells: &CellTable, id: CellId) -> bool
     ensures { result ≡ is_none (working_at (cells_of cells.now id.team) id.own) }
 {

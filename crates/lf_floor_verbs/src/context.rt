@@ -1,18 +1,19 @@
-//! The surroundings of a team.
+//! What a team's command needs besides the tables.
 
 use lf_rules::Padding;
 use std::alloc::Global;
 
-/// What surrounds a team while it answers: what gives memory, who finds best places, the team's number in
-/// the frame, and its padding. With the frame and a legalizer it is what contracts call the setting.
+/// The context of a team's command: the allocator, the search for best places, the team's number in
+/// the frame, and its padding. With the frame and a legalizer this is `TeamRules` in contracts.
 #[derive_where(Clone, Copy)]
 pub struct TeamContext<'a, S> {
-    /// What gives memory.
+    /// The allocator.
     pub alloc: Global,
     /// The search for best places.
     pub seeker: &'a S,
-    /// The team's number: the fence teams in the frame's order, then the team of the ground outside all fences.
+    /// The team's number: the fence teams in the frame's order, then the ground team outside all
+    /// fences.
     pub number: usize,
-    /// How far apart the team keeps its cells, in core sites.
+    /// The least distance between the team's cells, in core sites.
     pub padding: Padding,
 }

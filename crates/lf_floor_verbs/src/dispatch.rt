@@ -1,4 +1,4 @@
-//! From an order to a team to the verb that answers it.
+//! From a team's command to the method of its verb.
 
 ghost use Rattle.std.specs.Prelude.{◌≡◌, ◌≢◌, IfOk, None, OnErr, false, true};
 ghost use Rattle.lf_rules.specs.Legalizer.{Legalizer};
@@ -18,9 +18,11 @@ use lf_proto::{Action, Change, Refusal, Reply, TeamCommand};
 use std::alloc::AllocError;
 
 impl Tables {
-    /// Makes a change; `Stale` if the session has not seen the team's revision, else
-    /// `RevisionsSpent` if the team has made as many changes as it may, before any other
-    /// refusal.
+    /// Makes a change, if the session may. Refuses with `Stale` if the session has not seen the
+    /// team's revision, then with `RevisionsSpent` if the team's revision is at the limit. These
+    /// come before all other refusals.
+    ///
+    /// `Err` if an allocation fails; then the team is unchanged.
     fn check_session<S: Seeker>(
         &mut self,
         around: &TeamContext<'_, S>,
@@ -52,7 +54,9 @@ impl Tables {
         self.run_change(around, session, change)
     }
 
-    /// Answers an action of an open session that has seen this revision.
+    /// Runs an action of an open session that has seen this revision.
+    ///
+    /// `Err` if an allocation fails; then the team is unchanged.
     fn run_action<S: Seeker>(
         &mut self,
         around: &TeamContext<'_, S>,
@@ -85,10 +89,10 @@ impl Tables {
         }
     }
 
-    /// Answers an order to the team of these surroundings; `NoSession`, before any other refusal,
-    /// if it names a session that is not open.
+    /// Runs a command of the team of this context. Refuses with `NoSession` if it names a session
+    /// that is not open; this comes before all other refusals.
     ///
-    /// `Err` if an allocation fails, and then the team is unchanged.
+    /// `Err` if an allocation fails; then the team is unchanged.
     pub fn run_command<S: Seeker>(
         &mut self,
         around: &TeamContext<'_, S>,

@@ -1,14 +1,35 @@
-//! The tables of all teams, and what each verb does to the rows of one team.
+//! The state of all teams in one table of each kind, and what each verb does to the rows of one
+//! team.
 //!
-//! The frame, the cells, the undo entries, the session slots, the revisions and the paddings of all teams stand in one table of each
-//! kind. `run_command` answers an order to the team of a number by that team's rows alone: its contract holds the reply and the rows after it
-//! to the outcome that `lf_floor_model` defines, and says that no other team's rows have changed. Who names a team, runs many commands, saves
-//! and restores is the floor above.
+//! `Tables` has a placement with the frame and all cells, and one table each for undo entries,
+//! session slots, revisions and paddings. `run_command` runs one command of one team and reads only
+//! this team's rows. By its contract the reply and the new rows are the outcome that
+//! `lf_floor_model` defines, and no other team's rows change. `lf_floor` finds teams by name, runs
+//! many commands, saves and restores.
+//!
+//! Used by `lf_floor`.
+//!
+//! Modules, in reading order:
+//!
+//! - `tables`: the tables of all teams
+//! - `context`: what a team's command needs besides the tables
+//! - `dispatch`: from a command to the method of its verb
+//! - `sessions`: `open`, `close` and `sync`
+//! - `cell_queries`: broken rules and best places of a team's own cells
+//! - `by_place`: cells sorted by place
+//! - `team_legality`: which of a team's cells are legal, and the first that is not
+//! - `report`: the report of a team's cells
+//! - `queries`: `where`, `check`, `def` and `find`
+//! - `recording`: room for a change, and its undo entry
+//! - `single_cell`: changes of one cell: `place`, `legalize` and `unplace`
+//! - `swap`: `swap`
+//! - `tidy`: `tidy`
+//! - `whole_team`: changes of a whole team: `revert`, `undo`, `commit` and `pad`
+//!
+//! From `crates/lf_floor/src/floor.rt`:
 //!
 //! ```
-//! let mut tables = Tables::initial(alloc, loaded)?;
-//! let around = TeamContext { alloc, seeker: &seeker, number, padding: tables.padding(number) };
-//! let reply = tables.run_command(&around, &order)?;
+//! tables.run_command(&around, order)
 //! ```
 #![tactic(auto)]
 

@@ -1,4 +1,4 @@
-//! Questions, which change nothing of a team: `where`, `check`, `def` and `find`.
+//! Queries, which do not change the team: `where`, `check`, `def` and `find`.
 
 ghost use Rattle.std.specs.Prelude.{IfOk, OnErr};
 ghost use Rattle.lf_rules.specs.Legalizer.{Legalizer};
@@ -18,8 +18,8 @@ use lf_units::Point;
 use std::alloc::AllocError;
 
 impl Tables {
-    /// Answers where a cell stands: `NoCell` if the team has none of that name, else `Unplaced`
-    /// if it has no place.
+    /// Returns the working place of a cell. Refuses with `NoCell` if the team has no cell of that
+    /// name, then with `Unplaced` if the cell has no place.
     #[tactic(auto, unfolding(lf_floor_model::specs::Looks::located))]
     pub(crate) fn run_where(&self, number: usize, name: &[u8]) -> Reply
         ensures { IsOutcome (located name.now (own_team number self.now)) result (own_team number self.now) }
@@ -33,7 +33,9 @@ impl Tables {
         }
     }
 
-    /// Answers the report of the team's cells at their working places.
+    /// Returns the report of the team's cells at their working places.
+    ///
+    /// `Err` if an allocation fails.
     #[tactic(auto, unfolding(lf_floor_model::specs::Looks::checked))]
     pub(crate) fn check<S>(&self, around: &TeamContext<'_, S>) -> Result<Reply, AllocError>
         requires team { IsTeamOf (frame_of self.now) (team_in around.now self.now) }
@@ -48,7 +50,9 @@ impl Tables {
         Ok(Reply::Report(text))
     }
 
-    /// Answers the team's DEF text, its cells at their working places.
+    /// Returns the team's DEF text with its cells at their working places.
+    ///
+    /// `Err` if an allocation fails.
     #[tactic(auto, unfolding(lf_floor_model::specs::Looks::written))]
     pub(crate) fn write_def<S>(&self, around: &TeamContext<'_, S>) -> Result<Reply, AllocError>
         ensures ok { (l : Legalizer) → IfOk result (λ reply. IsOutcome
@@ -67,8 +71,10 @@ impl Tables {
         Ok(Reply::Def(Text::from_bytes(text)))
     }
 
-    /// Answers the best place of a cell: `NoCell` if the team has none of that name, else `NoPlace`
-    /// if it may go to no place.
+    /// Returns the best place of a cell. Refuses with `NoCell` if the team has no cell of that
+    /// name, then with `NoPlace` if no place is legal for it.
+    ///
+    /// `Err` if an allocation fails.
     #[tactic(auto, unfolding(lf_floor_model::specs::Looks::found))]
     pub(crate) fn find<S: Seeker>(
         &self,

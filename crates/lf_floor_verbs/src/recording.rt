@@ -1,4 +1,4 @@
-//! The room that a change needs, and the change that is kept so that it can be undone.
+//! Room for a change, and its undo entry.
 
 ghost use Rattle.std.specs.Prelude.{◌≡◌, ◌+◌, List, IfOk, OnErr, OnOk};
 ghost use Rattle.lf_cells.specs.declared.cell.Cell.{Cell};
@@ -14,7 +14,7 @@ use lf_undo::{Move, Moves};
 use std::alloc::{AllocError, Global};
 
 impl Tables {
-    /// Makes room for one more undo entry of the team.
+    /// Reserves memory for one more undo entry of the team.
     ///
     /// `Err` if an allocation fails.
     pub(crate) fn make_room(&mut self, number: usize) -> Result<(), AllocError>
@@ -26,7 +26,8 @@ impl Tables {
         self.undo.reserve(number)
     }
 
-    /// Makes room for one more undo entry of the team, and for its cells where the moves lead them.
+    /// Reserves memory for one more undo entry of the team, and for its cells at the places that
+    /// the moves lead to.
     ///
     /// `Err` if an allocation fails.
     pub(crate) fn make_room_for(
@@ -44,8 +45,8 @@ impl Tables {
         self.placement.reserve(alloc, number, moves)
     }
 
-    /// Keeps the moves of a change as the team's newest undo entry, for which there is room, counts the
-    /// change, and returns the revision.
+    /// Adds the moves of a change as the team's newest undo entry, for which there is room. Counts
+    /// the change and returns the new revision.
     pub(crate) fn push_undo(&mut self, number: usize, session: u32, moves: Moves) -> u32
         requires rows { HasRows number self.old }
         requires current { IsCurrent number session self.old }
@@ -62,8 +63,8 @@ impl Tables {
         }
     }
 
-    /// Makes the moves, as a change of the team that the session makes and that can be undone, and
-    /// returns the revision. It allocates nothing.
+    /// Makes the moves as one change of the session that can be undone, and returns the new
+    /// revision. Does not allocate.
     pub(crate) fn change_places(&mut self, number: usize, session: u32, moves: Moves) -> u32
         requires rows { HasRows number self.old }
         requires current { IsCurrent number session self.old }
@@ -81,8 +82,8 @@ impl Tables {
         self.push_undo(number, session, moves)
     }
 
-    /// Moves one cell of the team, as a change that the session makes and that can be undone, and
-    /// returns the revision.
+    /// Moves one cell of the team as a change of the session that can be undone, and returns the
+    /// new revision.
     ///
     /// `Err` if an allocation fails; then no team has changed.
     pub(crate) fn change_place(

@@ -37,7 +37,9 @@ impl<'a> Names for TeamNames<'a> {
     }
 }
 
-/// Puts the violations of the team's cells behind the text, in loading order, one at a time.
+/// Appends the violations of the team's cells to the text, in loading order, one at a time.
+///
+/// `Err` if an allocation fails.
 fn put_cells(
     alloc: Global,
     placement: &Placement,
@@ -64,7 +66,7 @@ fn put_cells(
     Ok(())
 }
 
-/// The text of the report of the team's cells at their working places.
+/// Returns the text of the report of the team's cells at their working places.
 ///
 /// `Err` if an allocation fails.
 pub(crate) fn report_text<S>(

@@ -10,7 +10,7 @@ use crate::tables::Tables;
 use lf_proto::{Refusal, Reply};
 
 impl Tables {
-    /// Takes the team's least free session slot; `SessionsFull` if there is none.
+    /// Takes the team's least free session slot. Refuses with `SessionsFull` if no slot is free.
     #[tactic(auto, unfolding(lf_floor_model::specs::Sessions::opened))]
     pub(crate) fn open(&mut self, number: usize) -> Reply
         ensures team { IsOutcome (opened (own_team number self.old)) result (own_team number self.new) }
@@ -24,7 +24,7 @@ impl Tables {
         }
     }
 
-    /// Frees the slot of a session of the team that is open.
+    /// Frees the slot of an open session of the team.
     #[tactic(auto, unfolding(lf_floor_model::specs::Sessions::closed))]
     pub(crate) fn close(&mut self, number: usize, session: u32) -> Reply
         requires { seen_at (slots_of self.old.sessions number) session ≢ None }
@@ -36,7 +36,8 @@ impl Tables {
         Reply::Done
     }
 
-    /// A session of the team that is open has now seen the present revision.
+    /// Records that an open session of the team has seen the present revision, and returns that
+    /// revision.
     #[tactic(auto, unfolding(lf_floor_model::specs::Sessions::synced))]
     pub(crate) fn sync(&mut self, number: usize, session: u32) -> Reply
         requires { seen_at (slots_of self.old.sessions number) session ≢ None }

@@ -1,4 +1,5 @@
-//! Changes: from a change to its method, and those of one cell (`place`, `legalize` and `unplace`).
+//! Dispatch of changes to their methods, and the changes of one cell (`place`, `legalize` and
+//! `unplace`).
 
 ghost use Rattle.std.specs.Prelude.{◌≡◌, IfOk, OnErr, false, true};
 ghost use Rattle.lf_rules.specs.Legalizer.{Legalizer};
@@ -22,6 +23,8 @@ use std::alloc::AllocError;
 
 impl Tables {
     /// Makes a change.
+    ///
+    /// `Err` if an allocation fails; then the team is unchanged.
     pub(crate) fn run_change<S: Seeker>(
         &mut self,
         around: &TeamContext<'_, S>,
@@ -54,8 +57,10 @@ impl Tables {
         }
     }
 
-    /// Puts a cell at a place: `NoCell` if the team has none of that name, else `Illegal` if
-    /// it breaks a rule there.
+    /// Moves a cell to a place. Refuses with `NoCell` if the team has no cell of that name, then
+    /// with `Illegal` if the cell breaks a rule there.
+    ///
+    /// `Err` if an allocation fails; then the team is unchanged.
     #[tactic(auto, unfolding(lf_floor_model::specs::Changes::placed))]
     pub(crate) fn place<S>(
         &mut self,
@@ -90,8 +95,10 @@ impl Tables {
         Ok(Reply::Revision(revision))
     }
 
-    /// Puts a cell at its best place for a target: `NoCell` if the team has none of that name,
-    /// else `NoPlace` if it may go to no place.
+    /// Moves a cell to its best place for a target. Refuses with `NoCell` if the team has no cell
+    /// of that name, then with `NoPlace` if no place is legal for it.
+    ///
+    /// `Err` if an allocation fails; then the team is unchanged.
     #[tactic(auto, unfolding(lf_floor_model::specs::Changes::legalized))]
     pub(crate) fn legalize<S: Seeker>(
         &mut self,
@@ -120,8 +127,10 @@ impl Tables {
         Ok(Reply::Legalized { revision, place })
     }
 
-    /// Takes a cell from its place: `NoCell` if the team has none of that name, else `Unplaced`
-    /// if it has no place.
+    /// Unplaces a cell. Refuses with `NoCell` if the team has no cell of that name, then with
+    /// `Unplaced` if the cell has no place.
+    ///
+    /// `Err` if an allocation fails; then the team is unchanged.
     #[tactic(auto, unfolding(lf_floor_model::specs::Changes::unplaced))]
     pub(crate) fn unplace<S>(
         &mut self,

@@ -1,4 +1,4 @@
-//! What `swap` does.
+//! The verb `swap`.
 
 ghost use Rattle.std.specs.Prelude.{◌≡◌, IfOk, None, OnErr, Some};
 ghost use Rattle.lf_rules.specs.Legalizer.{Legalizer};
@@ -21,7 +21,7 @@ use lf_rules::{Broken, Padding, Rule, verdict_is_unique};
 use lf_undo::{Move, Moves};
 use std::alloc::{AllocError, Global};
 
-/// Two cells of a team, and the place of each, where the other is to go.
+/// Two cells of a team and the working place of each, which becomes the place of the other.
 #[derive(Clone, Copy)]
 struct Exchange {
     first: CellId,
@@ -30,7 +30,9 @@ struct Exchange {
     to: Place,
 }
 
-/// The moves of the exchange.
+/// The two moves of the exchange.
+///
+/// `Err` if an allocation fails.
 fn exchange_moves(alloc: Global, exchange: &Exchange) -> Result<Moves, AllocError>
     ensures { IfOk result (λ moves. moves ≡ exchange_moves exchange.now) }
 {
@@ -40,7 +42,8 @@ fn exchange_moves(alloc: Global, exchange: &Exchange) -> Result<Moves, AllocErro
     Ok(moves)
 }
 
-/// The first rule that a cell breaks at the place, where `alone` is the first of those but overlap.
+/// Returns the first rule that a cell breaks at the place. `alone` is the first rule except overlap
+/// that it breaks there.
 fn broken_beside(
     placement: &Placement,
     id: CellId,
@@ -61,7 +64,7 @@ fn broken_beside(
     })
 }
 
-/// Why a cell is refused that breaks this rule.
+/// The refusal of a cell that breaks this rule.
 fn illegal_by(broken: Option<Broken>, own: u32) -> Option<Refusal>
     ensures { result ≡ illegal_by broken own }
 {
@@ -73,8 +76,8 @@ fn illegal_by(broken: Option<Broken>, own: u32) -> Option<Refusal>
     })
 }
 
-/// Why a cell is refused at this place, which is its working place, where `alone` is the first rule but
-/// overlap that it breaks there; none where it breaks no rule.
+/// Returns the refusal of a cell at this place, which is its working place. `alone` is the first
+/// rule except overlap that it breaks there. `None` if it breaks no rule.
 fn refusal_at(
     placement: &Placement,
     id: CellId,
@@ -92,9 +95,9 @@ fn refusal_at(
     illegal_by(broken_beside(placement, id, place, alone, padding), id.own)
 }
 
-/// Why two cells that were exchanged are refused, the first before the second, where the first keeps all
-/// rules but overlap, and `alone` is the first of these that the second breaks; none where neither breaks
-/// a rule.
+/// Returns the refusal of two exchanged cells; the first is tested first. The first breaks no rule
+/// except overlap, and `alone` is the first rule except overlap that the second breaks. `None` if
+/// neither breaks a rule.
 fn refusal_of(
     placement: &Placement,
     exchange: &Exchange,
@@ -112,8 +115,8 @@ fn refusal_of(
 }
 
 impl Tables {
-    /// Exchanges two cells by their moves, for which there is room; `Illegal`, and the moves are taken back,
-    /// where one of them breaks a rule then. It allocates nothing.
+    /// Exchanges two cells by their moves, for which there is room. If a cell then breaks a rule,
+    /// moves both back and refuses with `Illegal`. Does not allocate.
     fn exchange(
         &mut self,
         session: u32,
@@ -148,8 +151,11 @@ impl Tables {
         }
     }
 
-    /// Exchanges the places of two placed cells of the team; `Illegal` where one of them breaks a rule
-    /// then. Nothing is exchanged where the first breaks one wherever the other cells are.
+    /// Exchanges the places of two placed cells of the team. Refuses with `Illegal` if a cell then
+    /// breaks a rule. If the first breaks a rule except overlap at its new place, the cells are not
+    /// moved at all.
+    ///
+    /// `Err` if an allocation fails; then the team is unchanged.
     fn swap_placed<S>(
         &mut self,
         around: &TeamContext<'_, S>,
@@ -187,9 +193,13 @@ impl Tables {
         Ok(self.exchange(session, exchange, moves, alone, around.padding))
     }
 
-    /// Exchanges the places of two cells: `NoCell` where the team has none of a name, else
-    /// `Unplaced` where one is unplaced, else `Illegal` where one breaks a rule at its new
-    /// place; in each the first before the second.
+    /// Exchanges the places of two cells. For each of these reasons the first cell is tested first.
+    ///
+    /// - `NoCell` if the team has no cell of a name
+    /// - then `Unplaced` if a cell is unplaced
+    /// - then `Illegal` if a cell breaks a rule at its new place
+    ///
+    /// `Err` if an allocation fails; then the team is unchanged.
     #[tactic(auto, unfolding(lf_floor_model::specs::Changes::swapped))]
     pub(crate) fn swap<S>(
         &mut self,

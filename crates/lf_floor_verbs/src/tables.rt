@@ -12,23 +12,26 @@ use lf_sessions::SessionTable;
 use lf_undo::UndoStore;
 use std::alloc::{AllocError, Global};
 
-/// The frame with the cells of all teams, and their undo entries, session slots, revisions and paddings:
-/// each table has a row for each team of the frame, the fence teams first, in the frame's order.
+/// The frame with the cells of all teams, and their undo entries, session slots, revisions and
+/// paddings. Each table has a row for each team of the frame: the fence teams in the frame's order,
+/// then the ground team.
 #[derive(Drop)]
 pub struct Tables {
-    /// The frame, and where the cells of all teams stand.
+    /// The frame, and the places of the cells of all teams.
     pub placement: Placement,
-    /// What each team may undo.
+    /// The undo entries of each team.
     pub undo: UndoStore,
-    /// The session slots of each team, and what each open session has seen.
+    /// The session slots of each team, each free or with the revision that its session has seen.
     pub sessions: SessionTable,
-    /// How many changes each team has made.
+    /// The number of changes that each team has made.
     pub revisions: Vec<u32>,
-    /// How far apart each team keeps its cells.
+    /// The least distance between the cells of each team, in core sites.
     pub paddings: Vec<Padding>,
 }
 
-/// The paddings of this many teams that have none.
+/// Returns a padding of 0 for each of `teams` teams.
+///
+/// `Err` if an allocation fails.
 fn unpadded(alloc: Global, teams: usize) -> Result<Vec<Padding>, AllocError>
     ensures { IfOk result (λ paddings. map (λ padding. padding.sites) paddings.items ≡ replicate teams 0) }
 {
@@ -36,8 +39,10 @@ fn unpadded(alloc: Global, teams: usize) -> Result<Vec<Padding>, AllocError>
 }
 
 impl Tables {
-    /// The tables of a design as it is loaded: no change is made, nothing can be undone, no session is
-    /// open, and no team has a padding. `Err` if an allocation fails; the design is then dropped.
+    /// The tables of a design as loaded. There is no change, undo entry or open session, and no
+    /// team has a padding.
+    ///
+    /// `Err` if an allocation fails; the design is then dropped.
     pub fn initial(alloc: Global, loaded: Loaded) -> Result<Tables, AllocError>
         ensures { IfOk result (λ tables. AreInitial loaded tables) }
     {
@@ -56,7 +61,8 @@ impl Tables {
         })
     }
 
-    /// The team's cell of that name; none for another team's cell, as for one that no team has.
+    /// Returns the team's cell of that name. `None` for a cell of another team and for a name that
+    /// no cell has.
     pub(crate) fn cell_named(&self, number: usize, name: &[u8]) -> Option<CellId>
         ensures own { option_map (λ id. id.own) result ≡ cell_named name.now (cells_in number self.now) }
         ensures team { IfSome result (λ id. id.team ≡ number) }
@@ -64,21 +70,21 @@ impl Tables {
         self.placement.cells().find_own(number, name)
     }
 
-    /// The team's cell of that position; none if the team has no such cell.
+    /// Returns the team's cell at that position. `None` if the team has no such cell.
     pub fn cell_at(&self, number: usize, own: usize) -> Option<CellId>
         ensures { result ≡ id_in (cells_in number self.now) number own }
     {
         self.placement.cells().cell_of(number, own)
     }
 
-    /// The working place of a cell; none where it is unplaced, or there is no such cell.
+    /// Returns the working place of a cell. `None` if it is unplaced or there is no such cell.
     pub fn working(&self, id: CellId) -> Option<Place>
         ensures { result ≡ working_at (cells_in id.team self.now) id.own }
     {
         self.placement.cells().working(id)
     }
 
-    /// How many changes the team has made.
+    /// Returns the number of changes that the team has made.
     pub fn revision(&self, number: usize) -> u32
         ensures { result ≡ revision_of self.now number }
     {
@@ -88,7 +94,7 @@ impl Tables {
         }
     }
 
-    /// How far apart the team keeps its cells.
+    /// Returns the least distance between the team's cells, in core sites.
     pub fn padding(&self, number: usize) -> Padding
         ensures { result.sites ≡ padding_of self.now number }
     {
@@ -98,7 +104,7 @@ impl Tables {
         }
     }
 
-    /// Gives the team this padding.
+    /// Sets the team's padding.
     pub fn set_padding(&mut self, number: usize, padding: Padding)
         requires { HasRows number self.old }
         ensures { SetsPadding number padding self.old self.new }
@@ -106,7 +112,8 @@ impl Tables {
         self.paddings[number] = padding;
     }
 
-    /// Counts one more change of the team, which the session has then seen, and returns the revision.
+    /// Counts one more change of the team, records that the session has seen it, and returns the
+    /// new revision.
     pub(crate) fn count_change(&mut self, number: usize, session: u32) -> u32
         requires rows { HasRows number self.old }
         requires current { IsCurrent number session self.old }

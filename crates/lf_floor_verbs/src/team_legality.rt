@@ -1,4 +1,4 @@
-//! Which of a team's cells stand legally, and the first that does not.
+//! Which of a team's cells are legal, and the first that is not.
 
 ghost use Rattle.std.specs.Prelude.{◌≡◌, ◌<◌, IfOk, IsTrue, Some, length, map, slice_get, slice_set, true};
 ghost use Rattle.lf_rules.specs.Legalizer.{Legalizer};
@@ -20,12 +20,12 @@ use lf_reports::BrokenCell;
 use lf_rules::{Broken, Padding, legalizer_exists, verdict_is_unique};
 use std::alloc::AllocError;
 
-/// So many cells are put in the order of their places at a time: the list of them stays small beside the cells, and
-/// in a million cells those that are asked one after another still lie near each other.
+/// Cells are sorted by place in batches of this size. The list of a batch is small next to the cell
+/// table. In a million cells, successive cells of a batch are still close to each other.
 const BATCH: usize = 65536;
 
-/// Whether the cell of that id is placed, and breaks no rule where it stands beside the others of its team, which has this
-/// padding; false where there is no such cell. It allocates nothing.
+/// Returns true if the cell is placed and breaks no rule at its working place, among the other
+/// cells of its team with this padding. False if there is no such cell. Does not allocate.
 pub fn is_cell_legal(placement: &Placement, id: CellId, padding: Padding) -> bool
     ensures legal { IsTrue result → IsLegalCell placement.now.frame id.team padding.sites (map member_of (cells_of placement.now.cells id.team)) id.own }
     ensures told { id.own < length (cells_of placement.now.cells id.team)
@@ -43,7 +43,7 @@ pub fn is_cell_legal(placement: &Placement, id: CellId, padding: Padding) -> boo
     }
 }
 
-/// Marks the cell of that position.
+/// Sets the mark of the cell at that position.
 fn mark(marks: &mut Vec<bool>, own: usize)
     requires { own < length marks.old.items }
     ensures { marks.new.items ≡ slice_set marks.old.items own true }
@@ -51,7 +51,7 @@ fn mark(marks: &mut Vec<bool>, own: usize)
     marks[own] = true;
 }
 
-/// Marks the team's cell of that position, if it is placed and breaks no rule where it stands.
+/// Marks the team's cell at that position if it is placed and breaks no rule at its working place.
 fn mark_legal<S>(around: &TeamContext<'_, S>, tables: &Tables, own: usize, marks: &mut Vec<bool>)
     ensures { AreMarked (frame_of tables.now) around.now.number around.now.padding.sites (cells_in around.now.number tables.now) marks.old.items
         → AreMarked (frame_of tables.now) around.now.number around.now.padding.sites (cells_in around.now.number tables.now) marks.new.items }
@@ -68,8 +68,8 @@ fn mark_legal<S>(around: &TeamContext<'_, S>, tables: &Tables, own: usize, marks
     mark(marks, own);
 }
 
-/// Marks those of the team's cells of these ids that are placed, and team-legal where they stand. They are asked in the order of
-/// their places.
+/// Marks those of the team's cells with these ids that are placed and team-legal. They are tested
+/// in the order of their places.
 ///
 /// `Err` if an allocation fails.
 fn mark_batch<S>(
@@ -88,7 +88,8 @@ fn mark_batch<S>(
     Ok(())
 }
 
-/// For each of the team's cells, in loading order, whether it is placed, and team-legal where it stands.
+/// Returns a mark for each of the team's cells, in loading order: true if the cell is placed and
+/// team-legal.
 ///
 /// `Err` if an allocation fails.
 pub(crate) fn legal_marks<S>(
@@ -106,7 +107,7 @@ pub(crate) fn legal_marks<S>(
     Ok(marks)
 }
 
-/// Whether the cell of that position is marked.
+/// Returns true if the mark of the cell at that position is set.
 pub(crate) fn is_marked(marks: &[bool], own: usize) -> bool
     ensures { IsTrue result → slice_get marks.now own ≡ Some true }
 {
@@ -116,7 +117,8 @@ pub(crate) fn is_marked(marks: &[bool], own: usize) -> bool
     }
 }
 
-/// The first rule that the cell breaks where it stands; none where it is unplaced. A marked one is not asked again.
+/// Returns the first rule that the cell breaks at its working place. `None` if it is unplaced or
+/// breaks no rule. Does not test a cell whose mark is set.
 pub(crate) fn broken_unmarked(
     placement: &Placement,
     marks: &[bool],
@@ -135,8 +137,8 @@ pub(crate) fn broken_unmarked(
     broken_where(placement, id, padding)
 }
 
-/// The team's first cell in loading order that breaks a rule where it stands, found among those that are not
-/// marked; none if no cell does.
+/// Returns the team's first cell, in loading order, that breaks a rule at its working place. Tests
+/// only cells whose mark is not set. `None` if no cell breaks a rule.
 fn first_broken(
     placement: &Placement,
     number: usize,
@@ -158,7 +160,8 @@ fn first_broken(
     None
 }
 
-/// The team's first cell in loading order that breaks a rule where it stands; none if no cell does.
+/// Returns the team's first cell, in loading order, that breaks a rule at its working place. `None`
+/// if no cell breaks a rule.
 ///
 /// `Err` if an allocation fails.
 pub(crate) fn first_broken_cell<S>(

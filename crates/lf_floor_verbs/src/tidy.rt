@@ -1,4 +1,4 @@
-//! What `tidy` does.
+//! The verb `tidy`.
 
 ghost use Rattle.std.specs.Prelude.{◌≡◌, [], List, IfOk, OnErr, OnOk};
 ghost use Rattle.lf_rules.specs.Legalizer.{Legalizer};
@@ -26,23 +26,23 @@ use lf_undo::{Move, Moves};
 use lf_units::Point;
 use std::alloc::{AllocError, Global};
 
-/// What became of one cell.
+/// The result for one cell.
 #[derive(Clone, Copy)]
 enum TidyStep {
     /// It is placed and breaks no rule.
     Stays,
-    /// It went to its best place.
+    /// It was moved to its best place.
     Goes,
     /// It has no best place.
     Nowhere,
 }
 
-/// What became of all cells of a team.
+/// The result for all cells of a team.
 #[derive(Clone, Copy)]
 enum Tidy {
-    /// This many went to their best place.
+    /// This number of cells were moved to their best place.
     Done(u32),
-    /// The cell of that position has no best place.
+    /// The cell at that position has no best place.
     Stopped(u32),
 }
 
@@ -56,8 +56,8 @@ fn corner(place: &Place) -> Point
     }
 }
 
-/// Where the team's cell of that id is tidied to: the anchor where it is unplaced, its own corner where
-/// it breaks a rule; none where it stays, as each marked cell does.
+/// Returns the target to which the team's cell is tidied: the anchor if it is unplaced, its own
+/// corner if it breaks a rule. `None` if it stays, as each cell with a mark does.
 fn target_of(placement: &Placement, marks: &[bool], id: CellId, padding: Padding) -> Option<Point>
     requires { AreMarked placement.now.frame id.team padding.sites (cells_of placement.now.cells id.team) marks.now }
     ensures { (l : Legalizer) → result ≡ target_at (team_rules l placement.now.frame id.team padding.sites) (cells_of placement.now.cells id.team) id.own }
@@ -77,8 +77,7 @@ fn target_of(placement: &Placement, marks: &[bool], id: CellId, padding: Padding
     }
 }
 
-/// Moves one cell, for which room is made first, and puts the move with the place that the cell had behind
-/// the others.
+/// Reserves memory for one cell, moves it, and appends the move with the cell's old place.
 ///
 /// `Err` if an allocation fails; then no cell has moved.
 fn move_one(
@@ -101,7 +100,9 @@ fn move_one(
     Ok(())
 }
 
-/// Sends the team's cell of that id to its best place, where it does not stay.
+/// Moves the team's cell to its best place, unless it stays.
+///
+/// `Err` if an allocation fails.
 fn tidy_cell<S: Seeker>(
     around: &TeamContext<'_, S>,
     placement: &mut Placement,
@@ -131,7 +132,10 @@ fn tidy_cell<S: Seeker>(
 
 /// Tidies the team's cells in loading order, up to the first that has no best place.
 ///
-/// The marked ones are placed and team-legal: they stay so while others are sent, and are not tested again.
+/// The cells with marks are placed and team-legal. They stay so while others are moved, and are not
+/// tested again.
+///
+/// `Err` if an allocation fails.
 fn tidy_cells<S: Seeker>(
     around: &TeamContext<'_, S>,
     placement: &mut Placement,
@@ -160,7 +164,8 @@ fn tidy_cells<S: Seeker>(
     Ok(Tidy::Done(moved))
 }
 
-/// No move, with room for one of each cell that is not marked: a list that grows would take up to three times as much.
+/// Returns an empty list of moves with room for each cell without a mark. A list that grows would
+/// take up to three times as much memory.
 ///
 /// `Err` if an allocation fails.
 fn moves_for(alloc: Global, marks: &[bool]) -> Result<Moves, AllocError>
@@ -170,10 +175,11 @@ fn moves_for(alloc: Global, marks: &[bool]) -> Result<Moves, AllocError>
 }
 
 impl Tables {
-    /// Goes through the team's cells in loading order and sends each that is unplaced or breaks a
-    /// rule to its best place: `NoPlace`, and no cell is moved, if one has none.
+    /// Moves each of the team's cells that is unplaced or breaks a rule to its best place, in
+    /// loading order. If a cell has no best place, refuses with `NoPlace` and moves all cells back
+    /// without allocating.
     ///
-    /// A tidy that is refused on its way is taken back without allocating.
+    /// `Err` if an allocation fails; then the team is unchanged.
     pub(crate) fn tidy<S: Seeker>(
         &mut self,
         around: &TeamContext<'_, S>,

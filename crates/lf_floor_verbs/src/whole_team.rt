@@ -1,4 +1,4 @@
-//! Changes of a whole team: what `revert`, `undo`, `commit` and `pad` do.
+//! Changes of a whole team: `revert`, `undo`, `commit` and `pad`.
 
 ghost use Rattle.std.specs.Prelude.{◌≡◌, IfOk, OnErr, OnOk, map};
 ghost use Rattle.lf_rules.specs.Legalizer.{Legalizer};
@@ -20,7 +20,9 @@ use lf_rules::Padding;
 use lf_undo::{Move, Moves};
 use std::alloc::{AllocError, Global};
 
-/// Puts the move of the cell to its committed place behind the others, where it is elsewhere.
+/// Appends the move of the cell to its committed place, if the cell is elsewhere.
+///
+/// `Err` if an allocation fails.
 fn note_revert(cells: &CellTable, moves: &mut Moves, id: CellId) -> Result<(), AllocError>
     ensures { OnOk result (IsRevertMove (cells_of cells.now id.team) id.own moves.old moves.new) }
 {
@@ -32,7 +34,9 @@ fn note_revert(cells: &CellTable, moves: &mut Moves, id: CellId) -> Result<(), A
     Ok(())
 }
 
-/// The moves of the team's cells to their committed places, of each cell that is elsewhere.
+/// The moves to their committed places of the team's cells that are elsewhere.
+///
+/// `Err` if an allocation fails.
 fn revert_moves(alloc: Global, cells: &CellTable, number: usize) -> Result<Moves, AllocError>
     ensures { IfOk result (λ moves. moves_applied moves (cells_of cells.now number) ≡ map back_to_committed (cells_of cells.now number)) }
 {
@@ -45,6 +49,8 @@ fn revert_moves(alloc: Global, cells: &CellTable, number: usize) -> Result<Moves
 
 impl Tables {
     /// Moves the team's cells to their committed places, unchecked.
+    ///
+    /// `Err` if an allocation fails; then the team is unchanged.
     pub(crate) fn revert<S>(
         &mut self,
         around: &TeamContext<'_, S>,
@@ -65,8 +71,8 @@ impl Tables {
         Ok(Reply::Revision(self.change_places(around.number, session, moves)))
     }
 
-    /// Takes the moves of the team's newest undo entry back, unchecked, and that entry away;
-    /// `NothingToUndo` where there is none. It allocates nothing.
+    /// Reverts the moves of the team's newest undo entry, unchecked, and removes the entry. Refuses
+    /// with `NothingToUndo` if there is no entry. Does not allocate.
     pub(crate) fn undo(&mut self, number: usize, session: u32) -> Reply
         requires rows { HasRows number self.old }
         requires current { IsCurrent number session self.old }
@@ -84,8 +90,10 @@ impl Tables {
         }
     }
 
-    /// Commits the team's working places: `Unplaced` where a cell is unplaced, else `Illegal` where one
-    /// breaks a rule, the first in loading order each.
+    /// Commits the team's working places. Refuses with `Unplaced` for the first unplaced cell in
+    /// loading order, then with `Illegal` for the first that breaks a rule.
+    ///
+    /// `Err` if an allocation fails; then the team is unchanged.
     pub(crate) fn commit<S>(
         &mut self,
         around: &TeamContext<'_, S>,
@@ -114,8 +122,8 @@ impl Tables {
         Ok(Reply::Revision(self.count_change(around.number, session)))
     }
 
-    /// Gives the team this padding, wherever its cells stand. It moves and tests no cell, and allocates
-    /// nothing.
+    /// Sets the team's padding, wherever its cells are placed. Moves and tests no cell, and does
+    /// not allocate.
     pub(crate) fn pad(&mut self, number: usize, session: u32, padding: Padding) -> Reply
         requires rows { HasRows number self.old }
         requires current { IsCurrent number session self.old }

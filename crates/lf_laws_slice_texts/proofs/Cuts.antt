@@ -1,4 +1,4 @@
--- The whole and its slice load as designs that are alike.
+-- The whole design and its slice load as designs that are alike.
 use Rattle.std.proofs.Common.{◌≡◌, ℕ, ℤ, pos, negsuc, ◌+◌, ◌*ℤ◌, ◌<ℤ◌, inl, inr, List, [], ◌∷◌, Bool, true, false, cond, eqb, map, filter, Option, Some, None, refl, ap, sym, ◌∙◌, subst, arith}
 use Rattle.std.specs.Prelude.{All, Decides, option_map, slice_get, unwrap_or}
 use Rattle.std.specs.List.{AllZip}
@@ -109,7 +109,7 @@ team_is_one regions groups name s t (inl a) (inr b) = absurd (b.0 a.fence a.clai
 team_is_one regions groups name s t (inr a) (inl b) = absurd (a.0 b.fence b.claimed)
 team_is_one regions groups name s t (inr a) (inr b) = a.1 ∙ sym b.1
 
--- the cell of a component, without its position among all
+-- the cell of a component, except its position among all components
 pub record Makes (i : LoadInputs) (c : Component) (cell : LoadedCell) : Type 0 where
   pub name : cell.name ≡ c.name
   pub team : IsOwn i cell.team c

@@ -19,7 +19,7 @@ use Rattle.lf_floor_model.proofs.Parts.{taken, passed}
 use Rattle.lf_laws_slice_texts.specs.Cuts.{IsOwn, AreSameComponents, IsCutFrom, without_others}
 use Rattle.lf_laws_slice_texts.proofs.Cuts.{Makes, team_is_one, without_positions}
 
--- ---- which components are the team's
+-- ---- components of the team
 
 -- a cell of the team has the name
 abbrev is_among : ℕ → List LoadedCell → List ℕ → Bool
@@ -35,7 +35,7 @@ both_true true b e = (refl, e)
 both_true false b e = absurd cc
 
 module _ (i : LoadInputs) (number : ℕ) where
-  -- a name that a cell of the team has is the team's
+  -- the name of a cell of the team is a name in the team
   found_own : (cs : List Component) (xs : List LoadedCell) → AllZip (Makes i) cs xs → (name : List ℕ) → is_among number xs name ≡ true
       → IsTeamOf i.document.regions i.document.groups name number
   found_own [] [] z name is = absurd cc
@@ -50,7 +50,7 @@ module _ (i : LoadInputs) (number : ℕ) where
         subst (λ (n : ℕ). IsTeamOf i.document.regions i.document.groups name n) (eqb-true x.team number both.1)
         (subst (λ (m : List ℕ). IsTeamOf i.document.regions i.document.groups m x.team) (sym z.0.name ∙ (bytes_eq-Decides x.name name).0 both.0) z.0.team)
 
-  -- a component of the team has a cell of it
+  -- a component of the team has a cell in the team
   own_found : (cs : List Component) (xs : List LoadedCell) → AllZip (Makes i) cs xs → All (λ c. IsOwn i number c → is_among number xs c.name ≡ true) cs
   own_found [] xs z = All-nil (λ c. IsOwn i number c → is_among number xs c.name ≡ true)
   own_found (c ∷ cs) [] z = absurd z
@@ -68,13 +68,13 @@ module _ (i : LoadInputs) (number : ℕ) where
       later : (name : List ℕ) → is_among number xs name ≡ true → is_among number (x ∷ xs) name ≡ true
       later name is = ap (λ (b : Bool). (bytes_eq x.name name && eqb x.team number) || b) is ∙ or_right (bytes_eq x.name name && eqb x.team number)
 
--- ---- what is left
+-- ---- the remaining components
 
 module _ (own : Component → Bool) where
   abbrev kept : Component → Bool
   kept c = not (is_movable c) || own c
 
-  -- the movable ones that are left are those that pass
+  -- the remaining movable components are those that pass the test
   movable_left : (cs : List Component) → filter is_movable (filter kept cs) ≡ filter own (filter is_movable cs)
   movable_left [] = refl
   movable_left (c ∷ cs) = by (is_movable c) refl (own c) refl (movable_left cs) where
@@ -101,7 +101,7 @@ module _ (own : Component → Bool) where
         ∙ sym (taken own c (filter is_movable cs) e)
         ∙ sym (ap (λ (xs : List Component). filter own xs) (taken is_movable c cs is))
 
-  -- what is left out has no box
+  -- the removed components have no box
   boxes_left : (box : Component → Option Rect) → ((c : Component) → is_movable c ≡ true → box c ≡ None) → (cs : List Component)
       → filter_map box (filter kept cs) ≡ filter_map box cs
   boxes_left box none [] = refl
@@ -119,7 +119,7 @@ module _ (own : Component → Bool) where
       never : true ≡ false → ⊥
       never e = cc
 
--- a movable component has no box that stands in the way
+-- a movable component is no obstacle
 no_box : (i : LoadInputs) (c : Component) → is_movable c ≡ true → fixed_box i.library (units_in i) c ≡ None
 no_box i c is = by (is_fixed c) refl is where
   by : (b : Bool) → is_fixed c ≡ b → (not b && not (is_cover c)) ≡ true → fixed_box i.library (units_in i) c ≡ None

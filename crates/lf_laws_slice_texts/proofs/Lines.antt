@@ -27,12 +27,12 @@ use Rattle.lf_laws_slices.proofs.Cells.{zip_option}
 use Rattle.lf_laws_slices.proofs.Zips.{zip_get}
 use Rattle.lf_laws_slices.proofs.Runs.{number_same, ruled_alike}
 
--- the name of the cell of that position, if the reply names one
+-- the name of the cell at that position, if the reply names a cell
 abbrev name_for : TeamState → Option ℕ → List ℕ
 name_for s None = []
 name_for s (Some own) = unwrap_or (name_at s.cells own) []
 
--- the text of a reply of the team in that state
+-- the text of a reply to the team in that state
 abbrev text_for : TeamState → Reply → List ℕ
 text_for s reply = reply_text reply (name_for s (cells_in reply).0) (name_for s (cells_in reply).1)
 
@@ -51,7 +51,7 @@ text_same f g s t a reply =
     ∙ ap (λ (name : List ℕ). reply_text reply (name_for t (cells_in reply).0) name) (name_for_same f g s t a (cells_in reply).1)
 
 module _ (verdict_one : VerdictIsUnique) (choice_one : BestPlaceIsUnique) (l m : Legalizer) where
-  -- and so are the texts of the replies to a team's own orders
+  -- the texts of the replies to a team's own commands are the same for both
   own_same : (f g : Frame) (number : ℕ) → AreFramesAlike f g → (orders : List (TeamCommand (List ℕ) Place)) (s t : TeamState) → AreTeamsAlike f g s t
       → own_texts l f number orders s ≡ own_texts m g number orders t
   own_same f g number frames [] s t teams = refl

@@ -1,5 +1,5 @@
--- What the inputs of a slice have of those of the whole, so that the two load as designs that are alike (LEF MACRO; DEF ROW,
--- REGIONS, BLOCKAGES, GROUPS and COMPONENTS).
+-- The inputs of a slice have these parts of the whole design's, so that the two load as designs
+-- that are alike (LEF MACRO; DEF ROW, REGIONS, BLOCKAGES, GROUPS and COMPONENTS).
 use Rattle.std.specs.Prelude.{◌≡◌, ℕ, Bool, not, ◌||◌, List, All, Decides, Some, filter, map}
 use Rattle.std.specs.List.{AllZip}
 use Rattle.lf_def.specs.declared.components.Component.{Component}
@@ -12,7 +12,7 @@ use Rattle.lf_frame.specs.Loads.{header_in, frame_team, location, obstacles_in, 
 use Rattle.lf_floor_model.specs.Teams.{team_number}
 use Rattle.lf_laws_slices.specs.Alike.{AreSameRects, AreDesignsAlike}
 
--- the component of that name is the team's of that number
+-- the component is in the team of that number
 abbrev pub IsOwn : LoadInputs → ℕ → Component → Type 0
 IsOwn i number c = IsTeamOf i.document.regions i.document.groups c.name number
 
@@ -22,15 +22,16 @@ pub record AreSameComponents (i j : LoadInputs) (c d : Component) : Type 0 where
   pub location_is : location c ≡ location d
   pub same_macro : macro_named i.library c.mac ≡ macro_named j.library d.mac
 
--- of the whole's components those of the team are kept, in their order, and the slice has no others
+-- the slice has the whole design's components of the team, in their order, and no others
 pub record KeepsOwn (i j : LoadInputs) (number : ℕ) (whole slice : List Component) : Type 0 where
   pub own : Component → Bool
   pub tells : All (λ c. Decides (own c) (IsOwn i number c)) whole
   pub kept : AllZip (AreSameComponents i j) (filter own whole) slice
   pub no_others : All (IsOwn j number) slice
 
--- the inputs of a slice for the team of that number: header, core site, rows, fences and limits are those of the whole, and so are
--- obstacles and soft blockages, in any order; of the movable components those of the team are kept
+-- the inputs of a slice for the team of that number: header, core site, rows, fences and limits are
+-- the whole design's, and so are obstacles and soft blockages, in any order; of the movable
+-- components the slice has those of the team
 pub record IsCutFrom (number : ℕ) (whole slice : LoadInputs) : Type 0 where
   pub header : header_in whole ≡ header_in slice
   pub core : core_in whole ≡ core_in slice
@@ -41,20 +42,20 @@ pub record IsCutFrom (number : ℕ) (whole slice : LoadInputs) : Type 0 where
   pub soft : AreSameRects (soft_in whole) (soft_in slice)
   pub cells : KeepsOwn whole slice number (filter is_movable whole.document.components) (filter is_movable slice.document.components)
 
--- the whole and its slice load as designs that are alike for the team
+-- the whole design and its slice load as designs that are alike for the team
 abbrev pub SlicesLoadAlike : Type 0
 SlicesLoadAlike =
     (team : List ℕ) (number : ℕ) (whole slice : LoadInputs) (a b : Loaded)
     → IsCutFrom number whole slice → IsLoadedFrom whole a → IsLoadedFrom slice b → team_number a.frame team ≡ Some number
     → AreDesignsAlike team a b
 
--- ---- cuts are there
+-- ---- slices exist
 
--- the inputs without the movable components that do not pass
+-- the inputs without the movable components that do not pass the test
 abbrev pub without_others : (Component → Bool) → LoadInputs → LoadInputs
 without_others own i = record i { document = record i.document { components = filter (λ c. not (is_movable c) || own c) i.document.components } }
 
--- the inputs of each loaded design without the components of other teams are those of a slice
+-- the inputs of each loaded design, without the components of other teams, are those of a slice
 abbrev pub CutsExist : Type 0
 CutsExist =
     (number : ℕ) (whole : LoadInputs) (a : Loaded) → IsLoadedFrom whole a → (own : Component → Bool) × IsCutFrom number whole (without_others own whole)

@@ -1,4 +1,4 @@
--- What two connections write to a team, over floors that are alike for it.
+-- The texts that two connections write to a team, over floors that are alike for it.
 use Rattle.std.specs.Prelude.{◌≡◌, ℕ, List}
 use Rattle.lf_floorplan.specs.declared.loaded.Loaded.{Loaded}
 use Rattle.lf_rules.specs.Legalizer.{Legalizer}
@@ -12,8 +12,9 @@ use Rattle.lf_server.specs.Laws.{commands, replies, reply_texts}
 use Rattle.lf_server.specs.declared.serve_loop.Ending.{Ending}
 use Rattle.lf_laws_slices.specs.Alike.{AreFloorsAlike, AreDesignsAlike}
 
--- in two servings of floors that are alike for a team, the same commands to that team get the same texts, byte for byte, whatever the
--- other teams have and send; commands answered OutOfMemory are left out
+-- over two connections to floors that are alike for a team, the same commands to that team get the
+-- same texts, byte for byte; what the other teams have and send does not matter; commands with the
+-- reply OutOfMemory are left out
 abbrev pub TextsAreAlike : Type 0
 TextsAreAlike =
     (l m : Legalizer) (team : List ℕ) (end end' : Ending) (a a' b b' : FloorState) (v v' w w' : Writer) (done others : List Exchange)
@@ -22,7 +23,7 @@ TextsAreAlike =
     → own_commands team (commands done) (replies done) ≡ own_commands team (commands others) (replies others)
     → reply_texts team done ≡ reply_texts team others
 
--- the same from two loaded designs that are alike for the team, as a design and its slice are
+-- the same for two loaded designs that are alike for the team, as a design and its slice are
 abbrev pub SliceTextsAreAlike : Type 0
 SliceTextsAreAlike =
     (l m : Legalizer) (team : List ℕ) (end end' : Ending) (a b : Loaded) (a' b' : FloorState) (v v' w w' : Writer) (done others : List Exchange)

@@ -1,16 +1,18 @@
-//! Laws: a DEF text and its slice load alike for a team, and over both its lines get the same replies, byte for byte.
+//! Laws that a DEF text and its slice for a team load alike for that team, and that lines over both
+//! get the same replies, byte for byte.
 //!
-//! No code runs here: each function is a law, whose contract is a theorem that its `ensures` names. They join what `lf_laws_slices` says of
-//! designs that are alike for a team with loading (`lf_frame`) and with the lines of connections (`lf_server`).
+//! No code runs here. Each function is a law: its contract is a theorem, and its `ensures` names
+//! the definition that states it. The laws extend those of `lf_laws_slices` on alike designs to
+//! loading (`lf_frame`) and to the lines of connections (`lf_server`).
 //!
-//! The inputs of a slice have the header, core site, rows, fences, limits, obstacles and soft blockages of the whole, the last two in
-//! any order, and of the movable components those of the team, in their order. Each component names the same macro in both, so the LEF
-//! texts of the slice may be others as long as they have that team's macros, and those of FIXED components.
+//! The inputs of a slice have the header, core site, rows, fences, limits, obstacles and soft
+//! blockages of the whole design, the last two in any order. Of the movable components they have
+//! those of the team, in their order. Each component names the same macro in both. So the slice may
+//! have other LEF texts, if these have the macros of that team and of the FIXED components.
 //!
-//! ```
-//! slices_load_alike();
-//! slice_texts_are_alike();
-//! ```
+//! Modules, in reading order:
+//!
+//! - `laws`: laws on slices as they are loaded, and on lines and their replies
 #![tactic(auto)]
 
 mod laws;

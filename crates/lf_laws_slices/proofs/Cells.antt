@@ -1,4 +1,4 @@
--- The cells of a team, on two frames that are alike.
+-- The cells of a team on two frames that are alike.
 use Rattle.std.proofs.Common.{◌≡◌, ℕ, zero, suc, List, [], ◌∷◌, map, Option, Some, None, refl, ap}
 use Rattle.std.specs.Prelude.{All, bytes_eq, is_none, option_and_then, slice_get}
 use Rattle.std.specs.Option.{option_map}
@@ -16,17 +16,17 @@ use Rattle.lf_laws_slices.specs.Alike.{AreCellsAlike}
 use Rattle.lf_laws_slices.proofs.Zips.{OptionZip, zip_get, zip_map, zip_same, zip_position, zip_weaker, zip_all}
 use Rattle.lf_laws_slices.proofs.Members.{AreMembersAlike}
 
--- two cells are alike, and the macro of the first is the frame's and of whole size
+-- two cells are alike, and the macro of the first is in the frame and has a whole size
 pub record AreSizedAlike (f g : Frame) (c d : Cell) : Type 0 where
   pub alike : AreCellsAlike f g c d
   pub sized : IsSizedCell f c
 
--- the cells of a team are so, side by side
+-- the same for the cells of a team, pair by pair
 abbrev pub AreAllAlike : Frame → Frame → List Cell → List Cell → Type 0
 AreAllAlike f g cs ds = AllZip (AreSizedAlike f g) cs ds
 
 module _ {A B C : Type 0} (R : A → B → Type 0) where
-  -- what related values lead to, if it is the same
+  -- related values give the same result, if each related pair does
   pub zip_then : (h : A → Option C) (k : B → Option C) → ((x : A) (y : B) → R x y → h x ≡ k y) → (o : Option A) (p : Option B) → OptionZip R o p
       → option_and_then h o ≡ option_and_then k p
   zip_then h k each None None z = refl
@@ -64,7 +64,7 @@ module _ (f g : Frame) where
       sized = r.sized.sized;
     }
 
-  -- ---- what is asked of cells
+  -- ---- queries of cells
 
   pub named_same : (name : List ℕ) (cs ds : List Cell) → AreAllAlike f g cs ds → cell_named name cs ≡ cell_named name ds
   named_same name cs ds z =
@@ -81,7 +81,7 @@ module _ (f g : Frame) where
   pub places_same : (cs ds : List Cell) → AreAllAlike f g cs ds → places_of cs ≡ places_of ds
   places_same cs ds z = zip_same (AreSizedAlike f g) (λ c. c.working) (λ d. d.working) (λ c d r. r.alike.working) cs ds z
 
-  -- ---- what is changed of cells
+  -- ---- changes of cells
 
   at_place : (c d : Cell) (p q : Option Place) → p ≡ q → AreSizedAlike f g c d → AreSizedAlike f g (record c { working = p }) (record d { working = q })
   at_place c d p q same r = record {

@@ -1,4 +1,4 @@
--- What is alike is so either way.
+-- Being alike is symmetric.
 use Rattle.std.proofs.Common.{◌≡◌, ℕ, ℤ, pos, ◌*ℤ◌, ◌<ℤ◌, ◌<◌, List, [], ◌∷◌, length, Option, Some, None, refl, sym, ◌∙◌, subst, arith}
 use Rattle.std.specs.Prelude.{All, slice_get, unwrap_or}
 use Rattle.std.specs.List.{AllZip}
@@ -20,11 +20,11 @@ use Rattle.lf_laws_slices.proofs.Runs.{number_same}
 no_length : (x : ℤ) (units : ℕ) → x *ℤ pos 1000000 ≡ pos 0 *ℤ pos units → pos 0 <ℤ x → ⊥
 no_length x units is wide = omega (arith, ints)
 
--- a macro that is not there has no size
+-- a missing macro has no size
 not_sized : (f : Frame) → IsSized f no_macro → ⊥
 not_sized f sized = no_length _ f.header.units sized.across sized.wide
 
--- a number whose macro has a size is one of the frame's
+-- the number of a macro with a size is in the frame
 known_by : (f : Frame) (mac : ℕ) → IsSized f (macro_of f mac) → mac < length f.macros
 known_by f mac sized = by (slice_get f.macros mac) refl where
   by : (o : Option Macro) → slice_get f.macros mac ≡ o → mac < length f.macros

@@ -1,4 +1,4 @@
--- What the rules, reports and texts say of a team's cells, on two frames that are alike.
+-- Verdicts, reports and texts of a team's cells on two frames that are alike.
 use Rattle.std.proofs.Common.{◌≡◌, ℕ, ◌++◌, List, [], ◌∷◌, length, map, Option, Some, None, refl, ap, ◌∙◌, filter_map, count_by}
 use Rattle.std.specs.Prelude.{codes, is_none, option_and_then, slice_get}
 use Rattle.std.specs.Option.{option_map}
@@ -36,7 +36,7 @@ use Rattle.lf_laws_slices.proofs.Places.{verdict_same, best_same}
 use Rattle.lf_laws_slices.proofs.Members.{AreMembersAlike, beside_same, lifted_same}
 use Rattle.lf_laws_slices.proofs.Cells.{AreSizedAlike, AreAllAlike, zip_then, zip_option, members_alike, working_same}
 
--- the same steps from what was found
+-- equal functions give the same result for an option
 then_same : {A C : Type 0} (h k : A → Option C) → ((x : A) → h x ≡ k x) → (o : Option A) → option_and_then h o ≡ option_and_then k o
 then_same h k each None = refl
 then_same h k each (Some x) = each x
@@ -44,7 +44,7 @@ then_same h k each (Some x) = each x
 -- ---- rules and best places
 
 module _ (verdict_one : VerdictIsUnique) (l l' : Legalizer) (f g : Frame) (a : AreFramesAlike f g) where
-  -- the first broken rule of a cell at a place beside others
+  -- the first broken rule of a cell at a place among other cells
   trial_same : (team padding : ℕ) (m n : Macro) (place : Place) (ms ns : List Member) (own : ℕ) → m ≡ n → IsSized f m → AllZip (AreMembersAlike f g) ms ns
       → l.first_broken (candidate_of f team padding m place (boxes_beside f ms own)) ≡ l'.first_broken (candidate_of g team padding n place (boxes_beside g ns own))
   trial_same team padding m n place ms ns own same sized z =
@@ -107,7 +107,7 @@ module _ (verdict_one : VerdictIsUnique) (l l' : Legalizer) (f g : Frame) (a : A
 
 -- ---- reports
 
--- two cells of reports are alike
+-- two cells in reports are alike
 record AreListedAlike (f g : Frame) (c d : Listed (List ℕ)) : Type 0 where
   name : c.name ≡ d.name
   team : c.team ≡ d.team

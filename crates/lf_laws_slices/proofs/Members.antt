@@ -1,4 +1,4 @@
--- The cells of a team beside each other, on two frames that are alike.
+-- The members of a team on two frames that are alike.
 use Rattle.std.proofs.Common.{◌≡◌, ℕ, ◌+◌, List, [], ◌∷◌, Option, Some, None, refl, ap, ◌∙◌}
 use Rattle.std.specs.Prelude.{filter, not, ◌==◌}
 use Rattle.std.specs.List.{AllZip}
@@ -15,7 +15,7 @@ use Rattle.lf_laws_slices.specs.Alike.{AreFramesAlike}
 use Rattle.lf_laws_slices.specs.Laws.{query_on}
 use Rattle.lf_laws_slices.proofs.Rules.{size_same}
 
--- two cells, as the rules see them, have the same place and the same macro, which is of whole size
+-- two members have the same place and the same macro, which has a whole size
 pub record AreMembersAlike (f g : Frame) (m n : Member) : Type 0 where
   pub place : m.place ≡ n.place
   pub same_macro : macro_of f m.mac ≡ macro_of g n.mac
@@ -44,11 +44,11 @@ module _ (f g : Frame) (a : AreFramesAlike f g) where
   pub beside_same : (ms ns : List Member) (own : ℕ) → AllZip (AreMembersAlike f g) ms ns → boxes_beside f ms own ≡ boxes_beside g ns own
   beside_same ms ns own z = ap (λ (boxes : List Placed). filter (λ box. not (box.own == own)) boxes) (boxes_same 0 ms ns z)
 
--- a cell taken from its place
+-- the search for a place of a cell that is removed from its own place
 abbrev lifted_with : Frame → ℕ → ℕ → Macro → List Placed → PlacementQuery
 lifted_with f team padding mac others = record { frame = f; team = team; padding = padding; mac = mac; others = others }
 
--- a cell taken from its place on one frame is the one that is taken on the other
+-- the searches for a place of a cell on both frames are the same
 pub lifted_same : (f g : Frame) → AreFramesAlike f g → (team padding : ℕ) (ms ns : List Member) (own mac other : ℕ)
     → AllZip (AreMembersAlike f g) ms ns → macro_of f mac ≡ macro_of g other
     → query_on g (query_from f team padding ms own mac) ≡ query_from g team padding ns own other

@@ -1,4 +1,4 @@
--- Verdicts and best places, on two frames that are alike.
+-- Verdicts and best places on two frames that are alike.
 use Rattle.std.proofs.Common.{◌≡◌, ◌≢◌, ℕ, List, Option, Some, None, ap, sym, ◌∙◌, subst}
 use Rattle.std.specs.Prelude.{MatchOption, slice_get}
 use Rattle.std.specs.Option.{option_map_or}
@@ -35,7 +35,7 @@ verdict_on : (t : Candidate) (g : Frame) → AreFramesAlike t.frame g → (verdi
 verdict_on t g a None legal = legal_on t g a legal
 verdict_on t g a (Some b) first = first_on t g a b first
 
--- whatever the legalizers, a trial has one verdict on both frames
+-- whatever the legalizers, a candidate has one verdict on both frames
 pub verdict_same : VerdictIsUnique → (l m : Legalizer) (t : Candidate) (g : Frame) → AreFramesAlike t.frame g → IsSized t.frame t.mac
     → l.first_broken t ≡ m.first_broken (candidate_on g t)
 verdict_same one l m t g a sized =

@@ -1,4 +1,4 @@
--- Each rule of a trial, on two frames that are alike.
+-- Each rule for a candidate on two frames that are alike.
 use Rattle.std.proofs.Common.{◌≡◌, ℕ, ℤ, pos, ◌%◌, ◌+ℤ◌, ◌*ℤ◌, ◌≤ℤ◌, ◌<ℤ◌, List, length, get_or, Some, ap, sym, ◌∙◌, subst, IsTrue}
 use Rattle.std.specs.Prelude.{All, Any, Contains, MatchOption, slice_get}
 use Rattle.std.proofs.lemmas.List.Elements.{All-contains, Contains-get_or}
@@ -27,7 +27,7 @@ use Rattle.lf_laws_slices.specs.Laws.{candidate_on}
 
 -- ---- frames
 
--- what is alike one way is so the other way
+-- being alike is symmetric for frames
 pub turned_round : (f g : Frame) → AreFramesAlike f g → AreFramesAlike g f
 turned_round f g a = record {
   header = sym a.header;
@@ -52,7 +52,7 @@ sized_on f g a m sized = record {
   high = subst (λ (h : Header). pos 0 <ℤ (size_in_dbu h.units m.size).y) a.header sized.high;
 }
 
--- what holds of each of these rectangles holds of each that is one of them
+-- a fact on each rectangle of a list holds for each rectangle of a list with the same ones
 pub all_of_same : (P : Rect → Type 0) (xs ys : List Rect) → ((r : Rect) → Contains ys r → Contains xs r) → All P xs → All P ys
 all_of_same P xs ys within all k d less = All-contains P xs (get_or ys k d) all (within (get_or ys k d) (Contains-get_or ys k d less))
 
@@ -106,7 +106,7 @@ module _ (f g : Frame) (a : AreFramesAlike f g) where
   pub length_same : (padding : ℕ) → length_of f padding ≡ length_of g padding
   length_same padding = ap (λ (p : Point). pos padding *ℤ p.x) a.pitch
 
--- the box of a trial
+-- the box of a candidate
 pub box_same : (t : Candidate) (g : Frame) → AreFramesAlike t.frame g → box_of t ≡ box_of (candidate_on g t)
 box_same t g a = ap (λ (s : Point). box_at (turned s t.orient) t.x t.y) (size_same t.frame g a t.mac)
 
@@ -117,13 +117,13 @@ padded_same t g a =
 
 -- ---- the rules
 
--- the orientation fits where the box is this one
+-- the orientation fits if this is the box
 abbrev OrientedAt : Candidate → Rect → Type 0
 OrientedAt t box =
     IsTrue (is_allowed t.mac.symmetry t.orient)
     × ((k : ℕ) (r : Row) → IsSitesHigh t.frame box k → IsBottomRow t.frame box r → k % 2 ≡ 1 → EqualUnder t.frame.site.symmetry t.orient r.orient)
 
--- the bottom rail fits where the box is this one
+-- the bottom rail fits if this is the box
 abbrev RailAt : Candidate → Rect → Type 0
 RailAt t box = (k : ℕ) (r : Row) → IsSitesHigh t.frame box k → IsBottomRow t.frame box r → k % 2 ≡ 0 → rail_below r.orient ≡ Some t.mac.rail
 
@@ -147,7 +147,7 @@ module _ (t : Candidate) (g : Frame) (a : AreFramesAlike t.frame g) where
   on_rail : (box : Rect) → RailAt t box → RailAt (candidate_on g t) box
   on_rail box h k r high bottom even = h k r (sites_high g t.frame back box k high) (bottom_row g t.frame back box r bottom) even
 
--- a rule that holds of a trial on one frame holds of it on the other
+-- a rule that holds for a candidate on one frame holds for it on the other
 pub rule_on : (t : Candidate) (g : Frame) → AreFramesAlike t.frame g → (r : Rule) → Holds t r → Holds (candidate_on g t) r
 rule_on t g a Height h = subst (λ (box : Rect). HasHeight g box) (box_same t g a) (h.0, sites_high t.frame g a (box_of t) h.0 h.1)
 rule_on t g a RowRule h = subst (λ (box : Rect). HasBottomRow g box) (box_same t g a) (h.0, bottom_row t.frame g a (box_of t) h.0 h.1)

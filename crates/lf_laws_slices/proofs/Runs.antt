@@ -1,4 +1,4 @@
--- What a team's orders do on two frames that are alike, one after the other.
+-- A team's commands on two frames that are alike, run in order.
 use Rattle.std.proofs.Common.{◌≡◌, ℕ, List, [], ◌∷◌, ◌++◌, map, Option, Some, None, refl, ap, sym, ◌∙◌, subst}
 use Rattle.std.specs.Prelude.{bytes_eq, position, replicate}
 use Rattle.lf_floorplan.specs.declared.frame.Frame.{Frame}
@@ -29,12 +29,12 @@ use Rattle.lf_laws_slices.proofs.Verbs.{Matches, with_cells, orders}
 pub number_same : (f g : Frame) → AreFramesAlike f g → (team : List ℕ) → team_number f team ≡ team_number g team
 number_same f g a team = ap (λ (teams : List Team). position (λ n. bytes_eq n team) (map (λ t. t.name) teams ++ ground_name ∷ [])) a.fences
 
--- ---- one order
+-- ---- one command
 
 abbrev team_with : List Cell → ℕ → List (List (Option Place)) → List (Option ℕ) → ℕ → TeamState
 team_with cells revision entries slots padding = record { cells = cells; revision = revision; entries = entries; slots = slots; padding = padding }
 
--- a state that is alike is the other with its own cells
+-- a state that is alike is the other state with its own cells
 own_cells_in : (f g : Frame) (s t : TeamState) → AreTeamsAlike f g s t → with_cells t.cells s ≡ t
 own_cells_in f g s t a =
     ap (λ (n : ℕ). team_with t.cells n s.entries s.slots s.padding) a.revision
@@ -63,7 +63,7 @@ module _ (verdict_one : VerdictIsUnique) (choice_one : BestPlaceIsUnique) (l m :
       (matches_alike f g (outcome_by_rules l f number order s) (outcome_by_rules m g number order (with_cells t.cells s))
       (orders verdict_one choice_one l m f g frames number s.padding s t.cells (all_alike f g s.cells t.cells teams.cells teams.sized) order))
 
-  -- ---- many orders
+  -- ---- many commands
 
   pub own_alike : (f g : Frame) (number : ℕ) → AreFramesAlike f g → (own_commands : List (TeamCommand (List ℕ) Place)) (s t : TeamState) → AreTeamsAlike f g s t
       → (own_replies l f number own_commands s ≡ own_replies m g number own_commands t) × AreTeamsAlike f g (own_state l f number own_commands s) (own_state m g number own_commands t)

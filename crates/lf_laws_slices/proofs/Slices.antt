@@ -86,7 +86,7 @@ module _ (f : Frame) (more : List Macro) (obstacles soft : List Rect) (in_lef : 
     soft = same_soft;
   }
 
--- ---- numbers of macros behind others
+-- ---- numbers of macros after others
 
 behind : {X : Type 0} (more xs : List X) (n : ℕ) → slice_get (more ++ xs) (length more + n) ≡ slice_get xs n
 behind [] xs n =
@@ -102,7 +102,7 @@ module _ (whole : Loaded) (number : ℕ) (more : List Macro) (g : Frame) (alike 
   abbrev is_own : LoadedCell → Bool
   is_own c = eqb c.team number
 
-  -- the cell, its macro behind others
+  -- the cell, with the number of its macro after the others
   abbrev renumbered : LoadedCell → LoadedCell
   renumbered c = record { name = c.name; team = c.team; mac = length more + c.mac; place = c.place; component = c.component }
 

@@ -1,4 +1,4 @@
--- Tidying a team, on two frames that are alike.
+-- A tidy of a team on two frames that are alike.
 use Rattle.std.proofs.Common.{◌≡◌, ℕ, zero, suc, ◌+◌, List, length, Option, Some, None, refl, ap, ◌∙◌, subst}
 use Rattle.std.specs.Prelude.{slice_get}
 use Rattle.std.specs.Option.{option_map}
@@ -17,7 +17,7 @@ use Rattle.lf_laws_slices.proofs.Zips.{OptionZip, zip_length, zip_get, zip_set}
 use Rattle.lf_laws_slices.proofs.Places.{verdict_same, best_same, anchor_same}
 use Rattle.lf_laws_slices.proofs.Members.{AreMembersAlike, lifted_same}
 
--- two states of tidying: both go on with cells that are alike, or the same cell is stuck
+-- two states of tidying: both continue with cells that are alike, or the same cell is stuck
 abbrev pub AreTidiedAlike : Frame → Frame → Tidied → Tidied → Type 0
 AreTidiedAlike f g (Going ms moved) (Going ns moved') = AllZip (AreMembersAlike f g) ms ns × (moved ≡ moved')
 AreTidiedAlike f g (Stuck own) (Stuck own') = own ≡ own'
@@ -77,7 +77,7 @@ module _ (verdict_one : VerdictIsUnique) (choice_one : BestPlaceIsUnique) (l l' 
   from_same own (suc count) t u z =
       from_same (own + 1) count (tidy_cell l f team padding t own) (tidy_cell l' g team padding u own) (cell_same t u own z)
 
-  -- tidying ends alike
+  -- the results of tidying are alike
   pub tidied_same : (ms ns : List Member) → AllZip (AreMembersAlike f g) ms ns
       → AreTidiedAlike f g (tidied l f team padding ms) (tidied l' g team padding ns)
   unfolding tidied

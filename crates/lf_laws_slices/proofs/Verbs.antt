@@ -1,4 +1,4 @@
--- The outcome of each verb, on two frames that are alike.
+-- The outcome of each verb on two frames that are alike.
 use Rattle.std.proofs.Common.{◌≡◌, ℕ, ◌+◌, List, [], ◌∷◌, Bool, true, false, cond, map, Option, Some, None, refl, ap, ◌∙◌, subst, eqb, ltb}
 use Rattle.std.specs.Prelude.{position, is_none, option_and_then, take}
 use Rattle.std.specs.List.{AllZip}
@@ -55,11 +55,11 @@ pub record Matches (f g : Frame) (o p : Outcome) : Type 0 where
 -- ---- changes of one team
 
 module _ (f g : Frame) where
-  -- nothing was done
+  -- a refusal
   left : (refusal : Refusal) (s : TeamState) (ds : List Cell) → AreAllAlike f g s.cells ds → Matches f g (refused refusal s) (refused refusal (with_cells ds s))
   left refusal s ds z = record { reply = refl; cells = z; team = refl }
 
-  -- these cells and undo entries, with one revision more
+  -- a change to these cells and undo entries, with one revision more
   gone : (session : ℕ) (cs' ds' : List Cell) (entries entries' : List (List (Option Place))) (s : TeamState) (ds : List Cell)
       → AreAllAlike f g cs' ds' → entries ≡ entries'
       → Matches f g (changed session cs' entries s) (changed session ds' entries' (with_cells ds s))
@@ -67,7 +67,7 @@ module _ (f g : Frame) where
       subst (λ (es : List (List (Option Place))). Matches f g (changed session cs' entries s) (changed session ds' es (with_cells ds s))) same
       record { reply = refl; cells = z; team = refl }
 
-  -- the same with another reply
+  -- the same outcomes with another reply
   said : (reply : Reply) (o p : Outcome) → Matches f g o p → Matches f g (with_reply reply o) (with_reply reply p)
   said reply o p m = record { reply = refl; cells = m.cells; team = m.team }
 
@@ -80,7 +80,7 @@ module _ (verdict_one : VerdictIsUnique) (choice_one : BestPlaceIsUnique) (l l' 
   abbrev u : TeamRules
   u = team_rules l' g number padding
 
-  -- a team over f, and its cells over g
+  -- a team over f, and the same team with cells over g
   module _ (s : TeamState) (ds : List Cell) (z : AreAllAlike f g s.cells ds) where
     abbrev s' : TeamState
     s' = with_cells ds s
@@ -114,7 +114,7 @@ module _ (verdict_one : VerdictIsUnique) (choice_one : BestPlaceIsUnique) (l l' 
     unfolding synced
     syncs session = record { reply = refl; cells = z; team = refl }
 
-    -- ---- looks
+    -- ---- queries
 
     checks : Matches f g (checked t s) (checked u s')
     unfolding checked
@@ -346,7 +346,7 @@ module _ (verdict_one : VerdictIsUnique) (choice_one : BestPlaceIsUnique) (l l' 
     slots None session action = refuse NoSession
     slots (Some seen) session action = acts seen session action
 
-    -- the outcome of an order
+    -- the outcome of a command
     pub orders : (order : TeamCommand (List ℕ) Place) → Matches f g (outcome_of t order s) (outcome_of u order s')
     orders Open = opens
     orders (Within session action) = slots (seen_at s.slots session) session action

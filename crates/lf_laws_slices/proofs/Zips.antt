@@ -1,4 +1,4 @@
--- Two lists whose elements are related side by side.
+-- Two lists whose elements are related pair by pair.
 use Rattle.std.proofs.Common.{◌≡◌, ℕ, zero, suc, ◌+◌, List, [], ◌∷◌, Bool, cond, length, map, Option, Some, None, refl, ap, sym, ◌∙◌, count_by, filter_map}
 use Rattle.std.specs.Prelude.{position, slice_get, slice_set, All}
 use Rattle.std.specs.List.{AllZip, position_from, cons_option}
@@ -6,7 +6,7 @@ use Rattle.std.proofs.lemmas.Iterator.Adapters.{position_from-zero}
 use Rattle.std.proofs.lemmas.List.Elements.{All-nil, All-cons}
 use Rattle.std.proofs.lemmas.List.Sums.{sum_by-cons}
 
--- neither is there, or both are and are related
+-- both options are None, or both have values that are related
 abbrev pub OptionZip : {A B : Type 0} → (A → B → Type 0) → Option A → Option B → Type 0
 OptionZip R None None = Unit {0}
 OptionZip R None (Some y) = ⊥
@@ -58,12 +58,12 @@ module _ {A B : Type 0} (R : A → B → Type 0) where
       ap (λ (b : Bool). cond b (Some i) (position_from p (i + 1) xs)) (each x y z.0)
       ∙ ap (λ (o : Option ℕ). cond (q y) (Some i) o) (from_same p q each (i + 1) xs ys z.1)
 
-  -- the first that passes
+  -- the position of the first element that passes a test
   pub zip_position : (p : A → Bool) (q : B → Bool) → ((x : A) (y : B) → R x y → p x ≡ q y)
       → (xs : List A) (ys : List B) → AllZip R xs ys → position p xs ≡ position q ys
   zip_position p q each xs ys z = position_from-zero p xs ∙ from_same p q each 0 xs ys z ∙ sym (position_from-zero q ys)
 
-  -- how many pass
+  -- the number of elements that pass a test
   pub zip_count : (p : A → Bool) (q : B → Bool) → ((x : A) (y : B) → R x y → p x ≡ q y)
       → (xs : List A) (ys : List B) → AllZip R xs ys → count_by p xs ≡ count_by q ys
   zip_count p q each [] [] z = refl
@@ -81,14 +81,14 @@ module _ {A B : Type 0} (R : A → B → Type 0) where
   zip_weaker S each (x ∷ xs) [] z = absurd z
   zip_weaker S each (x ∷ xs) (y ∷ ys) z = (each x y z.0, zip_weaker S each xs ys z.1)
 
-  -- what each first one has
+  -- a fact on the first element of each related pair
   pub zip_all : (P : A → Type 0) → ((x : A) (y : B) → R x y → P x) → (xs : List A) (ys : List B) → AllZip R xs ys → All P xs
   zip_all P each [] [] z = All-nil P
   zip_all P each [] (y ∷ ys) z = absurd z
   zip_all P each (x ∷ xs) [] z = absurd z
   zip_all P each (x ∷ xs) (y ∷ ys) z = All-cons P x xs (each x y z.0) (zip_all P each xs ys z.1)
 
--- functions that agree leave out and keep the same
+-- functions that agree filter a list to the same one
 pub filter_map_agree : {X Y : Type 0} (h k : X → Option Y) → ((x : X) → h x ≡ k x) → (xs : List X) → filter_map h xs ≡ filter_map k xs
 filter_map_agree h k each [] = refl
 filter_map_agree {Y = Y} h k each (x ∷ xs) =

@@ -1,5 +1,6 @@
--- Frames, teams and floors that are alike for a team: what its replies depend on is the same. A slice, which is a DEF text with the
--- frame and one team's cells alone, is alike to the whole, also where it is read with other LEF texts that have that team's macros.
+-- Frames, teams and floors that are alike for a team: all that its replies depend on is the same. A
+-- slice is a DEF text with the frame and one team's cells alone. It is alike to the whole design,
+-- even if it is read with other LEF texts that have that team's macros.
 use Rattle.std.specs.Prelude.{◌≡◌, ◌↔◌, ℕ, List, All, Contains, Some}
 use Rattle.std.specs.List.{AllZip}
 use Rattle.lf_units.specs.declared.geometry.Rect.{Rect}
@@ -15,12 +16,12 @@ use Rattle.lf_floor_model.specs.Outcomes.{Outcome}
 
 -- ---- frames
 
--- a rectangle is one of the first if and only if it is one of the second: they may stand in any order
+-- a rectangle is in the first list if and only if it is in the second; the order does not matter
 abbrev pub AreSameRects : List Rect → List Rect → Type 0
 AreSameRects these those = (r : Rect) → Contains these r ↔ Contains those r
 
--- two frames have the same header, core site, rows, fences and limits, and the same obstacles and soft blockages in any order; their
--- macros may be any
+-- two frames have the same header, core site, rows, fences and limits, and the same obstacles and
+-- soft blockages in any order; their macros may differ
 pub record AreFramesAlike (f g : Frame) : Type 0 where
   pub header : f.header ≡ g.header
   pub site : f.site ≡ g.site
@@ -40,7 +41,8 @@ pub record AreCellsAlike (f g : Frame) (c d : Cell) : Type 0 where
   pub committed : c.committed ≡ d.committed
   pub same_macro : macro_of f c.mac ≡ macro_of g d.mac
 
--- two states of a team are the same but for the numbers of the cells' macros, which are the frame's and of whole size
+-- two states of a team are the same except for the numbers of the cells' macros, which are in the
+-- frames and have whole sizes
 pub record AreTeamsAlike (f g : Frame) (s t : TeamState) : Type 0 where
   pub cells : AllZip (AreCellsAlike f g) s.cells t.cells
   pub sized : All (λ c. IsSizedCell f c) s.cells
@@ -49,14 +51,15 @@ pub record AreTeamsAlike (f g : Frame) (s t : TeamState) : Type 0 where
   pub slots : s.slots ≡ t.slots
   pub padding : s.padding ≡ t.padding
 
--- two outcomes have the same reply, and leave the team alike
+-- two outcomes have the same reply and teams that are alike
 pub record AreOutcomesAlike (f g : Frame) (o p : Outcome) : Type 0 where
   pub reply : o.reply ≡ p.reply
   pub teams : AreTeamsAlike f g o.team p.team
 
 -- ---- floors and designs
 
--- two floors of frames that are alike have a team of that name, whose states are alike; of their other teams nothing is said
+-- two floors with alike frames have a team of that name, whose states are alike; their other teams
+-- may differ
 pub record AreFloorsAlike (team : List ℕ) (a b : FloorState) : Type 0 where
   pub frames : AreFramesAlike a.frame b.frame
   pub here : TeamState
@@ -65,8 +68,8 @@ pub record AreFloorsAlike (team : List ℕ) (a b : FloorState) : Type 0 where
   pub is_there : state_of b team ≡ Some there
   pub teams : AreTeamsAlike a.frame b.frame here there
 
--- two loaded designs have frames that are alike, in which the name is a team's, and that team has the same cells in both, with the
--- same macros; of their other teams' cells nothing is said
+-- two loaded designs have alike frames with a team of that name, which has the same cells in both,
+-- with the same macros; the cells of their other teams may differ
 pub record AreDesignsAlike (team : List ℕ) (a b : Loaded) : Type 0 where
   pub frames : AreFramesAlike a.frame b.frame
   pub number : ℕ

@@ -1,4 +1,4 @@
--- Laws of frames, floors and designs that are alike for a team.
+-- Laws on frames, floors and designs that are alike for a team.
 use Rattle.std.specs.Prelude.{◌≡◌, ◌↔◌, ℕ, List}
 use Rattle.lf_units.specs.declared.geometry.Point.{Point}
 use Rattle.lf_floorplan.specs.declared.frame.Frame.{Frame}
@@ -19,7 +19,7 @@ use Rattle.lf_floor_model.specs.Runs.{Run, own_commands, own_replies_in}
 use Rattle.lf_floor_model.specs.Journals.{lasting, lasting_replies}
 use Rattle.lf_laws_slices.specs.Alike.{AreFramesAlike, AreTeamsAlike, AreOutcomesAlike, AreFloorsAlike, AreDesignsAlike}
 
--- what is alike is so either way
+-- being alike is symmetric
 pub record AlikeIsSymmetric : Type 0 where
   pub frames : (f g : Frame) → AreFramesAlike f g → AreFramesAlike g f
   pub floors : (team : List ℕ) (a b : FloorState) → AreFloorsAlike team a b → AreFloorsAlike team b a
@@ -27,24 +27,24 @@ pub record AlikeIsSymmetric : Type 0 where
 
 -- ---- the rules
 
--- the trial, on another frame
+-- the candidate, on another frame
 abbrev pub candidate_on : Frame → Candidate → Candidate
 candidate_on g t = record t { frame = g }
 
--- the lifted cell, on another frame
+-- the unplaced cell, on another frame
 abbrev pub query_on : Frame → PlacementQuery → PlacementQuery
 query_on g c = record c { frame = g }
 
--- on frames that are alike each rule holds of a trial on both or on neither
+-- on alike frames each rule holds for a candidate on both or on neither
 abbrev pub RulesAreAlike : Type 0
 RulesAreAlike = (t : Candidate) (g : Frame) (r : Rule) → AreFramesAlike t.frame g → Holds t r ↔ Holds (candidate_on g t) r
 
--- on frames that are alike a trial has one verdict, whatever the legalizers
+-- on alike frames a candidate has one verdict, whatever the legalizers
 abbrev pub VerdictsAreAlike : Type 0
 VerdictsAreAlike =
     (l m : Legalizer) (t : Candidate) (g : Frame) → AreFramesAlike t.frame g → IsSized t.frame t.mac → l.first_broken t ≡ m.first_broken (candidate_on g t)
 
--- on frames that are alike a cell has one best place for a target, whatever the legalizers
+-- on alike frames a cell has one best place for a target, whatever the legalizers
 abbrev pub BestPlacesAreAlike : Type 0
 BestPlacesAreAlike =
     (l m : Legalizer) (c : PlacementQuery) (target : Point) (g : Frame)
@@ -52,7 +52,8 @@ BestPlacesAreAlike =
 
 -- ---- one team
 
--- over frames that are alike an order to a team whose states are alike has outcomes that are alike, whatever the legalizers
+-- on alike frames a command of a team whose states are alike has outcomes that are alike, whatever
+-- the legalizers
 abbrev pub OutcomesAreAlike : Type 0
 OutcomesAreAlike =
     (l m : Legalizer) (f g : Frame) (number : ℕ) (order : TeamCommand (List ℕ) Place) (s t : TeamState)
@@ -60,8 +61,9 @@ OutcomesAreAlike =
 
 -- ---- floors and designs
 
--- in two runs, on floors that are alike for a team, the same commands to that team get the same replies and leave the floors alike
--- for it, whatever the other teams have and send; commands answered OutOfMemory are left out
+-- in two runs, on floors that are alike for a team, the same commands to that team get the same
+-- replies and keep the floors alike for it; what the other teams have and send does not matter;
+-- commands with the reply OutOfMemory are left out
 abbrev pub RunsAreAlike : Type 0
 RunsAreAlike =
     (l m : Legalizer) (team : List ℕ) (a a' b b' : FloorState) (commands others : List (Command (List ℕ) Place)) (replies answers : List Reply)
@@ -70,11 +72,12 @@ RunsAreAlike =
     → own_commands team commands replies ≡ own_commands team others answers
     → (own_replies_in team commands replies ≡ own_replies_in team others answers) × AreFloorsAlike team a' b'
 
--- the floors of two loaded designs that are alike for a team begin alike for it
+-- the first floors of two loaded designs that are alike for a team are alike for it
 abbrev pub DesignsOpenAlike : Type 0
 DesignsOpenAlike = (team : List ℕ) (a b : Loaded) → AreDesignsAlike team a b → AreFloorsAlike team (initial_floor a) (initial_floor b)
 
--- a team is answered over its slice as over the whole design: the same from two loaded designs that are alike for the team
+-- a team gets the same replies over its slice as over the whole design, and so over any two loaded
+-- designs that are alike for the team
 abbrev pub SlicesAnswerAlike : Type 0
 SlicesAnswerAlike =
     (l m : Legalizer) (team : List ℕ) (a b : Loaded) (a' b' : FloorState) (commands others : List (Command (List ℕ) Place)) (replies answers : List Reply)
@@ -83,8 +86,9 @@ SlicesAnswerAlike =
     → own_commands team commands replies ≡ own_commands team others answers
     → (own_replies_in team commands replies ≡ own_replies_in team others answers) × AreFloorsAlike team a' b'
 
--- what a team did on a floor may be pushed to another that is alike for it: where all of the journal to the team is sent there, with
--- memory for each command, and nothing else to that team, it gets the replies that it had, and leaves the floors alike for the team
+-- the changes of a team on a floor may be pushed to another floor that is alike for it: if the
+-- team's whole journal is sent there, with memory for each command, and no other command to that
+-- team, it gets the same replies and the floors are alike for the team afterwards
 abbrev pub PushesAnswerAlike : Type 0
 PushesAnswerAlike =
     (l m : Legalizer) (team : List ℕ) (a a' b b' : FloorState) (commands pushed : List (Command (List ℕ) Place)) (replies answers : List Reply) →

@@ -1,4 +1,5 @@
--- Slices: loaded designs with one team's cells alone. They are there, so what is said of designs that are alike is said of some.
+-- Slices: loaded designs with one team's cells alone. They exist, so the laws on alike designs are
+-- not empty.
 use Rattle.std.specs.Prelude.{◌≡◌, ℕ, List, ◌++◌, All, Some}
 use Rattle.lf_units.specs.declared.geometry.Rect.{Rect}
 use Rattle.lf_floorplan.specs.declared.loaded.Loaded.{Loaded}
@@ -11,15 +12,17 @@ use Rattle.lf_laws_slices.specs.Alike.{AreSameRects, AreDesignsAlike}
 abbrev pub IsInLef : Macro → Type 0
 IsInLef m = IsLefSize m.size × IsLefSize m.origin
 
--- a slice of a design: its cells are of the team of that number alone, its macros are these in front of the design's, so that each of
--- the design's has another number, and its obstacles and soft blockages stand in this order
+-- a slice of a design: its cells are those of the team of that number alone; its macros are these,
+-- followed by the design's, so that each of the design's has another number; its obstacles and soft
+-- blockages are in this order
 pub record IsSlice (number : ℕ) (more : List Macro) (obstacles soft : List Rect) (whole slice : Loaded) : Type 0 where
   pub own : All (λ c. c.team ≡ number) slice.cells
   pub macros_are : slice.frame.macros ≡ more ++ whole.frame.macros
   pub obstacles_are : slice.frame.obstacles ≡ obstacles
   pub soft_are : slice.frame.soft ≡ soft
 
--- each loaded design has a slice for each team, whatever the macros in front and the order, and is alike to it for that team
+-- each loaded design has a slice for each team, whatever the macros in front and the order, and the
+-- slice is alike to it for that team
 abbrev pub SlicesExist : Type 0
 SlicesExist =
     (whole : Loaded) (team : List ℕ) (number : ℕ) (more : List Macro) (obstacles soft : List Rect)

@@ -1,20 +1,30 @@
-//! Laws: over a slice of a design, which has one team's cells alone, that team is answered as over the whole.
+//! Laws that a team gets the same replies over a slice of a design, which has its cells alone, as
+//! over the whole design.
 //!
-//! No code runs here: each function is a law, whose contract is a theorem that its `ensures` names.
+//! No code runs here. Each function is a law: its contract is a theorem, and its `ensures` names
+//! the definition that states it.
 //!
-//! Two frames are *alike* if they have the same header, core site, rows, fences and limits, and the same obstacles and soft blockages in
-//! any order; of their macros nothing is said. Two designs are alike *for a team* if their frames are alike and the team has the same
-//! cells in both, each with the same macro, whatever number that has in each frame. So a slice may be read with LEF texts that have
-//! more macros or fewer, or in another order, and its FIXED components and blockages may stand in another order.
+//! Two frames are *alike* if they have the same header, core site, rows, fences and limits, and the
+//! same obstacles and soft blockages in any order. Their macros may differ. Two designs are alike
+//! *for a team* if their frames are alike and the team has the same cells in both. Each cell has
+//! the same macro, whatever its number in each frame. So a slice may be read with LEF texts that
+//! have more or fewer macros, or in another order. Its FIXED components and blockages may be in
+//! another order too.
 //!
-//! The laws go from the rules up. On frames that are alike each rule holds on both or on neither, so a trial has one verdict and a cell
-//! one best place for a target. So an order has one reply, and leaves the team alike. So does a run of many, whatever other teams have
-//! and send. What other designs of one frame are to `other_designs_do_not_matter` of `lf_floor_model`, designs that are alike are here.
+//! The laws build on each other:
 //!
-//! ```
-//! let replies = slice.run(&requests)?;
-//! slices_answer_alike();
-//! ```
+//! 1. On alike frames each rule holds on both or on neither.
+//! 2. So a candidate has one verdict, and a cell has one best place for a target.
+//! 3. So a command has one reply, and keeps the team's states alike.
+//! 4. So does a run of many commands, whatever other teams have and send.
+//!
+//! `other_designs_do_not_matter` of `lf_floor_model` is the same law for designs with one frame.
+//!
+//! Used by `lf_laws_slice_texts`.
+//!
+//! Modules, in reading order:
+//!
+//! - `laws`: laws on frames, teams, floors and designs that are alike
 #![tactic(auto)]
 
 mod laws;

@@ -1,4 +1,4 @@
--- Blanks only part the fields of a line.
+-- Blanks only separate the fields of a line.
 use Rattle.std.proofs.Common.{◌≡◌, ℕ, Bool, true, false, ◌&&◌, cond, nat_lt, List, [], ◌∷◌, ◌++◌, length, filter, None, refl, sym, ap, ◌∙◌, append-nil}
 use Rattle.std.proofs.lemmas.List.Elements.{filter-append}
 use Rattle.std.proofs.lemmas.List.Folds.{list_all-append}
@@ -36,7 +36,7 @@ parts-blank : (front : List ℕ) (a : ℕ) (rest : List ℕ) → is_blank a ≡ 
 parts-blank [] a rest blank = slice_split-cons_yes is_blank a rest blank
 parts-blank (x ∷ front) a rest blank = parts_more x a front rest (parts-blank front a rest blank) (is_blank x) refl
 
--- a blank separates the fields before it and after it
+-- a blank separates the fields in front of it from those after it
 pub fields-blank : (front : List ℕ) (a : ℕ) (rest : List ℕ) → is_blank a ≡ true → fields (front ++ a ∷ rest) ≡ fields front ++ fields rest
 fields-blank front a rest blank =
     ap (filter (λ field. nat_lt 0 (length field))) (parts-blank front a rest blank) ∙ filter-append (λ field. nat_lt 0 (length field)) (parts_of front) (parts_of rest)
@@ -47,7 +47,7 @@ blank_is_line_byte a blank = rw blank refl
 pub line_bytes-blank : (front : List ℕ) (a : ℕ) (rest : List ℕ) → is_blank a ≡ true → list_all is_line_byte (front ++ a ∷ rest) ≡ (list_all is_line_byte front && list_all is_line_byte rest)
 line_bytes-blank front a rest blank = list_all-append is_line_byte front (a ∷ rest) ∙ ap (λ t. list_all is_line_byte front && (t && list_all is_line_byte rest)) (blank_is_line_byte a blank)
 
--- a line is its command by its bytes and its fields
+-- the command on a line depends on whether its bytes may occur in a line, and on its fields
 same_command : (line other : List ℕ) → list_all is_line_byte line ≡ list_all is_line_byte other → fields line ≡ fields other → command_on line ≡ command_on other
 same_command line other bytes same =
     ap (λ t. cond t (command_in (fields line)) None) bytes ∙ ap (λ f. cond (list_all is_line_byte other) (command_in f) None) same

@@ -10,11 +10,11 @@ use Rattle.lf_proto.specs.Feeds.{EndsLine, without_return_of, FeedsAt, Feeds, Fi
 use Rattle.lf_proto.specs.declared.framer.Fed.{Fed}
 use Rattle.lf_proto.specs.declared.framer.Got.{Got}
 
--- how many bytes there are before the first line feed, with one byte more
+-- the number of bytes in front of the first line feed, with one more byte
 abbrev prefix_more : Bool → List ℕ → ℕ
 prefix_more visible bytes = cond visible (1 + position_or_len is_line_feed bytes) 0
 
--- bytes and the pieces after them are never none
+-- with_front always gives a first piece
 onto_first-with_front : (b : ℕ) (run : List ℕ) (parts : List (List ℕ)) → onto_first b (with_front run parts) ≡ with_front (b ∷ run) parts
 onto_first-with_front b run [] = refl
 onto_first-with_front b run (p ∷ parts) = refl
@@ -100,7 +100,7 @@ lines_in-over bytes [] over = last_line-over bytes over
 lines_in-over bytes (p ∷ []) over = last_line-over (bytes ++ p) (over_more bytes p over)
 lines_in-over bytes (p ∷ q ∷ parts) over = ap (λ l. l ∷ lines_in (q ∷ parts)) (ended_line-over (bytes ++ p) (over_more bytes p over))
 
--- holding bytes is holding them within the limit
+-- keeping bytes is keeping them within the limit
 lines_in-within : (bytes : List ℕ) (parts : List (List ℕ)) → lines_in (with_front bytes parts) ≡ lines_from (within_limit bytes) parts
 lines_in-within bytes parts = go (nat_le (length bytes) limit) refl
   where
@@ -108,7 +108,7 @@ lines_in-within bytes parts = go (nat_le (length bytes) limit) refl
     go true is = refl
     go false is = lines_in-over bytes parts is
 
--- what is held is within the limit
+-- the kept bytes are within the limit
 abbrev pub IsBounded : Option (List ℕ) → Type 0
 IsBounded pending = IfSome pending (λ bytes. length bytes ≤ limit)
 
@@ -123,7 +123,7 @@ with_more-bounded : (pending : Option (List ℕ)) (bytes : List ℕ) → IsBound
 with_more-bounded None bytes = tt
 with_more-bounded (Some held) bytes = within_limit-bounded (held ++ bytes)
 
--- what is given for ended bytes is their line
+-- the result for a line that has ended is that line
 given-ended : (bytes : List ℕ) (got : Got) (line : List ℕ) → EndsLine (without_return_of (within_limit bytes)) got line → given_line got line ≡ ended_line bytes ∷ []
 given-ended bytes got line = go (nat_le (length bytes) limit)
   where
@@ -131,7 +131,7 @@ given-ended bytes got line = go (nat_le (length bytes) limit)
     go true ends = rw (ends.0, ends.1) refl
     go false ends = rw ends refl
 
--- one feed gives the lines that it takes from the front
+-- one feed finds the lines of the bytes that it takes
 abbrev pub Step : Framing → Framing → List ℕ → List ℕ → Fed → Type 0
 Step old middle piece rest fed = lines_from old.pending (pieces (piece ++ rest)) ≡ given_line fed.got middle.line ++ lines_from middle.pending (pieces (drop fed.used piece ++ rest))
 
@@ -170,7 +170,7 @@ takes_lines (next_piece old middle new piece rest fed lines feeds takes) bounded
     let later = takes_lines takes step.1 in
     (step.0 ∙ (ap (λ l. given_line fed.got middle.line ++ l) later.0 ∙ sym (append_assoc (given_line fed.got middle.line) lines (lines_from new.pending ([] ∷ [])))), later.1)
 
--- what is given at the end is the line of what is held
+-- the result at the end is the line of the kept bytes
 pub finish_gives : (pending : Option (List ℕ)) (got : Got) (line : List ℕ) → IsBounded pending → FinishesAt pending got line → lines_from pending ([] ∷ []) ≡ given_line got line
 finish_gives None got line bounded ends = rw ends refl
 finish_gives (Some []) got line bounded ends = rw ends refl

@@ -14,14 +14,14 @@ use Rattle.bstr.proofs.lemmas.PieceLemmas.{pieces-nil, spans-first}
 use Rattle.lf_proto.specs.Pieces.{with_front}
 use Rattle.lf_proto.specs.Lines.{is_blank, is_line_byte, fields}
 
--- among line bytes the white space is the blanks
+-- the white space among the bytes of a line is the blanks
 pub whitespace_is_blank : (b : ℕ) → is_line_byte b ≡ true → is_whitespace b ≡ is_blank b
 whitespace_is_blank b line = grind (arith, nat_tests)
 
 pub line_byte_small : (b : ℕ) → is_line_byte b ≡ true → b < 128
 line_byte_small b line = grind (arith, nat_tests)
 
--- the fields among some parts
+-- the parts that are not empty
 abbrev pub nonempty : List (List ℕ) → List (List ℕ)
 nonempty parts = filter (λ field. nat_lt 0 (length field)) parts
 
@@ -34,14 +34,14 @@ pub with_front-more : (run : List ℕ) (b : ℕ) (parts : List (List ℕ)) → w
 with_front-more run b [] = refl
 with_front-more run b (p ∷ parts) = ap (λ q. q ∷ parts) (sym (append_assoc run (b ∷ []) p))
 
--- a small byte is a character of its own
+-- a byte below 128 is a character by itself
 pub decoded_small : (b : ℕ) (rest : List ℕ) → b < 128 → decoded (b ∷ rest) ≡ good b 1
 decoded_small b rest small =
     let below : nat_lt b 128 ≡ true = grind (arith, nat_tests) in
     let some : (suc (length rest) == 0) ≡ false = grind (arith, nat_tests) in
     rw (some, below) refl
 
--- the first span of bytes that begin with a small one
+-- the first span of bytes that begin with a byte below 128
 pub first_span : (b : ℕ) (rest : List ℕ) (off : ℕ) → b < 128 → spans_from off (pieces (b ∷ rest)) ≡ (off, off + 1, b) ∷ spans_from (off + 1) (pieces rest)
 first_span b rest off small =
     let first = spans-first (b ∷ rest) off (omega arith) in
@@ -53,12 +53,12 @@ part_is_run hay done run rest e =
     let n : length done + length run - length done ≡ length run = omega arith in
     rw (e, n) (grind (arith, common_steps))
 
--- the fields of what is left, where no field has begun, and where a run of one has come
+-- the fields of the remaining bytes: outside a field, and after a run of one
 pub record Read (hay rest : List ℕ) (ss : ℕ → List (ℕ × ℕ × ℕ)) : Type 0 where
   pub outside : (done : List ℕ) → hay ≡ done ++ rest → fields_acc is_whitespace hay None (ss (length done)) ≡ nonempty (slice_split is_blank rest)
   pub inside : (done run : List ℕ) → 0 < length run → hay ≡ done ++ (run ++ rest) → fields_acc is_whitespace hay (Some (length done, length done + length run)) (ss (length done + length run)) ≡ nonempty (with_front run (slice_split is_blank rest))
 
--- a byte more on the line
+-- one more byte of the line
 pub slice_split-blank : (b : ℕ) (rest : List ℕ) → is_blank b ≡ true → nonempty (slice_split is_blank (b ∷ rest)) ≡ nonempty (slice_split is_blank rest)
 slice_split-blank b rest blank = ap nonempty (slice_split-cons_yes is_blank b rest blank)
 

@@ -1,4 +1,4 @@
--- A front that stays, and room that is left.
+-- A part of the text that is unchanged, and the remaining room.
 use Rattle.std.proofs.Common.{◌≡◌, ℕ, ◌+◌, ◌<◌, List, [], ◌∷◌, ◌++◌, length, take, drop, map, sym, ap, ◌∙◌, arith, append_assoc, append-nil, length-append}
 use Rattle.std.proofs.lemmas.List.{take-append-drop}
 use Rattle.std.proofs.Math.Seq.{take-append_seam}
@@ -14,19 +14,19 @@ kept_more old more mid new n m long is kept =
     let e : new ≡ old ++ (more ++ drop m new) = sym (take-append-drop m new) ∙ (ap (λ l. l ++ drop m new) (kept ∙ is) ∙ append_assoc old more (drop m new)) in
     rw long (ap (take (length old)) e ∙ take-append_seam old (more ++ drop m new))
 
--- a list joined by a byte is the first part, and the byte and each other part
+-- a list joined by a byte is the first part, then the byte and the part for each other part
 pub join_cons : {X : Type 0} (f : X → List ℕ) (c : ℕ) (first : List ℕ) (xs : List X) → join_with_byte c (first ∷ map f xs) ≡ first ++ flat_map (λ x. c ∷ f x) xs
 join_cons f c first [] = sym (append-nil first)
 join_cons f c first (x ∷ xs) = ap (λ l. first ++ (c ∷ l)) (join_cons f c (f x) xs)
 
--- a line is its first word, and a space and each other word, and a line feed
+-- a line is its first word, then a space and the word for each other word, then a line feed
 pub line_is : (first : List ℕ) (words : List Word) → line_text (first ∷ map word_text words) ≡ first ++ flat_map spaced words ++ 10 ∷ []
 line_is first words = ap (λ l. l ++ 10 ∷ []) (join_cons word_text 32 first words)
 
 pub length_line : (first : List ℕ) (words : List Word) → length (line_text (first ∷ map word_text words)) ≡ length first + length (flat_map spaced words) + 1
 length_line first words = rw line_is (simp length-append (omega arith))
 
--- the room that was wanted for one word was wanted for all
+-- if room is missing for one word, it is missing for all
 pub room_for_all : (words : List Word) (w : Word) (i have len cap : ℕ) → i < length words → have ≡ len + length (flat_map spaced (take i words)) → cap < have + length (spaced (get_or words i w)) → cap < len + length (flat_map spaced words)
 room_for_all words w i have len cap below is want = omega (arith, length-flat_map-take spaced words i w below)
 

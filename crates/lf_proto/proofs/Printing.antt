@@ -1,4 +1,4 @@
--- A printed request reads back.
+-- A printed request is read as the same request.
 use Rattle.std.proofs.Common.{◌≡◌, ℕ, suc, ◌<◌, ◌≤◌, ◌^◌, Bool, true, false, ◌&&◌, ◌==◌, cond, nat_lt, nat_le, List, [], ◌∷◌, ◌++◌, length, filter, drop, None, Some, refl, ap, ◌∙◌, arith, ℤ, pos, negsuc, neg_ℤ, ◌<ℤ◌}
 use Rattle.std.proofs.lemmas.Bool.Decides.{nat_tests}
 use Rattle.std.proofs.lemmas.Bool.{and_parts, lt-ltb}
@@ -31,7 +31,7 @@ use Rattle.lf_proto.specs.declared.verb.Operands.{Operands}
 use Rattle.lf_proto.specs.declared.verb.Operands.TheVariants.{Alone, Cell, CellAt, CellTo, Cells, Sites}
 use Rattle.lf_proto.specs.declared.verb.Action.{Action}
 
--- the digits of a number that has at most ten
+-- the text of a number below 10^10 has only digits
 decimal_digits : (n : ℕ) → n < 10 ^ 10 → Digits (decimal n)
 decimal_digits n small = all_digits (decimal n) (decimal_is_IsNumeral n (omega arith)).0.1
 

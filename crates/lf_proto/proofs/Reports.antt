@@ -30,7 +30,7 @@ closes cells unplaced violations =
     sym (ap (λ l. codes "{\"cells\":" ++ l) (append_assoc (decimal cells) (codes ",\"unplaced\":" ++ (decimal unplaced ++ codes ",\"violations\":[")) rest
     ∙ ap (λ l. decimal cells ++ (codes ",\"unplaced\":" ++ l)) (append_assoc (decimal unplaced) (codes ",\"violations\":[") rest)))
 
--- the text without violations, less the brackets that close it
+-- the text without violations, except the closing brackets
 pub without_brackets : (text : List ℕ) (many cells unplaced : ℕ) → many ≡ length text → text ≡ compact_text (report_by cells unplaced no_items) → take (many - 2) text ≡ report_front cells unplaced
 without_brackets text many cells unplaced counted is =
     let front = report_front cells unplaced in

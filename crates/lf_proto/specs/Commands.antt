@@ -1,4 +1,4 @@
--- A request as a command: its names are lists of bytes, not slices of a line.
+-- A request as a command whose names are lists of bytes, not slices of a line.
 use Rattle.std.specs.Prelude.{ℕ, List}
 use denote.Ref.{Bor}
 use Rattle.lf_floorplan.specs.declared.place.Place.{Place}
@@ -8,7 +8,7 @@ use Rattle.lf_proto.specs.declared.request.TeamCommand.{TeamCommand}
 use Rattle.lf_proto.specs.declared.request.TeamCommand.TheVariants.{Open, Within}
 use Rattle.lf_proto.specs.Verbs.{action_of}
 
--- an order to a team, its cells named by lists of bytes
+-- a team's command whose cells are named by lists of bytes
 abbrev pub order_of : TeamCommand (Bor (List ℕ)) Place → TeamCommand (List ℕ) Place
 order_of Open = Open
 order_of (Within session action) = Within session (action_of action)

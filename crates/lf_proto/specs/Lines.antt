@@ -6,7 +6,7 @@ use Rattle.std.specs.List.{slice_split, list_all}
 abbrev pub is_blank : ℕ → Bool
 is_blank b = b == 32 || b == 9
 
--- what may occur in a line: blanks and visible characters
+-- a byte that may occur in a line: a blank or a visible character
 abbrev pub is_line_byte : ℕ → Bool
 is_line_byte b = is_blank b || (nat_lt 32 b && nat_lt b 127)
 
@@ -18,7 +18,7 @@ fields line = filter (λ field. nat_lt 0 (length field)) (slice_split is_blank l
 abbrev pub is_visible : ℕ → Bool
 is_visible b = nat_lt 32 b && nat_lt b 127
 
--- what can be a name: one visible byte or more
+-- a name: one visible byte or more
 pub record IsName (name : List ℕ) : Type 0 where
   pub some : 0 < length name
   pub visible : list_all is_visible name ≡ true

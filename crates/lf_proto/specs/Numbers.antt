@@ -7,12 +7,12 @@ use Rattle.std.proofs.Math.Dec.{T}
 use Rattle.std.proofs.Math.Facts.{leb_yes}
 use Rattle.lf_rules.specs.declared.padding.Padding.{Padding}
 
--- each step goes on with what the one before it found, if it found anything
+-- the second step continues with the value of the first, if there is one
 infixl 10 ◌>>=◌
 abbrev pub ◌>>=◌ : {A B : Type 0} → Option A → (A → Option B) → Option B
 o >>= f = option_and_then f o
 
--- the number that 1 to 10 digits write
+-- the value of 1 to 10 digits
 abbrev pub digits : List ℕ → Option ℕ
 digits text = cond (list_all is_ascii_digit text && nat_lt 0 (length text) && nat_le (length text) 10) (Some (digits_value 10 text)) None
 
@@ -26,12 +26,12 @@ session_number text = do
   n ← digits text
   below (2 ^ 32) n
 
--- what a test shows, if it succeeds
+-- the fact that a test shows, if it succeeds
 abbrev pub shown : {Fact : Type 0} (test : Bool) → (T test → Fact) → Option Fact
 shown true fact = Some (fact tt)
 shown false fact = None
 
--- the padding of that many core sites, of which it has at most 16
+-- the padding of this number of core sites, which is at most 16
 abbrev pub padding_at : ℕ → Option Padding
 padding_at sites = do
   most ← shown (nat_le sites 16) leb_yes
@@ -43,7 +43,7 @@ padding text = do
   sites ← digits text
   padding_at sites
 
--- what follows a minus, which is byte 45: its number negated
+-- the number after a minus, which is byte 45, negated
 abbrev pub negative : List ℕ → Option ℤ
 negative text = do
   n ← digits text

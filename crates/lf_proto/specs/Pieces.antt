@@ -12,7 +12,8 @@ abbrev pub with_front : List ℕ → List (List ℕ) → List (List ℕ)
 with_front run [] = run ∷ []
 with_front run (p ∷ parts) = (run ++ p) ∷ parts
 
--- the lines of what is held and the pieces that follow: None is held if it is over the limit
+-- the lines of the kept bytes and the pieces after them; the kept bytes are None if they exceed the
+-- limit
 abbrev pub lines_from : Option (List ℕ) → List (List ℕ) → List (Option (List ℕ))
 lines_from (Some held) parts = lines_in (with_front held parts)
 lines_from None [] = None ∷ []

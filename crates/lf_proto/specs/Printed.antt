@@ -46,10 +46,10 @@ printed command = join_with_byte 32 (printed_fields command)
 abbrev pub ReadsBack : Type 0
 ReadsBack = (command : Command (List ℕ) Place) → IsPlain command → command_on (printed command) ≡ Some command
 
--- a blank before or after a line changes nothing
+-- a blank at either end of a line does not matter
 abbrev pub PassesBlanksAround : Type 0
 PassesBlanksAround = (blank : ℕ) (line : List ℕ) → is_blank blank ≡ true → (command_on (blank ∷ line) ≡ command_on line) × (command_on (line ++ blank ∷ []) ≡ command_on line)
 
--- two blanks in a row are as good as one, and a tab is as good as a space
+-- two blanks in a row are equivalent to one, and a tab is equivalent to a space
 abbrev pub PassesBlanksBetween : Type 0
 PassesBlanksBetween = (a b c : ℕ) (front rest : List ℕ) → is_blank a ≡ true → is_blank b ≡ true → is_blank c ≡ true → command_on (front ++ a ∷ b ∷ rest) ≡ command_on (front ++ c ∷ rest)

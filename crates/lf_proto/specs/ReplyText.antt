@@ -1,4 +1,4 @@
--- The text of a reply, given the names of the cells that it is about.
+-- The text of a reply, given the names of its cells.
 use Rattle.std.specs.Prelude.{ℕ, List, [], ◌∷◌, ◌++◌, length, Option, None, Some, codes, decimal}
 use Rattle.std.specs.Fmt.{signed_decimal}
 use Rattle.std.specs.List.{join_with_byte}
@@ -28,7 +28,7 @@ other_words (Some other) other_name = other_name ∷ []
 abbrev pub illegal_words : Rule → Option ℕ → List ℕ → List ℕ → List (List ℕ)
 illegal_words rule other cell_name other_name = codes "7" ∷ codes "Illegal" ∷ decimal (number_of rule) ∷ cell_name ∷ other_words other other_name
 
--- a refusal: its number, its name, and what it is about
+-- a refusal: its number, its name, and its details
 abbrev pub refusal_words : Refusal → List ℕ → List ℕ → List (List ℕ)
 refusal_words BadRequest cell_name other_name = codes "1" ∷ codes "BadRequest" ∷ []
 refusal_words NoTeam cell_name other_name = codes "2" ∷ codes "NoTeam" ∷ []
@@ -55,7 +55,7 @@ reply_words (Report text) cell_name other_name = codes "ok" ∷ text ∷ []
 reply_words (Def text) cell_name other_name = codes "ok" ∷ decimal (length text) ∷ []
 reply_words (Refused refusal) cell_name other_name = codes "no" ∷ refusal_words refusal cell_name other_name
 
--- the text that follows the line of a reply: all bytes of a DEF text, whose length is in the line
+-- the text after the line of a reply: all bytes of a DEF text; the line has its length
 abbrev pub text_behind : Reply → List ℕ
 text_behind (Def text) = text
 text_behind _ = []

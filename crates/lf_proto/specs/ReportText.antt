@@ -9,11 +9,13 @@ use Rattle.lf_rules.specs.declared.report_types.Violation.{Violation}
 use Rattle.lf_rules.specs.declared.report_types.Report.{Report}
 use Rattle.lf_rules.specs.Legality.{number_of}
 
--- a cell of that name breaks this rule first, and for Overlap meets that other one of these cells first
+-- the violation of a cell of that name that breaks this rule first; for Overlap with the name of
+-- the other cell
 abbrev pub violation_named : List (List ℕ) → Broken → List ℕ → Violation
 violation_named names b name = record { cell = name; rule = b.rule; other = option_and_then (slice_get names) b.other }
 
--- the violation of the cell of that number, which breaks this rule first; None if there is no such cell
+-- the violation of the cell at that position, which breaks this rule first; None if there is no
+-- such cell
 abbrev pub violation_in : List (List ℕ) → ℕ → Broken → Option Violation
 violation_in names own b = option_map (violation_named names b) (slice_get names own)
 
@@ -27,7 +29,7 @@ violation_by cell (Some other) rule =
 abbrev pub violation_data : Violation → Data
 violation_data v = violation_by v.cell v.other v.rule
 
--- a report: how many cells there are, how many are unplaced, and the violations
+-- a report: the number of cells, the number of unplaced cells, and the violations
 abbrev pub report_by : ℕ → ℕ → Items → Data
 report_by cells unplaced violations =
     object (member (codes "cells") (number (unsigned cells)) (member (codes "unplaced") (number (unsigned unplaced)) (member (codes "violations") (array violations) no_members)))
@@ -39,7 +41,8 @@ report_data r = report_by r.cells r.unplaced (items_of (map violation_data r.vio
 abbrev pub report_front : ℕ → ℕ → List ℕ
 report_front cells unplaced = codes "{\"cells\":" ++ (decimal cells ++ (codes ",\"unplaced\":" ++ (decimal unplaced ++ codes ",\"violations\":[")))
 
--- the text of these violations, behind others or not, and the bracket that closes their list
+-- the text of these violations, with a comma in front if there are earlier ones, and the bracket
+-- that closes their list
 abbrev pub violations_text : Bool → List Violation → List ℕ
 violations_text later violations = items_text later (items_of (map violation_data violations))
 

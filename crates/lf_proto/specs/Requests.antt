@@ -1,4 +1,4 @@
--- The lines that are requests, by the shapes of their fields.
+-- The request lines, by the shapes of their fields.
 use Rattle.std.specs.Prelude.{ℕ, ◌<◌, ◌^◌, cond, List, [], ◌∷◌, Option, Some, None, ℤ, pos, negsuc, ◌<ℤ◌, codes}
 use Rattle.std.specs.Int.Signed.{lt_z, lt_z_yes}
 use Rattle.std.specs.List.{list_all}
@@ -20,7 +20,7 @@ use Rattle.lf_proto.specs.declared.verb.Operands.TheVariants.{Alone as NoField, 
 use Rattle.lf_proto.specs.declared.verb.Action.{Action}
 use Rattle.lf_proto.specs.Verbs.{joined, parts_of, shape_of, verb_named}
 
--- an orientation by its name (LEF/DEF 5.8, DEF COMPONENTS)
+-- the orientation of that name (LEF/DEF 5.8, DEF COMPONENTS)
 abbrev pub orient_named : List ℕ → Option Orient
 orient_named text =
     cond (bytes_eq text (codes "N")) (Some N)
@@ -33,7 +33,7 @@ orient_named text =
     (cond (bytes_eq text (codes "FE")) (Some FE)
     None)))))))
 
--- that a coordinate is above -2147483648, which is no number of a DEF text
+-- a proof that the coordinate is above -2147483648, which no DEF text has
 abbrev pub in_def : (z : ℤ) → Option (negsuc 2147483647 <ℤ z)
 in_def z = shown (lt_z (negsuc 2147483647) z) lt_z_yes
 
@@ -52,12 +52,12 @@ place_written x_text y_text orient_text = do
   orient ← orient_named orient_text
   place_at x y orient
 
--- X Y O, and nothing more
+-- X Y O, and no more fields
 abbrev pub place_of : List (List ℕ) → Option Place
 place_of (x ∷ y ∷ orient ∷ []) = place_written x y orient
 place_of _ = None
 
--- X Y, and nothing more
+-- X Y, and no more fields
 abbrev pub target_of : List (List ℕ) → Option Point
 target_of (x_text ∷ y_text ∷ []) = do
   x ← coordinate x_text
@@ -103,7 +103,7 @@ sites_of (sites ∷ []) = do
   Some (SitesApart padding)
 sites_of _ = None
 
--- the fields of that shape, and nothing more
+-- the fields of that shape, and no more
 abbrev pub operands_by : Shape → List (List ℕ) → Option (Operands (List ℕ) Place)
 operands_by Alone = alone_of
 operands_by Cell = cell_of
@@ -120,7 +120,7 @@ action_by verb own = do
 
 -- ---- the lines
 
--- bye, and nothing more
+-- bye, and no more fields
 abbrev pub bye_of : List (List ℕ) → Option (Command (List ℕ) Place)
 bye_of [] = Some Bye
 bye_of _ = None
@@ -142,21 +142,22 @@ within_of verb _ = None
 abbrev pub outside_of : List ℕ → List (List ℕ) → Option (Command (List ℕ) Place)
 outside_of word arguments = cond (bytes_eq word (codes "bye")) (bye_of arguments) (cond (bytes_eq word (codes "open")) (open_of arguments) None)
 
--- the command of a line, from the session's verb that its first word names, if any, that word and the fields after it
+-- the command of a line, given the verb named by its first word, if there is one, that word and the
+-- fields after it
 abbrev pub command_by_verb : Option Verb → List ℕ → List (List ℕ) → Option (Command (List ℕ) Place)
 command_by_verb (Some verb) word = within_of verb
 command_by_verb None word = outside_of word
 
--- the command of a line's fields: the first word, then its fields
+-- the command in the fields of a line: the first word, then its fields
 abbrev pub command_in : List (List ℕ) → Option (Command (List ℕ) Place)
 command_in [] = None
 command_in (word ∷ arguments) = command_by_verb (verb_named word) word arguments
 
--- the command that a line gives, if it is a request
+-- the command on a line, if it is a request
 abbrev pub command_on : List ℕ → Option (Command (List ℕ) Place)
 command_on line = cond (list_all is_line_byte line) (command_in (fields line)) None
 
--- ---- what a line can ask
+-- ---- the requests that a line can write
 
 -- a place whose corner fits 32 bits
 pub record IsInRange (place : Place) : Type 0 where
@@ -173,7 +174,7 @@ pub record IsTarget (target : Point) : Type 0 where
   pub x_in_range : IsCoordinate target.x
   pub y_in_range : IsCoordinate target.y
 
--- own fields of a verb that a line can have
+-- a verb's own fields that a line can have
 abbrev pub ArePlain : Operands (List ℕ) Place → Type 0
 ArePlain NoField = Unit {0}
 ArePlain (OneCell cell) = IsName cell
@@ -182,11 +183,11 @@ ArePlain (CellTowards cell target) = IsName cell × IsTarget target
 ArePlain (TwoCells first second) = IsName first × IsName second
 ArePlain (SitesApart padding) = Unit {0}
 
--- what a session can ask by a line
+-- an action that a line can write
 abbrev pub IsPlainAction : Action (List ℕ) Place → Type 0
 IsPlainAction action = ArePlain (parts_of action).1
 
--- a request that a line can ask: its names are of visible bytes, and its numbers of 32 bits
+-- a request that a line can write: its names have visible bytes alone, and its numbers have 32 bits
 abbrev pub IsPlain : Command (List ℕ) Place → Type 0
 IsPlain Bye = Unit {0}
 IsPlain (To team Open) = IsName team

@@ -2,7 +2,7 @@
 use Rattle.std.specs.Prelude.{ℕ, Bool, nat_le, ◌==◌, ◌-◌, cond, List, [], ◌∷◌, length, take, Option, Some, None, slice_index}
 use Rattle.std.specs.List.{slice_split}
 
--- the most bytes of a line, its carriage return counted
+-- the most bytes of a line, including its carriage return
 abbrev pub limit : ℕ
 limit = 4096
 
@@ -13,11 +13,11 @@ is_line_feed b = b == 10
 abbrev pub without_return : List ℕ → List ℕ
 without_return bytes = cond (slice_index bytes (length bytes - 1) == 13) (take (length bytes - 1) bytes) bytes
 
--- bytes that are not over the limit
+-- the bytes, or None if they exceed the limit
 abbrev pub within_limit : List ℕ → Option (List ℕ)
 within_limit bytes = cond (nat_le (length bytes) limit) (Some bytes) None
 
--- the line of a piece that a line feed ends, or None if it is over the limit
+-- the line of a piece that a line feed ends, or None if it exceeds the limit
 abbrev pub ended_line : List ℕ → Option (List ℕ)
 ended_line bytes = cond (nat_le (length bytes) limit) (Some (without_return bytes)) None
 
@@ -32,6 +32,6 @@ lines_in [] = []
 lines_in (last ∷ []) = last_line last
 lines_in (piece ∷ next ∷ pieces) = ended_line piece ∷ lines_in (next ∷ pieces)
 
--- the lines of a stream, None for each that is over the limit
+-- the lines of a stream, None for each that exceeds the limit
 abbrev pub lines_of : List ℕ → List (Option (List ℕ))
 lines_of bytes = lines_in (slice_split is_line_feed bytes)

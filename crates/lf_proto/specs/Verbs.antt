@@ -1,4 +1,5 @@
--- The verbs of a session. Each has its line in every table of this file, and in no other file of definitions of this crate.
+-- The verbs of a session. Each has its line in every table of this file, and in no other definition
+-- file of this crate.
 use Rattle.std.specs.Prelude.{◌≡◌, ℕ, List, Option, Some, None, codes, bytes_eq, position, slice_get, option_and_then, option_map}
 use denote.Ref.{Bor}
 use Rattle.lf_floorplan.specs.declared.place.Place.{Place as Placed}
@@ -74,7 +75,7 @@ module _ {N P : Type 0} where
   parts_of (Changing Reverting) = (Revert, NoField)
   parts_of (Changing (Padding padding)) = (Pad, SitesApart padding)
 
-  -- the action of a verb with these fields, if they are of its shape
+  -- the action of a verb with these fields, if they have its shape
   abbrev pub joined : Verb → Operands N P → Option (Action N P)
   joined Close NoField = Some Closing
   joined Sync NoField = Some Syncing
@@ -138,10 +139,11 @@ action_of (Changing change) = Changing (change_of change)
 abbrev pub NamesReadBack : Type 0
 NamesReadBack = (v : Verb) → (verb_named (name_of v) ≡ Some v) × IsName (name_of v)
 
--- an action that is taken apart has fields of its verb's shape, and put together again it is the same; N is the type of names
+-- an action that is split has fields of its verb's shape, and joined again it is the same; N is the
+-- type of names
 abbrev pub PartsJoin : Type 0 → Type 0
 PartsJoin N = (a : Action N Placed) → (shape_of (parts_of a).0 ≡ shape_in (parts_of a).1) × (joined (parts_of a).0 (parts_of a).1 ≡ Some a)
 
--- names may be copied before a verb and its fields are put together, or after that
+-- copying the names and joining a verb with its fields can be done in either order
 abbrev pub CopiesJoin : Type 0
 CopiesJoin = (v : Verb) (o : Operands (Bor (List ℕ)) Placed) → option_map action_of (joined v o) ≡ joined v (operands_of o)

@@ -1,4 +1,4 @@
--- The words that a reply line is written from.
+-- The words of a reply line.
 use Rattle.std.specs.Prelude.{ℕ, List, ◌∷◌, decimal}
 use Rattle.std.specs.Fmt.{signed_decimal}
 use Rattle.lf_proto.specs.declared.reply_words.Word.{Word}

@@ -8,29 +8,29 @@ ghost use Rattle.lf_proto.specs.Stream.{is_line_feed, limit, without_return};
 use std::alloc::{AllocError, Global};
 use std::marker::Model;
 
-/// The most bytes of a line, its carriage return counted.
+/// The most bytes of a line, including its carriage return.
 const LIMIT: usize = 4096;
 
-/// What the bytes so far gave.
+/// The result of feeding bytes.
 #[derive(Clone, Copy, Debug, PartialEq, Eq)]
 pub enum Got {
     /// No line has ended yet.
     More,
-    /// A line has ended; `line` has it.
+    /// A line has ended; `LineFramer::line` returns it.
     Line,
-    /// A line of more than 4,096 bytes, its carriage return counted, has ended.
+    /// A line of more than 4,096 bytes, including its carriage return, has ended.
     TooLong,
 }
 
-/// How many bytes of a piece were used, and what they gave.
+/// The number of bytes of a piece that were used, and their result.
 #[derive(Clone, Copy, Debug, PartialEq, Eq)]
 pub struct Fed {
     pub used: usize,
     pub got: Got,
 }
 
-/// The lines of a stream whose pieces are fed one after the other. Only `new` allocates. Contracts see the bytes since the
-/// last line feed, or none if they are over the limit, and the line that was given last.
+/// The lines of a stream whose pieces are fed one after another. Only `new` allocates. Contracts
+/// see the bytes since the last line feed, or `None` if they exceed the limit, and the last line.
 #[derive(Drop)]
 pub struct LineFramer {
     buffer: Vec<u8>,
@@ -50,7 +50,7 @@ impl Model for LineFramer {
     ghost invariant = { λ f. (limit ≤ vec_capacity f.buffer) × (vec_len f.buffer ≤ limit) };
 }
 
-/// Adds the bytes if they fit, and returns whether the line is over the limit.
+/// Adds the bytes if they fit, and returns true if the line exceeds the limit.
 fn take_in(buffer: &mut Vec<u8>, too_long: bool, bytes: &[u8]) -> bool
     requires room { limit ≤ vec_capacity buffer.old }
     requires within { vec_len buffer.old ≤ limit }
@@ -72,7 +72,7 @@ fn first_line_feed(piece: &[u8]) -> Option<usize>
     piece.iter().position(|byte| *byte == b'\n')
 }
 
-/// Drops one carriage return at the end.
+/// Drops one carriage return at the end, if there is one.
 fn drop_return(buffer: &mut Vec<u8>)
     requires room { limit ≤ vec_capacity buffer.old }
     requires within { vec_len buffer.old ≤ limit }
@@ -86,7 +86,9 @@ fn drop_return(buffer: &mut Vec<u8>)
 }
 
 impl LineFramer {
-    /// A framer at the start of a stream, with room for the longest line. `Err` if an allocation fails.
+    /// Makes a framer at the start of a stream, with room for the longest line.
+    ///
+    /// `Err` if an allocation fails.
     pub fn new(alloc: Global) -> Result<LineFramer, AllocError>
         ensures { IfOk result (λ framer. framer.pending ≡ Some []) }
     {
@@ -97,8 +99,8 @@ impl LineFramer {
         })
     }
 
-    /// Takes the bytes of a piece up to and with its first line feed, or all of them; the caller feeds the
-    /// rest again.
+    /// Takes the bytes of a piece up to and including its first line feed, or all of them. The
+    /// caller feeds the rest again.
     pub fn feed(&mut self, piece: &[u8]) -> Fed
         ensures { Feeds self.old piece.now result self.new }
     {
@@ -131,15 +133,16 @@ impl LineFramer {
         }
     }
 
-    /// The line that `feed` or `finish` has just given, without its line feed and the carriage return before it.
+    /// The last line that `feed` or `finish` has found, without its line feed and the carriage
+    /// return in front of that.
     pub fn line(&self) -> &[u8]
         ensures { result.now ≡ self.now.line }
     {
         &self.buffer
     }
 
-    /// The last line at the end of the stream: what is held, if it has a byte, and `More` if it has none. It keeps its carriage
-    /// return.
+    /// Ends the stream. If bytes remain after the last line feed, they are the last line, which
+    /// keeps its carriage return. Returns `More` if no bytes remain.
     pub fn finish(&mut self) -> Got
         ensures given { FinishesAt self.old.pending result self.new.line }
         ensures pending { self.new.pending ≡ Some [] }
@@ -157,8 +160,8 @@ impl LineFramer {
     }
 }
 
-/// However the bytes of a stream come in pieces, a new framer that is fed them, what a feed did not use with the next,
-/// and then finishes has given the lines of the whole stream.
+/// A law: however a stream is cut into pieces, a new framer finds the lines of the whole stream.
+/// Bytes that a feed did not use are fed again with the next piece, and `finish` is called last.
 pub fn framing_keeps_lines()
     ensures { FramingKeepsLines }
 {}

@@ -1,17 +1,36 @@
 //! Request lines, requests, replies and their texts.
 //!
-//! A line is of visible characters, spaces and tabs; its fields are the runs between blanks. It is a `Request`: `bye`, `open TEAM`,
-//! or a session's verb, as in `place TEAM N CELL X Y O`. A `Reply` names cells by their positions in their team; `reply_text` puts
-//! the names in. Places and targets are in database units, paddings in core sites.
+//! A line has visible characters, spaces and tabs. Its fields are the runs between blanks. It is a
+//! `Request`: `bye`, `open TEAM`, or a verb of a session, as in `place TEAM N CELL X Y O`. A
+//! `Reply` names cells by their positions in their team, and `reply_text` writes it with the names.
+//! Places and targets are in database units, paddings in core sites.
 //!
-//! Contracts see of a `LineFramer` the bytes since the last line feed, or none if they are over the limit of 4,096, and the line
-//! given last; of a `RequestList` its requests; of a `Text` its bytes. Of requests they see what is the same for one that owns its
-//! names and one that borrows them.
+//! Contracts see of a `LineFramer` the bytes since the last line feed, or `None` if they exceed the
+//! limit of 4,096, and the last line. They see of a `RequestList` its requests, and of a `Text` its
+//! bytes. For contracts, requests that own their names are the same as those that borrow them.
+//!
+//! Used by most other crates.
+//!
+//! Modules, in reading order:
+//!
+//! - `verb`: the verbs of a session
+//! - `request`: commands
+//! - `request_list`: lists of requests that own their names
+//! - `numbers`: the numbers of a request line
+//! - `parse`: from a line to its request
+//! - `framer`: lines of a stream that comes in pieces
+//! - `reply`: replies and refusals
+//! - `reply_words`: the texts of replies
+//! - `report_text`: the text of a report
+//! - `violations`: violations in reports that name cells by their positions
+//!
+//! From `crates/lf_server/src/answer.rt`:
 //!
 //! ```
-//! let fed = framer.feed(piece);
-//! let request = parse_line(framer.line())?;
-//! reply_text(&reply, b"u7", b"", &mut out)?;
+//! match parse_line(line?) {
+//!     Ok(request) => Some(request),
+//!     Err(_) => None,
+//! }
 //! ```
 #![tactic(auto)]
 

@@ -8,14 +8,14 @@ ghost use Rattle.lf_proto.specs.Numbers.{coordinate, digits, padding, session_nu
 
 use lf_rules::Padding;
 
-/// Whether each byte is a digit.
+/// Returns true if each byte is a digit.
 fn are_digits(word: &[u8]) -> bool
     ensures { result ≡ list_all is_ascii_digit word.now }
 {
     word.iter().all(|byte| byte.is_ascii_digit())
 }
 
-/// The number that at most ten digits write.
+/// Returns the value of at most ten digits.
 fn value_of(digits: &[u8]) -> u64
     requires digits { list_all is_ascii_digit digits.now ≡ true }
     requires short { length digits.now ≤ 10 }
@@ -28,7 +28,7 @@ fn value_of(digits: &[u8]) -> u64
     value
 }
 
-/// The number that one to ten digits write.
+/// Returns the value of one to ten digits. `None` for another word.
 fn digits_of(word: &[u8]) -> Option<u64>
     ensures { result ≡ digits word.now }
 {
@@ -38,14 +38,14 @@ fn digits_of(word: &[u8]) -> Option<u64>
     Some(value_of(word))
 }
 
-/// The session number that the word writes, if it writes one.
+/// Returns the session number in the word. `None` if it is not one.
 pub(crate) fn session_of(word: &[u8]) -> Option<u32>
     ensures { result ≡ session_number word.now }
 {
     u32::try_from(digits_of(word)?).ok()
 }
 
-/// The padding of the number of core sites that the word writes, if it writes one.
+/// Returns the padding in the word, in core sites. `None` if it is not one.
 pub(crate) fn padding_of(word: &[u8]) -> Option<Padding>
     ensures { result ≡ padding word.now }
 {
@@ -53,7 +53,7 @@ pub(crate) fn padding_of(word: &[u8]) -> Option<Padding>
     Padding::new(sites)
 }
 
-/// The coordinate in database units that the word writes, if it writes one.
+/// Returns the coordinate in the word, in database units. `None` if it is not one.
 pub(crate) fn coordinate_of(word: &[u8]) -> Option<i32>
     ensures value { result ≡ coordinate word.now }
     ensures in_def { IfSome result (λ z. negsuc 2147483647 <ℤ z) }

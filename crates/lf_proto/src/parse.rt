@@ -20,11 +20,11 @@ use lf_floorplan::Place;
 use lf_orient::Orient;
 use lf_units::Point;
 
-/// The line is no request.
+/// The error for a line that is not a request.
 #[derive(Clone, Copy, Debug, PartialEq, Eq)]
 pub struct BadRequest;
 
-/// The orientation of that name.
+/// Returns the orientation of that name. `None` if there is no such orientation.
 fn orient_of(word: &[u8]) -> Option<Orient>
     ensures { result ≡ orient_named word.now }
 {
@@ -41,7 +41,7 @@ fn orient_of(word: &[u8]) -> Option<Orient>
     }
 }
 
-/// The place that three words write.
+/// Returns the place in three words. `None` if they are not a place.
 fn read_place(x: &[u8], y: &[u8], orient: &[u8]) -> Option<Place>
     ensures { result ≡ place_written x.now y.now orient.now }
 {
@@ -51,7 +51,7 @@ fn read_place(x: &[u8], y: &[u8], orient: &[u8]) -> Option<Place>
     Some(Place::new(x, y, orient))
 }
 
-/// The place `X Y O` of the last fields.
+/// Reads the place `X Y O` from the last fields.
 fn last_place(mut fields: Fields<'_>) -> Option<Place>
     ensures { result ≡ place_of fields.entry }
 {
@@ -64,7 +64,7 @@ fn last_place(mut fields: Fields<'_>) -> Option<Place>
     read_place(x, y, orient)
 }
 
-/// The target `X Y` of the last fields.
+/// Reads the target `X Y` from the last fields.
 fn last_target(mut fields: Fields<'_>) -> Option<Point>
     ensures { result ≡ target_of fields.entry }
 {
@@ -81,7 +81,7 @@ fn last_target(mut fields: Fields<'_>) -> Option<Point>
     })
 }
 
-/// The fields of a verb that has none of its own.
+/// Reads the operands of a verb without fields of its own.
 fn alone<'a>(mut fields: Fields<'a>) -> Option<Operands<&'a [u8]>>
     ensures { option_map operands_of result ≡ alone_of fields.entry }
 {
@@ -91,7 +91,7 @@ fn alone<'a>(mut fields: Fields<'a>) -> Option<Operands<&'a [u8]>>
     Some(Operands::Alone)
 }
 
-/// The field `CELL`.
+/// Reads the field `CELL`.
 fn cell<'a>(mut fields: Fields<'a>) -> Option<Operands<&'a [u8]>>
     ensures { option_map operands_of result ≡ cell_of fields.entry }
 {
@@ -102,7 +102,7 @@ fn cell<'a>(mut fields: Fields<'a>) -> Option<Operands<&'a [u8]>>
     Some(Operands::Cell(cell))
 }
 
-/// The fields `CELL X Y O`.
+/// Reads the fields `CELL X Y O`.
 fn cell_at<'a>(mut fields: Fields<'a>) -> Option<Operands<&'a [u8]>>
     ensures { option_map operands_of result ≡ cell_at_of fields.entry }
 {
@@ -111,7 +111,7 @@ fn cell_at<'a>(mut fields: Fields<'a>) -> Option<Operands<&'a [u8]>>
     Some(Operands::CellAt(cell, place))
 }
 
-/// The fields `CELL X Y`.
+/// Reads the fields `CELL X Y`.
 fn cell_to<'a>(mut fields: Fields<'a>) -> Option<Operands<&'a [u8]>>
     ensures { option_map operands_of result ≡ cell_to_of fields.entry }
 {
@@ -120,7 +120,7 @@ fn cell_to<'a>(mut fields: Fields<'a>) -> Option<Operands<&'a [u8]>>
     Some(Operands::CellTo(cell, target))
 }
 
-/// The fields `CELL CELL`.
+/// Reads the fields `CELL CELL`.
 fn cells<'a>(mut fields: Fields<'a>) -> Option<Operands<&'a [u8]>>
     ensures { option_map operands_of result ≡ cells_of fields.entry }
 {
@@ -132,7 +132,7 @@ fn cells<'a>(mut fields: Fields<'a>) -> Option<Operands<&'a [u8]>>
     Some(Operands::Cells(first, second))
 }
 
-/// The field `P`.
+/// Reads the field `P`.
 fn sites<'a>(mut fields: Fields<'a>) -> Option<Operands<&'a [u8]>>
     ensures { option_map operands_of result ≡ sites_of fields.entry }
 {
@@ -144,7 +144,7 @@ fn sites<'a>(mut fields: Fields<'a>) -> Option<Operands<&'a [u8]>>
     Some(Operands::Sites(padding))
 }
 
-/// The fields of that shape.
+/// Reads the fields of that shape.
 fn operands_in<'a>(shape: Shape, fields: Fields<'a>) -> Option<Operands<&'a [u8]>>
     ensures { option_map operands_of result ≡ operands_by shape fields.entry }
 {
@@ -158,7 +158,7 @@ fn operands_in<'a>(shape: Shape, fields: Fields<'a>) -> Option<Operands<&'a [u8]
     }
 }
 
-/// A session's action, from its verb and the fields after its number.
+/// Reads a session's action, given its verb and the fields after its number.
 fn action_in<'a>(verb: Verb, fields: Fields<'a>) -> Option<Action<&'a [u8]>>
     ensures { option_map action_of result ≡ action_by verb fields.entry }
 {
@@ -167,7 +167,7 @@ fn action_in<'a>(verb: Verb, fields: Fields<'a>) -> Option<Action<&'a [u8]>>
     join(verb, operands)
 }
 
-/// The request of `bye`, without the verb.
+/// Reads the request `bye`, given the fields after the verb.
 fn bye_request<'a>(mut fields: Fields<'a>) -> Option<Request<'a>>
     ensures { option_map command_of result ≡ bye_of fields.entry }
 {
@@ -177,7 +177,7 @@ fn bye_request<'a>(mut fields: Fields<'a>) -> Option<Request<'a>>
     Some(Command::Bye)
 }
 
-/// The request of `open TEAM`, without the verb.
+/// Reads the request `open TEAM`, given the fields after the verb.
 fn open_request<'a>(mut fields: Fields<'a>) -> Option<Request<'a>>
     ensures { option_map command_of result ≡ open_of fields.entry }
 {
@@ -191,7 +191,8 @@ fn open_request<'a>(mut fields: Fields<'a>) -> Option<Request<'a>>
     })
 }
 
-/// The request of a session's verb: `TEAM N` and the verb's own fields, without the verb.
+/// Reads the request of a session's verb: `TEAM N` and the verb's own fields, given the fields
+/// after the verb.
 fn session_request<'a>(verb: Verb, mut fields: Fields<'a>) -> Option<Request<'a>>
     ensures { option_map command_of result ≡ within_of verb fields.entry }
 {
@@ -204,7 +205,7 @@ fn session_request<'a>(verb: Verb, mut fields: Fields<'a>) -> Option<Request<'a>
     })
 }
 
-/// The request of `bye` or `open`, from that word and the fields after it.
+/// Reads the request `bye` or `open`, given that word and the fields after it.
 fn outside_request<'a>(word: &[u8], fields: Fields<'a>) -> Option<Request<'a>>
     ensures { option_map command_of result ≡ outside_of word.now fields.entry }
 {
@@ -215,7 +216,7 @@ fn outside_request<'a>(word: &[u8], fields: Fields<'a>) -> Option<Request<'a>>
     }
 }
 
-/// The request that the fields of a line make.
+/// Reads the request in the fields of a line.
 fn request_in<'a>(mut fields: Fields<'a>) -> Option<Request<'a>>
     ensures { option_map command_of result ≡ command_in fields.entry }
 {
@@ -226,7 +227,7 @@ fn request_in<'a>(mut fields: Fields<'a>) -> Option<Request<'a>>
     }
 }
 
-/// Whether each byte may occur in a line.
+/// Returns true if each byte may occur in a line.
 fn is_line(line: &[u8]) -> bool
     ensures { result ≡ list_all is_line_byte line.now }
 {
@@ -242,10 +243,10 @@ fn fields_of<'a>(line: &'a [u8]) -> Fields<'a>
     line.fields()
 }
 
-/// The request that a line is; the line is given without its line feed and the carriage return before it.
-/// `BadRequest` iff it is none.
+/// Reads the request of a line, which is given without its line feed and the carriage return in
+/// front of that. The names of the request are slices of the line. Does not allocate.
 ///
-/// Names are slices of the line, and nothing is allocated.
+/// `Err(BadRequest)` if and only if the line is not a request.
 pub fn parse_line<'a>(line: &'a [u8]) -> Result<Request<'a>, BadRequest>
     ensures { MatchResult result (λ request. command_on line.now ≡ Some (command_of request)) (λ _. command_on line.now ≡ None) }
 {
@@ -255,9 +256,9 @@ pub fn parse_line<'a>(line: &'a [u8]) -> Result<Request<'a>, BadRequest>
     request_in(fields_of(line)).ok_or(BadRequest)
 }
 
-/// A line that prints a request, its fields in order with one space between each two, reads as that request: for every
-/// request whose names are of visible bytes and whose numbers have 32 bits. So what `parse_line` gives for a printed
-/// request is that request.
+/// A law: if a line prints a request, its fields in order with one space between each two,
+/// `parse_line` returns that request. This holds for every request whose names have visible bytes
+/// alone and whose numbers have 32 bits.
 pub fn printed_reads_back()
     ensures { ReadsBack }
 {
@@ -265,13 +266,14 @@ pub fn printed_reads_back()
     parts_join();
 }
 
-/// Blanks before and after a line do not matter: with one more it is the same request, or none as before.
+/// A law: blanks around a line do not matter. With one more blank at either end the result of
+/// `parse_line` is the same.
 pub fn blanks_around_pass()
     ensures { PassesBlanksAround }
 {}
 
-/// How many blanks are between two fields does not matter, nor whether they are spaces or tabs: two in a row are as
-/// good as any one.
+/// A law: the number of blanks between two fields does not matter, nor whether they are spaces or
+/// tabs. Two in a row are equivalent to any single one.
 pub fn blanks_between_pass()
     ensures { PassesBlanksBetween }
 {}

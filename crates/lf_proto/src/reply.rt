@@ -6,7 +6,7 @@ use lf_floorplan::Place;
 use lf_rules::Rule;
 use std::marker::Model;
 
-/// A text that a reply carries, of any bytes. Contracts see its bytes.
+/// A text in a reply, of any bytes. Contracts see its bytes.
 #[derive(Drop)]
 pub struct Text {
     bytes: Vec<u8>,
@@ -21,7 +21,7 @@ impl Model for Text {
 }
 
 impl Text {
-    /// The text of a string, without a copy.
+    /// Makes the text of a string, without a copy.
     pub fn from_string(text: String) -> Self
         ensures { result ≡ string_bytes text }
     {
@@ -30,14 +30,14 @@ impl Text {
         }
     }
 
-    /// The text of these bytes, without a copy.
+    /// Makes the text of these bytes, without a copy.
     pub fn from_bytes(bytes: Vec<u8>) -> Self
         ensures { result ≡ bytes.items }
     {
         Text { bytes }
     }
 
-    /// The bytes.
+    /// Returns the bytes.
     pub fn as_bytes(&self) -> &[u8]
         ensures { result.now ≡ self.now }
     {
@@ -45,10 +45,11 @@ impl Text {
     }
 }
 
-/// The reply to one command. A cell is named by its position among its team's cells, in loading order.
+/// The reply to one command. A cell is named by its position among its team's cells, in loading
+/// order.
 #[derive(Drop)]
 pub enum Reply {
-    /// It is done, and there is no value to return.
+    /// The command was accepted, and there is no value to return.
     Done,
     /// The session that was opened, and the team's revision, which it has seen.
     Opened { session: u32, revision: u32 },
@@ -56,9 +57,9 @@ pub enum Reply {
     Revision(u32),
     /// The working place of a cell, or its best place, in database units.
     At(Place),
-    /// The team's revision after a change, and the place to which the cell went.
+    /// The team's revision after a change, and the new place of the cell.
     Legalized { revision: u32, place: Place },
-    /// The team's revision after a tidy, and how many cells went to their best place.
+    /// The team's revision after a tidy, and the number of cells moved to their best place.
     Tidied { revision: u32, moved: u32 },
     /// The report of the team's cells, as JSON.
     Report(Text),
@@ -87,7 +88,8 @@ pub enum Refusal {
     Unplaced {
         cell: u32,
     },
-    /// The place breaks this rule first; for `Overlap` the other cell is the first one that is met.
+    /// The place breaks this rule first; for `Overlap` the other cell is the first one that it
+    /// conflicts with.
     Illegal {
         rule: Rule,
         cell: u32,
@@ -101,7 +103,7 @@ pub enum Refusal {
     NothingToUndo,
     /// The team has no free session slot.
     SessionsFull,
-    /// The team has made as many changes as its revision limit allows.
+    /// The team's revision is at its limit.
     RevisionsSpent,
     /// An allocation failed during the command, and nothing has changed.
     OutOfMemory,

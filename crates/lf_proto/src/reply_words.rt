@@ -20,7 +20,7 @@ enum Word<'a> {
     Signed(i32),
 }
 
-/// Appends the bytes; an `Err` changes nothing.
+/// Appends the bytes. An `Err` changes nothing.
 fn put(out: &mut Vec<u8>, bytes: &[u8]) -> Result<(), AllocError>
     ensures ok { OnOk result (out.new.items ≡ out.old.items ++ bytes.now) }
     ensures len { OnOk result (vec_len out.new ≡ vec_len out.old + length bytes.now) }
@@ -31,7 +31,7 @@ fn put(out: &mut Vec<u8>, bytes: &[u8]) -> Result<(), AllocError>
     out.extend_from_slice(bytes)
 }
 
-/// Appends the word; an `Err` changes nothing.
+/// Appends the word. An `Err` changes nothing.
 fn put_word(out: &mut Vec<u8>, word: &Word<'_>) -> Result<(), AllocError>
     ensures ok { OnOk result (out.new.items ≡ out.old.items ++ word_text word.now) }
     ensures err { OnErr result (out.new.items ≡ out.old.items) }
@@ -46,7 +46,7 @@ fn put_word(out: &mut Vec<u8>, word: &Word<'_>) -> Result<(), AllocError>
     }
 }
 
-/// Appends a space and the word; an `Err` may leave a front of it appended.
+/// Appends a space and the word. An `Err` may leave a part of them appended.
 fn put_spaced(out: &mut Vec<u8>, word: &Word<'_>) -> Result<(), AllocError>
     ensures ok { OnOk result (out.new.items ≡ out.old.items ++ spaced word.now) }
     ensures kept { take (vec_len out.old) out.new.items ≡ out.old.items }
@@ -57,7 +57,7 @@ fn put_spaced(out: &mut Vec<u8>, word: &Word<'_>) -> Result<(), AllocError>
     put_word(out, word)
 }
 
-/// Appends the words, a space before each; an `Err` may leave a front of them appended.
+/// Appends the words, each after a space. An `Err` may leave a part of them appended.
 fn put_words(out: &mut Vec<u8>, words: &[Word<'_>]) -> Result<(), AllocError>
     ensures ok { OnOk result (out.new.items ≡ out.old.items ++ flat_map spaced words.now) }
     ensures len { OnOk result (vec_len out.new ≡ vec_len out.old + length (flat_map spaced words.now)) }
@@ -71,7 +71,8 @@ fn put_words(out: &mut Vec<u8>, words: &[Word<'_>]) -> Result<(), AllocError>
     Ok(())
 }
 
-/// Appends a line of words, the first of them given apart; an `Err` may leave a front of it appended.
+/// Appends a line of words, given its first word and the others. An `Err` may leave a part of it
+/// appended.
 #[tactic(auto, using(crate::proofs::Fronts::line_is))]
 fn put_line(out: &mut Vec<u8>, first: &[u8], words: &[Word<'_>]) -> Result<(), AllocError>
     ensures ok { OnOk result (out.new.items ≡ out.old.items ++ line_text (first.now ∷ map word_text words.now)) }
@@ -84,7 +85,7 @@ fn put_line(out: &mut Vec<u8>, first: &[u8], words: &[Word<'_>]) -> Result<(), A
     put(out, b"\n")
 }
 
-/// Appends the line of a refusal that names no cell.
+/// Appends the line of a refusal that names no cell. An `Err` may leave a part of it appended.
 fn put_plain<'x>(out: &mut Vec<u8>, number: &'x [u8], name: &'x [u8]) -> Result<(), AllocError>
     ensures ok { OnOk result (out.new.items ≡ out.old.items ++ line_text (codes "no" ∷ number.now ∷ name.now ∷ [])) }
     ensures kept { take (vec_len out.old) out.new.items ≡ out.old.items }
@@ -94,7 +95,8 @@ fn put_plain<'x>(out: &mut Vec<u8>, number: &'x [u8], name: &'x [u8]) -> Result<
     put_line(out, b"no", &[Word::Text(number), Word::Text(name)])
 }
 
-/// Appends the line of a place that breaks a rule; the second name follows if there is another cell.
+/// Appends the line of a place that breaks a rule, with the second name if there is another cell.
+/// An `Err` may leave a part of it appended.
 fn put_illegal<'x>(
     rule: Rule,
     other: Option<u32>,
@@ -133,7 +135,7 @@ fn put_illegal<'x>(
     }
 }
 
-/// Appends the line of a refusal; an `Err` may leave a front of it appended.
+/// Appends the line of a refusal. An `Err` may leave a part of it appended.
 fn put_refusal<'x>(
     refusal: &Refusal,
     cell_name: &'x [u8],
@@ -187,7 +189,7 @@ fn put_refusal<'x>(
     }
 }
 
-/// Appends the line of a reply; an `Err` may leave a front of it appended.
+/// Appends the line of a reply. An `Err` may leave a part of it appended.
 fn put_reply_line(
     reply: &Reply,
     cell_name: &[u8],
@@ -250,7 +252,7 @@ fn text_behind(reply: &Reply) -> &[u8]
     }
 }
 
-/// Appends the line of a reply and the text after it; an `Err` may leave a front of it appended.
+/// Appends the line of a reply and the text after it. An `Err` may leave a part of them appended.
 fn put_reply(
     reply: &Reply,
     cell_name: &[u8],
@@ -266,11 +268,12 @@ fn put_reply(
     put(out, text_behind(reply))
 }
 
-/// Appends the text of a reply, its line with the line feed and what follows it, given the names of the cells that it is about.
+/// Appends the text of a reply: its line with the line feed, and the text after it. `cell_name` is
+/// the name of the reply's cell, and `other_name` that of the other cell of an overlap. A reply
+/// without these cells leaves the names out.
 ///
-/// `cell_name` is the name of the reply's cell and `other_name` that of the other cell of an overlap; a reply
-/// without them leaves them out. If an allocation fails, the bytes of `out` are unchanged; none fails where the text fits
-/// into the capacity of `out`.
+/// `Err` if an allocation fails; then the bytes of `out` are unchanged. No allocation fails if the
+/// text fits into the capacity of `out`.
 pub fn reply_text(
     reply: &Reply,
     cell_name: &[u8],

@@ -16,7 +16,7 @@ use serde_json::{Value, json};
 use std::alloc::{AllocError, Global};
 use std::str;
 
-/// The name as a text; each of its bytes is a visible character.
+/// Returns the name as a string; each of its bytes is a visible character.
 fn name_text(name: &Name) -> &str
     requires { IsName name.now }
     ensures { result.now ≡ name.now }
@@ -27,7 +27,9 @@ fn name_text(name: &Name) -> &str
     }
 }
 
-/// A violation as JSON.
+/// Returns a violation as JSON.
+///
+/// `Err` if an allocation fails.
 fn violation_value(alloc: Global, violation: &Violation) -> Result<Value, AllocError>
     requires { HasPrintableNames violation.now }
     ensures { IfOk result (λ v. view v ≡ violation_data violation.now) }
@@ -43,7 +45,9 @@ fn violation_value(alloc: Global, violation: &Violation) -> Result<Value, AllocE
     }
 }
 
-/// A violation's text.
+/// Returns the text of a violation.
+///
+/// `Err` if an allocation fails.
 fn violation_string(alloc: Global, violation: &Violation) -> Result<String, AllocError>
     requires { HasPrintableNames violation.now }
     ensures { IfOk result (λ text. string_bytes text ≡ compact_text (violation_data violation.now)) }
@@ -51,10 +55,10 @@ fn violation_string(alloc: Global, violation: &Violation) -> Result<String, Allo
     violation_value(alloc, violation)?.to_string(alloc)
 }
 
-/// Puts a violation behind what is written of a report, and a comma before it if it comes later than another. The names in it
-/// are names of a text.
+/// Appends a violation to the text of a report, after a comma if `later`. The names in it are names
+/// of a text.
 ///
-/// `Err` if an allocation fails; a part of it may then stand there.
+/// `Err` if an allocation fails; a part of it may then be appended.
 pub fn put_violation(
     alloc: Global,
     text: &mut Vec<u8>,
@@ -72,7 +76,9 @@ pub fn put_violation(
     Ok(())
 }
 
-/// Puts the violations behind what is written, in their order, with commas between them.
+/// Appends the violations in their order, with commas between them.
+///
+/// `Err` if an allocation fails.
 fn put_violations(
     alloc: Global,
     text: &mut Vec<u8>,
@@ -89,7 +95,9 @@ fn put_violations(
     Ok(())
 }
 
-/// A report without violations, as JSON.
+/// Returns a report without violations as JSON.
+///
+/// `Err` if an allocation fails.
 fn empty_value(alloc: Global, cells: u64, unplaced: u64) -> Result<Value, AllocError>
     ensures { IfOk result (λ v. view v ≡ report_by cells unplaced no_items) }
 {
@@ -97,7 +105,8 @@ fn empty_value(alloc: Global, cells: u64, unplaced: u64) -> Result<Value, AllocE
     json!(in alloc; {"cells": cells, "unplaced": unplaced, "violations": none})
 }
 
-/// The text of a report up to its first violation: that of a report without any, less the brackets that close it.
+/// Returns the text of a report up to its first violation: that of a report without violations,
+/// except the closing brackets.
 ///
 /// `Err` if an allocation fails.
 pub fn report_begun(alloc: Global, cells: usize, unplaced: usize) -> Result<Vec<u8>, AllocError>
@@ -110,7 +119,7 @@ pub fn report_begun(alloc: Global, cells: usize, unplaced: usize) -> Result<Vec<
     Ok(text)
 }
 
-/// The text of a report of which all is written but the brackets that close it.
+/// Completes the text of a report that lacks only the closing brackets.
 ///
 /// `Err` if an allocation fails.
 pub fn report_closed(mut text: Vec<u8>) -> Result<Text, AllocError>
@@ -120,8 +129,9 @@ pub fn report_closed(mut text: Vec<u8>) -> Result<Text, AllocError>
     Ok(Text::from_bytes(text))
 }
 
-/// The text of a report: compact JSON with the keys `cells`, `unplaced` and `violations`, and in each violation
-/// `cell`, for Overlap `other`, and `rule`. The names in it are names of a text. One violation at a time is made a value of JSON.
+/// Returns the text of a report: compact JSON with the keys `cells`, `unplaced` and `violations`.
+/// Each violation has `cell`, for Overlap `other`, and `rule`. The names in it are names of a text.
+/// Violations are converted to JSON one at a time.
 ///
 /// `Err` if an allocation fails.
 #[tactic(auto, unfolding(crate::specs::ReportText::report_text))]

@@ -8,19 +8,20 @@ use lf_floorplan::Place;
 use lf_units::Name;
 use std::alloc::{AllocError, Global};
 
-/// One command of a session. Its names are of the type `N`: slices of a line in a `Request`, lists of
-/// bytes in a contract. Its places are of the type `P`, which is `Place`; places and targets are in database units.
+/// One command of a connection. Its names have the type `N`: slices of a line in a `Request`, lists
+/// of bytes in a contract. Its places have the type `P`, which is `Place`. Places and targets are
+/// in database units.
 #[derive(Drop)]
 pub enum Command<N, P = Place> {
     /// Ends the connection, so that no later line is answered; sessions stay.
     ///
     /// Reply: `ok`.
     Bye,
-    /// A command to the team of that name; `-` is the team of the ground outside all fences.
+    /// A command of the team of that name; `-` is the ground team outside all fences.
     To { team: N, order: TeamCommand<N, P> },
 }
 
-/// An order to one team.
+/// A command of one team.
 #[derive(Drop)]
 pub enum TeamCommand<N, P = Place> {
     /// Takes the team's least free session slot.
@@ -35,7 +36,9 @@ pub enum TeamCommand<N, P = Place> {
 pub type Request<'a> = Command<&'a [u8]>;
 
 impl TeamCommand<&[u8]> {
-    /// A copy that owns its names.
+    /// Returns a copy that owns its names.
+    ///
+    /// `Err` if an allocation fails.
     pub(crate) fn to_owned(&self, alloc: Global) -> Result<TeamCommand<Name>, AllocError>
         ensures { IfOk result (λ order. order ≡ order_of self.now) }
     {
@@ -50,7 +53,9 @@ impl TeamCommand<&[u8]> {
 }
 
 impl Command<&[u8]> {
-    /// A copy that owns its names. `Err` if an allocation fails.
+    /// Returns a copy that owns its names.
+    ///
+    /// `Err` if an allocation fails.
     pub fn to_owned(&self, alloc: Global) -> Result<Command<Name>, AllocError>
         ensures { IfOk result (λ command. command ≡ command_of self.now) }
     {
@@ -65,7 +70,7 @@ impl Command<&[u8]> {
 }
 
 impl TeamCommand<Name> {
-    /// The same order with its names lent.
+    /// Returns the same command with borrowed names.
     pub(crate) fn borrowed(&self) -> TeamCommand<&[u8]>
         ensures { order_of result ≡ self.now }
     {
@@ -80,7 +85,7 @@ impl TeamCommand<Name> {
 }
 
 impl Command<Name> {
-    /// The same command, which borrows its names.
+    /// Returns the same command with borrowed names.
     pub fn borrowed(&self) -> Request<'_>
         ensures { command_of result ≡ self.now }
     {

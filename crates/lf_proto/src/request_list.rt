@@ -8,7 +8,8 @@ use lf_units::Name;
 use std::alloc::{AllocError, Global};
 use std::marker::Model;
 
-/// Requests in order, each a copy of one that was pushed. Only `push` allocates. Contracts see the list of requests.
+/// Requests in order, each a copy of one that was pushed. Only `push` allocates. Contracts see the
+/// list of requests.
 #[derive(Drop)]
 pub struct RequestList {
     alloc: Global,
@@ -26,7 +27,7 @@ impl Model for RequestList {
 }
 
 impl RequestList {
-    /// The list without requests.
+    /// Makes a list without requests.
     pub fn new(alloc: Global) -> RequestList
         ensures { result ≡ [] }
     {
@@ -36,7 +37,9 @@ impl RequestList {
         }
     }
 
-    /// Appends a copy of the request; if an allocation fails, the list is unchanged.
+    /// Appends a copy of the request.
+    ///
+    /// `Err` if an allocation fails; then the list is unchanged.
     pub fn push(&mut self, request: &Request) -> Result<(), AllocError>
         ensures ok { OnOk result (self.new ≡ self.old ++ command_of request.now ∷ []) }
         ensures err { OnErr result (self.new ≡ self.old) }
@@ -46,21 +49,21 @@ impl RequestList {
         Ok(())
     }
 
-    /// How many requests were pushed.
+    /// Returns the number of requests.
     pub fn len(&self) -> usize
         ensures { result ≡ length self.now }
     {
         self.commands.len()
     }
 
-    /// Whether none was pushed.
+    /// Returns true if there are no requests.
     pub fn is_empty(&self) -> bool
         ensures { IsTrue result ↔ (self.now ≡ []) }
     {
         self.commands.is_empty()
     }
 
-    /// The request at a position, the first at 0; none at or above `len`.
+    /// Returns the request at a position, the first at 0. `None` if the position is `len` or more.
     pub fn request(&self, position: usize) -> Option<Request<'_>>
         ensures { option_map command_of result ≡ slice_get self.now position }
     {

@@ -1,4 +1,5 @@
-//! The verbs of a session. Each has its line in every table of this file, and in no other source of this crate.
+//! The verbs of a session. Each has its line in every table of this file, and in no other source of
+//! this crate.
 
 ghost use Rattle.std.specs.Prelude.{◌≡◌, ℕ, IfOk, List, bytes_eq, position};
 ghost use denote.Ref.{Bor};
@@ -10,8 +11,9 @@ use lf_rules::Padding;
 use lf_units::{Name, Point};
 use std::alloc::{AllocError, Global};
 
-/// An action of one session of a team. A verb's first paragraph says what it does; the reply and the numbers of its refusals,
-/// in the order in which they are tested, are those of the protocol. `tools/verbs.py` makes the protocol's table of them.
+/// An action of one session of a team. The first paragraph of a verb says what it does. The second
+/// has its reply and the numbers of its refusals, in the order in which they are tested.
+/// `tools/verbs.py` makes the table of the protocol from them.
 #[derive(Drop)]
 pub enum Action<N, P = Place> {
     /// Frees the slot.
@@ -42,7 +44,7 @@ pub enum Action<N, P = Place> {
     Change(Change<N, P>),
 }
 
-/// A change of a team's places, with a comment as an action has.
+/// A change of a team's places. Its comments have the form of those of `Action`.
 #[derive(Drop)]
 pub enum Change<N, P = Place> {
     /// Sets the cell's working place, if the place breaks no rule.
@@ -122,7 +124,7 @@ const VERBS: [Verb; 15] = [
     Verb::Pad,
 ];
 
-/// The fields of its own that a verb has, after `TEAM N`.
+/// The shape of a verb's own fields, after `TEAM N`.
 #[derive(Clone, Copy)]
 pub(crate) enum Shape {
     /// None.
@@ -139,7 +141,7 @@ pub(crate) enum Shape {
     Sites,
 }
 
-/// A verb's own fields: names, places, targets and paddings.
+/// The values of a verb's own fields: names, places, targets and paddings.
 #[derive(Drop)]
 pub(crate) enum Operands<N, P = Place> {
     Alone,
@@ -151,7 +153,7 @@ pub(crate) enum Operands<N, P = Place> {
 }
 
 impl Verb {
-    /// Its name: the first word of its line.
+    /// Returns its name: the first word of its line.
     fn name(self) -> &'static [u8]
         ensures { result.now ≡ name_of self }
     {
@@ -174,7 +176,7 @@ impl Verb {
         }
     }
 
-    /// The shape of its own fields.
+    /// Returns the shape of its own fields.
     pub(crate) fn shape(self) -> Shape
         ensures { result ≡ shape_of self }
     {
@@ -198,14 +200,14 @@ impl Verb {
     }
 }
 
-/// The position of the verb of that name among these.
+/// Returns the position of the verb of that name in the list. `None` if there is no such verb.
 fn position_of(verbs: &[Verb], word: &[u8]) -> Option<usize>
     ensures { result ≡ position (λ v. bytes_eq (name_of v) word.now) verbs.now }
 {
     verbs.iter().position(|verb| verb.name() == word)
 }
 
-/// The verb of that name.
+/// Returns the verb of that name. `None` if there is no such verb.
 pub(crate) fn verb_of(word: &[u8]) -> Option<Verb>
     ensures { result ≡ verb_named word.now }
 {
@@ -214,7 +216,7 @@ pub(crate) fn verb_of(word: &[u8]) -> Option<Verb>
     verbs.get(position).copied()
 }
 
-/// The action of a verb with these fields, or none if they are of another shape than its own.
+/// Returns the action of a verb with these fields. `None` if they do not have the verb's shape.
 pub(crate) fn join<N: Drop, P: Drop>(verb: Verb, operands: Operands<N, P>) -> Option<Action<N, P>>
     ensures { result ≡ joined verb operands }
 {
@@ -247,24 +249,24 @@ pub(crate) fn join<N: Drop, P: Drop>(verb: Verb, operands: Operands<N, P>) -> Op
     }
 }
 
-/// Each verb is found by its name, which can be a field of a line.
+/// A law: each verb is found by its name, which can be a field of a line.
 pub(crate) fn names_read_back()
     ensures { NamesReadBack }
 {}
 
-/// An action that is taken apart and put together again is the same.
+/// A law: an action that is split into parts and joined again is the same.
 pub(crate) fn parts_join()
     ensures listed { PartsJoin (List ℕ) }
     ensures lent { PartsJoin (Bor (List ℕ)) }
 {}
 
-/// It makes no difference if names are copied before a verb and its fields are put together or after that.
+/// A law: copying the names and joining a verb with its fields can be done in either order.
 pub(crate) fn copies_join()
     ensures { CopiesJoin }
 {}
 
 impl<N> Action<N> {
-    /// Its verb and its own fields, with their names lent.
+    /// Returns its verb and its own fields, with borrowed names.
     fn parts(&self) -> (Verb, Operands<&N>)
         ensures verb { result.0 ≡ (parts_of self.now).0 }
         ensures operands { operands_of result.1 ≡ (parts_of self.now).1 }
@@ -299,7 +301,9 @@ impl<N> Action<N> {
 }
 
 impl Operands<&&[u8]> {
-    /// A copy that owns its names.
+    /// Returns a copy that owns its names.
+    ///
+    /// `Err` if an allocation fails.
     fn to_owned(self, alloc: Global) -> Result<Operands<Name>, AllocError>
         ensures { IfOk result (λ operands. operands ≡ operands_of (operands_of self.entry)) }
     {
@@ -322,7 +326,7 @@ impl Operands<&&[u8]> {
 }
 
 impl<'a> Operands<&'a Name> {
-    /// The same fields with their names lent as bytes.
+    /// Returns the same fields, with their names borrowed as bytes.
     fn borrowed(self) -> Operands<&'a [u8]>
         ensures { operands_of result ≡ operands_of self.entry }
     {
@@ -338,7 +342,9 @@ impl<'a> Operands<&'a Name> {
 }
 
 impl Action<&[u8]> {
-    /// A copy that owns its names.
+    /// Returns a copy that owns its names.
+    ///
+    /// `Err` if an allocation fails.
     pub(crate) fn to_owned(&self, alloc: Global) -> Result<Action<Name>, AllocError>
         ensures { IfOk result (λ action. action ≡ action_of self.now) }
     {
@@ -353,7 +359,7 @@ impl Action<&[u8]> {
 }
 
 impl Action<Name> {
-    /// The same action with its names lent.
+    /// Returns the same action with borrowed names.
     pub(crate) fn borrowed(&self) -> Action<&[u8]>
         ensures { action_of result ≡ self.now }
     {

@@ -1,4 +1,4 @@
-//! The violations of cells that a report names by their numbers.
+//! Violations in reports that name cells by their positions.
 
 ghost use Rattle.std.specs.Prelude.{◌≡◌, ◌++◌, ℕ, All, IfOk, List, option_and_then, option_map, slice_get};
 ghost use Rattle.std.specs.List.{cons_option};
@@ -11,17 +11,19 @@ use lf_rules::{Broken, Violation};
 use lf_units::Name;
 use std::alloc::{AllocError, Global};
 
-/// The names of the cells that a report lists.
+/// The names of the cells in a report.
 pub trait Names {
     /// The names, in loading order.
     ghost names: { Self → List (List ℕ) };
 
-    /// The name of the cell of that number; none iff there is no such cell.
+    /// Returns the name of the cell at that position. `None` if and only if there is no such cell.
     fn name(&self, own: usize) -> Option<&[u8]>
         ensures { option_map (λ name. name.now) result ≡ slice_get (names self.now) own };
 }
 
-/// A copy of the name of the cell of that number; none if there is no such cell.
+/// Returns a copy of the name of the cell at that position. `None` if there is no such cell.
+///
+/// `Err` if an allocation fails.
 fn name_of<N: Names>(alloc: Global, names: &N, own: usize) -> Result<Option<Name>, AllocError>
     ensures { IfOk result (λ name. name ≡ slice_get (N.names names.now) own) }
 {
@@ -31,7 +33,9 @@ fn name_of<N: Names>(alloc: Global, names: &N, own: usize) -> Result<Option<Name
     }
 }
 
-/// A copy of the name of the other cell, if there is another.
+/// Returns a copy of the name of the other cell. `None` if there is no other cell.
+///
+/// `Err` if an allocation fails.
 fn other_name<N: Names>(
     alloc: Global,
     names: &N,
@@ -45,7 +49,10 @@ fn other_name<N: Names>(
     }
 }
 
-/// The violation of the cell of that number, which breaks this rule first; none if there is no such cell.
+/// Returns the violation of the cell at that position, which breaks this rule first. `None` if
+/// there is no such cell.
+///
+/// `Err` if an allocation fails.
 fn violation_of<N: Names>(
     alloc: Global,
     names: &N,
@@ -65,7 +72,10 @@ fn violation_of<N: Names>(
     }))
 }
 
-/// The violation of the cell of that number by its verdict; none if it breaks no rule.
+/// Returns the violation of the cell at that position, given its verdict. `None` if it breaks no
+/// rule.
+///
+/// `Err` if an allocation fails.
 fn violation_by<N: Names>(
     alloc: Global,
     names: &N,
@@ -80,11 +90,11 @@ fn violation_by<N: Names>(
     }
 }
 
-/// Puts the violation of the cell of that number behind what is written of a report, if its verdict, the first rule that it
-/// breaks, is one, and returns whether there is a violation in the text then; `later` is whether there was one before. The
-/// names are names of a text.
+/// Appends the violation of the cell at that position to the text of a report, if its verdict is a
+/// broken rule. Returns true if the text then has a violation; `later` says if it had one already.
+/// The names are names of a text.
 ///
-/// `Err` if an allocation fails; a part of it may then stand there.
+/// `Err` if an allocation fails; a part of it may then be appended.
 pub fn put_verdict<N: Names>(
     alloc: Global,
     names: &N,

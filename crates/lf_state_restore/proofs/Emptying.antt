@@ -1,4 +1,4 @@
--- Rows that give up their cells, team after team, as these are placed.
+-- Rows whose cells are removed, team after team, as these are placed.
 use Rattle.std.proofs.Common.{◌≡◌, ◌≢◌, ◌<◌, ◌≤◌, ℕ, zero, suc, ◌+◌, List, [], ◌∷◌, length, map, set, get_or, ⊎_elim, refl, ap, sym, subst, ◌∙◌, arith}
 use Rattle.std.proofs.lemmas.Bool.{cases_eq}
 use Rattle.std.proofs.lemmas.List.{length-map}
@@ -10,19 +10,19 @@ use Rattle.lf_state_text.specs.Saved.{SavedTeam, saved_at, team_view, team_views
 use Rattle.lf_state_restore.specs.Saved.{map_two, restored_cell}
 use Rattle.lf_state_restore.specs.Stands.{AreAsMany, ArePlaced, without_cells}
 
--- the first so many are without their cells
+-- the first n rows are without their cells
 abbrev pub first_emptied : ℕ → List SavedTeam → List SavedTeam
 first_emptied zero saved = saved
 first_emptied (suc n) [] = []
 first_emptied (suc n) (t ∷ saved) = without_cells t ∷ first_emptied n saved
 
--- the next one has its cells still
+-- the next row still has its cells
 pub next_whole : (n : ℕ) (saved : List SavedTeam) (d : SavedTeam) → get_or (first_emptied n saved) n d ≡ get_or saved n d
 next_whole zero saved d = refl
 next_whole (suc n) [] d = refl
 next_whole (suc n) (t ∷ saved) d = next_whole n saved d
 
--- one more is emptied
+-- the cells of one more row are removed
 pub next_emptied : (n : ℕ) (saved : List SavedTeam) (d : SavedTeam) → n < length saved
     → set (first_emptied n saved) n (without_cells (get_or saved n d)) ≡ first_emptied (n + 1) saved
 next_emptied n [] d less = absurd (omega (arith, less))
@@ -48,7 +48,7 @@ view_set [] n row = refl
 view_set (r ∷ rows) zero row = refl
 view_set (r ∷ rows) (suc n) row = ap (λ (ts : List SavedTeam). team_view r ∷ ts) (view_set rows n row)
 
--- the cells of the first so many saved teams are at their places, and their rows are without cells
+-- the cells of the first n saved teams are at their places, and their rows are without cells
 pub record PlacedSoFar (n : ℕ) (saved : List SavedTeam) (old now : Cells) (rows : List TeamRow) : Type 0 where
   pub cells : (team : ℕ) → team < n → cells_of now team ≡ map_two restored_cell (cells_of old team) (saved_at saved team).cells
   pub others : (team : ℕ) → n ≤ team → cells_of now team ≡ cells_of old team
@@ -63,7 +63,7 @@ module _ (n : ℕ) (all rows : List TeamRow) (old now : Cells) (less : n < lengt
   abbrev row : TeamRow
   row = get_or rows n d
 
-  -- what the next row tells
+  -- the contents of the next row
   pub next_view : team_view row ≡ saved_at (team_views all) n
   next_view =
       let none : SavedTeam = record { revision = 0; padding = 0; slots = []; cells = []; entries = [] } in

@@ -1,4 +1,4 @@
--- Undo entries that are made room for and pushed.
+-- Undo entries for which room is reserved and that are pushed.
 use Rattle.std.proofs.Common.{◌≡◌, ◌≤◌, ℕ, zero, suc, List, [], ◌∷◌, length, map, drop, get_or, None, refl, ap, sym, subst, ◌∙◌, arith}
 use Rattle.std.specs.Prelude.{All}
 use Rattle.std.specs.List.{range_with_len}
@@ -40,7 +40,7 @@ still_fits : FittingIsStable → (k : ℕ) (p q : Placing) (places : Places) →
 still_fits last k p q places same fits =
     last p q k places same.frame same.index same.site same.rooms (ap (λ (cs : Cells). map (λ c. c.mac) (cells_of cs k)) same.cells) fits
 
--- the places before the next entry fit, and so do those before the others
+-- the places before the next entry fit, and those before the other entries too
 pub next_fits : FittingIsStable → (k : ℕ) (p q : Placing) (entries rest : List (List Move)) (moves : List Move) (before after : Places) → entries ≡ moves ∷ rest
     → after ≡ moves_taken_back moves before → Fits p k after → SameButRooms p q → All (Fits q k) (entries_of after rest) → All (Fits q k) (entries_of before entries)
 next_fits last k p q entries rest moves before after are is fits same all =
@@ -62,7 +62,7 @@ map_twice : {X Y Z : Type 0} (f : Y → Z) (g : X → Y) (xs : List X) → map f
 map_twice f g [] = refl
 map_twice {Z = Z} f g (x ∷ xs) = ap (λ (zs : List Z). f (g x) ∷ zs) (map_twice f g xs)
 
--- those of the ids of the team's cells are its working places
+-- the working places of the ids of the team's cells are those of the team
 pub working_ids : (table : Cells) (team : ℕ) → map (λ id. working_at (cells_of table id.team) id.own) (ids_of team (cells_of table team)) ≡ places_of (cells_of table team)
 working_ids table team =
     let cells = cells_of table team in

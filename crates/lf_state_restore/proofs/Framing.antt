@@ -1,4 +1,4 @@
--- What is restored is a team of the frame, and of the design.
+-- A restored team is a team of the frame and of the design.
 use Rattle.std.proofs.Common.{◌≡◌, ◌≢◌, ◌≤◌, ◌<◌, ℕ, zero, suc, Bool, true, false, nat_lt, ◌+◌, List, [], ◌∷◌, ◌++◌, length, map, take, drop, set, get_or, Option, refl, ap, sym, subst, ◌∙◌, arith}
 use Rattle.std.specs.Prelude.{All, AllPairs, IfSome}
 use Rattle.std.proofs.lemmas.Bool.{ltb-false, ltb-true}
@@ -55,13 +55,13 @@ cells_printed (c ∷ cells) (s ∷ saved) all =
 
 -- ---- cells at their saved places
 
--- said twice it is the same
+-- restoring cells twice is restoring them once
 pub restored_twice : (cells : List Cell) (saved : List SavedCell) → map_two restored_cell (map_two restored_cell cells saved) saved ≡ map_two restored_cell cells saved
 restored_twice [] saved = refl
 restored_twice (c ∷ cells) [] = refl
 restored_twice (c ∷ cells) (s ∷ saved) = ap (λ (cs : List Cell). restored_cell c s ∷ cs) (restored_twice cells saved)
 
--- what is saved of cells at saved places are these places
+-- the saved places of restored cells are the saved ones
 pub saved_restored : (cells : List Cell) (saved : List SavedCell) → length saved ≡ length cells → map saved_cell (map_two restored_cell cells saved) ≡ saved
 saved_restored [] [] many = refl
 saved_restored [] (s ∷ saved) many = absurd (omega (arith, many))
@@ -91,7 +91,7 @@ module _ (saved : List SavedTeam) (old new : Cells) (many : AreAsMany saved old)
 
 -- ---- a team
 
--- a team whose cells are at saved places, and that has nothing to undo
+-- a team whose cells are at saved places, and that has no undo entry
 pub team_placed : (f : Frame) (s : TeamState) (saved : List SavedCell) → IsTeamOf f s → length saved ≡ length s.cells
     → IsTeamOf f record { cells = map_two restored_cell s.cells saved; revision = s.revision; entries = []; slots = s.slots; padding = s.padding }
 team_placed f s saved is many = record {
@@ -154,7 +154,7 @@ due_many limits [] (t ∷ saved) both = absurd both
 due_many limits (s ∷ teams) [] both = absurd both
 due_many limits (s ∷ teams) (t ∷ saved) both = ap suc (due_many limits teams saved both.1)
 
--- each one of them
+-- each of the teams
 pub due_at : (limits : Limits) (teams : List TeamState) (saved : List SavedTeam) (k : ℕ) (d : TeamState) → MatchDesign limits teams saved → k < length saved
     → IsSavedTeamOf limits (named_team [] (get_or teams k d)) (saved_at saved k)
 due_at limits [] [] k d due less = absurd (omega (arith, less))
@@ -171,7 +171,8 @@ due_each limits (s ∷ teams) [] d many each = absurd (omega (arith, many))
 due_each limits (s ∷ teams) (t ∷ saved) d many each =
     (each zero (omega arith), due_each limits teams saved d (omega (arith, many)) (λ k less. each (suc k) (omega (arith, less))))
 
--- the same teams are restored where what a saved team makes of each is the same
+-- restored lists of teams are equal if each saved team restores the teams at its position to the
+-- same team
 pub restored_each : (teams others : List TeamState) (saved : List SavedTeam) (d : TeamState) → length teams ≡ length saved → length others ≡ length saved
     → ((k : ℕ) → k < length saved → restored_team (get_or teams k d) (saved_at saved k) ≡ restored_team (get_or others k d) (saved_at saved k))
     → map_two restored_team teams saved ≡ map_two restored_team others saved
@@ -185,7 +186,7 @@ restored_each (s ∷ teams) (u ∷ others) (t ∷ saved) d many as_many each =
     ∙ ap (λ (xs : List TeamState). restored_team u t ∷ xs)
     (restored_each teams others saved d (omega (arith, many)) (omega (arith, as_many)) (λ k less. each (suc k) (omega (arith, less))))
 
--- the last one, and the others
+-- the last saved team, and the others
 pub last_due : (limits : Limits) (teams : List TeamState) (rest : List SavedTeam) (t : SavedTeam) (d : TeamState) → length rest < length teams
     → MatchDesign limits (take (length rest + 1) teams) (rest ++ t ∷ [])
     → IsSavedTeamOf limits (named_team [] (get_or teams (length rest) d)) t × MatchDesign limits (take (length rest) teams) rest
@@ -222,6 +223,6 @@ teams_fixed limits (s ∷ teams) (t ∷ saved) due =
     (cells_fixed s.cells t.cells (due.0.cells ∙ length-map s.cells (λ (c : Cell). c.name)))
     ∙ ap (λ (l : List (List (List ℕ × ℕ))). fixed_cells s ∷ l) (teams_fixed limits teams saved due.1)
 
--- what is restored is a floor of the design
+-- a restored floor has the design
 pub still_of_design : (begin : FloorState) (saved : List SavedTeam) → MatchDesign begin.frame.limits begin.teams saved → ShareDesign begin (restored begin saved)
 still_of_design begin saved due = record { frame = refl; components = refl; cells = teams_fixed begin.frame.limits begin.teams saved due }

@@ -1,4 +1,4 @@
--- A run stays with its design.
+-- After a run the floor has the same design.
 use Rattle.std.proofs.Common.{◌≡◌, ℕ, zero, suc, List, [], ◌∷◌, map, Bool, true, false, Option, Some, None, inl, inr, refl, ap, sym, ◌∙◌}
 use Rattle.std.specs.Prelude.{slice_get, slice_set, MatchBool}
 use Rattle.lf_floorplan.specs.declared.place.Place.{Place}
@@ -23,7 +23,7 @@ pub committed_fixed : (cells : List Cell) → map fixed_of (map as_committed cel
 committed_fixed [] = refl
 committed_fixed (c ∷ cs) = ap (λ (xs : List (List ℕ × ℕ)). fixed_of c ∷ xs) (committed_fixed cs)
 
--- whatever an order does, the team has the same cells
+-- the team has the same cells after any command
 order_fixed : (t : TeamRules) (order : TeamCommand (List ℕ) Place) (s : TeamState) → fixed_cells (outcome_of t order s).team ≡ fixed_cells s
 order_fixed t order s = by (outcome_of t order s) (order_facts t order s) where
   by : (o : Outcome) → Facts t s order o → fixed_cells o.team ≡ fixed_cells s

@@ -1,4 +1,4 @@
--- The committed design of what is restored.
+-- The committed design of a restored floor.
 use Rattle.std.proofs.Common.{◌≡◌, List, [], ◌∷◌, map, refl, ap, sym, subst, ◌∙◌}
 use Rattle.lf_rules.specs.FullyLegal.{IsFullyLegal, DesignCell, design_cells_from}
 use Rattle.lf_rules.specs.Team.{Member}

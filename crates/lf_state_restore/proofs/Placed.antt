@@ -1,4 +1,4 @@
--- Cells that get the places that a list gives, one after the other, and are committed there.
+-- Cells that are moved to the places of a list, one after another, and are then committed.
 use Rattle.std.proofs.Common.{◌≡◌, ◌<◌, ◌≤◌, ℕ, zero, suc, ◌+◌, List, [], ◌∷◌, length, map, set, get_or, Option, None, refl, ap, sym, ◌∙◌, arith}
 use Rattle.lf_floorplan.specs.declared.place.Place.{Place}
 use Rattle.lf_cells.specs.declared.cell.Cell.{Cell}
@@ -13,7 +13,7 @@ pub many_places : (cells : List Cell) → length (places_of cells) ≡ length ce
 many_places [] = refl
 many_places (c ∷ cs) = ap suc (many_places cs)
 
--- the first so many stand at these places, and the others where they stood
+-- the first n cells are at these places, and the others at their old places
 abbrev pub first_at : ℕ → Places → Places → Places
 first_at zero places from = from
 first_at (suc n) [] from = from
@@ -37,7 +37,7 @@ all_there (suc n) [] (q ∷ from) few many = absurd (omega (arith, many))
 all_there (suc n) (p ∷ places) [] few many = absurd (omega (arith, many))
 all_there (suc n) (p ∷ places) (q ∷ from) few many = ap (λ (ps : Places). p ∷ ps) (all_there n places from (omega (arith, few)) (omega (arith, many)))
 
--- one more is moved to its place
+-- one more cell is moved to its place
 next_at : (n : ℕ) (places from : Places) (place : Option Place) (old new : List Cell) → n < length places → length places ≡ length from
     → place ≡ get_or places n place → places_of old ≡ first_at n places from → new ≡ moved old n place → places_of new ≡ first_at (n + 1) places from
 next_at n places from place old new less many is so_far are =
@@ -48,7 +48,7 @@ next_at n places from place old new less many is so_far are =
     ∙ one_more_at n places from place less many
     ∙ ap (λ (k : ℕ). first_at k places from) (sym more)
 
--- a cell that stands at its place already is not moved
+-- a cell that is already at its place is not moved
 stays_at : (n : ℕ) (places from : Places) (d : Option Place) → n < length places → length places ≡ length from → get_or from n d ≡ get_or places n d
     → first_at n places from ≡ first_at (n + 1) places from
 stays_at n [] from d less many is = absurd (omega (arith, less))
@@ -59,7 +59,7 @@ stays_at (suc n) (p ∷ places) (q ∷ from) d less many is =
     ap (λ (ps : Places). p ∷ ps) (stays_at n places from d (omega (arith, less)) (omega (arith, many)) is)
     ∙ ap (λ (k : ℕ). first_at k (p ∷ places) (q ∷ from)) (sym more)
 
--- the first so many cells of the team stand at these places, and nothing else differs
+-- the first n cells of the team are at these places, and nothing else differs
 pub record StandSoFar (team n : ℕ) (places : Places) (old now : Cells) : Type 0 where
   pub at : places_of (cells_of now team) ≡ first_at n places (places_of (cells_of old team))
   pub same : SameButPlaces (cells_of old team) (cells_of now team)
@@ -70,7 +70,7 @@ none_so_far team places old = record { at = refl; same = refl; others = cells_st
 
 module _ (team n : ℕ) (places : Places) (old now : Cells) (less : n < length places) (many : length places ≡ length (places_of (cells_of old team)))
     (so_far : StandSoFar team n places old now) where
-  -- one more is moved to its place
+  -- one more cell is moved to its place
   pub one_so_far : (new : Cells) (place : Option Place) → place ≡ get_or places n place → cells_of new team ≡ moved (cells_of now team) n place
       → OtherCellsStay team now new → StandSoFar team (n + 1) places old new
   one_so_far new place is own others = record {
@@ -79,7 +79,7 @@ module _ (team n : ℕ) (places : Places) (old now : Cells) (less : n < length p
     others = cells_through team old now new so_far.others others;
   }
 
-  -- one more stands there already
+  -- one more cell is already at its place
   pub there_so_far : (d : Option Place) → get_or (places_of (cells_of old team)) n d ≡ get_or places n d → StandSoFar team (n + 1) places old now
   there_so_far d is = record {
     at = so_far.at ∙ stays_at n places (places_of (cells_of old team)) d less many is;
@@ -121,7 +121,7 @@ first_same e = cc
 rest_same : {a b : Cell} {rest others : List Cell} → a ∷ rest ≡ b ∷ others → rest ≡ others
 rest_same e = cc
 
--- what differs in places alone has the same names and macros
+-- cells that differ in working places alone have the same names and macros
 pub fixed_same : (old new : List Cell) → SameButPlaces old new → map fixed_of new ≡ map fixed_of old
 fixed_same [] [] same = refl
 fixed_same [] (c ∷ cs) same = absurd cc
@@ -129,7 +129,7 @@ fixed_same (d ∷ ds) [] same = absurd cc
 fixed_same (d ∷ ds) (c ∷ cs) same =
     ap (λ (x : Cell). (x.name, x.mac) ∷ map fixed_of cs) (first_same same) ∙ ap (λ (r : List (List ℕ × ℕ)). fixed_of d ∷ r) (fixed_same ds cs (rest_same same))
 
--- and the same committed places
+-- they have the same committed places
 pub committed_same : (old new : List Cell) → SameButPlaces old new → committed_of new ≡ committed_of old
 committed_same [] [] same = refl
 committed_same [] (c ∷ cs) same = absurd cc

@@ -1,4 +1,4 @@
--- What was saved of a floor restores it.
+-- The saved state of a floor restores it.
 use Rattle.std.proofs.Common.{◌≡◌, ℕ, List, [], ◌∷◌, map, Option, Ok, refl, ap, sym, subst, ◌∙◌}
 use Rattle.std.specs.Prelude.{drop, slice_index_or}
 use Rattle.lf_floorplan.specs.declared.frame.Frame.{Frame}

@@ -1,4 +1,4 @@
--- What is told of a floor's teams, in range, is saved.
+-- Saved teams of a floor whose numbers are in range are its saved state.
 use Rattle.std.proofs.Common.{◌≡◌, ◌≤◌, ◌<◌, ◌^◌, ℕ, zero, suc, List, [], ◌∷◌, length, map, set, Bool, true, false, cond, nat_lt, Option, refl, ap, sym, subst, ◌∙◌, arith}
 use Rattle.std.specs.Prelude.{All, IfSome}
 use Rattle.std.specs.List.{AllByRecursion}
@@ -24,7 +24,7 @@ set_past [] i x past = refl
 set_past (y ∷ xs) zero x past = absurd (omega (arith, past))
 set_past (y ∷ xs) (suc i) x past = ap (λ (l : List _). y ∷ l) (set_past xs i x (omega (arith, past)))
 
--- they change nothing
+-- moves of no cell change nothing
 back_within : (cells : ℕ) (moves : List Move) (places : Places) → length places ≡ cells → moves_taken_back (moves_within cells moves) places ≡ moves_taken_back moves places
 back_within cells [] places many = refl
 back_within cells (m ∷ moves) places many = by (nat_lt m.own cells) refl (back_within cells moves places many) where
@@ -57,7 +57,7 @@ all_own_within cells (moves ∷ stack) = (own_within cells moves, all_own_within
 
 -- ---- a team
 
--- what is told of a team whose undo entries are those of a stack
+-- the saved team of a team whose undo entries are those of a stack
 abbrev pub told_team : TeamState → List (List Move) → SavedTeam
 told_team s stack = record {
   revision = s.revision;
@@ -142,7 +142,7 @@ module _ (f : Frame) (stack_at : ℕ → List (List Move)) (team_at : ℕ → Te
   two_many (n ∷ names) [] many = absurd (omega (arith, many))
   two_many (n ∷ names) (s ∷ teams) many = ap suc (two_many names teams (omega (arith, many)))
 
-  -- what is told of the teams of a floor is saved
+  -- the saved teams of a floor are its saved state
   pub floor_told : (floor : FloorState) (ks : List ℕ) → floor.frame ≡ f → floor.teams ≡ map team_at ks → length (team_names f) ≡ length ks → length ks < 2 ^ 32
       → All (λ s. IsTeamOf f s) (map team_at ks) → All IsInRange (map told_at ks) → AreSavedTeams floor (map told_at ks)
   floor_told floor ks frame teams many few are range =

@@ -1,4 +1,4 @@
--- What is saved of a floor, and the floor that a saved one restores.
+-- The saved state of a floor, and the floor that it restores.
 use Rattle.std.specs.Prelude.{◌≡◌, ◌↔◌, ℕ, List, [], ◌∷◌, map, Ok, option_map}
 use Rattle.lf_floorplan.specs.declared.limits.Limits.{Limits}
 use Rattle.lf_floorplan.specs.declared.place.Place.{Place}
@@ -21,15 +21,15 @@ use Rattle.lf_state_text.specs.Designs.{NamedDesign, NamedTeam}
 use Rattle.lf_state_text.specs.Saved.{AreSaved, Both, IsTeamOf, SavedTeam, state_text}
 use Rattle.lf_state_text.specs.Reading.{state_of}
 
--- entry by entry of two lists, as far as both go
+-- a function applied to the pairs of elements of two lists, up to the end of the shorter one
 abbrev pub map_two : {A B C : Type 0} → (A → B → C) → List A → List B → List C
 map_two f [] others = []
 map_two f (a ∷ firsts) [] = []
 map_two f (a ∷ firsts) (b ∷ others) = f a b ∷ map_two f firsts others
 
--- ---- what is saved of a floor
+-- ---- the saved state of a floor
 
--- a team by its name, and its cells by theirs
+-- the name of a team, and the names of its cells
 abbrev pub named_team : List ℕ → TeamState → NamedTeam
 named_team name s = record { name = name; cells = map (λ c. c.name) s.cells }
 
@@ -37,11 +37,12 @@ named_team name s = record { name = name; cells = map (λ c. c.name) s.cells }
 abbrev pub named : FloorState → NamedDesign
 named floor = record { teams = map_two named_team (team_names floor.frame) floor.teams; limits = floor.frame.limits }
 
--- where a cell stands
+-- the places of a cell
 abbrev pub saved_cell : Cell → SavedCell
 saved_cell c = record { working = c.working; committed = c.committed }
 
--- a saved team is what is saved of this one: its undo entries are said as moves, of which no state speaks
+-- the saved team is the saved state of this team: its undo entries are moves, which a team's state
+-- does not have
 pub record IsSavedTeam (s : TeamState) (t : SavedTeam) : Type 0 where
   pub revision : t.revision ≡ s.revision
   pub padding : t.padding ≡ s.padding
@@ -49,7 +50,7 @@ pub record IsSavedTeam (s : TeamState) (t : SavedTeam) : Type 0 where
   pub cells : t.cells ≡ map saved_cell s.cells
   pub entries : entries_of (places_of s.cells) t.entries ≡ s.entries
 
--- the saved teams are what is saved of the floor, and have a text
+-- the saved teams are the saved state of the floor, and have a text
 pub record AreSavedTeams (floor : FloorState) (saved : List SavedTeam) : Type 0 where
   pub teams : Both IsSavedTeam floor.teams saved
   pub words : AreSaved (named floor) saved
@@ -60,20 +61,20 @@ IsStateText floor text = (saved : List SavedTeam) × AreSavedTeams floor saved �
 
 -- ---- floors of one design
 
--- what no command changes of a cell
+-- the parts of a cell that no command changes
 abbrev pub fixed_of : Cell → List ℕ × ℕ
 fixed_of c = (c.name, c.mac)
 
 abbrev pub fixed_cells : TeamState → List (List ℕ × ℕ)
 fixed_cells s = map fixed_of s.cells
 
--- the floors have one frame and the same cells, wherever these stand
+-- the floors have one frame and the same cells, wherever these are placed
 pub record ShareDesign (a b : FloorState) : Type 0 where
   pub frame : b.frame ≡ a.frame
   pub components : b.components ≡ a.components
   pub cells : map fixed_cells b.teams ≡ map fixed_cells a.teams
 
--- ---- what a saved floor restores
+-- ---- the restored floor
 
 abbrev pub restored_cell : Cell → SavedCell → Cell
 restored_cell c saved = record c { working = saved.working; committed = saved.committed }
@@ -87,39 +88,41 @@ restored_team s t = record {
   padding = t.padding;
 }
 
--- each saved team is one of the team of the same position, whatever its name is
+-- each saved team is a team like the one at the same position, except for its name
 abbrev pub MatchDesign : Limits → List TeamState → List SavedTeam → Type 0
 MatchDesign limits teams saved = Both (λ s t. IsTeamOf limits (named_team [] s) t) teams saved
 
--- the floor of a design in the state that the saved teams tell
+-- the floor of a design in the state of the saved teams
 abbrev pub restored : FloorState → List SavedTeam → FloorState
 restored begin saved = record begin { teams = map_two restored_team begin.teams saved }
 
--- the macro of a cell, and the committed place that a text tells of it
+-- the macro of a cell, and its saved committed place
 abbrev pub saved_member : Cell → SavedCell → Member
 saved_member c saved = record { mac = c.mac; place = option_map spot_of saved.committed }
 
--- all teams' cells at the committed places that the saved teams tell, team after team
+-- the cells of all teams at their saved committed places, in the order of the teams
 abbrev pub saved_design : FloorState → List SavedTeam → List DesignCell
 saved_design begin saved = design_cells_from 0 (map_two (λ s t. map_two saved_member s.cells t.cells) begin.teams saved)
 
--- the floor is in the state that the text tells of the design of the one with which it began
+-- the floor is in the state of the text, and has the design of the first floor
 abbrev pub IsRestoredFrom : FloorState → List ℕ → FloorState → Type 0
 IsRestoredFrom begin text floor = (saved : List SavedTeam) × (state_of (named begin) text ≡ Ok saved) × (floor ≡ restored begin saved)
 
 -- ---- laws
 
--- what was saved of a floor of the design is read from its text, and restored it is that floor
+-- the saved state of a floor of the design is read back from its text, and restores that floor
 abbrev pub SavedRestores : Type 0
 SavedRestores =
     (begin floor : FloorState) (text : List ℕ) → ShareDesign begin floor → IsStateText floor text
     → (saved : List SavedTeam) × (state_of (named begin) text ≡ Ok saved) × (restored begin saved ≡ floor)
 
--- the committed design of what is restored is fully legal if and only if the design that the saved teams tell is
+-- the committed design of a restored floor is fully legal if and only if the design with the saved
+-- committed places is
 abbrev pub RestoredIsCommitted : Type 0
 RestoredIsCommitted = (begin : FloorState) (saved : List SavedTeam) → IsCommittedLegal (restored begin saved) ↔ IsFullyLegal begin.frame (saved_design begin saved)
 
--- a state text and the journal behind it are a backup: what the text restores is where the journal begins
+-- a state text with the journal written after it is a backup: the journal runs from the floor that
+-- the text restores
 abbrev pub StateAndTail : Type 0
 StateAndTail =
     (l : Legalizer) (begin old new : FloorState) (text : List ℕ) (commands : List (Command (List ℕ) Place)) (replies : List Reply)
@@ -127,7 +130,7 @@ StateAndTail =
     → (saved : List SavedTeam) × (state_of (named begin) text ≡ Ok saved)
     × IsBackup l (restored begin saved) (lasting commands replies) (lasting_replies commands replies) new
 
--- a run stays with its design
+-- after a run the floor has the same design
 abbrev pub RunKeepsDesign : Type 0
 RunKeepsDesign =
     (l : Legalizer) (begin old new : FloorState) (commands : List (Command (List ℕ) Place)) (replies : List Reply)

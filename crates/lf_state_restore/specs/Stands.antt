@@ -1,4 +1,4 @@
--- Where the teams' cells stand, and where their undo entries lead.
+-- The places of the teams' cells, and the places of their undo entries.
 use Rattle.std.specs.Prelude.{◌≡◌, ◌≢◌, ◌<◌, ◌≤◌, ℕ, All, List, [], length}
 use Rattle.lf_cells.specs.Cells.{Cells, cells_of}
 use Rattle.lf_occupancy.specs.Occupied.{KeepsCapacities}
@@ -9,7 +9,7 @@ use Rattle.lf_placement.specs.Placings.{Fits, Placing, places_of}
 use Rattle.lf_state_text.specs.Saved.{SavedTeam, saved_at}
 use Rattle.lf_state_restore.specs.Saved.{map_two, restored_cell}
 
--- each saved team tells of as many cells as the team of its number has
+-- each saved team has as many cells as the team of its number
 abbrev pub AreAsMany : List SavedTeam → Cells → Type 0
 AreAsMany saved cells = (team : ℕ) → team < length saved → length (saved_at saved team).cells ≡ length (cells_of cells team)
 
@@ -19,7 +19,7 @@ pub record ArePlaced (saved : List SavedTeam) (old new : Cells) : Type 0 where
   pub others : (team : ℕ) → length saved ≤ team → cells_of new team ≡ cells_of old team
   pub components : new.components ≡ old.components
 
--- what a saved team tells beside where its cells stand
+-- the saved team without the places of its cells
 abbrev pub without_cells : SavedTeam → SavedTeam
 without_cells t = record t { cells = [] }
 
@@ -27,11 +27,11 @@ without_cells t = record t { cells = [] }
 abbrev pub entries_in : Placing → Stacks (List Move) → ℕ → List Places
 entries_in p undo team = entries_of (places_of (cells_of p.cells team)) (stack_of undo team)
 
--- there is room for them
+-- the strips have room for these places
 abbrev pub EntriesFit : Placing → Stacks (List Move) → ℕ → Type 0
 EntriesFit p undo team = All (Fits p team) (entries_in p undo team)
 
--- only the team's cells and its undo entries may differ, and no strip has less room
+-- only the team's cells and its undo entries may differ, and no strip's room shrinks
 pub record OthersStay (team : ℕ) (before after : Placing) (undo done : Stacks (List Move)) : Type 0 where
   pub frame : after.frame ≡ before.frame
   pub components : after.cells.components ≡ before.cells.components

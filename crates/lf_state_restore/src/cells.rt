@@ -1,4 +1,4 @@
-//! The cells of all teams at their saved places.
+//! The cells of all teams are placed at their saved places.
 
 ghost use Rattle.std.specs.Prelude.{◌≡◌, ◌≤◌, ℕ, IfOk, length, map};
 ghost use Rattle.lf_cells.specs.Cells.{as_committed, cells_of, moved};
@@ -14,7 +14,7 @@ use lf_state_text::{SavedCell, TeamRow};
 use std::alloc::{AllocError, Global};
 use std::mem;
 
-/// Changes the working place of the team's cell of that position, and nothing else.
+/// Sets the working place of the team's cell at that position, and changes nothing else.
 fn put_at(cells: &mut CellTable, team: u32, own: usize, place: Option<Place>)
     requires { own ≤ 4000000 }
     ensures own { cells_of cells.new team ≡ moved (cells_of cells.old team) own place }
@@ -27,7 +27,8 @@ fn put_at(cells: &mut CellTable, team: u32, own: usize, place: Option<Place>)
     cells.set_working(id, place);
 }
 
-/// Changes the working places of the team's cells to the saved committed ones, of which there is one for each.
+/// Sets the working places of the team's cells to the saved committed places. There is a saved cell
+/// for each cell.
 fn stand_committed(cells: &mut CellTable, team: u32, saved: &[SavedCell])
     requires many { length saved.now ≡ length (cells_of cells.old team) }
     requires few { length saved.now ≤ 4000000 }
@@ -40,8 +41,8 @@ fn stand_committed(cells: &mut CellTable, team: u32, saved: &[SavedCell])
     }
 }
 
-/// Changes the working places of the team's cells, which stand at the saved committed ones, to the saved working ones: the cells of
-/// which both are one place stand there already.
+/// Sets the working places of the team's cells to the saved working places. They are at the saved
+/// committed places so far, and a cell whose two places are equal is not touched.
 fn stand_working(cells: &mut CellTable, team: u32, saved: &[SavedCell])
     requires stand { places_of (cells_of cells.old team) ≡ map (λ c. c.committed) saved.now }
     requires few { length saved.now ≤ 4000000 }
@@ -57,7 +58,7 @@ fn stand_working(cells: &mut CellTable, team: u32, saved: &[SavedCell])
     }
 }
 
-/// Commits the team's cells where they stand.
+/// Commits the working places of the team's cells.
 fn commit(cells: &mut CellTable, team: u32)
     ensures own { cells_of cells.new team ≡ map as_committed (cells_of cells.old team) }
     ensures others { OtherCellsStay team cells.old cells.new }
@@ -65,7 +66,7 @@ fn commit(cells: &mut CellTable, team: u32)
     cells.commit_team(team as usize);
 }
 
-/// Gives the team's cells, of which there is one for each, their saved places.
+/// Sets the places of the team's cells to the saved ones. There is a saved cell for each cell.
 fn place_team(cells: &mut CellTable, team: u32, saved: &[SavedCell])
     requires many { length saved.now ≡ length (cells_of cells.old team) }
     requires few { length saved.now ≤ 4000000 }
@@ -77,7 +78,7 @@ fn place_team(cells: &mut CellTable, team: u32, saved: &[SavedCell])
     stand_working(cells, team, saved);
 }
 
-/// The same of the team of that number, if it has a cell.
+/// The same for the team of that number, if it has a cell.
 fn place_numbered(cells: &mut CellTable, team: usize, saved: &[SavedCell])
     requires many { length saved.now ≡ length (cells_of cells.old team) }
     requires few { length saved.now ≤ 4000000 }
@@ -90,7 +91,7 @@ fn place_numbered(cells: &mut CellTable, team: usize, saved: &[SavedCell])
     }
 }
 
-/// The saved cells of the row, which are then no longer in it.
+/// Removes the saved cells from the row and returns them.
 fn take_cells(alloc: Global, row: &mut TeamRow) -> Vec<SavedCell>
     ensures cells { result.items ≡ row.old.cells.items }
     ensures row { team_view row.new ≡ without_cells (team_view row.old) }
@@ -98,7 +99,8 @@ fn take_cells(alloc: Global, row: &mut TeamRow) -> Vec<SavedCell>
     mem::replace(&mut row.cells, Vec::new(alloc))
 }
 
-/// Gives each team's cells, of which there is one for each, the places that its row tells, and takes these out of the row.
+/// Sets the places of each team's cells to those of its row, and removes these from the row. There
+/// is a saved cell for each cell.
 fn place_in_table(alloc: Global, cells: &mut CellTable, rows: &mut [TeamRow])
     requires many { AreAsMany (team_views rows.old) cells.old }
     requires few { (team : ℕ) → length (cells_of cells.old team) ≤ 4000000 }
@@ -111,10 +113,10 @@ fn place_in_table(alloc: Global, cells: &mut CellTable, rows: &mut [TeamRow])
     }
 }
 
-/// The placement with each team's cells at the places that its row tells, working and committed. These are taken out of the rows and
-/// let go, and then the strips are built anew.
+/// Returns the placement with each team's cells at the places of its row, working and committed.
+/// Removes these from the rows and frees them, then builds the strips again.
 ///
-/// `Err` if an allocation fails; the placement is then gone.
+/// `Err` if an allocation fails; the placement is then dropped.
 pub fn place_teams(
     alloc: Global,
     placement: Placement,

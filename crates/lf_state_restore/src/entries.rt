@@ -1,4 +1,4 @@
-//! The undo entries of a team, restored.
+//! The undo entries of a team are restored.
 
 ghost use Rattle.std.specs.Prelude.{◌≡◌, ◌≢◌, ◌<◌, ◌≤◌, ℕ, [], All, IfOk, OnOk, length};
 ghost use Rattle.lf_cells.specs.Cells.{cells_of};
@@ -15,7 +15,9 @@ use lf_placement::{Placement, fitting_is_stable};
 use lf_undo::{Moves, UndoStore};
 use std::alloc::{AllocError, Global};
 
-/// The working places of the team's cells, in loading order.
+/// Returns the working places of the team's cells, in loading order.
+///
+/// `Err` if an allocation fails.
 fn working_places(
     alloc: Global,
     cells: &CellTable,
@@ -31,7 +33,10 @@ fn working_places(
     Ok(places)
 }
 
-/// Takes the entries of the team back on its places, the newest first, and makes room for the places before each of them.
+/// Reverts the entries of the team on its list of places, the newest first, and reserves room for
+/// the places before each entry.
+///
+/// `Err` if an allocation fails.
 fn fit_entries(
     placement: &mut Placement,
     tally: &mut StripCounts,
@@ -55,7 +60,9 @@ fn fit_entries(
     Ok(())
 }
 
-/// Pushes the entries onto the team's stack, which is empty, so that the first of them is the newest.
+/// Pushes the entries onto the team's stack, which is empty. The first entry becomes the newest.
+///
+/// `Err` if an allocation fails.
 fn push_entries(undo: &mut UndoStore, team: usize, entries: Vec<Moves>) -> Result<(), AllocError>
     requires team { team < length undo.old.lists }
     requires none { stack_of undo.old team ≡ [] }
@@ -78,8 +85,9 @@ fn push_entries(undo: &mut UndoStore, team: usize, entries: Vec<Moves>) -> Resul
     Ok(())
 }
 
-/// Gives the team, which has no undo entries, these ones, the newest first. There is then room for the places before each of them.
-/// The tally, which bounds the team's working places, is spent for the team, and bounds other teams' as before.
+/// Sets the undo entries of the team, which has no entries, to these, the newest first. Afterwards
+/// there is room for the places before each entry. The tally bounds the working places of this team
+/// and others; afterwards it bounds those of the others alone.
 ///
 /// `Err` if an allocation fails.
 pub fn restore_entries(

@@ -1,23 +1,25 @@
-//! Laws of saved floors.
+//! Laws on saved floors.
 
 ghost use Rattle.lf_state_restore.specs.Saved.{RestoredIsCommitted, RunKeepsDesign, SavedRestores, StateAndTail};
 
-/// What was saved of a floor is read from its text, and restored it is that floor: on any floor of the same design.
+/// The saved state of a floor is read back from its text. Restoring it on any floor of the same
+/// design gives that floor.
 pub fn saved_restores()
     ensures { SavedRestores }
 {}
 
-/// What is restored is committed where the saved teams say, and so legal where these are.
+/// A restored floor has the committed places of the saved teams. Its committed design is fully
+/// legal if and only if these are.
 pub fn restored_is_committed()
     ensures { RestoredIsCommitted }
 {}
 
-/// A state text and the journal behind it are a backup.
+/// A state text with the journal written after it is a backup.
 pub fn state_and_journal_restore()
     ensures { StateAndTail }
 {}
 
-/// Whatever a run does, the floor stays one of its design: so states can be saved one behind the other.
+/// After any run the floor still has its design. So states can be saved one after another.
 pub fn runs_keep_design()
     ensures { RunKeepsDesign }
 {}

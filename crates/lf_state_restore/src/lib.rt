@@ -1,17 +1,27 @@
-//! Saved teams of a floor, restored without the rules: their cells at the saved places, and their undo entries.
+//! Saved teams of a floor are restored without the rules: their cells at the saved places, and
+//! their undo entries.
 //!
-//! A saved team has its places and its undo entries. `place_teams` gives the cells of all teams their places, working and committed,
-//! takes them out of the rows that tell them, and builds the strips once. `restore_entries` takes the entries of a team back on a
-//! list of its places, the newest first, to make room for the places before each of them; no cell is moved. The entries are then the
-//! team's undo stack, as they were saved.
+//! `place_teams` sets the working and committed places of the cells of all teams, removes them from
+//! the rows, and builds the strips once. `restore_entries` reverts the entries of a team on a list
+//! of its places, the newest first, and reserves room for the places before each entry. It moves no
+//! cell. The entries are then the team's undo stack.
 //!
-//! The laws say what that is good for. A state text of a floor (`IsStateText`) restores that floor on any floor of its design
-//! (`restored`), and with the journal behind it is a backup; and whatever a run does, a floor stays one of its design.
+//! The laws connect this with state texts. A state text of a floor (`IsStateText`) restores that
+//! floor from any floor of its design (`restored`). With the journal written after it, the text is
+//! a backup. After any run a floor still has its design.
+//!
+//! Used by `lf_floor` and `lf_task_files`.
+//!
+//! Modules, in reading order:
+//!
+//! - `cells`: the cells of all teams are placed
+//! - `entries`: the undo entries of a team are restored
+//! - `laws`: laws on saved floors
+//!
+//! From `crates/lf_floor/src/restore.rt`:
 //!
 //! ```
-//! let mut placement = place_teams(alloc, placement, &mut rows)?;
-//! let mut tally = placement.strip_counts(alloc)?;
-//! restore_entries(alloc, &mut placement, &mut tally, &mut undo, team, entries)?;
+//! let placed = place_teams(alloc, placement, rows)?;
 //! ```
 #![tactic(auto)]
 

@@ -1,4 +1,4 @@
--- What was written is read again.
+-- A written text is read back.
 use Rattle.std.proofs.Common.{◌≡◌, ℕ, ◌+◌, ◌<◌, ◌≤◌, ◌^◌, List, [], ◌∷◌, ◌++◌, length, Ok, refl, sym, ap, subst, ◌∙◌, append_assoc, arith}
 use Rattle.std.specs.Prelude.{codes, IfSome}
 use Rattle.std.specs.Fmt.{decimal}
@@ -18,7 +18,7 @@ use Rattle.lf_state_text.proofs.Fields.{behind-front, due-again, number-again, b
 use Rattle.lf_state_text.proofs.Lines.{line-rest}
 use Rattle.lf_state_text.proofs.Loop.{many-again, each-again}
 
--- ---- facts of lists put together
+-- ---- facts about joined lists
 
 both_all : {X : Type 0} (P Q : X → Type 0) (xs : List X) → AllByRecursion P xs → AllByRecursion Q xs → AllByRecursion (λ x. P x × Q x) xs
 both_all P Q [] all more = tt

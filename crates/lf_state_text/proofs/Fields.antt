@@ -1,4 +1,4 @@
--- A word that was written is read again, whatever follows it.
+-- A word that was written is read back, whatever bytes follow.
 use Rattle.std.proofs.Common.{◌≡◌, ℕ, suc, ◌+◌, ◌<◌, ◌≤◌, ◌^◌, Bool, true, false, not, ◌==◌, cond, nat_lt, nat_le, List, [], ◌∷◌, ◌++◌, length, drop, Option, None, Some, Ok, refl, ap, subst, ◌∙◌, arith, ℤ, pos, negsuc, neg_ℤ, ◌<ℤ◌}
 use Rattle.std.proofs.lemmas.Bool.Decides.{nat_tests}
 use Rattle.std.proofs.lemmas.Bool.{and_parts, le-leb, lt-ltb}
@@ -26,7 +26,7 @@ use Rattle.lf_state_text.specs.Words.{behind, number, cut, place_in, place_on, s
 use Rattle.lf_state_text.specs.Saved.{IsSpot}
 use Rattle.lf_state_text.specs.Reading.{is_seen_by, word_at, due_at, number_at, below_at, count_at, spot_at, slot_at}
 
--- none of the bytes is this one
+-- no byte is this one
 abbrev pub lacks : ℕ → List ℕ → Bool
 lacks byte = list_all (λ b. not (b == byte))
 
@@ -55,7 +55,7 @@ pub drop_front : (w rest : List ℕ) → drop (length w) (w ++ rest) ≡ rest
 drop_front [] rest = refl
 drop_front (b ∷ w) rest = drop_front w rest
 
--- what is due comes first
+-- the expected bytes come first
 pub behind-front : (due rest : List ℕ) → behind due (due ++ rest) ≡ Some rest
 unfolding behind
 behind-front due rest =
@@ -104,7 +104,7 @@ coordinate-signed_decimal (negsuc n) low high =
     let small : suc n < 2 ^ 31 = omega (arith, ints) in
     negative-decimal (suc n) small
 
--- ---- which bytes words lack
+-- ---- bytes that words lack
 
 pub lacks-weaker : (p : ℕ → Bool) (byte : ℕ) → ((b : ℕ) → p b ≡ true → (b == byte) ≡ false) → (text : List ℕ) → list_all p text ≡ true → lacks byte text ≡ true
 lacks-weaker p byte weaker [] all = refl
@@ -112,7 +112,7 @@ lacks-weaker p byte weaker (b ∷ text) all =
     let parts = and_parts (p b) (list_all p text) all in
     rw (weaker b parts.0) (lacks-weaker p byte weaker text parts.1)
 
--- a byte that no number has: neither a digit nor a minus
+-- a byte that no number has: it is neither a digit nor a minus
 pub record IsMark (byte : ℕ) : Type 0 where
   pub below : byte < 48
   pub other : (45 == byte) ≡ false
@@ -215,7 +215,7 @@ slot-lacks : (o : Option ℕ) → IfSome o (λ n. n < 2 ^ 32) → lacks 10 (slot
 slot-lacks None fits = refl
 slot-lacks (Some n) fits = decimal-lacks 10 n (omega arith) (omega arith)
 
--- ---- words in their places
+-- ---- words at their positions
 
 pub due-again : (n : FaultNumber) (due rest : List ℕ) → due_at n due (due ++ rest) ≡ Ok rest
 unfolding due_at

@@ -1,4 +1,4 @@
--- Words that are read where they stand in front, whatever follows.
+-- Words that are read at the front, whatever bytes follow.
 use Rattle.std.proofs.Common.{◌≡◌, ℕ, zero, suc, ◌+◌, ◌-◌, ◌*◌, ◌<◌, ◌≤◌, ◌^◌, Bool, true, false, ◌==◌, cond, List, [], ◌∷◌, ◌++◌, length, get_or, take, drop, Option, None, Some, Ok, refl, sym, ap, subst, ◌∙◌, append_assoc, arith, ℤ, pos, neg_ℤ}
 use Rattle.std.proofs.lemmas.Bool.Decides.{nat_tests}
 use Rattle.std.proofs.lemmas.Bool.{le-leb, lt-ltb}
@@ -49,7 +49,7 @@ digits-are w n is = cases_all (list_all is_ascii_digit w) refl
 pub negative-some : (w : List ℕ) (n : ℕ) → digits w ≡ Some n → n < 2 ^ 31 → coordinate (45 ∷ w) ≡ Some (neg_ℤ (pos n))
 negative-some w n is small = rw (is, below-less (2 ^ 31) n small) refl
 
--- ---- which bytes such words lack
+-- ---- bytes that such words lack
 
 positive-digits : (w : List ℕ) (z : ℤ) → positive w ≡ Some z → Digits w
 positive-digits w z is = cases_read (digits w) refl
@@ -116,7 +116,7 @@ mark-low byte low = record { below = omega arith; other = grind (arith, nat_test
 comma-low : (byte : ℕ) → byte ≤ 32 → (44 == byte) ≡ false
 comma-low byte low = grind (arith, nat_tests)
 
--- what stands behind a front is what is left when that was taken
+-- the bytes after a prefix are the rest when it is dropped
 drop_to : (w d : List ℕ) → drop (length (w ++ d) - length d) (w ++ d) ≡ d
 drop_to w d = let many : length (w ++ d) - length d ≡ length w = omega (arith, length-append w d) in rw many (drop_front w d)
 
@@ -126,7 +126,7 @@ apart : (byte : ℕ) (bytes rest_x rest_y rest : List ℕ) (x y : ℤ) (o : Orie
 apart byte bytes rest_x rest_y rest x y o in_x in_y in_o =
     in_x.is ∙ ap (λ (t : List ℕ). in_x.word ++ (44 ∷ t)) (in_y.is ∙ ap (λ (t : List ℕ). in_y.word ++ (44 ∷ t)) in_o.is)
 
--- what stands behind them is what is left of the bytes when they were taken
+-- the bytes after them are the rest when they are dropped
 pub rest-in_front : (byte : ℕ) (bytes rest_x rest_y rest : List ℕ) (x y : ℤ) (o : Orient) → Begins coordinate 44 bytes x rest_x → Begins coordinate 44 rest_x y rest_y → Begins orient_named byte rest_y o rest
     → drop (length bytes - length rest) bytes ≡ rest
 rest-in_front byte bytes rest_x rest_y rest x y o in_x in_y in_o =

@@ -1,4 +1,4 @@
--- What is held of a text in pieces, and what is let go of it.
+-- The held bytes of a text in chunks, and what was dropped.
 use Rattle.std.proofs.Common.{◌≡◌, inl, inr, ℕ, ◌+◌, ◌-◌, length, Bool, true, false, cond, List, [], ◌∷◌, ◌++◌, take, drop, Option, Some, Result, Err, sym, ap, subst, ◌∙◌, append_assoc, arith}
 use Rattle.std.proofs.lemmas.List.{append-nil, length-append, take-append-drop}
 use Rattle.std.proofs.lemmas.Iterator.Adapters.{position_from-zero}
@@ -33,7 +33,7 @@ held-on gone piece later text start is =
     is ∙ (rw (append_assoc gone (take start piece) (drop start piece ++ later)) (ap (λ (t : List ℕ). gone ++ t)
     (ap (λ (t : List ℕ). t ++ later) (sym (take-append-drop start piece)) ∙ append_assoc (take start piece) (drop start piece) later)))
 
--- ---- the line where the cursor stands
+-- ---- the line of the cursor
 
 before-here : (text : List ℕ) (c : Cursor) (end : IsEnd text c) → take (length text - length (rest c)) text ≡ end.gone ++ take c.at c.piece.items
 before-here text c end =
@@ -52,7 +52,7 @@ line-here text c number line end is =
     with_number : FaultNumber → ℕ → StateFault
     with_number n l = record { number = n; line = l }
 
--- a refusal is told as the fault of what was read
+-- a refusal is the fault of the result of reading
 pub refused-is : {Y : Type 0} (text : List ℕ) (fault : TextFault) (found : Result Y TextFault) (e : ChunkError) → found ≡ Err fault → IsRefused text fault e → FailsIn e (with_line text found)
 refused-is text fault found pieces.Memory is told = tt
 refused-is text fault found (pieces.Refused r) is told = rw is (ap Err (sym told))
@@ -67,6 +67,6 @@ from-on : (p : ℕ → Bool) (at : ℕ) (xs ys : List ℕ) (i : ℕ) → positio
 from-on p at [] ys i is = absurd cc
 from-on p at (x ∷ xs) ys i is = from-case (p x) at i (position_from p (at + 1) xs) (position_from p (at + 1) (xs ++ ys)) is (from-on p (at + 1) xs ys i)
 
--- it stands there, whatever follows
+-- its position is the same, whatever bytes follow
 pub position-on : (p : ℕ → Bool) (xs ys : List ℕ) (i : ℕ) → position p xs ≡ Some i → position p (xs ++ ys) ≡ Some i
 position-on p xs ys i is = position_from-zero p (xs ++ ys) ∙ from-on p 0 xs ys i (sym (position_from-zero p xs) ∙ is)

@@ -13,7 +13,7 @@ use Rattle.lf_undo.specs.declared.moves.Move.{Move}
 use Rattle.lf_state_text.specs.Saved.{IsSpot, IsSpottedEntry, entry_lines, lines_of, move_line, moves_within}
 use Rattle.lf_state_text.specs.Writing.{entry_if, line_at, line_if, move_within}
 
--- words behind the first of a line, and what follows the line
+-- the words of a line after its first, and the bytes after the line
 abbrev pub line_rest : List (List ℕ) → List ℕ → List ℕ
 line_rest [] rest = 10 ∷ rest
 line_rest (w ∷ ws) rest = 32 ∷ (w ++ line_rest ws rest)
@@ -32,7 +32,7 @@ line-rest w ws rest = regroup w (spaced ws) (10 ∷ []) rest ∙ ap (λ (l : Lis
     regroup : (a b c d : List ℕ) → ((a ++ b) ++ c) ++ d ≡ a ++ ((b ++ c) ++ d)
     regroup a b c d = simp append_assoc
 
--- ---- pieces that are put
+-- ---- pieces that are written
 
 pub spaced_map : {X : Type 0} (f : X → List ℕ) (xs : List X) → spaced (map f xs) ≡ flat_map (λ x. 32 ∷ f x) xs
 spaced_map f [] = refl
@@ -69,18 +69,18 @@ module _ {A B : Type 0} (line : A → B → List ℕ) where
   pub no_line : (before : List ℕ) (firsts : List A) → before ≡ before ++ lines_of line firsts []
   no_line before firsts = sym (ap (λ (l : List ℕ). before ++ l) (lines_none firsts) ∙ append-nil before)
 
-  -- the lines so far, and the next one
+  -- the lines so far and the next one
   pub next_line : (before : List ℕ) (firsts : List A) (seconds : List B) (i : ℕ) → (before ++ lines_of line firsts (take i seconds)) ++ line_at line firsts seconds i ≡ before ++ lines_of line firsts (take (i + 1) seconds)
   next_line before firsts seconds i =
       let more : i + 1 ≡ suc i = omega arith in
       append_assoc before (lines_of line firsts (take i seconds)) (line_at line firsts seconds i)
       ∙ ap (λ (l : List ℕ). before ++ l) (sym (rw more (one_line firsts seconds i)))
 
-  -- and all of them
+  -- the lines so far are all lines
   pub all_lines : (before : List ℕ) (firsts : List A) (seconds : List B) (i : ℕ) → length seconds ≤ i → before ++ lines_of line firsts (take i seconds) ≡ before ++ lines_of line firsts seconds
   all_lines before firsts seconds i past = ap (λ (xs : List B). before ++ lines_of line firsts xs) (take_all i seconds past)
 
-  -- the line of that position, where both have one
+  -- the line at that position, if both lists have an element there
   pub line_there : (firsts : List A) (seconds : List B) (i : ℕ) (a : A) (b : B) → i < length firsts → i < length seconds
       → line_at line firsts seconds i ≡ line (get_or firsts i a) (get_or seconds i b)
   line_there [] seconds i a b here there = absurd (omega arith)
@@ -90,7 +90,7 @@ module _ {A B : Type 0} (line : A → B → List ℕ) where
 
 -- ---- undo entries
 
--- the lines so far, and those of the next entry
+-- the lines so far and those of the next entry
 next_entry : (entries : List (List Move)) (i : ℕ) → flat_map entry_lines (take (suc i) entries) ≡ flat_map entry_lines (take i entries) ++ entry_if (slice_get entries i)
 next_entry [] zero = refl
 next_entry [] (suc i) = refl
@@ -127,7 +127,7 @@ entry_put cells count moves is =
     ap (λ (n : ℕ). line_of (codes "undo" ∷ decimal n ∷ []) ++ flat_map (move_within cells) moves) many
     ∙ ap (λ (l : List ℕ). line_of (codes "undo" ∷ decimal (length (moves_within cells moves)) ∷ []) ++ l) (moves_put cells moves)
 
--- ---- what has a text
+-- ---- states that have a text
 
 count_less : (cells : ℕ) (moves : List Move) → length (moves_within cells moves) ≤ length moves
 count_less cells [] = omega arith
@@ -143,7 +143,7 @@ entry_spotted cells moves few spotted = (
       (All-filter (λ (m : Move). nat_lt m.own cells) (λ (m : Move). IfSome m.old IsSpot) moves spotted),
 )
 
--- one more is so
+-- the fact holds for one more element
 next_is : {X : Type 0} (P : X → Type 0) (xs : List X) (i : ℕ) → i < length xs → All P (take i xs) → IfSome (slice_get xs i) P → All P (take (suc i) xs)
 next_is P [] i less all is = absurd (omega (arith, less))
 next_is P (x ∷ xs) zero less all is = All-cons P x [] is (All-nil P)

@@ -1,4 +1,4 @@
--- Reading items one after the other, as a loop does.
+-- Reading items one after another, as a loop does.
 use Rattle.std.proofs.Common.{◌≡◌, ℕ, suc, ◌-◌, ◌+◌, ◌≤◌, ◌<◌, List, [], ◌∷◌, ◌++◌, length, drop, get_or, Result, Ok, Err, refl, sym, ap, ◌∙◌, append_assoc, arith}
 use Rattle.std.proofs.Math.Seq.{drop-cons}
 use Rattle.std.proofs.lemmas.List.{drop_all}
@@ -10,7 +10,7 @@ use Rattle.lf_state_text.specs.declared.fault.ReadError.TheVariants as errors
 use Rattle.lf_state_text.specs.Saved.{Both, lines_of}
 use Rattle.lf_state_text.specs.Reading.{◌>>=◌, TextFault, Fails, each_at, many_at}
 
--- what was read before, and what is still read
+-- the items read earlier, followed by the result of further reading
 abbrev pub with_front : {X : Type 0} → List X → Result (List X × List ℕ) TextFault → Result (List X × List ℕ) TextFault
 with_front front read = read >>= λ x. Ok (front ++ x.0, x.1)
 
@@ -52,7 +52,7 @@ module _ {X : Type 0} (item : List ℕ → Result (X × List ℕ) TextFault) whe
       let regrouped : flat_map text (x ∷ xs) ++ rest ≡ text x ++ (flat_map text xs ++ rest) = ap (λ (b : List ℕ). b ++ rest) (flat_map-cons text x xs) ∙ append_assoc (text x) (flat_map text xs) rest in
       ap (many_at item (suc (length xs))) regrouped ∙ rw (one x (flat_map text xs ++ rest) fits.0, many-again text Fits one xs rest fits.1) refl
 
--- an item for each of a list
+-- an item for each element of a list
 module _ {D X : Type 0} (item : D → List ℕ → Result (X × List ℕ) TextFault) where
   regroup_each : (front : List X) (n : X) (read : Result (List X × List ℕ) TextFault) → with_front front (read >>= λ x. Ok (n ∷ x.0, x.1)) ≡ with_front (front ++ n ∷ []) read
   regroup_each front n (Ok x) = ap (λ (ns : List X). Ok (ns, x.1)) (simp append_assoc)

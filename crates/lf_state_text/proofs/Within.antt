@@ -1,4 +1,4 @@
--- What is read is within the design's limits.
+-- The result of reading is within the design's limits.
 use Rattle.std.proofs.Common.{◌≡◌, ℕ, zero, suc, ◌+◌, ◌<◌, ◌≤◌, Bool, true, false, ◌==◌, cond, nat_lt, List, [], ◌∷◌, length, Option, None, Some, Result, Ok, Err, refl, ap, subst, arith}
 use Rattle.std.specs.Prelude.{IfOk, IfSome, codes}
 use Rattle.std.specs.List.{AllByRecursion}
@@ -14,7 +14,7 @@ use Rattle.lf_state_text.specs.Words.{slot_on}
 use Rattle.lf_state_text.specs.Saved.{SavedTeam, AreOf, Both, IsTeamOf}
 use Rattle.lf_state_text.specs.Reading.{◌>>=◌, TextFault, Numbers, ReturnsAt, or_fault, is_seen_by, word_at, due_at, number_at, below_at, count_at, spot_at, slot_at, cell_at, move_at, entry_at, named_at, numbers_at, rows_at, team_at, opening_at, all_at, state_of, many_at, each_at, with_line}
 
--- ---- what was read one after the other
+-- ---- successive steps of reading
 
 abbrev ok_or : {A B : Type 0} → Result A B → A → A
 ok_or (Ok x) d = x
@@ -23,7 +23,7 @@ ok_or (Err e) d = d
 same_ok : {A B : Type 0} {a b : A} → ◌≡◌ {A = Result A B} (Ok a) (Ok b) → a ≡ b
 same_ok {A} {B} {a} {b} is = ap (λ (r : Result A B). ok_or r a) is
 
--- both steps went well
+-- both steps succeeded
 pub record Steps {A B : Type 0} (o : Result A TextFault) (f : A → Result B TextFault) (y : B) : Type 0 where
   pub first : A
   pub is : o ≡ Ok first
@@ -33,7 +33,7 @@ steps : {A B : Type 0} (o : Result A TextFault) (f : A → Result B TextFault) (
 steps (Ok x) f y is = record { first = x; is = refl; rest = is }
 steps (Err e) f y is = absurd cc
 
--- a test that went well
+-- a test that succeeded
 pub record Passed {A : Type 0} (test : Bool) (x y : A) : Type 0 where
   pub holds : test ≡ true
   pub same : x ≡ y
@@ -165,7 +165,7 @@ all-within design text ts is =
     let test = passed (length teams.first.1 == 0) teams.first.0 ts _ teams.rest in
     subst (AreOf design) test.same (each-within (team_at design.limits) (IsTeamOf design.limits) (team-within design.limits) design.teams rest.first teams.first teams.is)
 
--- the same of the fault with its line
+-- the same for the fault with its line
 state-within : (design : NamedDesign) (text : List ℕ) (read : Result (List SavedTeam) TextFault) (ts : List SavedTeam) → all_at design text ≡ read → with_line text read ≡ Ok ts → AreOf design ts
 state-within design text (Ok xs) ts is told = subst (AreOf design) (same_ok told) (all-within design text xs is)
 state-within design text (Err f) ts is told = absurd cc

@@ -1,8 +1,8 @@
--- What a state text has to tell of.
+-- The names and limits of a design.
 use Rattle.std.specs.Prelude.{ℕ, List, [], slice_index_or}
 use Rattle.lf_floorplan.specs.declared.limits.Limits.{Limits}
 
--- a team by its name, and its cells by theirs, in loading order
+-- the name of a team, and the names of its cells, in loading order
 pub record NamedTeam : Type 0 where
   pub name : List ℕ
   pub cells : List (List ℕ)
@@ -12,6 +12,6 @@ pub record NamedDesign : Type 0 where
   pub teams : List NamedTeam
   pub limits : Limits
 
--- the team of that number, which there must be
+-- the team of that number, which must exist
 abbrev pub team_of : NamedDesign → ℕ → NamedTeam
 team_of design team = slice_index_or design.teams team record { name = []; cells = [] }

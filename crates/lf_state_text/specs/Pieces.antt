@@ -1,22 +1,22 @@
--- What is left of a text in pieces, and what was let go of it.
+-- The unread rest of a text in chunks, and what was dropped of it.
 use Rattle.std.specs.Prelude.{◌≡◌, ◌⊎◌, ℕ, List, [], ◌∷◌, ◌++◌, drop, Vec}
 use Rattle.std.specs.List.{flat_map}
 use Rattle.lf_lex.specs.Tokens.{line_feeds}
 use Rattle.lf_state_text.specs.declared.cursor.Cursor.{Cursor}
 
--- the text that the pieces make together
+-- the text of all chunks
 abbrev pub joined : {A : Type 0} → List (Vec ℕ A) → List ℕ
 joined pieces = flat_map (λ piece. piece.items) pieces
 
--- what is held of the text
+-- the bytes that are still held
 abbrev pub held_bytes : Cursor → List ℕ
 held_bytes c = c.piece.items ++ joined c.later.items
 
--- what is left of the piece
+-- the unread rest of the chunk
 abbrev pub front : Cursor → List ℕ
 front c = drop c.at c.piece.items
 
--- what is left of the text
+-- the unread rest of the text
 abbrev pub rest : Cursor → List ℕ
 rest c = front c ++ joined c.later.items
 
@@ -24,7 +24,7 @@ rest c = front c ++ joined c.later.items
 abbrev pub AreLines : List ℕ → Type 0
 AreLines text = (text ≡ []) ⊎ ((before : List ℕ) × (text ≡ before ++ 10 ∷ []))
 
--- what is held is the end of the text, behind whole lines, whose feeds are counted
+-- the held bytes are the end of the text, after whole lines, whose line feeds are counted
 pub record IsEnd (text : List ℕ) (c : Cursor) : Type 0 where
   pub gone : List ℕ
   pub whole : AreLines gone

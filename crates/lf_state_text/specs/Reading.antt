@@ -1,4 +1,4 @@
--- What a state text is read as: the teams of a design, or the first fault.
+-- The result of reading a state text: the teams of a design, or the first fault.
 use Rattle.std.specs.Prelude.{◌≡◌, ℕ, zero, suc, ◌+◌, ◌-◌, Bool, true, nat_lt, nat_le, List, [], ◌∷◌, length, take, Option, Some, None, is_some, Result, Ok, Err, ◌==◌, cond, codes}
 use Rattle.lf_floorplan.specs.declared.limits.Limits.{Limits}
 use Rattle.lf_floorplan.specs.declared.place.Place.{Place}
@@ -16,7 +16,7 @@ use Rattle.lf_state_text.specs.Designs.{NamedDesign, NamedTeam}
 use Rattle.lf_state_text.specs.Words.{behind, cut, number, place_on, slot_on}
 use Rattle.lf_state_text.specs.Saved.{SavedTeam, title}
 
--- the first fault of a text, in its order, and how many bytes were left there
+-- the first fault of a text, in its order, and the number of unread bytes there
 pub record TextFault : Type 0 where
   pub number : FaultNumber
   pub left : ℕ
@@ -26,9 +26,10 @@ abbrev pub ◌>>=◌ : {A B : Type 0} → Result A TextFault → (A → Result B
 (Ok x) >>= f = f x
 (Err e) >>= f = Err e
 
--- ---- what a function returned, seen by view, is what reading gives, unless memory ran out; these bytes are left
+-- ---- the result of a function, seen by a view, is the result of reading, unless memory ran out;
+-- with the unread bytes
 
--- the fault where so many bytes are left
+-- the fault at this number of unread bytes
 abbrev pub Fails : {Y : Type 0} → ReadError → Result Y TextFault → ℕ → Type 0
 Fails reading.Memory read left = Unit {0}
 Fails (reading.Fault number) read left = read ≡ Err (record { number = number; left = left })
@@ -37,7 +38,7 @@ abbrev pub Reads : {X Y : Type 0} → (X → List ℕ → Y) → Result X ReadEr
 Reads view (Ok x) read left = read ≡ Ok (view x left)
 Reads view (Err e) read left = Fails e read (length left)
 
--- the same where the fault has its line
+-- the same for a fault with its line
 abbrev pub FailsAt : {Y : Type 0} → StateError → Result Y StateFault → Type 0
 FailsAt states.Memory read = Unit {0}
 FailsAt (states.Fault f) read = read ≡ Err f
@@ -48,7 +49,7 @@ ReturnsAt view (Err e) read = FailsAt e read
 
 -- ---- faults
 
--- the fault of that number where these bytes are left
+-- the fault of that number at these unread bytes
 abbrev pub fault : {A : Type 0} → FaultNumber → List ℕ → Result A TextFault
 fault number bytes = Err (record { number = number; left = length bytes })
 
@@ -56,7 +57,8 @@ abbrev pub or_fault : {A : Type 0} → FaultNumber → List ℕ → Option A →
 or_fault number bytes None = fault number bytes
 or_fault number bytes (Some x) = Ok x
 
--- the fault of a line that goes on otherwise: that number, or the text ends within the line
+-- the fault of a line that continues differently: that number, or UnexpectedEnd if the text ends
+-- within the line
 abbrev pub mismatch : FaultNumber → List ℕ → FaultNumber
 mismatch number bytes = cond (is_some (cut 10 bytes)) number UnexpectedEnd
 
@@ -68,9 +70,9 @@ abbrev pub with_line : {A : Type 0} → List ℕ → Result A TextFault → Resu
 with_line text (Ok x) = Ok x
 with_line text (Err f) = Err (located text f)
 
--- ---- words: what each says, and the bytes behind it
+-- ---- words: the value of each, and the bytes after it
 
--- bytes that are due
+-- the expected bytes
 unfoldable pub due_at : FaultNumber → List ℕ → List ℕ → Result (List ℕ) TextFault
 due_at number due bytes = or_fault (mismatch number bytes) bytes (behind due bytes)
 
@@ -84,13 +86,13 @@ number_at byte bytes = do
   n ← or_fault BadNumber bytes (number word.0)
   Ok (n, word.1)
 
--- a number below that one
+-- a number below the limit
 unfoldable pub below_at : ℕ → ℕ → List ℕ → Result (ℕ × List ℕ) TextFault
 below_at limit byte bytes = do
   n ← number_at byte bytes
   cond (nat_lt n.0 limit) (Ok n) (fault OutOfRange bytes)
 
--- the number that is due
+-- the expected number
 unfoldable pub count_at : ℕ → ℕ → List ℕ → Result (List ℕ) TextFault
 count_at count byte bytes = do
   n ← number_at byte bytes
@@ -123,14 +125,14 @@ cell_at name bytes = do
   committed ← spot_at 10 working.1
   Ok (record { working = working.0; committed = committed.0 }, committed.1)
 
--- a move of one of so many cells
+-- a move of one of the cells of a team of this size
 unfoldable pub move_at : ℕ → List ℕ → Result (Move × List ℕ) TextFault
 move_at cells bytes = do
   own ← below_at cells 32 bytes
   place ← spot_at 10 own.1
   Ok (record { own = own.0; old = place.0 }, place.1)
 
--- so many items, one after the other
+-- this number of items, one after another
 unfoldable pub many_at : {X : Type 0} → (List ℕ → Result (X × List ℕ) TextFault) → ℕ → List ℕ → Result (List X × List ℕ) TextFault
 many_at item zero bytes = Ok ([], bytes)
 many_at item (suc n) bytes = do
@@ -154,13 +156,13 @@ entry_at cells bytes = do
 
 -- ---- teams
 
--- the numbers of a team's first line that its design does not say
+-- the numbers of a team's first line that the design does not determine
 pub record Numbers : Type 0 where
   pub revision : ℕ
   pub padding : ℕ
   pub entries : ℕ
 
--- team and the team's name
+-- the word team, and the team's name
 unfoldable pub named_at : List ℕ → List ℕ → Result (List ℕ) TextFault
 named_at name bytes = do
   rest ← due_at Unexpected (codes "team ") bytes
@@ -176,7 +178,7 @@ numbers_at limits cells bytes = do
   entries ← below_at (limits.undo + 1) 10 all
   Ok (record { revision = revision.0; padding = padding.0; entries = entries.0 }, entries.1)
 
--- the lines behind a team's first, which has these numbers
+-- the lines of a team after its first, which has these numbers
 unfoldable pub rows_at : Limits → NamedTeam → Numbers → List ℕ → Result (SavedTeam × List ℕ) TextFault
 rows_at limits named numbers bytes = do
   slots ← many_at (slot_at numbers.revision) limits.sessions bytes
@@ -194,20 +196,20 @@ team_at limits named bytes = do
 abbrev pub title_at : List ℕ → Result (List ℕ) TextFault
 title_at text = or_fault OtherVersion text (behind title text)
 
--- the title, and how many teams there are
+-- the title, and the number of teams
 unfoldable pub opening_at : NamedDesign → List ℕ → Result (List ℕ) TextFault
 opening_at design text = do
   rest ← title_at text
   counted ← due_at Unexpected (codes "teams ") rest
   count_at (length design.teams) 10 counted
 
--- all of the text
+-- the whole text
 unfoldable pub all_at : NamedDesign → List ℕ → Result (List SavedTeam) TextFault
 all_at design text = do
   rest ← opening_at design text
   teams ← each_at (team_at design.limits) design.teams rest
   cond (length teams.1 == 0) (Ok teams.0) (fault Unexpected teams.1)
 
--- what the text tells of the design, or its first fault and that fault's line
+-- the saved teams in the text of a state of the design, or its first fault with its line
 abbrev pub state_of : NamedDesign → List ℕ → Result (List SavedTeam) StateFault
 state_of design text = with_line text (all_at design text)

@@ -1,4 +1,4 @@
--- What is told of a text in pieces that is refused.
+-- The refusal of a text in chunks.
 use Rattle.std.specs.Prelude.{◌≡◌, ◌<◌, ℕ, List, ◌++◌, Result, Ok, Err}
 use Rattle.lf_lex.specs.Tokens.{line_feeds}
 use Rattle.lf_state_text.specs.declared.fault.StateFault.{StateFault}
@@ -8,7 +8,7 @@ use Rattle.lf_state_text.specs.declared.refusal.ChunkError.TheVariants as pieces
 use Rattle.lf_state_text.specs.Pieces.{AreLines}
 use Rattle.lf_state_text.specs.Reading.{TextFault, located}
 
--- what a function returned, seen by view, is what reading gives, unless memory ran out
+-- the result of a function, seen by a view, is the result of reading, unless memory ran out
 abbrev pub FailsIn : {Y : Type 0} → ChunkError → Result Y StateFault → Type 0
 FailsIn pieces.Memory read = Unit {0}
 FailsIn (pieces.Refused r) read = read ≡ Err r.fault
@@ -17,12 +17,13 @@ abbrev pub ReturnsIn : {X Y : Type 0} → (X → Y) → Result X ChunkError → 
 ReturnsIn view (Ok x) read = read ≡ Ok (view x)
 ReturnsIn view (Err e) read = FailsIn e read
 
--- the fault is told with its line in the text, unless memory ran out
+-- the error is the fault with its line in the text, unless memory ran out
 abbrev pub IsRefused : List ℕ → TextFault → ChunkError → Type 0
 IsRefused text fault pieces.Memory = Unit {0}
 IsRefused text fault (pieces.Refused r) = r.fault ≡ located text fault
 
--- it has the end of the text, behind whole lines, as many as it says; the fault is not on these
+-- it has the end of the text, after the number of whole lines that it gives; the fault is not on
+-- those lines
 pub record HasEnd (text : List ℕ) (r : StateRefused) : Type 0 where
   pub gone : List ℕ
   pub whole : AreLines gone

@@ -1,4 +1,4 @@
--- What a state text says of the teams of a design, and how it is written.
+-- The contents of a state text of the teams of a design, and how it is written.
 use Rattle.std.specs.Prelude.{◌≡◌, ℕ, ◌<◌, ◌≤◌, ◌^◌, ◌<ℤ◌, pos, List, [], ◌∷◌, ◌++◌, All, length, map, filter, nat_lt, Option, IfSome, codes, slice_index_or}
 use Rattle.std.specs.List.{flat_map, AllByRecursion}
 use Rattle.std.specs.Fmt.{decimal}
@@ -11,9 +11,10 @@ use Rattle.lf_state_text.specs.declared.saved_rows.TeamRow.{TeamRow}
 use Rattle.lf_state_text.specs.Designs.{NamedDesign, NamedTeam}
 use Rattle.lf_state_text.specs.Words.{place_text, slot_text}
 
--- a team: its revision; its padding in core sites; for each session slot the revision that its session has seen, None if the slot is
--- free; where its cells stand, in loading order; and its undo entries, the newest first: each has the moves of a change, with the
--- places that their cells had before it
+-- a team. padding: in core sites. slots: for each session slot the revision that its session has
+-- seen, None if the slot is free. cells: their places, in loading order. entries: its undo entries,
+-- the newest first; each has the moves of a change, with the places of their cells before the
+-- change
 pub record SavedTeam : Type 0 where
   pub revision : ℕ
   pub padding : ℕ
@@ -27,17 +28,17 @@ team_view t = record { revision = t.revision; padding = t.padding.sites; slots =
 abbrev pub team_views : List TeamRow → List SavedTeam
 team_views teams = map team_view teams
 
--- the team of that number, which there must be
+-- the team of that number, which must exist
 abbrev pub saved_at : List SavedTeam → ℕ → SavedTeam
 saved_at teams team = slice_index_or teams team record { revision = 0; padding = 0; slots = []; cells = []; entries = [] }
 
--- the moves of so many cells: a move of no cell changes nothing, and is not told
+-- the moves of cells below this number: a move of no cell changes nothing, and is not written
 abbrev pub moves_within : ℕ → List Move → List Move
 moves_within cells moves = filter (λ m. nat_lt m.own cells) moves
 
 -- ---- lines
 
--- the text of each of these, one behind the other, by the one of the same position among those
+-- the text of each pair of elements of the two lists, one after another
 abbrev pub lines_of : {A B : Type 0} → (A → B → List ℕ) → List A → List B → List ℕ
 lines_of line [] seconds = []
 lines_of line (a ∷ firsts) [] = []
@@ -65,7 +66,7 @@ head_line name t =
     line_of
     (codes "team" ∷ name ∷ decimal t.revision ∷ decimal t.padding ∷ decimal (length t.slots) ∷ decimal (length t.cells) ∷ decimal (length t.entries) ∷ [])
 
--- and its slots, its cells and its undo entries
+-- the first line, the slots, the cells and the undo entries
 abbrev pub team_lines : NamedTeam → SavedTeam → List ℕ
 team_lines named t =
     head_line named.name t ++ (flat_map slot_line t.slots ++ (lines_of cell_line named.cells t.cells ++ flat_map entry_lines t.entries))
@@ -74,23 +75,23 @@ team_lines named t =
 abbrev pub title : List ℕ
 title = line_of (codes "lefence-state" ∷ codes "1" ∷ [])
 
--- the title with the version, and how many teams there are
+-- the title with the version, and the number of teams
 abbrev pub opening_lines : ℕ → List ℕ
 opening_lines count = title ++ line_of (codes "teams" ∷ decimal count ∷ [])
 
--- and each of them
+-- the opening lines, and the lines of each team
 abbrev pub state_text : NamedDesign → List SavedTeam → List ℕ
 state_text design teams = opening_lines (length design.teams) ++ lines_of team_lines design.teams teams
 
--- ---- what has a text
+-- ---- states that have a text
 
--- each of these is so, by the one of the same position among those, which are as many
+-- the lists have the same length, and the relation holds for each pair of elements
 abbrev pub Both : {A B : Type 0} → (A → B → Type 0) → List A → List B → Type 0
 Both Holds [] [] = Unit {0}
 Both Holds (a ∷ firsts) (b ∷ seconds) = Holds a b × Both Holds firsts seconds
 Both Holds _ _ = ⊥
 
--- a saved team is one of the design, within its limits
+-- a saved team is a team of the design, within its limits
 pub record IsTeamOf (limits : Limits) (named : NamedTeam) (t : SavedTeam) : Type 0 where
   pub revision : t.revision ≤ limits.revisions
   pub padding : t.padding ≤ 16
@@ -108,14 +109,15 @@ AreOf design teams = Both (IsTeamOf design.limits) design.teams teams
 abbrev pub IsSpot : Place → Type 0
 IsSpot p = (p.x <ℤ pos (2 ^ 31)) × (p.y <ℤ pos (2 ^ 31))
 
--- so are those of each place
+-- the coordinates of both places are below 2^31
 abbrev pub IsSpottedCell : SavedCell → Type 0
 IsSpottedCell c = IfSome c.working IsSpot × IfSome c.committed IsSpot
 
 abbrev pub IsSpottedEntry : List Move → Type 0
 IsSpottedEntry moves = (length moves < 2 ^ 32) × AllByRecursion (λ m. IfSome m.old IsSpot) moves
 
--- so are those of the team's cells and undo entries, and its padding is one
+-- the coordinates of the team's cells and undo entries are below 2^31, and its padding is at most
+-- 16
 pub record IsInRange (t : SavedTeam) : Type 0 where
   pub padding : t.padding ≤ 16
   pub cells : All IsSpottedCell t.cells

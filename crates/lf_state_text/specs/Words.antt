@@ -7,11 +7,11 @@ use Rattle.lf_floorplan.specs.declared.place.Place.{Place}
 use Rattle.lf_proto.specs.Numbers.{◌>>=◌, below, digits}
 use Rattle.lf_proto.specs.Requests.{place_written}
 
--- what stands before and behind the first such byte
+-- the bytes in front of and after the first byte of this value
 unfoldable pub cut : ℕ → List ℕ → Option (List ℕ × List ℕ)
 cut byte bytes = option_map (λ at. (take at bytes, drop (at + 1) bytes)) (position (λ b. b == byte) bytes)
 
--- what stands behind these bytes, where they come first
+-- the bytes after the expected ones, if those come first
 unfoldable pub behind : List ℕ → List ℕ → Option (List ℕ)
 behind due bytes = cond (bytes_eq (take (length due) bytes) due) (Some (drop (length due) bytes)) None
 
@@ -28,7 +28,7 @@ place_in word = do
   y ← cut 44 x.1
   place_written x.0 y.0 y.1
 
--- a place, or - for none
+-- a place, or - for no place
 unfoldable pub place_on : List ℕ → Option (Option Place)
 place_on word = cond (bytes_eq word (codes "-")) (Some None) (option_map (λ p. Some p) (place_in word))
 
@@ -36,13 +36,13 @@ place_on word = cond (bytes_eq word (codes "-")) (Some None) (option_map (λ p. 
 unfoldable pub slot_on : List ℕ → Option (Option ℕ)
 slot_on word = cond (bytes_eq word (codes "-")) (Some None) (option_map (λ n. Some n) (number word))
 
--- a word in front that says this, the byte that ends it, and what stands behind
+-- a leading word with this value, the byte that ends it, and the bytes after that
 pub record Begins {A : Type 0} (says : List ℕ → Option A) (byte : ℕ) (bytes : List ℕ) (value : A) (rest : List ℕ) : Type 0 where
   pub word : List ℕ
   pub is : bytes ≡ word ++ (byte ∷ rest)
   pub said : says word ≡ Some value
 
--- ---- as they are written
+-- ---- words as they are written
 
 abbrev pub place_text : Option Place → List ℕ
 place_text None = codes "-"

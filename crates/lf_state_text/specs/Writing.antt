@@ -1,4 +1,4 @@
--- The words that a line is written from, lines by their positions, and a team's numbers as the program keeps them.
+-- The words of a line, lines by their positions, and a team's numbers in the program.
 use Rattle.std.specs.Prelude.{ℕ, List, [], Option, None, Some, cond, nat_lt, slice_get, decimal}
 use Rattle.lf_state_text.specs.declared.read.Numbers.{Numbers as KeptNumbers}
 use Rattle.lf_state_text.specs.declared.write.Word.{Word}
@@ -19,7 +19,7 @@ word_text (Slot seen) = slot_text seen
 abbrev pub numbers_view : KeptNumbers → Numbers
 numbers_view n = record { revision = n.revision; padding = n.padding.sites; entries = n.entries }
 
--- the line of a move, where it is one of so many cells
+-- the line of a move, if it is of a cell below this number
 abbrev pub move_within : ℕ → Move → List ℕ
 move_within cells m = cond (nat_lt m.own cells) (move_line m) []
 
@@ -28,7 +28,7 @@ abbrev pub entry_if : Option (List Move) → List ℕ
 entry_if None = []
 entry_if (Some moves) = entry_lines moves
 
--- the line of what has both parts; nothing if one is missing
+-- the line of two parts; empty if one is missing
 abbrev pub line_with : {A B : Type 0} → (A → B → List ℕ) → Option A → B → List ℕ
 line_with line None b = []
 line_with line (Some a) b = line a b

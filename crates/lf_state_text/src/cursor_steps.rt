@@ -1,4 +1,4 @@
-//! A text in pieces from its front.
+//! Steps of a cursor over a text in chunks.
 
 ghost use Rattle.std.specs.Prelude.{◌≡◌, ◌≤◌, ◌<◌, ◌==◌, List, ℕ, IfOk, IfSome, [], drop, length, position, take, false, true};
 ghost use Rattle.std.specs.Str.{bytes_eq};
@@ -9,7 +9,7 @@ use crate::fault::line_feeds;
 use crate::read_places::position_of;
 use std::alloc::AllocError;
 
-/// How many of the first so many bytes whole lines take.
+/// Returns the length of the whole lines among the first `count` bytes.
 fn lines_len(bytes: &[u8], count: usize) -> usize
     requires { count ≤ length bytes.now }
     ensures within { result ≤ count }
@@ -24,7 +24,7 @@ fn lines_len(bytes: &[u8], count: usize) -> usize
     0
 }
 
-/// The bytes behind the first so many.
+/// Returns the bytes after the first `count`.
 fn behind(bytes: &[u8], count: usize) -> &[u8]
     requires { count ≤ length bytes.now }
     ensures { result.now ≡ drop count bytes.now }
@@ -32,14 +32,16 @@ fn behind(bytes: &[u8], count: usize) -> &[u8]
     &bytes[count..]
 }
 
-/// What is left of the piece.
+/// Returns the unread rest of the chunk.
 pub(crate) fn front(cursor: &Cursor) -> &[u8]
     ensures { result.now ≡ front cursor.now }
 {
     behind(&cursor.piece, cursor.at)
 }
 
-/// Lets go of the whole lines that were read of the piece.
+/// Drops the complete lines already read from the current chunk.
+///
+/// `Err` if an allocation fails, or the number of dropped line feeds overflows.
 fn drop_lines_read(cursor: &mut Cursor) -> Result<(), AllocError>
     ensures rest { rest cursor.new ≡ rest cursor.old }
     ensures ends { (text : List ℕ) → IsEnd text cursor.old → IsEnd text cursor.new }
@@ -56,7 +58,9 @@ fn drop_lines_read(cursor: &mut Cursor) -> Result<(), AllocError>
     Ok(())
 }
 
-/// Appends the next piece to this one; false if there is none.
+/// Appends the next chunk to the current one. Returns false if there is no next chunk.
+///
+/// `Err` if an allocation fails.
 pub(crate) fn append(cursor: &mut Cursor) -> Result<bool, AllocError>
     ensures rest { rest cursor.new ≡ rest cursor.old }
     ensures ends { (text : List ℕ) → IsEnd text cursor.old → IsEnd text cursor.new }
@@ -72,7 +76,10 @@ pub(crate) fn append(cursor: &mut Cursor) -> Result<bool, AllocError>
     Ok(true)
 }
 
-/// Lets go of what was read, and appends the next piece to what is left of this one; false if there is none.
+/// Drops the lines already read, and appends the next chunk to the rest of the current one. Returns
+/// false if there is no next chunk.
+///
+/// `Err` if an allocation fails.
 fn refill(cursor: &mut Cursor) -> Result<bool, AllocError>
     ensures rest { rest cursor.new ≡ rest cursor.old }
     ensures ends { (text : List ℕ) → IsEnd text cursor.old → IsEnd text cursor.new }
@@ -83,7 +90,10 @@ fn refill(cursor: &mut Cursor) -> Result<bool, AllocError>
     append(cursor)
 }
 
-/// Where the next such byte stands in what is left, if there is one: the piece then has it.
+/// Returns the position of the next `byte` in the unread rest; the current chunk then has it.
+/// `None` if there is no `byte`.
+///
+/// `Err` if an allocation fails.
 pub(crate) fn find(byte: u8, cursor: &mut Cursor) -> Result<Option<usize>, AllocError>
     ensures found { IfOk result (λ found. found ≡ position (λ b. b == byte) (rest cursor.old)) }
     ensures within { IfOk result (λ found. IfSome found (λ at. at < length (front cursor.new))) }
@@ -100,7 +110,9 @@ pub(crate) fn find(byte: u8, cursor: &mut Cursor) -> Result<Option<usize>, Alloc
     }
 }
 
-/// Whether these bytes come next: the piece then has them.
+/// Returns true if these bytes come next; the current chunk then has them.
+///
+/// `Err` if an allocation fails.
 pub(crate) fn begins(due: &[u8], cursor: &mut Cursor) -> Result<bool, AllocError>
     ensures begins { IfOk result (λ begins. begins ≡ bytes_eq (take (length due.now) (rest cursor.old)) due.now) }
     ensures within { IfOk result (λ begins. begins ≡ true → length due.now ≤ length (front cursor.new)) }
@@ -117,7 +129,9 @@ pub(crate) fn begins(due: &[u8], cursor: &mut Cursor) -> Result<bool, AllocError
     }
 }
 
-/// Whether nothing is left.
+/// Returns true if no byte is unread.
+///
+/// `Err` if an allocation fails.
 pub(crate) fn is_done(cursor: &mut Cursor) -> Result<bool, AllocError>
     ensures done { IfOk result (λ done. done ≡ (length (rest cursor.old) == 0)) }
     ensures rest { rest cursor.new ≡ rest cursor.old }
@@ -133,7 +147,7 @@ pub(crate) fn is_done(cursor: &mut Cursor) -> Result<bool, AllocError>
     }
 }
 
-/// The next so many bytes.
+/// Returns the next `len` bytes.
 pub(crate) fn word(len: usize, cursor: &Cursor) -> &[u8]
     requires { len ≤ length (front cursor.now) }
     ensures { result.now ≡ take len (rest cursor.now) }
@@ -141,7 +155,7 @@ pub(crate) fn word(len: usize, cursor: &Cursor) -> &[u8]
     &front(cursor)[..len]
 }
 
-/// Takes so many bytes.
+/// Skips `len` bytes.
 pub(crate) fn skip(len: usize, cursor: &mut Cursor)
     requires { len ≤ length (front cursor.old) }
     ensures rest { rest cursor.new ≡ drop len (rest cursor.old) }

@@ -1,4 +1,4 @@
-//! Why a text is no state of a design.
+//! Why a text is not a state of a design.
 
 ghost use Rattle.std.specs.Prelude.{◌≡◌, ◌≤◌, length};
 ghost use Rattle.lf_lex.specs.Tokens.{line_feeds};
@@ -6,24 +6,26 @@ ghost use Rattle.lf_state_text.specs.declared.fault.ReadError.TheVariants.{Memor
 
 use std::alloc::{AllocError, AllocFailed};
 
-/// What is wrong with a text. Where readers of other texts know a fault it has their number.
+/// The fault of a text. A fault that readers of other texts know too has their number.
 #[derive(Clone, Copy, Debug, PartialEq, Eq)]
 pub enum FaultNumber {
-    /// The text ends within a line, or before the last one that is due.
+    /// The text ends within a line, or lines are missing at its end.
     UnexpectedEnd,
-    /// Another word is due, or something follows the last line.
+    /// Another word is expected, or there is text after the last line.
     Unexpected,
-    /// A word is no number below 2^32, no place or no slot.
+    /// A word is not the expected number below 2^32, place or slot.
     BadNumber,
     /// The text does not begin with `lefence-state 1`.
     OtherVersion,
-    /// The number of teams, a team's name, its number of slots or cells, or a cell's name is another than the design's.
+    /// One of these differs from the design: the number of teams, a team's name, its number of
+    /// slots or cells, or a cell's name.
     OtherDesign,
-    /// A revision, a padding, a number of undo entries or a slot's revision is above its limit, or a move names no cell of the team.
+    /// A revision, a padding, a number of undo entries or a slot's revision is above its limit, or
+    /// a move names no cell of the team.
     OutOfRange,
 }
 
-/// Why reading stopped: a fault of the text where reading came to, or a failed allocation.
+/// Why reading stopped: a fault at the cursor, or a failed allocation.
 #[derive(Debug, Drop)]
 pub(crate) enum ReadError {
     Memory,
@@ -46,7 +48,7 @@ impl<T: Drop> From<AllocFailed<T>> for ReadError {
     }
 }
 
-/// The first fault of a text, in its order, and the line on which it is.
+/// The first fault of a text, in its order, and its line.
 #[derive(Clone, Copy, Debug, PartialEq, Eq)]
 pub struct StateFault {
     pub number: FaultNumber,
@@ -60,7 +62,7 @@ pub enum StateError {
     Fault(StateFault),
 }
 
-/// How many line feeds there are among 255 bytes at most.
+/// Returns the number of line feeds among at most 255 bytes.
 fn few_line_feeds(bytes: &[u8]) -> u8
     requires { length bytes.now ≤ 255 }
     ensures { result ≡ line_feeds bytes.now }
@@ -72,7 +74,7 @@ fn few_line_feeds(bytes: &[u8]) -> u8
     feeds
 }
 
-/// How many line feeds there are.
+/// Returns the number of line feeds.
 pub(crate) fn line_feeds(text: &[u8]) -> usize
     ensures { result ≡ line_feeds text.now }
 {

@@ -1,4 +1,4 @@
-//! What the types of places keep of their ranges.
+//! Ranges that the types of places guarantee.
 
 ghost use Rattle.std.specs.Prelude.{All, IfSome};
 ghost use Rattle.lf_state_text.specs.Saved.{IsSpot, IsSpottedCell};
@@ -7,7 +7,7 @@ use crate::saved_rows::SavedCell;
 use lf_floorplan::{PackedPlace, Place};
 use lf_undo::Moves;
 
-/// Both numbers of a place are below 2^31.
+/// A law: both numbers of a place are below 2^31.
 fn corner_known(place: &Place)
     ensures { IsSpot place.now }
 {
@@ -15,7 +15,7 @@ fn corner_known(place: &Place)
     let _y = place.y;
 }
 
-/// A place that is kept has a text: both its numbers are below 2^31.
+/// A law: a stored place has a text, as both its numbers are below 2^31.
 pub(crate) fn place_known(place: &PackedPlace)
     ensures { IfSome place.now IsSpot }
 {
@@ -25,7 +25,7 @@ pub(crate) fn place_known(place: &PackedPlace)
     }
 }
 
-/// So have both places of a cell.
+/// A law: the same for both places of a cell.
 pub(crate) fn cell_known(cell: &SavedCell)
     ensures { IsSpottedCell cell.now }
 {
@@ -33,7 +33,7 @@ pub(crate) fn cell_known(cell: &SavedCell)
     place_known(&cell.committed);
 }
 
-/// So have the places of moves.
+/// A law: the same for the places of moves.
 pub(crate) fn moves_known(moves: &Moves)
     ensures { All (λ m. IfSome m.old IsSpot) moves.now }
 {

@@ -5,7 +5,7 @@ ghost use Rattle.lf_state_text.specs.Designs.{NamedDesign};
 ghost use Rattle.lf_state_text.specs.Saved.{AreSaved, SavedTeam, state_text};
 ghost use Rattle.lf_state_text.specs.Reading.{state_of};
 
-/// What was saved is read again.
+/// A law: a saved state is read back from its text.
 pub fn saved_reads_back()
     ensures { (design : NamedDesign) (teams : List SavedTeam) → AreSaved design teams → state_of design (state_text design teams) ≡ Ok teams }
 {}

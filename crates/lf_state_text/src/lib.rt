@@ -1,14 +1,38 @@
-//! State texts: what is saved of the teams of a floor, as it is written and as it is read again.
+//! State texts: the saved state of the teams of a floor, written and read.
 //!
-//! A text tells of each team of a design its revision, its padding, what each of its session slots has seen, where its cells stand
-//! and its undo entries. The names are the design's (`DesignSchema`): they are compared, byte by byte, and not kept. What is told is so
-//! within the design's limits (`AreOf`). What is told of teams (`TeamViews`) and the rows that are read (`TeamRow`) are seen by contracts
-//! as saved teams (`SavedTeam`), whose text is `state_text`.
+//! For each team of a design a state text has its revision, its padding, the revision that each
+//! session slot has seen, the places of its cells and its undo entries. The names are the design's
+//! (`DesignSchema`). They are compared byte by byte, and not stored. All numbers are within the
+//! design's limits (`AreOf`).
+//!
+//! Contracts see the teams that are written (`TeamViews`) and the rows that are read (`TeamRow`) as
+//! saved teams (`SavedTeam`), whose text is `state_text`.
+//!
+//! Used by `lf_state_restore`, `lf_floor`, `lf_task_designs` and `lf_task_files`.
+//!
+//! Modules, in reading order:
+//!
+//! - `saved_rows`: saved cells and teams, as they are read
+//! - `schema`: the names and limits of a design
+//! - `team_views`: the teams to be written
+//! - `known_ranges`: ranges that the types of places guarantee
+//! - `write`: a state text is written
+//! - `fault`: faults of a text
+//! - `cursor`: the unread rest of a text in chunks
+//! - `cursor_steps`: steps of a cursor
+//! - `refusal`: refused texts in chunks, with their end
+//! - `read_numbers`: numbers
+//! - `read_places`: places as words
+//! - `read_words`: words at the cursor
+//! - `read_lists`: lists of lines
+//! - `read`: a state text is read
+//! - `laws`: saved states are read back
+//!
+//! From `crates/lf_floor/src/restore.rt`:
 //!
 //! ```
-//! write_state(&mut out, &design, &teams);
-//! let rows = read_state(alloc, &design, text)?; // or the first fault and its line
-//! let rows = read_chunks(alloc, &design, pieces)?; // the same of a text in pieces, each of which is let go once it was read
+//! let told = StateView { tables };
+//! read_state(alloc, &told, text)
 //! ```
 #![tactic(auto)]
 

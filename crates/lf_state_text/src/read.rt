@@ -1,4 +1,4 @@
-//! A state text as it is read.
+//! A state text is read.
 
 ghost use Rattle.std.specs.Prelude.{◌≡◌, ◌<◌, IfErr, IfOk, List, Ok, Result, ℕ, length};
 ghost use Rattle.lf_state_text.specs.declared.fault.StateFault.{StateFault};
@@ -22,7 +22,7 @@ use lf_rules::Padding;
 use std::alloc::Global;
 use std::collections::VecDeque;
 
-/// The numbers of a team's first line that its design does not say.
+/// The numbers of a team's first line that the design does not determine.
 #[derive(Clone, Copy)]
 struct Numbers {
     revision: u32,
@@ -30,7 +30,7 @@ struct Numbers {
     entries: u32,
 }
 
-/// The keyword of a team's first line, and the team's name.
+/// Reads the keyword of a team's first line, and the team's name.
 #[tactic(auto, unfolding(crate::specs::Reading::named_at))]
 fn named_at(name: &[u8], cursor: &mut Cursor) -> Result<(), ReadError>
     ensures read { Reads (λ _ left. left) result (named_at name.now (rest cursor.old)) (rest cursor.new) }
@@ -41,7 +41,7 @@ fn named_at(name: &[u8], cursor: &mut Cursor) -> Result<(), ReadError>
     expect_bytes(FaultNumber::OtherDesign, b" ", cursor)
 }
 
-/// The padding of that many core sites, of which it has at most 16.
+/// Returns the padding of `sites` core sites, at most 16.
 fn padding_of(sites: u32) -> Padding
     requires { sites < 17 }
     ensures { result.sites ≡ sites }
@@ -52,7 +52,8 @@ fn padding_of(sites: u32) -> Padding
     }
 }
 
-/// The numbers of a team's first line, within the limits and of so many cells.
+/// Reads the numbers of a team's first line. They are within the limits, and the number of cells is
+/// `cells`.
 #[tactic(auto, unfolding(crate::specs::Reading::numbers_at))]
 fn numbers_at(limits: &Limits, cells: usize, cursor: &mut Cursor) -> Result<Numbers, ReadError>
     ensures read { Reads (λ numbers left. (numbers_view numbers, left)) result (numbers_at limits.now cells (rest cursor.old)) (rest cursor.new) }
@@ -70,7 +71,7 @@ fn numbers_at(limits: &Limits, cells: usize, cursor: &mut Cursor) -> Result<Numb
     })
 }
 
-/// The lines of a team behind its first.
+/// Reads the lines of a team after its first.
 #[tactic(auto, unfolding(crate::specs::Reading::rows_at))]
 fn rows_at<D: DesignSchema>(
     alloc: Global,
@@ -96,7 +97,7 @@ fn rows_at<D: DesignSchema>(
     })
 }
 
-/// The lines of a team.
+/// Reads the lines of a team.
 #[tactic(auto, unfolding(crate::specs::Reading::team_at))]
 fn read_team<D: DesignSchema>(
     alloc: Global,
@@ -114,7 +115,7 @@ fn read_team<D: DesignSchema>(
     rows_at(alloc, design, team, numbers, cursor)
 }
 
-/// The lines of all teams.
+/// Reads the lines of all teams.
 fn read_teams<D: DesignSchema>(
     alloc: Global,
     design: &D,
@@ -132,7 +133,7 @@ fn read_teams<D: DesignSchema>(
     Ok(items)
 }
 
-/// The title of the version that is read here.
+/// Reads the title with the version that is supported.
 #[tactic(auto, unfolding(crate::specs::Words::behind))]
 fn read_title(cursor: &mut Cursor) -> Result<(), ReadError>
     ensures read { Reads (λ _ left. left) result (title_at (rest cursor.old)) (rest cursor.new) }
@@ -146,7 +147,7 @@ fn read_title(cursor: &mut Cursor) -> Result<(), ReadError>
     Err(ReadError::Fault(FaultNumber::OtherVersion))
 }
 
-/// The title, and the number of teams.
+/// Reads the title and the number of teams.
 #[tactic(auto, unfolding(crate::specs::Reading::opening_at))]
 fn read_opening<D: DesignSchema>(design: &D, cursor: &mut Cursor) -> Result<(), ReadError>
     ensures read { Reads (λ _ left. left) result (opening_at (D.named design.now) (rest cursor.old)) (rest cursor.new) }
@@ -157,7 +158,7 @@ fn read_opening<D: DesignSchema>(design: &D, cursor: &mut Cursor) -> Result<(), 
     count_at(design.team_count(), b'\n', cursor)
 }
 
-/// All of the text.
+/// Reads the whole text.
 #[tactic(auto, unfolding(crate::specs::Reading::all_at))]
 fn read_all<D: DesignSchema>(
     alloc: Global,
@@ -175,7 +176,7 @@ fn read_all<D: DesignSchema>(
     Ok(teams)
 }
 
-/// The cursor in front of the text of which these are the pieces.
+/// Makes a cursor at the start of the text with these chunks.
 fn cursor_at(alloc: Global, pieces: VecDeque<Vec<u8>>) -> Cursor
     ensures rest { rest result ≡ joined pieces.items }
     ensures end { IsEnd (joined pieces.items) result }
@@ -189,7 +190,7 @@ fn cursor_at(alloc: Global, pieces: VecDeque<Vec<u8>>) -> Cursor
     }
 }
 
-/// What was read, where a fault is told with the end of the text.
+/// Returns the result of reading; a fault gets the end of the text.
 fn with_text_end(
     read: Result<Vec<TeamRow>, ReadError>,
     cursor: Cursor,
@@ -205,19 +206,21 @@ fn with_text_end(
     }
 }
 
-/// What a state text tells of the teams of the design, of which these are the pieces. Each piece is let go once it was read.
+/// Reads a state text of the design's teams given in chunks. Each chunk is freed as soon as it has
+/// been read.
 ///
-/// `Err` with the first fault and its line, if it tells nothing such; or if an allocation fails.
+/// `Err` with the first fault and its line if the text is not a state of the design, or if an
+/// allocation fails.
 pub fn read_chunks<D: DesignSchema>(
     alloc: Global,
     design: &D,
     pieces: VecDeque<Vec<u8>>,
 ) -> Result<Vec<TeamRow>, ChunkError>
-    // Which teams they are, or which fault it is.
+    // The teams, or the fault.
     ensures exact { ReturnsIn (λ rows. team_views rows.items) result (state_of (D.named design.now) (joined pieces.items)) }
-    // What is read is within the design's limits.
+    // The result is within the design's limits.
     ensures fits { IfOk result (λ rows. AreOf (D.named design.now) (team_views rows.items)) }
-    // The end of the text that is refused.
+    // The end of a refused text.
     ensures end { IfErr result (λ error. HoldsEnd (joined pieces.items) error) }
 {
     let mut cursor = cursor_at(alloc, pieces);
@@ -225,7 +228,9 @@ pub fn read_chunks<D: DesignSchema>(
     with_text_end(read, cursor)
 }
 
-/// The text in one piece.
+/// Returns the text as one chunk.
+///
+/// `Err` if an allocation fails.
 fn piece_of(alloc: Global, text: &[u8]) -> Result<VecDeque<Vec<u8>>, ReadError>
     ensures { IfOk result (λ pieces. joined pieces.items ≡ text.now) }
 {
@@ -234,7 +239,7 @@ fn piece_of(alloc: Global, text: &[u8]) -> Result<VecDeque<Vec<u8>>, ReadError>
     Ok(pieces)
 }
 
-/// The same without the end of a text that is refused.
+/// Returns the same result without the end of a refused text.
 fn without_end(read: Result<Vec<TeamRow>, ChunkError>) -> Result<Vec<TeamRow>, StateError>
     ensures { (found : Result (List SavedTeam) StateFault) → ReturnsIn (λ rows. team_views rows.items) read found
         → ReturnsAt (λ rows. team_views rows.items) result found }
@@ -246,19 +251,20 @@ fn without_end(read: Result<Vec<TeamRow>, ChunkError>) -> Result<Vec<TeamRow>, S
     }
 }
 
-/// What a state text tells of the teams of the design.
+/// Reads a state text of the design's teams.
 ///
-/// `Err` with the first fault and its line, if it tells nothing such; or if an allocation fails.
+/// `Err` with the first fault and its line if the text is not a state of the design, or if an
+/// allocation fails.
 pub fn read_state<D: DesignSchema>(
     alloc: Global,
     design: &D,
     text: &[u8],
 ) -> Result<Vec<TeamRow>, StateError>
-    // Which teams they are, or which fault it is.
+    // The teams, or the fault.
     ensures exact { ReturnsAt (λ rows. team_views rows.items) result (state_of (D.named design.now) text.now) }
-    // What is read is within the design's limits.
+    // The result is within the design's limits.
     ensures fits { IfOk result (λ rows. AreOf (D.named design.now) (team_views rows.items)) }
-    // What was written is read, unless memory runs out.
+    // A written text is read back, unless memory runs out.
     ensures again { (teams : List SavedTeam) → AreSaved (D.named design.now) teams → text.now ≡ state_text (D.named design.now) teams
         → ReturnsAt (λ rows. team_views rows.items) result (Ok teams) }
 {

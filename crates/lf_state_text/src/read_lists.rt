@@ -13,7 +13,7 @@ use crate::schema::{DesignSchema, name_of_cell};
 use lf_undo::{Move, Moves};
 use std::alloc::Global;
 
-/// The line of the cell of that name.
+/// Reads the line of the cell of that name.
 #[tactic(auto, unfolding(crate::specs::Reading::cell_at))]
 fn cell_at(name: &[u8], cursor: &mut Cursor) -> Result<SavedCell, ReadError>
     ensures read { Reads (λ cell left. (cell, left)) result (cell_at name.now (rest cursor.old)) (rest cursor.new) }
@@ -26,7 +26,7 @@ fn cell_at(name: &[u8], cursor: &mut Cursor) -> Result<SavedCell, ReadError>
     Ok(SavedCell { working, committed })
 }
 
-/// The line of a move of one of so many cells.
+/// Reads the line of a move of one of `cells` cells.
 #[tactic(auto, unfolding(crate::specs::Reading::move_at))]
 fn move_at(cells: usize, cursor: &mut Cursor) -> Result<Move, ReadError>
     ensures read { Reads (λ made left. (made, left)) result (move_at cells (rest cursor.old)) (rest cursor.new) }
@@ -37,7 +37,7 @@ fn move_at(cells: usize, cursor: &mut Cursor) -> Result<Move, ReadError>
     Ok(Move { own, old })
 }
 
-/// So many session slots of a team that has this revision.
+/// Reads `count` session slots of a team with this revision.
 pub(crate) fn read_slots(
     alloc: Global,
     revision: u32,
@@ -55,7 +55,7 @@ pub(crate) fn read_slots(
     Ok(items)
 }
 
-/// The cells of a team.
+/// Reads the cells of a team.
 pub(crate) fn read_cells<D: DesignSchema>(
     alloc: Global,
     design: &D,
@@ -75,7 +75,8 @@ pub(crate) fn read_cells<D: DesignSchema>(
     Ok(items)
 }
 
-/// So many moves of so many cells. A text may tell of any number of them: there is room at first for one of each cell at most.
+/// Reads `count` moves of `cells` cells. A text may have any number of them: at first, room is
+/// reserved for at most one move of each cell.
 fn read_moves(
     alloc: Global,
     cells: usize,
@@ -93,7 +94,7 @@ fn read_moves(
     Ok(items)
 }
 
-/// An undo entry of a team of so many cells: its line, and its moves.
+/// Reads an undo entry of a team of `cells` cells: its line, and its moves.
 #[tactic(auto, unfolding(crate::specs::Reading::entry_at))]
 fn entry_at(alloc: Global, cells: usize, cursor: &mut Cursor) -> Result<Moves, ReadError>
     ensures read { Reads (λ moves left. (moves, left)) result (entry_at cells (rest cursor.old)) (rest cursor.new) }
@@ -104,7 +105,7 @@ fn entry_at(alloc: Global, cells: usize, cursor: &mut Cursor) -> Result<Moves, R
     read_moves(alloc, cells, count, cursor)
 }
 
-/// So many undo entries of a team of so many cells.
+/// Reads `count` undo entries of a team of `cells` cells.
 pub(crate) fn read_entries(
     alloc: Global,
     cells: usize,

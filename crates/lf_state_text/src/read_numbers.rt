@@ -8,14 +8,14 @@ ghost use Rattle.lf_proto.specs.Numbers.{coordinate, digits};
 ghost use Rattle.lf_state_text.specs.Reading.{number_at};
 ghost use Rattle.lf_state_text.specs.Words.{Begins, number};
 
-/// Whether each byte is a digit.
+/// Returns true if each byte is a digit.
 fn are_digits(word: &[u8]) -> bool
     ensures { result ≡ list_all is_ascii_digit word.now }
 {
     word.iter().all(|byte| byte.is_ascii_digit())
 }
 
-/// The number that at most ten digits write.
+/// Returns the value of at most ten digits.
 fn value_of(digits: &[u8]) -> u64
     requires digits { list_all is_ascii_digit digits.now ≡ true }
     requires short { length digits.now ≤ 10 }
@@ -28,7 +28,7 @@ fn value_of(digits: &[u8]) -> u64
     value
 }
 
-/// The number that one to ten digits write.
+/// Returns the value of one to ten digits. `None` for another word.
 fn digits_of(word: &[u8]) -> Option<u64>
     ensures { result ≡ digits word.now }
 {
@@ -38,14 +38,14 @@ fn digits_of(word: &[u8]) -> Option<u64>
     Some(value_of(word))
 }
 
-/// The number below 2^32 that the word writes, if it writes one.
+/// Returns the number below 2^32 in the word. `None` if it is not one.
 pub(crate) fn number_of(word: &[u8]) -> Option<u32>
     ensures { result ≡ number word.now }
 {
     u32::try_from(digits_of(word)?).ok()
 }
 
-/// The coordinate in database units that the word writes, if it writes one.
+/// Returns the coordinate in the word, in database units. `None` if it is not one.
 pub(crate) fn coordinate_of(word: &[u8]) -> Option<i32>
     ensures value { result ≡ coordinate word.now }
     ensures in_def { IfSome result (λ z. negsuc 2147483647 <ℤ z) }
@@ -56,7 +56,7 @@ pub(crate) fn coordinate_of(word: &[u8]) -> Option<i32>
     }
 }
 
-/// The number that the digits in front write, ten of them at most, and how many they are.
+/// Returns the value of the leading digits, at most ten of them, and their count.
 fn front_digits(bytes: &[u8]) -> (u64, usize)
     ensures within { result.1 ≤ length bytes.now }
     ensures short { result.1 ≤ 10 }
@@ -75,7 +75,7 @@ fn front_digits(bytes: &[u8]) -> (u64, usize)
     (value, most)
 }
 
-/// The number in front whose digits such a byte ends, and what stands behind the byte.
+/// Returns the leading number, whose digits `byte` ends, and the bytes after `byte`.
 fn front_number(byte: u8, bytes: &[u8]) -> Option<(u64, &[u8])>
     ensures { IfSome result (λ x. Begins digits byte bytes.now x.0 x.1.now) }
 {
@@ -86,7 +86,8 @@ fn front_number(byte: u8, bytes: &[u8]) -> Option<(u64, &[u8])>
     None
 }
 
-/// The number below 2^32 in front whose digits such a byte ends, and how many bytes both are.
+/// Returns the leading number below 2^32, whose digits `byte` ends, and the count of bytes up to
+/// and including `byte`.
 pub(crate) fn front_u32(byte: u8, bytes: &[u8]) -> Option<(u32, usize)>
     requires { byte < 48 }
     ensures within { IfSome result (λ x. x.1 ≤ length bytes.now) }
@@ -97,14 +98,14 @@ pub(crate) fn front_u32(byte: u8, bytes: &[u8]) -> Option<(u32, usize)>
     Some((number, bytes.len() - rest.len()))
 }
 
-/// The size of a coordinate that the number is, if it is below 2^31.
+/// Returns the number as the size of a coordinate. `None` if it is not below 2^31.
 fn size_of(value: u64) -> Option<i32>
     ensures { IfSome result (λ size. (size ≡ pos value) × (value < 2 ^ 31)) }
 {
     i32::try_from(value).ok()
 }
 
-/// The coordinate in front whose digits a comma ends, and what stands behind the comma.
+/// Returns the leading coordinate, which a comma ends, and the bytes after the comma.
 pub(crate) fn front_coordinate(bytes: &[u8]) -> Option<(i32, &[u8])>
     ensures value { IfSome result (λ x. Begins coordinate 44 bytes.now x.0 x.1.now) }
     ensures in_def { IfSome result (λ x. negsuc 2147483647 <ℤ x.0) }

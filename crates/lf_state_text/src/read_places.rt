@@ -9,7 +9,7 @@ use crate::read_numbers::{coordinate_of, front_coordinate};
 use lf_floorplan::{PackedPlace, Place};
 use lf_orient::Orient;
 
-/// What stands before and behind the first such byte.
+/// Returns the bytes in front of and after the first `byte`. `None` if there is no `byte`.
 #[tactic(auto, unfolding(crate::specs::Words::cut))]
 fn cut(byte: u8, bytes: &[u8]) -> Option<(&[u8], &[u8])>
     ensures { option_map (λ x. (x.0.now, x.1.now)) result ≡ cut byte bytes.now }
@@ -18,7 +18,7 @@ fn cut(byte: u8, bytes: &[u8]) -> Option<(&[u8], &[u8])>
     Some((&bytes[..at], &bytes[at + 1..]))
 }
 
-/// Where the first such byte stands.
+/// Returns the position of the first `byte`. `None` if there is no `byte`.
 pub(crate) fn position_of(byte: u8, bytes: &[u8]) -> Option<usize>
     ensures found { result ≡ position (λ b. b == byte) bytes.now }
     ensures within { IfSome result (λ at. at < length bytes.now) }
@@ -26,7 +26,7 @@ pub(crate) fn position_of(byte: u8, bytes: &[u8]) -> Option<usize>
     bytes.iter().position(|b| *b == byte)
 }
 
-/// The orientation of that name.
+/// Returns the orientation of that name. `None` if there is no such orientation.
 fn orient_of(word: &[u8]) -> Option<Orient>
     ensures { result ≡ orient_named word.now }
 {
@@ -43,7 +43,7 @@ fn orient_of(word: &[u8]) -> Option<Orient>
     }
 }
 
-/// The place that three words write.
+/// Returns the place in three words. `None` if they are not a place.
 fn read_place(x: &[u8], y: &[u8], orient: &[u8]) -> Option<Place>
     ensures { result ≡ place_written x.now y.now orient.now }
 {
@@ -53,7 +53,7 @@ fn read_place(x: &[u8], y: &[u8], orient: &[u8]) -> Option<Place>
     Some(Place::new(x, y, orient))
 }
 
-/// The place that a word writes with commas between its parts.
+/// Returns the place in a word with commas between its parts. `None` if it is not a place.
 #[tactic(auto, unfolding(crate::specs::Words::place_in))]
 fn place_in(word: &[u8]) -> Option<Place>
     ensures { result ≡ place_in word.now }
@@ -63,7 +63,7 @@ fn place_in(word: &[u8]) -> Option<Place>
     read_place(x, y, orient)
 }
 
-/// The place that a word writes, or none for a minus alone.
+/// Returns the place in a word; a minus alone is no place. `None` if the word is neither.
 #[tactic(auto, unfolding(crate::specs::Words::place_on))]
 pub(crate) fn place_on(word: &[u8]) -> Option<PackedPlace>
     ensures { result ≡ place_on word.now }
@@ -75,7 +75,7 @@ pub(crate) fn place_on(word: &[u8]) -> Option<PackedPlace>
     Some(PackedPlace::of(Some(place)))
 }
 
-/// How many bytes stand before such a byte, if they are one or two.
+/// Returns the number of bytes in front of `byte`, if it is one or two.
 fn short_len(byte: u8, bytes: &[u8]) -> Option<usize>
     ensures within { IfSome result (λ len. len < length bytes.now) }
     ensures found { IfSome result (λ len. slice_index bytes.now len ≡ byte) }
@@ -89,7 +89,7 @@ fn short_len(byte: u8, bytes: &[u8]) -> Option<usize>
     None
 }
 
-/// The orientation in front whose name such a byte ends, and what stands behind the byte.
+/// Returns the leading orientation, whose name `byte` ends, and the bytes after `byte`.
 fn front_orient(byte: u8, bytes: &[u8]) -> Option<(Orient, &[u8])>
     ensures { IfSome result (λ x. Begins orient_named byte bytes.now x.0 x.1.now) }
 {
@@ -98,7 +98,8 @@ fn front_orient(byte: u8, bytes: &[u8]) -> Option<(Orient, &[u8])>
     Some((orient, &bytes[len + 1..]))
 }
 
-/// The place in front whose word such a byte ends, and how many bytes both are, if all of them are here.
+/// Returns the leading place, whose word `byte` ends, and the count of bytes up to and including
+/// `byte`. `None` if not all of these bytes are here.
 pub(crate) fn front_place(byte: u8, bytes: &[u8]) -> Option<(Place, usize)>
     requires { byte ≤ 32 }
     ensures within { IfSome result (λ x. x.1 ≤ length bytes.now) }

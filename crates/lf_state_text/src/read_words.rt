@@ -1,4 +1,4 @@
-//! The words of a text, one after the other.
+//! The words of a text, one after another.
 
 ghost use Rattle.std.specs.Prelude.{◌≡◌, ◌+◌, ◌<◌, ◌≤◌, List, ℕ, IfOk, drop, length, take};
 ghost use Rattle.lf_state_text.specs.Words.{slot_on};
@@ -13,7 +13,8 @@ use crate::read_places::{front_place, place_on};
 use lf_floorplan::PackedPlace;
 use std::alloc::AllocError;
 
-/// What is wrong with a line that goes on otherwise: that, or the text ends within the line.
+/// Returns the fault of a line that continues differently: that number, or `UnexpectedEnd` if the
+/// text ends within the line.
 #[tactic(auto, unfolding(crate::specs::Words::cut))]
 fn mismatch(number: FaultNumber, cursor: &mut Cursor) -> Result<FaultNumber, AllocError>
     ensures unmet { IfOk result (λ met. met ≡ mismatch number (rest cursor.old)) }
@@ -26,7 +27,7 @@ fn mismatch(number: FaultNumber, cursor: &mut Cursor) -> Result<FaultNumber, All
     }
 }
 
-/// Takes the bytes that are due.
+/// Takes the expected bytes.
 #[tactic(auto, unfolding(crate::specs::Reading::due_at, crate::specs::Words::behind))]
 pub(crate) fn expect_bytes(
     number: FaultNumber,
@@ -44,7 +45,8 @@ pub(crate) fn expect_bytes(
     Err(ReadError::Fault(met))
 }
 
-/// How long the word up to the next such byte is: the piece then has it and the byte.
+/// Returns the length of the word up to the next `byte`; the current chunk then has the word and
+/// `byte`.
 #[tactic(auto, unfolding(crate::specs::Reading::word_at, crate::specs::Words::cut))]
 fn word_len(byte: u8, cursor: &mut Cursor) -> Result<usize, ReadError>
     ensures read { Reads (λ len left. (take len left, drop (len + 1) left)) result (word_at byte (rest cursor.old)) (rest cursor.new) }
@@ -58,7 +60,8 @@ fn word_len(byte: u8, cursor: &mut Cursor) -> Result<usize, ReadError>
     }
 }
 
-/// The number below 2^32 that comes next, and how many bytes it and the one that ends it are, which are not taken.
+/// Returns the next number, below 2^32, and the count of bytes up to and including the one that
+/// ends it. Does not take these bytes.
 #[tactic(auto, unfolding(crate::specs::Reading::number_at))]
 fn next_number(byte: u8, cursor: &mut Cursor) -> Result<(u32, usize), ReadError>
     requires { byte < 48 }
@@ -77,7 +80,7 @@ fn next_number(byte: u8, cursor: &mut Cursor) -> Result<(u32, usize), ReadError>
     Ok((number, len + 1))
 }
 
-/// A number below 2^32.
+/// Reads a number below 2^32.
 pub(crate) fn number_at(byte: u8, cursor: &mut Cursor) -> Result<u32, ReadError>
     requires { byte < 48 }
     ensures read { Reads (λ n left. (n, left)) result (number_at byte (rest cursor.old)) (rest cursor.new) }
@@ -88,7 +91,7 @@ pub(crate) fn number_at(byte: u8, cursor: &mut Cursor) -> Result<u32, ReadError>
     Ok(number)
 }
 
-/// A number below a limit.
+/// Reads a number below a limit.
 #[tactic(auto, unfolding(crate::specs::Reading::below_at))]
 pub(crate) fn below_at(limit: usize, byte: u8, cursor: &mut Cursor) -> Result<u32, ReadError>
     requires { byte < 48 }
@@ -103,7 +106,7 @@ pub(crate) fn below_at(limit: usize, byte: u8, cursor: &mut Cursor) -> Result<u3
     Err(ReadError::Fault(FaultNumber::OutOfRange))
 }
 
-/// Takes the number that is due.
+/// Takes the expected number.
 #[tactic(auto, unfolding(crate::specs::Reading::count_at))]
 pub(crate) fn count_at(count: usize, byte: u8, cursor: &mut Cursor) -> Result<(), ReadError>
     requires { byte < 48 }
@@ -118,7 +121,7 @@ pub(crate) fn count_at(count: usize, byte: u8, cursor: &mut Cursor) -> Result<()
     Err(ReadError::Fault(FaultNumber::OtherDesign))
 }
 
-/// A place or none.
+/// Reads a place, or a minus for no place.
 #[tactic(auto, unfolding(crate::specs::Reading::spot_at))]
 pub(crate) fn read_place_or_none(byte: u8, cursor: &mut Cursor) -> Result<PackedPlace, ReadError>
     requires { byte ≤ 32 }
@@ -137,7 +140,7 @@ pub(crate) fn read_place_or_none(byte: u8, cursor: &mut Cursor) -> Result<Packed
     Ok(place)
 }
 
-/// What the word of a session slot writes.
+/// Returns the value of the word of a session slot.
 #[tactic(auto, unfolding(crate::specs::Words::slot_on))]
 fn slot_on(word: &[u8]) -> Option<Option<u32>>
     ensures { result ≡ slot_on word.now }
@@ -149,7 +152,7 @@ fn slot_on(word: &[u8]) -> Option<Option<u32>>
     Some(Some(number))
 }
 
-/// Whether the session of a slot, if there is one, has seen a revision up to the team's.
+/// Returns true if the slot is free, or its session has seen a revision up to the team's.
 fn is_seen_by(revision: u32, slot: Option<u32>) -> bool
     ensures { result ≡ is_seen_by revision slot }
 {
@@ -159,7 +162,7 @@ fn is_seen_by(revision: u32, slot: Option<u32>) -> bool
     }
 }
 
-/// The line of a session slot of a team that has this revision.
+/// Reads the line of a session slot of a team with this revision.
 #[tactic(auto, unfolding(crate::specs::Reading::slot_at))]
 pub(crate) fn slot_at(revision: u32, cursor: &mut Cursor) -> Result<Option<u32>, ReadError>
     ensures read { Reads (λ slot left. (slot, left)) result (slot_at revision (rest cursor.old)) (rest cursor.new) }

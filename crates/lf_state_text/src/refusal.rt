@@ -1,4 +1,4 @@
-//! A text that is refused.
+//! Refused texts.
 
 ghost use Rattle.std.specs.Prelude.{◌≡◌, ◌+◌, IfOk, IfSome, [], List, ℕ, length, take};
 ghost use Rattle.lf_lex.specs.Tokens.{line_feeds};
@@ -10,23 +10,26 @@ use crate::cursor_steps::append;
 use crate::fault::{FaultNumber, StateFault, line_feeds};
 use std::alloc::AllocError;
 
-/// Why a text in pieces is refused, and its end, from the start of a line in front of the fault or of that with the fault.
+/// The fault of a refused text in chunks, and the end of the text. The end starts at the start of a
+/// line: that of the fault or an earlier one.
 #[derive(Debug, Drop)]
 pub struct StateRefused {
     pub fault: StateFault,
-    /// How many lines are in front of that end.
+    /// The number of lines in front of that end.
     pub lines: usize,
     pub end: Vec<u8>,
 }
 
-/// Why a state was not read from pieces: a fault of the text that they make together, or a failed allocation.
+/// Why a state was not read from chunks: a fault of the whole text, or a failed allocation.
 #[derive(Debug, Drop)]
 pub enum ChunkError {
     Memory,
     Refused(StateRefused),
 }
 
-/// Makes one piece of all that is held.
+/// Joins all remaining chunks into one.
+///
+/// `Err` if an allocation fails.
 fn join_all(cursor: &mut Cursor) -> Result<(), AllocError>
     ensures rest { rest cursor.new ≡ rest cursor.old }
     ensures ends { (text : List ℕ) → IsEnd text cursor.old → IsEnd text cursor.new }
@@ -36,7 +39,7 @@ fn join_all(cursor: &mut Cursor) -> Result<(), AllocError>
     Ok(())
 }
 
-/// The line on which the cursor stands, if it can be told.
+/// Returns the line of the cursor. `None` if the number overflows.
 fn line_of(cursor: &Cursor) -> Option<usize>
     ensures { IfSome result (λ line. line ≡ cursor.now.lines + line_feeds (take cursor.now.at cursor.now.piece.items) + 1) }
 {
@@ -44,7 +47,7 @@ fn line_of(cursor: &Cursor) -> Option<usize>
     cursor.lines.checked_add(before)?.checked_add(1)
 }
 
-/// The fault of that number where the cursor stands.
+/// Returns the fault of that number at the cursor.
 pub(crate) fn refusal_at(number: FaultNumber, cursor: Cursor) -> ChunkError
     ensures fault { (text : List ℕ) → IsEnd text cursor → IsRefused text (record { number = number; left = length (rest cursor) }) result }
     ensures end { (text : List ℕ) → IsEnd text cursor → HoldsEnd text result }

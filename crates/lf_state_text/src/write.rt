@@ -1,4 +1,4 @@
-//! A state text as it is written.
+//! A state text is written.
 
 ghost use Rattle.std.specs.Prelude.{◌≡◌, ◌∷◌, ◌<◌, ◌≤◌, All, IfSome, Some, count_by, length, map, nat_lt, slice_get};
 ghost use Rattle.std.specs.List.{flat_map};
@@ -32,7 +32,7 @@ enum Word<'a> {
     Slot(Option<u32>),
 }
 
-/// Puts a place: X,Y,O.
+/// Writes a place: X,Y,O.
 fn put_place<O: Output>(out: &mut O, place: &Place)
     ensures { PutsText O.took out.old out.new (place_text (Some place.now)) }
 {
@@ -43,7 +43,7 @@ fn put_place<O: Output>(out: &mut O, place: &Place)
     out.put(orient_word(place.orient));
 }
 
-/// Puts the word.
+/// Writes the word.
 fn put_word<O: Output>(out: &mut O, word: &Word<'_>)
     ensures { PutsText O.took out.old out.new (word_text word.now) }
 {
@@ -59,7 +59,7 @@ fn put_word<O: Output>(out: &mut O, word: &Word<'_>)
     }
 }
 
-/// Puts the words, a space before each.
+/// Writes the words, each after a space.
 fn put_spaced<O: Output>(out: &mut O, words: &[Word<'_>])
     ensures { PutsText O.took out.old out.new (spaced (map word_text words.now)) }
 {
@@ -69,7 +69,7 @@ fn put_spaced<O: Output>(out: &mut O, words: &[Word<'_>])
     }
 }
 
-/// Puts a line of words, the first of them given apart.
+/// Writes a line of words, given its first word and the others.
 fn put_line<O: Output>(out: &mut O, first: &Word<'_>, words: &[Word<'_>])
     ensures { PutsText O.took out.old out.new (line_of (word_text first.now ∷ map word_text words.now)) }
 {
@@ -78,7 +78,7 @@ fn put_line<O: Output>(out: &mut O, first: &Word<'_>, words: &[Word<'_>])
     out.put(b"\n");
 }
 
-/// Puts the lines of the slots.
+/// Writes the lines of the slots.
 fn put_slots<O: Output>(out: &mut O, slots: &[Option<u32>])
     ensures { PutsText O.took out.old out.new (flat_map slot_line slots.now) }
 {
@@ -87,7 +87,7 @@ fn put_slots<O: Output>(out: &mut O, slots: &[Option<u32>])
     }
 }
 
-/// Puts the line of the cell of that name.
+/// Writes the line of the cell of that name.
 fn put_cell<O: Output>(out: &mut O, name: &[u8], cell: &SavedCell)
     ensures { PutsText O.took out.old out.new (cell_line name.now cell.now) }
 {
@@ -98,7 +98,7 @@ fn put_cell<O: Output>(out: &mut O, name: &[u8], cell: &SavedCell)
     );
 }
 
-/// Puts the line of the team's cell of that position, where the design and the teams have one.
+/// Writes the line of the team's cell at that position, if the design and the teams have one.
 fn put_cell_at<O: Output, D: DesignSchema, T: TeamViews>(
     out: &mut O,
     design: &D,
@@ -119,7 +119,7 @@ fn put_cell_at<O: Output, D: DesignSchema, T: TeamViews>(
     }
 }
 
-/// Puts the lines of the team's cells.
+/// Writes the lines of the team's cells.
 fn put_cells<O: Output, D: DesignSchema, T: TeamViews>(
     out: &mut O,
     design: &D,
@@ -136,7 +136,7 @@ fn put_cells<O: Output, D: DesignSchema, T: TeamViews>(
     }
 }
 
-/// Puts the line of a move.
+/// Writes the line of a move.
 fn put_move<O: Output>(out: &mut O, made: &Move)
     ensures { PutsText O.took out.old out.new (move_line made.now) }
 {
@@ -147,7 +147,7 @@ fn put_move<O: Output>(out: &mut O, made: &Move)
     );
 }
 
-/// Puts the line of a move, where it is one of so many cells.
+/// Writes the line of a move, if it is of one of `cells` cells.
 fn put_move_within<O: Output>(out: &mut O, cells: usize, made: &Move)
     ensures { PutsText O.took out.old out.new (move_within cells made.now) }
 {
@@ -156,7 +156,7 @@ fn put_move_within<O: Output>(out: &mut O, cells: usize, made: &Move)
     }
 }
 
-/// Puts the lines of moves of so many cells.
+/// Writes the lines of moves of `cells` cells.
 fn put_moves<O: Output>(out: &mut O, cells: usize, moves: &[Move])
     ensures { PutsText O.took out.old out.new (flat_map (move_within cells) moves.now) }
 {
@@ -165,7 +165,7 @@ fn put_moves<O: Output>(out: &mut O, cells: usize, moves: &[Move])
     }
 }
 
-/// How many moves are of so many cells.
+/// Returns the number of moves that are of one of `cells` cells.
 fn count_within(cells: usize, moves: &[Move]) -> usize
     ensures { result ≡ count_by (λ m. nat_lt m.own cells) moves.now }
 {
@@ -175,7 +175,7 @@ fn count_within(cells: usize, moves: &[Move]) -> usize
         .count()
 }
 
-/// Puts the lines of an undo entry of a team of so many cells.
+/// Writes the lines of an undo entry of a team of `cells` cells.
 fn put_entry<O: Output>(out: &mut O, cells: usize, entry: &Moves)
     ensures text { PutsText O.took out.old out.new (entry_lines (moves_within cells entry.now)) }
     ensures spotted { IsSpottedEntry (moves_within cells entry.now) }
@@ -188,7 +188,7 @@ fn put_entry<O: Output>(out: &mut O, cells: usize, entry: &Moves)
     put_moves(out, cells, moves);
 }
 
-/// Puts the lines of the team's undo entry of that position, where it has one.
+/// Writes the lines of the team's undo entry that has `newer` newer ones, if there is one.
 fn put_entry_at<O: Output, T: TeamViews>(out: &mut O, teams: &T, team: usize, newer: usize)
     requires { team < length (T.saved teams.now) }
     ensures text { PutsText O.took out.old out.new (entry_if (slice_get (saved_at (T.saved teams.now) team).entries newer)) }
@@ -201,7 +201,7 @@ fn put_entry_at<O: Output, T: TeamViews>(out: &mut O, teams: &T, team: usize, ne
     }
 }
 
-/// Puts the lines of the team's undo entries.
+/// Writes the lines of the team's undo entries.
 fn put_entries<O: Output, T: TeamViews>(out: &mut O, teams: &T, team: usize)
     requires { team < length (T.saved teams.now) }
     ensures text { PutsText O.took out.old out.new (flat_map entry_lines (saved_at (T.saved teams.now) team).entries) }
@@ -212,7 +212,7 @@ fn put_entries<O: Output, T: TeamViews>(out: &mut O, teams: &T, team: usize)
     }
 }
 
-/// The core sites of a padding, which has at most 16.
+/// Returns the core sites of a padding, at most 16.
 fn sites_of(padding: Padding) -> usize
     ensures is { result ≡ padding.sites }
     ensures most { padding.sites ≤ 16 }
@@ -220,7 +220,7 @@ fn sites_of(padding: Padding) -> usize
     padding.sites as usize
 }
 
-/// Puts the first line of the team of that name.
+/// Writes the first line of the team of that name.
 fn put_head<O: Output, T: TeamViews>(out: &mut O, name: &[u8], teams: &T, team: usize)
     requires { team < length (T.saved teams.now) }
     ensures text { PutsText O.took out.old out.new (head_line name.now (saved_at (T.saved teams.now) team)) }
@@ -241,7 +241,7 @@ fn put_head<O: Output, T: TeamViews>(out: &mut O, name: &[u8], teams: &T, team: 
     );
 }
 
-/// Puts the lines of the team of that number.
+/// Writes the lines of the team of that number.
 fn put_team<O: Output, D: DesignSchema, T: TeamViews>(
     out: &mut O,
     design: &D,
@@ -259,7 +259,7 @@ fn put_team<O: Output, D: DesignSchema, T: TeamViews>(
     put_entries(out, teams, team);
 }
 
-/// Puts the lines of the teams.
+/// Writes the lines of the teams.
 fn put_teams<O: Output, D: DesignSchema, T: TeamViews>(out: &mut O, design: &D, teams: &T)
     requires { length (T.saved teams.now) ≡ length (D.named design.now).teams }
     ensures text { PutsText O.took out.old out.new (lines_of team_lines (D.named design.now).teams (T.saved teams.now)) }
@@ -270,7 +270,7 @@ fn put_teams<O: Output, D: DesignSchema, T: TeamViews>(out: &mut O, design: &D, 
     }
 }
 
-/// Puts the title, and how many teams there are.
+/// Writes the title and the number of teams.
 fn put_opening<O: Output>(out: &mut O, count: usize)
     ensures { PutsText O.took out.old out.new (opening_lines count) }
 {
@@ -278,11 +278,11 @@ fn put_opening<O: Output>(out: &mut O, count: usize)
     put_line(out, &Word::Text(b"teams"), &[Word::Count(count)]);
 }
 
-/// Puts the state text of the design's teams, of each of which the other tells, and takes no memory.
+/// Writes the state text of the design's teams, with the state in `teams`. Does not allocate.
 pub fn write_state<O: Output, D: DesignSchema, T: TeamViews>(out: &mut O, design: &D, teams: &T)
     requires { length (T.saved teams.now) ≡ length (D.named design.now).teams }
     ensures text { PutsText O.took out.old out.new (state_text (D.named design.now) (T.saved teams.now)) }
-    // Each place that is told has a text, and each number can be read.
+    // Each place has a text, and each number can be read.
     ensures in_range { All IsInRange (T.saved teams.now) }
 {
     put_opening(out, design.team_count());

@@ -19,23 +19,23 @@ use lf_server::{
 use std::alloc::{AllocError, Global};
 use std::test::Fail;
 
-/// How the devices of a connection behave, and its limits.
+/// The behavior of the devices of a connection, and its limits.
 #[derive(Clone, Copy)]
 pub struct Plan {
     /// The most bytes of a read.
     pub piece: usize,
-    /// The reads before one that fails.
+    /// The number of reads that succeed; the next one fails.
     pub good_reads: u32,
     /// The most bytes of a write.
     pub most: usize,
-    /// The writes before one that fails.
+    /// The number of writes that succeed; the next one fails.
     pub good_writes: u32,
-    /// The flushes before one that fails.
+    /// The number of flushes that succeed; the next one fails.
     pub good_flushes: u32,
     pub limits: ServeLimits,
 }
 
-/// Devices that never fail, and limits that are not met.
+/// Devices that never fail, and limits that are not reached.
 pub const SOUND: Plan = Plan {
     piece: 4096,
     good_reads: u32::MAX,
@@ -48,15 +48,15 @@ pub const SOUND: Plan = Plan {
     },
 };
 
-/// How a connection was served, and what was written, with a bar for each flush.
+/// The result of a connection, and the bytes written, with a bar for each flush.
 #[derive(Drop)]
 pub struct Told {
     pub served: Served,
     pub log: Vec<u8>,
 }
 
-/// How a connection is served. A committed design that was fully legal is so after each command of the lines acted on,
-/// and the journal of these commands is a backup.
+/// Serves a connection. By its contract, a fully legal committed design is so after each command of
+/// the lines acted on, and the journal of these commands is a backup.
 fn serve_safely<K: Seeker + Drop, S: Source, W: Sink>(
     alloc: Global,
     floor: &mut Floor<K>,
@@ -86,7 +86,7 @@ fn serve_safely<K: Seeker + Drop, S: Source, W: Sink>(
     serve(alloc, floor, source, sink, limits)
 }
 
-/// How a connection over the reader and the writer is served.
+/// Serves a connection over the reader and the writer.
 fn served(
     alloc: Global,
     floor: &mut Floor<PlainSeeker>,
@@ -99,7 +99,7 @@ fn served(
     serve_safely(alloc, floor, &mut source, &mut sink, limits)
 }
 
-/// Serves these bytes.
+/// Serves a connection with these bytes.
 pub fn serve_bytes(
     alloc: Global,
     floor: &mut Floor<PlainSeeker>,
@@ -124,7 +124,7 @@ pub fn serve_bytes(
     }
 }
 
-/// What is told where so many lines were acted on and so many replies written and flushed.
+/// The result when `lines` lines were acted on, and `answered` replies were written and flushed.
 pub fn counted(lines: u64, answered: u64, ending: Ending) -> Served {
     Served {
         lines,
@@ -133,7 +133,7 @@ pub fn counted(lines: u64, answered: u64, ending: Ending) -> Served {
     }
 }
 
-/// Whether a connection over these bytes is served so on the floor, with this log.
+/// Returns true if a connection with these bytes to the floor has this result and this log.
 pub fn tells_on(
     alloc: Global,
     floor: &mut Floor<PlainSeeker>,
@@ -146,7 +146,7 @@ pub fn tells_on(
     told.served == served && told.log.as_slice() == log
 }
 
-/// The same of the floor of the built-in design.
+/// The same for the floor of the built-in design.
 pub fn tells(
     alloc: Global,
     bytes: &[u8],
@@ -199,7 +199,7 @@ fn no_line_behind_bye_is_acted_on(rt: HostRuntime) -> Result<(), Fail> {
     Ok(())
 }
 
-/// Whether a session of one connection is still open in the next connection to the floor.
+/// Returns true if a session of one connection is still open in the next connection to the floor.
 fn keeps_sessions(alloc: Global, floor: &mut Floor<PlainSeeker>) -> bool {
     let first = counted(2, 2, Ending::Bye);
     let next = counted(1, 1, Ending::Done);
@@ -213,7 +213,7 @@ fn keeps_sessions(alloc: Global, floor: &mut Floor<PlainSeeker>) -> bool {
     ) && tells_on(alloc, floor, b"open A\n", &SOUND, next, b"ok 1 0\n|")
 }
 
-/// The same of the floor of the built-in design.
+/// The same for the floor of the built-in design.
 fn sessions_outlive(alloc: Global) -> Result<bool, Fail> {
     match floor(alloc) {
         Ok(mut floor) => Ok(keeps_sessions(alloc, &mut floor)),
@@ -289,7 +289,7 @@ fn a_writer_that_takes_no_byte_has_failed(rt: HostRuntime) -> Result<(), Fail> {
     Ok(())
 }
 
-/// Puts behind the lines one of `open A` and blanks, so many bytes in all, and a line feed.
+/// Appends a line of `open A` and blanks, of `length` bytes, and a line feed.
 fn push_long_line(lines: &mut Vec<u8>, length: usize) -> Result<(), AllocError> {
     let end = lines.len().saturating_add(length);
     lines.extend_from_slice(b"open A")?;
@@ -298,14 +298,14 @@ fn push_long_line(lines: &mut Vec<u8>, length: usize) -> Result<(), AllocError> 
     Ok(())
 }
 
-/// Puts behind the lines some that are no requests, and around them two that are.
+/// Appends lines that are not requests, between two that are.
 fn push_odd_lines(lines: &mut Vec<u8>) -> Result<(), AllocError> {
     lines.extend_from_slice(b"open A\n\nwhere A 0\nplace A 0 a1 2147483648 0 N\n")?;
     push_long_line(lines, 4097)?;
     push_long_line(lines, 4096)
 }
 
-/// What those lines are told.
+/// The replies to those lines.
 const REFUSED: &[u8] = b"ok 0 0
 |no 1 BadRequest
 |no 1 BadRequest

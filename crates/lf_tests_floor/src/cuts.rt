@@ -1,4 +1,4 @@
-//! One script, in pieces of each size and with each call failing in turn.
+//! One script, in reads of each size and with each call failing in turn.
 
 use crate::connections::{Plan, SOUND, counted, serve_bytes, tells_on};
 use crate::starts::floor_of_two_undos;
@@ -8,7 +8,7 @@ use lf_server::{Ending, Served};
 use std::alloc::Global;
 use std::test::Fail;
 
-/// Three cells are placed, and two of them taken back.
+/// Three cells are placed, and two of the changes are undone.
 const SCRIPT: &[u8] = b"open A
 place A 0 a1 0 0 N
 place A 0 a2 400 0 N
@@ -32,7 +32,7 @@ const LOG: &[u8] = b"ok 0 0
 |no 6 Unplaced a2
 |";
 
-/// Whether the script in pieces of this size is answered so.
+/// Returns true if the script in reads of this size gets these replies.
 fn is_answered(alloc: Global, piece: usize) -> Result<bool, Fail> {
     let plan = Plan { piece, ..SOUND };
     let served = counted(9, 9, Ending::Done);
@@ -50,7 +50,7 @@ fn a_script_in_pieces_of_each_size_is_told_the_same(rt: HostRuntime) -> Result<(
     Ok(())
 }
 
-/// The bars of a log: how many replies were written whole and flushed.
+/// Returns the number of bars in a log: the replies that were completely written and flushed.
 fn bars(log: &[u8]) -> u64 {
     let mut count = 0u64;
     for byte in log {
@@ -61,7 +61,7 @@ fn bars(log: &[u8]) -> u64 {
     count
 }
 
-/// The log of so many replies, each written whole and flushed.
+/// Returns the log of `count` replies, each completely written and flushed.
 fn log_of_replies(count: u64) -> &'static [u8] {
     let mut left = count;
     for (at, byte) in LOG.iter().enumerate() {
@@ -75,8 +75,8 @@ fn log_of_replies(count: u64) -> &'static [u8] {
     LOG
 }
 
-/// The log of so many writes of three bytes, of which the last one of a reply may be shorter; each reply that is whole then is
-/// flushed.
+/// Returns the log of `count` writes of three bytes. The last write of a reply may be shorter, and
+/// each complete reply is flushed.
 fn log_of_writes(count: u32) -> &'static [u8] {
     let mut left = count;
     let mut written = 0u32;
@@ -96,7 +96,7 @@ fn log_of_writes(count: u32) -> &'static [u8] {
     LOG
 }
 
-/// The log of so many flushes, and of the reply behind them, which is written and not flushed.
+/// Returns the log of `count` flushes, and of the next reply, which is written and not flushed.
 fn log_of_flushes(count: u32) -> &'static [u8] {
     let mut left = count;
     for (at, byte) in LOG.iter().enumerate() {
@@ -110,7 +110,7 @@ fn log_of_flushes(count: u32) -> &'static [u8] {
     LOG
 }
 
-/// How many lines of the script are whole in so many reads of 7 bytes.
+/// Returns the number of complete lines of the script in `reads` reads of 7 bytes.
 fn lines_in(reads: u32) -> u64 {
     let read = (reads as usize).saturating_mul(7).min(SCRIPT.len());
     let mut count = 0u64;
@@ -122,7 +122,8 @@ fn lines_in(reads: u32) -> u64 {
     count
 }
 
-/// What is told where so many replies were written whole and flushed: the line whose reply was not is acted on too.
+/// The result when `answered` replies were completely written and flushed. The line whose reply was
+/// not is acted on too.
 fn broken_off(answered: u64, ending: Ending) -> Served {
     match ending {
         Ending::WriteFault => counted(answered.saturating_add(1), answered, ending),
@@ -137,7 +138,8 @@ const SMALL: Plan = Plan {
     ..SOUND
 };
 
-/// Whether the script over these devices ends so on the floor, with just this log and its counts.
+/// Returns true if the script over these devices ends like this on the floor, with exactly this log
+/// and its counts.
 fn breaks_off_on(
     alloc: Global,
     floor: &mut Floor<PlainSeeker>,
@@ -149,7 +151,7 @@ fn breaks_off_on(
     told.log.as_slice() == log && told.served == broken_off(bars(log), ending)
 }
 
-/// The same of the floor of the built-in design on which two changes can be undone.
+/// The same for the floor of the built-in design, on which two changes can be undone.
 fn breaks_off(alloc: Global, plan: &Plan, ending: Ending, log: &[u8]) -> Result<bool, Fail> {
     match floor_of_two_undos(alloc) {
         Ok(mut floor) => Ok(breaks_off_on(alloc, &mut floor, plan, ending, log)),

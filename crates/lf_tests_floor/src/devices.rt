@@ -1,14 +1,14 @@
-//! A reader and a writer for tests, of which each call can be made to fail.
+//! A reader and a writer for tests; each of their calls can be made to fail.
 
 use std::io;
 use std::io::{Read, Write};
 
-/// What a call that fails answers.
+/// The error of a call that fails.
 fn fault() -> io::Error {
     io::Error::from(io::ErrorKind::Other)
 }
 
-/// A reader that gives at most so many bytes a read, and fails once it has made its good reads.
+/// A reader that gives at most `most` bytes a read, and fails after its good reads.
 #[derive(Drop)]
 pub struct Pieces<'a> {
     pub bytes: &'a [u8],
@@ -27,8 +27,8 @@ impl<'a> Read for Pieces<'a> {
     }
 }
 
-/// A writer that takes at most so many bytes a call, and fails once it has made its good writes or flushes. It keeps
-/// what it takes, with a bar for each time that it is flushed.
+/// A writer that takes at most `most` bytes a call, and fails after its good writes or flushes. It
+/// keeps the bytes, with a bar for each flush.
 #[derive(Drop)]
 pub struct Log {
     pub taken: Vec<u8>,

@@ -23,7 +23,7 @@ pub(crate) fn floor(alloc: Global) -> Result<Floor<PlainSeeker>, Fail> {
     floor_of(alloc, &def)
 }
 
-/// The request of the first session of a team to unplace a cell.
+/// The request of a team's first session to unplace a cell.
 fn unplace<'a>(team: &'a [u8], cell: &'a [u8]) -> Request<'a> {
     let action = Action::Change(Change::Unplace { cell });
     Command::To {
@@ -32,7 +32,7 @@ fn unplace<'a>(team: &'a [u8], cell: &'a [u8]) -> Request<'a> {
     }
 }
 
-/// B opens a session, takes b1 from its place, and parts.
+/// B opens a session, unplaces b1 twice, and ends the connection.
 fn requests(alloc: Global) -> Result<RequestList, AllocError> {
     let mut list = RequestList::new(alloc);
     list.push(&Command::To {
@@ -54,7 +54,7 @@ fn text_of(alloc: Global, replies: &[Reply]) -> Result<Vec<u8>, AllocError> {
     Ok(text)
 }
 
-/// Whether a1 has its place, and b1 none.
+/// Returns true if a1 has its place, and b1 is unplaced.
 fn is_b1_gone(floor: &Floor<PlainSeeker>) -> bool {
     if floor.place_of(b"B", 0).is_some() {
         return false;
@@ -62,7 +62,7 @@ fn is_b1_gone(floor: &Floor<PlainSeeker>) -> bool {
     floor.place_of(b"A", 0) == Some(Place::new(0, 0, Orient::N))
 }
 
-/// Whether a2 is the second cell of A, and no team has a second cell outside the fences.
+/// Returns true if a2 is the second cell of A, and the ground team has no second cell.
 fn are_cells_named(floor: &Floor<PlainSeeker>) -> bool {
     if floor.name_of(b"-", 1).is_some() {
         return false;
@@ -76,7 +76,7 @@ fn ran(alloc: Global, floor: &mut Floor<PlainSeeker>) -> Result<Vec<u8>, AllocEr
     text_of(alloc, &replies)
 }
 
-/// Whether the requests are answered by these replies, and then b1 alone has left its place.
+/// Returns true if the requests get these replies, and b1 alone is then unplaced.
 fn answers(
     alloc: Global,
     floor: &mut Floor<PlainSeeker>,
@@ -88,7 +88,7 @@ fn answers(
     Ok(is_b1_gone(floor) && are_cells_named(floor))
 }
 
-/// The same of a floor that is let go then.
+/// The same for a floor that is then dropped.
 fn runs(alloc: Global, mut floor: Floor<PlainSeeker>, replies: &[u8]) -> Result<bool, AllocError> {
     answers(alloc, &mut floor, replies)
 }
@@ -125,7 +125,7 @@ fn def_for(session: u32) -> Request<'static> {
     }
 }
 
-/// The DEF text of A, put piece by piece.
+/// The DEF text of A, written piece by piece.
 fn put_text(alloc: Global, floor: &Floor<PlainSeeker>) -> Vec<u8> {
     let mut kept = Kept {
         text: Vec::new(alloc),
@@ -134,7 +134,8 @@ fn put_text(alloc: Global, floor: &Floor<PlainSeeker>) -> Vec<u8> {
     kept.text
 }
 
-/// Whether a DEF text that is put is that of the reply, and has the length that the response tells; and other replies are whole.
+/// Returns true if the written DEF text is that of the reply, with the length that the response
+/// has, and other replies are complete.
 fn responds(alloc: Global, floor: &mut Floor<PlainSeeker>) -> bool {
     let opened = floor.respond(&Command::To {
         team: b"A",
@@ -155,7 +156,7 @@ fn responds(alloc: Global, floor: &mut Floor<PlainSeeker>) -> bool {
     count == text.as_bytes().len() && put_text(alloc, floor).as_slice() == text.as_bytes()
 }
 
-/// The same of a floor that is let go then.
+/// The same for a floor that is then dropped.
 fn puts_its_text(alloc: Global, mut floor: Floor<PlainSeeker>) -> bool {
     responds(alloc, &mut floor)
 }

@@ -1,4 +1,4 @@
-//! State texts in pieces of each size.
+//! State texts in chunks of each size.
 
 ghost use Rattle.std.specs.Prelude.{◌<◌};
 
@@ -10,7 +10,7 @@ use std::alloc::{AllocError, Global};
 use std::collections::VecDeque;
 use std::test::Fail;
 
-/// A text whose third line has a word where a revision is due.
+/// A text whose third line has a word in place of a revision.
 const FAULTY: &[u8] = b"lefence-state 1\nteams 3\nteam A x 0 8 3 0\n";
 
 /// The text of the floor's state.
@@ -22,7 +22,7 @@ fn state_of(alloc: Global, floor: &Floor<PlainSeeker>) -> Vec<u8> {
     kept.text
 }
 
-/// The text in pieces of this size.
+/// Cuts the text into chunks of this size.
 fn cut(alloc: Global, text: &[u8], size: usize) -> Result<VecDeque<Vec<u8>>, AllocError>
     requires { 0 < size }
 {
@@ -33,7 +33,7 @@ fn cut(alloc: Global, text: &[u8], size: usize) -> Result<VecDeque<Vec<u8>>, All
     Ok(pieces)
 }
 
-/// Whether a floor is restored from the text of its state in pieces of this size.
+/// Returns true if a floor is restored from the text of its state in chunks of this size.
 fn is_restored(
     alloc: Global,
     floor: Floor<PlainSeeker>,
@@ -63,7 +63,8 @@ fn a_state_in_pieces_of_each_size_is_restored(rt: HostRuntime) -> Result<(), Fai
     Ok(())
 }
 
-/// Whether the faulty text in pieces of this size is refused for its third line, with an end that has that line.
+/// Returns true if the faulty text in chunks of this size is refused for its third line, with an
+/// end that has that line.
 fn is_refused(alloc: Global, floor: &Floor<PlainSeeker>, size: usize) -> Result<bool, AllocError>
     requires { 0 < size }
 {

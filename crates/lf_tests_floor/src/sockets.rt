@@ -1,4 +1,4 @@
-//! Connections over TCP, to this machine.
+//! Connections over TCP to this machine.
 
 use crate::connections::SOUND;
 use crate::starts::floor;
@@ -9,7 +9,7 @@ use std::io::{Read, Write};
 use std::net::{Ipv4Addr, Net, OpenListener, SocketAddr};
 use std::test::Fail;
 
-/// What is told of so many connections that were all accepted.
+/// The result of `connections` connections that were all accepted.
 fn all(connections: u32) -> TcpServed {
     TcpServed {
         connections,
@@ -17,7 +17,7 @@ fn all(connections: u32) -> TcpServed {
     }
 }
 
-/// How so many connections to the floor of the built-in design are served.
+/// Serves `connections` connections to the floor of the built-in design.
 fn served<T: Net + AllocGlobal>(
     rt: &T,
     listener: &T::Listener,
@@ -34,14 +34,15 @@ fn client<T: Net>(rt: &T, listener: &T::Listener, bytes: &[u8]) -> io::Result<T:
     Ok(client)
 }
 
-/// Whether these are the bytes that the client is sent up to the end.
+/// Returns true if the client receives exactly these bytes.
 fn is_told<S: Read>(alloc: Global, client: &mut S, replies: &[u8]) -> io::Result<bool> {
     let mut all = Vec::new(alloc);
     client.read_to_end(&mut all)?;
     Ok(all.as_slice() == replies)
 }
 
-/// Whether a client that opens a session and leaves is told this, where it is the last of so many connections.
+/// Returns true if a client that opens a session and ends its connection gets these replies. It is
+/// the last of `connections` connections.
 fn is_answered<T: Net + AllocGlobal>(
     rt: &T,
     listener: &T::Listener,

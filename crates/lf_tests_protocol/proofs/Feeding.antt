@@ -10,13 +10,13 @@ use Rattle.lf_proto.specs.Framing.{Framing}
 use Rattle.lf_proto.specs.declared.framer.Fed.{Fed}
 use Rattle.lf_proto.specs.declared.framer.Got.{Got}
 
--- what is left of a slice, whose length the slice tells
+-- the rest of a slice, whose length the slice has
 pub of_the_rest : (stream piece : List ℕ) (at most : ℕ) → piece ≡ take most (take (length stream - at) (drop at stream)) → piece ≡ take most (drop at stream)
 of_the_rest stream piece at most is =
     let all : take (length stream - at) (drop at stream) ≡ drop at stream = take_all _ _ (omega (arith, length-drop at stream)) in
     is ∙ ap (take most) all
 
--- a front of what is left is the next piece
+-- a prefix of the rest is the next piece
 pub feeds_on : (old middle new : Framing) (stream piece : List ℕ) (at most : ℕ) (fed : Fed) (lines : List (Option (List ℕ))) → piece ≡ take most (drop at stream)
     → Feeds old piece fed middle → fed.used ≤ length piece → TakesBytes middle (drop (at + fed.used) stream) lines new
     → TakesBytes old (drop at stream) (given_line fed.got middle.line ++ lines) new
@@ -28,13 +28,13 @@ feeds_on old middle new stream piece at most fed lines is feeds within takes =
     subst (λ l. TakesBytes old l (given_line fed.got middle.line ++ lines) new) whole
     (next_piece old middle new piece (drop most rest) fed lines feeds (subst (λ l. TakesBytes middle l lines new) left takes))
 
--- what is given besides
+-- one more result
 pub within_more : (all more : Bool) (got : Got) (line : List ℕ) (lines : List (Option (List ℕ))) → more ≡ list_all is_some (given_line got line)
     → (all && list_all is_some (given_line got line ++ lines)) ≡ ((all && more) && list_all is_some lines)
 within_more true more got line lines is = list_all-append is_some (given_line got line) lines ∙ ap (λ b. b && list_all is_some lines) (sym is)
 within_more false more got line lines is = refl
 
--- a front of what is left ends within the stream
+-- a prefix of the rest ends within the stream
 pub inside : (stream piece : List ℕ) (at most used : ℕ) → piece ≡ take most (drop at stream) → at ≤ length stream → used ≤ length piece → at + used ≤ length stream
 inside stream piece at most used is begun within = omega (arith, begun, within, ap length is, length-take most (drop at stream), length-drop at stream)
 
@@ -42,7 +42,7 @@ and_true : (b : Bool) → (b && true) ≡ b
 and_true true = refl
 and_true false = refl
 
--- nothing is left
+-- no byte remains
 pub fed_all : (now start : Framing) (stream : List ℕ) (at : ℕ) (within : Bool) → length stream ≤ at
     → ((lines : List (Option (List ℕ))) (new : Framing) → TakesBytes now (drop at stream) lines new → (all : List (Option (List ℕ))) × TakesBytes start stream all new × (list_all is_some all ≡ (within && list_all is_some lines)))
     → (lines : List (Option (List ℕ))) × TakesBytes start stream lines now × (within ≡ list_all is_some lines)
@@ -50,7 +50,7 @@ fed_all now start stream at within past goes =
     let (all, takes, is) = goes [] now (subst (λ l. TakesBytes now l [] now) (sym (drop_all at stream past)) (none_left now)) in
     (all, takes, sym (is ∙ and_true within))
 
--- the lines before the end, and what is given there
+-- the lines in front of the end, and the result at the end
 pub all_within : (within last : Bool) (stream : List ℕ) (lines : List (Option (List ℕ))) (got : Got) (line : List ℕ) → within ≡ list_all is_some lines → last ≡ list_all is_some (given_line got line)
     → lines ++ given_line got line ≡ lines_of stream → (within && last) ≡ list_all is_some (lines_of stream)
 all_within within last stream lines got line is ends whole =

@@ -1,9 +1,9 @@
--- What reading a line that prints a request gives.
+-- The result of reading a line that prints a request.
 use Rattle.std.proofs.Common.{◌≡◌, Option, Some, None, Result, Ok, Err, sym, ◌∙◌}
 use Rattle.std.specs.Prelude.{MatchResult}
 
 module _ {C R E : Type 0} (command_in : R → C) where
-  -- the line's request, which is this one, and the reader's answer for the line
+  -- the line's request is this one, and so is the result of the reader
   pub reads_printed : (o : Option C) (command : C) (result : Result R E) → o ≡ Some command
       → MatchResult result (λ request. o ≡ Some (command_in request)) (λ _. o ≡ None) → MatchResult result (λ request. command_in request ≡ command) (λ _. ⊥)
   reads_printed o command (Ok request) is read = one (sym read ∙ is) where

@@ -1,4 +1,13 @@
-//! Tests of the command line, of requests, replies and the lines of a stream, as callers use them: what no clause says of them.
+//! Tests of the command line, of requests and replies, and of the lines of a stream, for what no
+//! clause states.
+//!
+//! They cover `lf_cli` and `lf_proto`, as callers use them.
+//!
+//! Modules, in reading order:
+//!
+//! - `words`: the words of the command line
+//! - `requests`: requests, replies and reports
+//! - `streams`: the lines of a stream
 #![tactic(auto)]
 
 #[cfg(test)]

@@ -17,7 +17,7 @@ use lf_units::{Name, Sequence};
 use std::alloc::{AllocError, Global};
 use std::test::Fail;
 
-/// The request of a line. A line that prints a request gives that request.
+/// Reads the request of a line. A line that prints a request gives that request.
 fn read_back<'a>(line: &'a [u8]) -> Result<Request<'a>, BadRequest>
     ensures { (command : Command (List ℕ) Place) → IsPlain command → line.now ≡ printed command → MatchResult result (λ request. command_of request ≡ command) (λ _. ⊥) }
 {
@@ -25,7 +25,7 @@ fn read_back<'a>(line: &'a [u8]) -> Result<Request<'a>, BadRequest>
     parse_line(line)
 }
 
-/// The request of a line that has one space more before it.
+/// Reads a line, with the result for the line with one more space in front.
 fn read_indented<'a>(line: &'a [u8]) -> Result<Request<'a>, BadRequest>
     ensures { MatchResult result (λ request. command_on (32 ∷ line.now) ≡ Some (command_of request)) (λ _. command_on (32 ∷ line.now) ≡ None) }
 {
@@ -33,7 +33,7 @@ fn read_indented<'a>(line: &'a [u8]) -> Result<Request<'a>, BadRequest>
     parse_line(line)
 }
 
-/// The request of a line of two parts with two spaces between them, given with a tab there.
+/// Reads a line of two parts with a tab between them, with the result for two spaces between them.
 fn read_tabbed<'a>(line: &'a [u8], front: &[u8], rest: &[u8]) -> Result<Request<'a>, BadRequest>
     requires { line.now ≡ front.now ++ 9 ∷ rest.now }
     ensures { MatchResult result (λ request. command_on (front.now ++ 32 ∷ 32 ∷ rest.now) ≡ Some (command_of request)) (λ _. command_on (front.now ++ 32 ∷ 32 ∷ rest.now) ≡ None) }
@@ -42,7 +42,7 @@ fn read_tabbed<'a>(line: &'a [u8], front: &[u8], rest: &[u8]) -> Result<Request<
     parse_line(line)
 }
 
-/// The place that a line asks for.
+/// Returns the place in the request of a line.
 fn asked_place(line: &[u8]) -> Option<Place> {
     let Ok(Command::To { order, .. }) = read_back(line) else {
         return None;
@@ -88,7 +88,7 @@ fn takes_visible_bytes_and_blanks(rt: HostRuntime) {
     }
 }
 
-/// Whether a reply about the cells a2 and a1 has this text.
+/// Returns true if a reply with the cells a2 and a1 has this text.
 fn has_text(alloc: Global, reply: Reply, line: &[u8]) -> Result<bool, AllocError> {
     let mut out = Vec::new(alloc);
     reply_text(&reply, b"a2", b"a1", &mut out)?;
@@ -179,7 +179,7 @@ fn writes_broken_rules(rt: HostRuntime) -> Result<(), Fail> {
     Ok(())
 }
 
-/// Whether the request is to the team of that name.
+/// Returns true if the request is to the team of that name.
 fn is_to(request: &Request<'_>, name: &[u8]) -> bool {
     match request {
         Command::Bye => false,
@@ -187,7 +187,7 @@ fn is_to(request: &Request<'_>, name: &[u8]) -> bool {
     }
 }
 
-/// Whether the list has a request to A and one to B.
+/// Returns true if the list has a request to A and one to B.
 fn is_to_both(list: &RequestList) -> bool {
     match (list.request(0), list.request(1), list.request(2)) {
         (Some(first), Some(second), None) => {
@@ -197,7 +197,7 @@ fn is_to_both(list: &RequestList) -> bool {
     }
 }
 
-/// Puts the request of a line behind the others.
+/// Appends the request of a line.
 fn push_line(list: &mut RequestList, line: &[u8]) -> Result<(), Fail> {
     match parse_line(line) {
         Ok(request) => Ok(list.push(&request)?),

@@ -10,7 +10,7 @@ use lf_proto::{Fed, Got, LineFramer, framing_keeps_lines, parse_line};
 use std::alloc::{AllocError, Global};
 use std::test::Fail;
 
-/// Feeds the framer a piece, of which it uses a byte at least.
+/// Feeds the framer a piece; it uses at least one byte of a piece that is not empty.
 fn feed_piece(framer: &mut LineFramer, piece: &[u8]) -> Fed
     ensures fed { Feeds framer.old piece.now result framer.new }
     ensures within { result.used ≤ length piece.now }
@@ -19,14 +19,14 @@ fn feed_piece(framer: &mut LineFramer, piece: &[u8]) -> Fed
     framer.feed(piece)
 }
 
-/// The bytes up to so many.
+/// Returns the first `most` bytes.
 fn front(bytes: &[u8], most: usize) -> &[u8]
     ensures { result.now ≡ take most bytes.now }
 {
     &bytes[..most.min(bytes.len())]
 }
 
-/// Whether what was given is no line that was too long.
+/// Returns true unless the result is a line that is too long.
 fn is_within(got: Got) -> bool
     ensures { (line : List ℕ) → result ≡ list_all is_some (given_line got line) }
 {
@@ -36,14 +36,15 @@ fn is_within(got: Got) -> bool
     }
 }
 
-/// Whether both hold.
+/// Returns true if both are true.
 fn both(one: bool, other: bool) -> bool
     ensures { result ≡ (one && other) }
 {
     one && other
 }
 
-/// Feeds the framer a stream in pieces of at most so many bytes; returns whether none of its lines was too long.
+/// Feeds the framer a stream in pieces of at most `most` bytes. Returns true if no line is too
+/// long.
 fn feed_stream(framer: &mut LineFramer, stream: &[u8], most: usize) -> bool
     requires { 1 ≤ most }
     ensures { (lines : List (Option (List ℕ))) × TakesBytes framer.old stream.now lines framer.new × (result ≡ list_all is_some lines) }
@@ -58,7 +59,10 @@ fn feed_stream(framer: &mut LineFramer, stream: &[u8], most: usize) -> bool
     within
 }
 
-/// Whether each line of a stream is within the limit, as a framer finds that takes at most so many bytes at a time.
+/// Returns true if each line of a stream is within the limit, by a framer that takes at most `most`
+/// bytes at a time.
+///
+/// `Err` if an allocation fails.
 fn are_within(alloc: Global, stream: &[u8], most: usize) -> Result<bool, AllocError>
     requires { 1 ≤ most }
     ensures { IfOk result (λ within. within ≡ list_all is_some (lines_of stream.now)) }
@@ -81,19 +85,20 @@ fn finds_lines_that_are_too_long(rt: HostRuntime) -> Result<(), Fail> {
     Ok(())
 }
 
-/// Whether the framer takes so many bytes of the piece and has a line then, which is this one.
+/// Returns true if the framer uses `used` bytes of the piece and then has this line.
 fn takes_line(framer: &mut LineFramer, piece: &[u8], used: usize, line: &[u8]) -> bool {
     let fed = framer.feed(piece);
     fed.used == used && fed.got == Got::Line && framer.line() == line
 }
 
-/// Whether the framer takes the piece whole and waits for more.
+/// Returns true if the framer uses the whole piece and expects more.
 fn takes_all(framer: &mut LineFramer, piece: &[u8]) -> bool {
     let fed = framer.feed(piece);
     fed.used == piece.len() && fed.got == Got::More
 }
 
-/// Whether lines end at line feeds, one carriage return before these is dropped, and a last line needs none.
+/// Returns true if lines end at line feeds, one carriage return in front of these is dropped, and
+/// the last line needs no line feed.
 fn parts_lines(framer: &mut LineFramer) -> bool {
     takes_line(framer, b"open A\r\n\nopen B\r", 8, b"open A")
         && takes_line(framer, b"\nopen B\r", 1, b"")
@@ -110,13 +115,14 @@ fn frames_lines(rt: HostRuntime) -> Result<(), Fail> {
     Ok(())
 }
 
-/// Whether the framer takes so many bytes of the piece and has a line that was too long then.
+/// Returns true if the framer uses `used` bytes of the piece and then has a line that is too long.
 fn refuses_line(framer: &mut LineFramer, piece: &[u8], used: usize) -> bool {
     let fed = framer.feed(piece);
     fed.used == used && fed.got == Got::TooLong
 }
 
-/// Whether the framer takes a line of 4,096 bytes, and none of one byte more, its carriage return counted.
+/// Returns true if the framer takes a line of 4,096 bytes, and refuses one of one byte more,
+/// including its carriage return.
 fn bounds_length(framer: &mut LineFramer, longest: &[u8]) -> bool {
     takes_all(framer, longest)
         && takes_line(framer, b"\n", 1, longest)

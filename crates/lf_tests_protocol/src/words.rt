@@ -4,7 +4,7 @@ use lf_cli::{LegalCells, Task, UsageFault, command_of};
 use std::alloc::{AllocError, Global};
 use std::test::Fail;
 
-/// What words name: a task, whose LEF files are a slice here, or why they name none.
+/// The meaning of the words: a task, whose LEF files are a slice here, or why there is no task.
 #[derive(Clone, Copy, PartialEq, Eq)]
 enum Named<'a> {
     Demo,
@@ -50,7 +50,7 @@ enum Named<'a> {
     Nothing(UsageFault),
 }
 
-/// The task, as words name it.
+/// Converts the task to this type.
 fn as_named<'a>(task: &'a Task<'a>) -> Named<'a> {
     match task {
         Task::Demo => Named::Demo,
@@ -130,7 +130,7 @@ fn as_named<'a>(task: &'a Task<'a>) -> Named<'a> {
     }
 }
 
-/// Whether this was named.
+/// Returns true if this is the meaning.
 fn is_named(task: &Result<Task<'_>, UsageFault>, named: &Named<'_>) -> bool {
     match task {
         Ok(task) => as_named(task) == *named,
@@ -143,13 +143,13 @@ fn words_of<'a>(alloc: Global, line: &'a str) -> Result<Vec<&'a str>, AllocError
     line.split_whitespace().collect(alloc)
 }
 
-/// Whether the words of the line name this.
+/// Returns true if this is the meaning of the words of the line.
 fn names(alloc: Global, line: &str, named: &Named<'_>) -> Result<bool, AllocError> {
     let words = words_of(alloc, line)?;
     Ok(is_named(&command_of(alloc, words.as_slice()), named))
 }
 
-/// Whether the words of each of the lines name this.
+/// Returns true if this is the meaning of the words of each of the lines.
 fn all_name(alloc: Global, lines: &[&str], named: &Named<'_>) -> Result<bool, AllocError> {
     for line in lines {
         if !names(alloc, line, named)? {
@@ -180,7 +180,7 @@ fn words_name_the_demo_a_check_and_a_description(rt: HostRuntime) -> Result<(), 
     Ok(())
 }
 
-/// Behind two hyphens, paths may begin with a hyphen.
+/// After two hyphens, paths may begin with a hyphen.
 #[test]
 fn words_name_a_replay(rt: HostRuntime) -> Result<(), Fail> {
     let lines = [
@@ -273,7 +273,7 @@ fn words_name_a_service(rt: HostRuntime) -> Result<(), Fail> {
     Ok(())
 }
 
-/// A saved state is looked at.
+/// A saved state is shown.
 #[test]
 fn words_name_the_state_that_is_looked_at(rt: HostRuntime) -> Result<(), Fail> {
     let check = Named::Check {
@@ -297,7 +297,7 @@ fn words_name_the_state_that_is_looked_at(rt: HostRuntime) -> Result<(), Fail> {
     Ok(())
 }
 
-/// A number of session slots is asked for.
+/// A number of session slots is given.
 #[test]
 fn words_name_the_number_of_sessions(rt: HostRuntime) -> Result<(), Fail> {
     for (line, sessions) in [
@@ -377,7 +377,7 @@ fn other_numbers_of_sessions_are_refused(rt: HostRuntime) -> Result<(), Fail> {
     Ok(())
 }
 
-/// A saved state is gone on from, or saved.
+/// A saved state is restored or saved.
 #[test]
 fn words_name_the_files_of_states(rt: HostRuntime) -> Result<(), Fail> {
     let replay = Named::Replay {
@@ -414,7 +414,8 @@ fn words_name_the_files_of_states(rt: HostRuntime) -> Result<(), Fail> {
     Ok(())
 }
 
-/// The exported text may take the place of the DEF text, and the saved state, above, that of the one that was read.
+/// The exported text may replace the DEF text. The saved state may replace the one that was read,
+/// as above.
 #[test]
 fn an_exported_text_may_replace_the_def_text(rt: HostRuntime) -> Result<(), Fail> {
     let replay = Named::Replay {
@@ -444,7 +445,7 @@ fn an_exported_text_may_replace_the_def_text(rt: HostRuntime) -> Result<(), Fail
     Ok(())
 }
 
-/// Nothing is written over another text that is read, nor twice into one file.
+/// No output replaces another text that is read, and no two outputs have the same file.
 #[test]
 fn files_of_other_arguments_are_not_written(rt: HostRuntime) -> Result<(), Fail> {
     let lines = [

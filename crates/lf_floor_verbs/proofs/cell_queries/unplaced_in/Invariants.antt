@@ -3,7 +3,7 @@ use Rattle.std.specs.Prelude.{count_by, is_none}
 use Rattle.lf_cells.specs.Cells.{cells_of}
 use Rattle.lf_floor_verbs.proofs.cell_queries.unplaced_in.Given as goal
 
--- so many of the cells so far are unplaced
+-- the count is the number of unplaced cells so far
 abbrev pub invariant-loop-id : goal.invariant-loop-id
 invariant-loop-id l = record {
   few : l.unplaced ≤ l.id-index;

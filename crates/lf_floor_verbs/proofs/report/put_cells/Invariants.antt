@@ -9,7 +9,8 @@ use Rattle.lf_floor_model.specs.Teams.{team_rules}
 use Rattle.lf_floor_verbs.specs.Reporting.{violation_where}
 use Rattle.lf_floor_verbs.proofs.report.put_cells.Given as goal
 
--- what is written, and then the text of any others, is the text of the violations of the cells so far, and then of the others
+-- the text written so far, followed by the text of any others, is the text of the violations of the
+-- cells so far and then the others
 abbrev pub invariant-loop-id : goal.invariant-loop-id
 invariant-loop-id l =
     (lz : Legalizer) (rest : List Violation) → l.text.items ++ violations_text l.later rest

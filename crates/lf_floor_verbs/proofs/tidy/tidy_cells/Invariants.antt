@@ -9,8 +9,8 @@ use Rattle.lf_floor_verbs.specs.Marking.{AreMarked}
 use Rattle.lf_floor_verbs.specs.Tables.{OnlyMovesTeam}
 use Rattle.lf_floor_verbs.proofs.tidy.tidy_cells.Given as goal
 
--- tidying goes on from the cells so far, which differ from the old ones in their working places alone; the marked ones
--- stand legally
+-- tidying continues from the cells so far, which differ from the old ones in their working places
+-- alone; the cells with marks are legal
 abbrev pub invariant-loop-own : goal.invariant-loop-own
 invariant-loop-own g l = record {
   going : (j : Legalizer)

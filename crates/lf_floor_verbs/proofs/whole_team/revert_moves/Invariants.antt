@@ -4,6 +4,6 @@ use Rattle.lf_placement.specs.Placings.{moves_applied}
 use Rattle.lf_floor_verbs.proofs.Reverting.{back_first}
 use Rattle.lf_floor_verbs.proofs.whole_team.revert_moves.Given as goal
 
--- the moves so far lead the cells so far back
+-- the moves so far move the cells so far back
 abbrev pub invariant-loop-id : goal.invariant-loop-id
 invariant-loop-id l = moves_applied l.moves (cells_of l.cells l.number) ≡ back_first l.id-index (cells_of l.cells l.number)

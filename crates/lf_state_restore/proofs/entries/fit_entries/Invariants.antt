@@ -5,7 +5,8 @@ use Rattle.lf_undo.specs.Entries.{Places, entries_of}
 use Rattle.lf_placement.specs.Placings.{BoundsAt, Fits, Placing, SameButRooms}
 use Rattle.lf_state_restore.proofs.entries.fit_entries.Given as goal
 
--- where there is room for the places before the entries that are left, there is for those before all of them
+-- if there is room for the places before the remaining entries, there is room for those before all
+-- entries
 abbrev pub invariant-loop-moves : goal.invariant-loop-moves
 invariant-loop-moves l = record {
   rest : (p : Placing) → SameButRooms l.placement p → All (Fits p l.team) (entries_of l.places (drop l.moves-index l.entries))

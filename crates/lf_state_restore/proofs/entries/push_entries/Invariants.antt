@@ -2,7 +2,7 @@ use Rattle.std.proofs.Common.{◌≡◌, ◌≢◌, ◌++◌, ℕ, length}
 use Rattle.lf_undo.specs.Stacks.{stack_of}
 use Rattle.lf_state_restore.proofs.entries.push_entries.Given as goal
 
--- the entries that are left and those of the stack are all of them
+-- the remaining entries and those of the stack are all entries
 abbrev pub invariant-loop-left : goal.invariant-loop-left
 invariant-loop-left l = record {
   whole : l.left.items ++ stack_of l.undo l.team ≡ l.fn.entries.items;

@@ -6,7 +6,7 @@ use Rattle.lf_floor_model.specs.States.{FloorState}
 use Rattle.lf_floor_model.specs.Runs.{Run}
 use Rattle.lf_floor.proofs.floor.Floor.run.Given as goal
 
--- any run that goes on from here makes, with the replies so far, a run from the start
+-- any run that continues from here makes, with the replies so far, a run from the start
 abbrev pub invariant-loop-i : goal.invariant-loop-i
 invariant-loop-i g l = record {
   run : (j : Legalizer) (rest : List Reply) (new : FloorState) → Run j l.self (drop l.i l.requests) rest new
