@@ -13,8 +13,8 @@
 //! task:
 //!
 //! - demo and replay have served the lines, at most the given limit, to their end or a `bye`
-//! - serve has written `listening` and served the given number of connections, at 127.0.0.1 and the
-//!   given port, each within 1,000,000 lines and 4,200 reads for each line
+//! - serve has written `listening` and served the given number of connections at 127.0.0.1 and the
+//!   given port, each within 1,000,000 lines and 4,200 reads a line
 //! - check has written the report of all cells at their places in the DEF text, or with `--state`
 //!   at their working places in the state
 //! - describe has written the description, with the same places
@@ -27,11 +27,21 @@
 //! ever written.
 //!
 //! Status 1 or 3: there is one fault (`Fault`), which determines the status. It is the first one,
-//! in this order: the LEF files and texts, the DEF file and text, loading, the saved state, a team
-//! to repair that does not exist, the paths of the files to write, the port, the end of the lines,
-//! the service or the repair, the report or the description, the files written at the end. Its one
-//! or two lines are written to `faults`, unless that has failed (`TaskExit::is_told`). If the fault
-//! is that of a text, the design, a file or memory for them, nothing was written to the writer.
+//! in this order:
+//!
+//! 1. the LEF files and their texts, then the DEF file and its text
+//! 2. loading
+//! 3. the saved state
+//! 4. a team to repair that does not exist
+//! 5. the paths of the files to write
+//! 6. the port
+//! 7. the end of the lines, the service or the repair
+//! 8. the report or the description
+//! 9. the files written at the end
+//!
+//! Its one or two lines are written to `faults`, unless that has failed (`TaskExit::is_told`). If
+//! the fault is that of a text, the design, a file or memory for them, nothing was written to the
+//! writer.
 //!
 //! Contracts know nothing of the files and the network of a runtime. The contract of `perform`
 //! therefore says nothing of texts, exports and services.

@@ -234,11 +234,11 @@ fn outcome<'a, T: InputFiles, E: OutputFiles, V: PortListener, R: Source, W: Sin
 /// Does the task and returns how it ended. The exit status is one of:
 ///
 /// - 0 if the task succeeded
-/// - 1 if a text or the design was refused, or a team is not in the design; also if an allocation
-///   failed before the first line, for the report, for a line of a description, for a repair or its
-///   commands, for the exported text or for the state
-/// - 3 if a file, the reader, the writer, the port or a connection failed, the limit on lines was
-///   exceeded, or an allocation for the lines failed
+/// - 1 if a text or the design was refused, or a team is not in the design
+/// - 1 if an allocation failed: before the first line, for the report, a line of a description, a
+///   repair or its commands, the exported text or the state
+/// - 3 if a file, the reader, the writer, the port or a connection failed
+/// - 3 if the limit on lines was exceeded, or an allocation for the lines failed
 /// - 4 if a check, a description or a repair succeeded and the design is not fully legal
 ///
 /// A fault is reported once, here. Its first line names it. A second line names the file and its
