@@ -55,9 +55,6 @@
 //! From `crates/lf_tests_app/src/tasks.rt`:
 //!
 //! ```
-//! let mut reader = b"open A\nbye\n".as_slice();
-//! let mut written = Vec::new(rt.alloc());
-//! let mut faults = Vec::new(rt.alloc());
 //! let exit = perform(&rt, &Task::Demo, &mut reader, &mut written, &mut faults);
 //! ```
 #![tactic(auto)]

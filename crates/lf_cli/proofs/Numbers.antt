@@ -39,7 +39,7 @@ number_some least most n text numeral is low high =
     let high' : nat_le (number_of text) most ≡ true = le-leb (number_of text) most (omega (arith, is, high)) in
     rw (is_true text numeral, low', high', is) refl
 
--- If a number within the bounds is found, its text is such a number.
+-- If a number within the bounds is found, its text writes that number.
 pub from_number : (least most n : ℕ) (text : List ℕ) → number_in least most text ≡ Some n
     → (is_number text ≡ true) × (nat_le least (number_of text) ≡ true) × (nat_le (number_of text) most ≡ true)
 from_number least most n text e = by (is_number text) refl (nat_le least (number_of text)) refl (nat_le (number_of text) most) refl

@@ -21,7 +21,7 @@ const LINKS: u32 = 40;
 /// The path that leads to the file of standard output.
 const OUTPUT: &str = "/proc/self/fd/1";
 
-/// Returns the outcome, or `None` if the file does not exist or cannot be read. `Err` if an
+/// Returns the outcome, or `None` if the file does not exist or cannot be examined. `Err` if an
 /// allocation failed.
 fn found<T: Drop>(outcome: io::Result<T>) -> io::Result<Option<T>> {
     match outcome {
@@ -59,8 +59,8 @@ fn follow_link(alloc: Global, link: &str, named: &str) -> io::Result<String> {
     }
 }
 
-/// Returns the path to which links lead, whether a file exists there or not. `Err` if more than 40
-/// links follow each other.
+/// Returns the path to which links lead, whether a file exists there or not. `Err` after 40 links,
+/// which may form a loop.
 fn followed<T: Files + AllocGlobal>(rt: &T, path: &str) -> io::Result<String> {
     let mut at = String::from_str(rt.alloc(), path)?;
     for _ in 0..LINKS {

@@ -31,7 +31,7 @@ fn listed_cell<'a>(cells: &'a CellTable, id: CellId) -> Option<Listed<&'a [u8]>>
     })
 }
 
-/// Appends the cell at its committed place, if there is such a cell. `Err` if an allocation fails.
+/// Appends the cell at its committed place, if it exists. `Err` if an allocation fails.
 fn push_cell<'a>(
     cells: &'a CellTable,
     id: CellId,
