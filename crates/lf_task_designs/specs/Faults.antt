@@ -373,7 +373,7 @@ IsOfNone _ = ⊥
 -- - At a fault of the writer it has failed.
 -- - At a fault of the exported file, the state file or the commands' file, that file has failed.
 -- - At a fault of the service, the service has failed.
--- - At a fault of no device, no device has failed.
+-- - At a fault of no device, no device has failed during the task.
 pub record BlamesDevices (fault : Fault) (kept reader writer export service sound : Type 0) : Type 0 where
   pub early : IsEarly fault → kept
   pub reading : fault ≡ ReadFault → reader
