@@ -1,12 +1,13 @@
 #!/usr/bin/env python3
-"""Checks fully legal designs of growing size by the proved program, and prints seconds, peak memory and how they grow.
+"""Checks fully legal designs of growing size with the proved program, and prints seconds, peak memory and how they
+grow.
 
 usage: bench/check.py [RUNS]    (5; from the top; the program crates/lefence is proved and built first: rt run there)
 
-`check` is all that `lefence check` does: reading both texts, loading, and the report; `replay` is `lefence replay` without
-a line, which is the same without the report and with the start of the floor. Every cell is placed within its fence, so
-that the report of a design has no violation. The designs take turns, run after run, and the best of a design's runs is
-printed. The peak is never below that of this Python, about 15 MB.
+`check` is everything that `lefence check` does: reading both texts, loading, and the report. `replay` is `lefence
+replay` without lines, which omits the report and includes the start of the floor. Every cell is placed within its
+fence, so the report of a design has no violation. The designs take turns, run after run, and the best of each design's
+runs is printed. The peak is never below that of this Python, about 15 MB.
 """
 
 from __future__ import annotations

@@ -1,16 +1,17 @@
 #!/usr/bin/env python3
-"""Holds the program against a reference program that does the same work, stage by stage.
+"""Compares the program with a reference program that does the same work, stage by stage.
 
 usage: bench/compare.py REFERENCE [--program PATH] [--runs N] [--counts] [--design DEF LEF] [COUNT]
        (the program of crates/lefence, which is built first: rt run there; 3; the design below; 50000)
 
-The reference is a program by its path: `REFERENCE DEF LEF [--tidy] [--commit] [--export FILE]` does that of the design, of all teams. Ours
-does it by a `replay`. The design is `generate.py packed`, COUNT cells in 10 fences that take 60 percent of the sites, each half a site
-beside its place, or that of a DEF text over a LEF text.
+The reference is the path of a program: `REFERENCE DEF LEF [--tidy] [--commit] [--export FILE]` does that for all teams
+of the design. Our program does it with a `replay`. The design is `generate.py packed`, COUNT cells in 10 fences that
+take 60 percent of the sites. Each cell is half a site off its place. With --design it is that of a DEF text over a LEF
+text.
 
-A stage is what a run with it takes more than one without: seconds of the processor, of which the least of N runs is taken, in which the
-two programs take turns; or with `--counts` instructions, which valgrind counts and which are the same in each run. Ends with status 1 if
-the two exported texts differ.
+The cost of a stage is the difference between a run with it and one without. It is the least processor seconds of N
+runs, in which the two programs take turns. With `--counts` it is instructions, which valgrind counts and which are the
+same in each run. The status is 1 if the two exported texts differ.
 """
 
 from __future__ import annotations
@@ -28,7 +29,7 @@ from memory import TOP, teams_of
 
 STAGES = "start", "tidy", "commit", "export"
 COUNTED = re.compile(rb"Collected : (\d+)")
-# Of a run up to each stage: seconds or instructions, and the peak of memory in bytes.
+# For a run up to each stage: seconds or instructions, and the peak memory in bytes.
 Figures = dict[str, tuple[float, int]]
 
 
@@ -47,7 +48,7 @@ class Work:
         return self.folder / f"{name}.def"
 
     def run(self, words: list[str], lines: str) -> tuple[float, int]:
-        """What a run takes, and its peak memory."""
+        """The cost of a run, and its peak memory."""
         front = ["valgrind", "--tool=callgrind", "--callgrind-out-file=/dev/null"] if self.is_counted else []
         with tempfile.TemporaryFile() as source, tempfile.TemporaryFile() as told:
             source.write(lines.encode())
@@ -56,7 +57,7 @@ class Work:
             _, status, usage = os.wait4(child.pid, 0)
             told.seek(0)
             said = told.read()
-        # (4 where the design is not fully legal then)
+        # (4 if the design is then not fully legal)
         if (ended := os.waitstatus_to_exitcode(status)) not in (0, 4):
             sys.exit(f"{words[0]}: status {ended}: {said.decode()[-500:]}")
         if self.is_counted:

@@ -1,12 +1,12 @@
 #!/usr/bin/env python3
-"""Exports fully legal designs of growing size of which each tenth cell is moved, and prints seconds and peak memory.
+"""Exports fully legal designs of growing size after a tenth of the cells changed, and prints seconds and peak memory.
 
 usage: bench/export.py [RUNS]    (5; from the top; the program crates/lefence is proved and built first: rt run there)
 
-In the designs of `generate.py placed` each fifth cell of each fence, which is a tenth of all cells or a little less, is turned
-where it stands (N and FN, FS and S are exchanged), and each fence is committed. `export` is what `lefence replay --export`
-takes longer than the same replay without the option; `cp` is a copy of the exported file. The runs take turns, and the best
-of each is printed; the exported text is compared with the one that this script makes.
+In the designs of `generate.py placed` every fifth cell of each fence is flipped in place: N and FN, FS and S are
+exchanged. That is a tenth of all cells or a little less. Each fence is then committed. `export` is the additional time
+of `lefence replay --export` over the same replay without the option. `cp` is a copy of the exported file. The runs take
+turns, and the best of each is printed. The exported text is compared with the one that this script makes.
 """
 
 from __future__ import annotations
@@ -24,7 +24,7 @@ TURNED = {"N": "FN", "FN": "N", "FS": "S", "S": "FS"}
 
 
 def session(def_: str) -> tuple[str, str]:
-    """The lines that turn each fifth cell of each fence and commit it, and the text that is to be exported."""
+    """The lines that flip every fifth cell of each fence and commit it, and the expected exported text."""
     with open(def_) as text:
         entries = text.read().split("\n")
     at = {entry.split()[1]: i for i, entry in enumerate(entries) if " + PLACED " in entry}

@@ -1,12 +1,13 @@
 #!/usr/bin/env python3
-"""Has the teams of a design tidy and commit by lefence-farm on this machine, and prints what each part of that takes.
+"""Lets the teams of a design tidy and commit with lefence-farm on this machine, and prints the cost of each part.
 
-usage: bench/farm.py [CELLS] [FENCES]    (100000 and 20; from the top; LEFENCE names the program, crates/lefence/out/lefence if it is not set)
+usage: bench/farm.py [CELLS] [FENCES]    (100000 and 20; from the top; LEFENCE names the program,
+                                          crates/lefence/out/lefence by default)
 
-`slices` is the one pass over the DEF text that makes all slices, `teams` all teams on 1, 2 and 4 processes, and `answers`, of all that
-they did over the whole design, and `merge` the two ways to bring their work into one design. Seconds are those of the processors, of all
-processes of a part together; where others are at work on the machine they are more than they would be alone. `wall` is the time that
-passed.
+`slices` is the one pass over the DEF text that makes all slices. `teams` is all teams on 1, 2 and 4 processes.
+`answers` and `merge` are the two methods to bring their work into one design: repeating all their commands over the
+whole design, and merging. Seconds are processor seconds of all processes of a part; they are higher if the machine is
+busy. `wall` is the elapsed time.
 """
 
 from __future__ import annotations
@@ -28,20 +29,20 @@ WORKER = 'printf "open %s\\ntidy %s 0\\ncommit %s 0\\n" "$LEFENCE_TEAM" "$LEFENC
 
 
 def seconds() -> float:
-    """Those of the processors that all children took that have ended."""
+    """Processor seconds of all children that have ended."""
     used = resource.getrusage(resource.RUSAGE_CHILDREN)
     return used.ru_utime + used.ru_stime
 
 
 def measure(name: str, work: Callable[[], object]) -> None:
-    """Prints what a part takes."""
+    """Prints the cost of a part."""
     start, begin = seconds(), time.perf_counter()
     work()
     print(f"{name:<24} {seconds() - start:8.1f} s  wall {time.perf_counter() - begin:8.1f} s", flush=True)
 
 
 def farm(folder: Path, work: str, *words: str, command: tuple[str, ...] = ("true",)) -> None:
-    """A run of the tool; its status is 0, or 4 where teams failed that were to fail."""
+    """Runs the tool. Its status is 0, or 4 if the teams that should fail did."""
     line = [*FARM, work, "x.def", "x.lef", "--program", PROGRAM, *words, "--", *command]
     done = subprocess.run(line, cwd=folder, capture_output=True, text=True)
     if done.returncode not in (0, 4):

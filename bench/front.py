@@ -1,8 +1,8 @@
 #!/usr/bin/env python3
-"""Prints what the hub takes: lines a second with 1, 16 and 100 clients against the bare program, how long a durable `place` takes
-beside 50 clients at work, and how long 100,000 changes take to be restored.
+"""Prints the cost of the hub: lines per second with 1, 16 and 100 clients, compared with the program alone; how long a
+durable `place` takes with 50 other clients at work; and how long restoring 100,000 changes takes.
 
-usage: bench/front.py [SECONDS [PROGRAM]]     (3 seconds a figure; the proved program)
+usage: bench/front.py [SECONDS [PROGRAM]]     (3 seconds for each figure; the proved program)
 """
 
 from __future__ import annotations
@@ -26,7 +26,7 @@ MACRO INV CLASS CORE ; SIZE 0.4 BY 2.0 ; SYMMETRY X Y ; END INV
 END LIBRARY
 """
 Line = Callable[[int, int], bytes]
-# A hub on a disk whose sync takes five milliseconds more.
+# A hub on a disk whose sync takes five milliseconds longer.
 SLOW = """import os, sys, time
 sys.path.insert(0, sys.argv.pop(1))
 real = os.fdatasync
@@ -36,7 +36,7 @@ sys.exit(main())"""
 
 
 def design() -> str:
-    """Fences f0.. side by side over eight rows, each with a hundred cells."""
+    """Fences f0.. next to each other over eight rows, each with a hundred cells."""
     rows = "".join(f"ROW r{at} core 0 {at * 2000} {('N', 'FS')[at % 2]} DO {SITES * FENCES} BY 1 STEP 200 0 ;\n" for at in range(8))
     width = SITES * 200
     fences = "".join(f"- f{at} ( {at * width} 0 ) ( {(at + 1) * width} 16000 ) + TYPE FENCE ;\n" for at in range(FENCES))
@@ -49,14 +49,14 @@ def design() -> str:
 
 
 def place(client: int, turn: int) -> bytes:
-    """An accepted change of a client: each client has a row and a part of its team's fence to itself."""
+    """An accepted change of a client. Each client has its own row and part of its team's fence."""
     team, part = client % FENCES, client // FENCES
     x, y = team * SITES * 200 + turn % 2 * 400, part * 2000
     return b"place f%d 0 f%dc%d %d %d %s\n" % (team, team, part, x, y, (b"N", b"FS")[part % 2])
 
 
 def where(client: int, turn: int) -> bytes:
-    """A look."""
+    """A query."""
     return b"where f%d 0 f%dc%d\n" % (client % FENCES, client % FENCES, client // FENCES)
 
 
@@ -89,13 +89,13 @@ class Hub:
 
 
 def clear(folder: Path) -> None:
-    """Removes the journal, with all that is kept beside it."""
+    """Removes the journal, with everything that is kept with it."""
     for path in folder.glob("j*"):
         shutil.rmtree(path) if path.is_dir() else path.unlink()
 
 
 def drive(clients: list[socket.socket], line: Line, flight: int, seconds: float) -> float:
-    """Lines a second of these clients, each with so many in flight."""
+    """Lines per second of these clients, each with `flight` lines in flight."""
     selector, turns, last = selectors.DefaultSelector(), [0] * len(clients), time.monotonic() + seconds
     for number, end in enumerate(clients):
         selector.register(end, selectors.EVENT_READ, number)
@@ -112,7 +112,7 @@ def drive(clients: list[socket.socket], line: Line, flight: int, seconds: float)
 
 
 def bare(folder: Path, program: str, line: Line, flight: int, seconds: float) -> float:
-    """Lines a second of the program itself."""
+    """Lines per second of the program itself."""
     near, far = socket.socketpair()
     words = [program, "replay", str(folder / "t.def"), str(folder / "t.lef")]
     with near, subprocess.Popen(words, stdin=far.fileno(), stdout=far.fileno()) as process:
@@ -125,7 +125,7 @@ def bare(folder: Path, program: str, line: Line, flight: int, seconds: float) ->
 
 
 def probe(folder: Path, seconds: float, answers: multiprocessing.Queue[list[float]]) -> None:
-    """How long each `place` of one client takes, one at a time, of a team of its own."""
+    """Measures how long each `place` of one client takes, one at a time, for its own team."""
     end = socket.socket(socket.AF_UNIX)
     end.connect(str(folder / f"s/f{FENCES - 1}.sock"))
     waits, turn, last = [], 0, time.monotonic() + seconds

@@ -1,10 +1,11 @@
 #!/usr/bin/env python3
-"""Prints what a command takes of the processors, crate by crate: the table of docs/GATE.md.
+"""Prints the processor minutes of a command, crate by crate: the table of docs/GATE.md.
 
 usage: bench/gate.py ./test        (from the top; any command that runs rattle will do)
 
-Each second the times of all running checks are read from /proc: a check with --test proves a crate's tests, one in a folder
-rt-edit-* tries an edit, one that keeps its work in a folder rt-edits-* is that with which edits begin, any other proves the crate.
+Each second it reads the times of all running checks from /proc. A check with --test proves a crate's tests. One in a
+folder rt-edit-* tries an edit, and one that keeps its work in a folder rt-edits-* prepares the edits. Any other check
+proves the crate.
 """
 
 from __future__ import annotations
@@ -28,7 +29,7 @@ def kind_of(process: Path, words: list[str]) -> str:
 
 
 def below(root: int) -> list[tuple[Path, list[str]]]:
-    """The processes that the one of this number started, and those that they did, each with the fields of its state."""
+    """The processes that process `root` started, directly or indirectly, each with the fields of its state."""
     fields: dict[int, list[str]] = {}
     for process in Path("/proc").glob("[0-9]*"):
         try:
@@ -43,7 +44,7 @@ def below(root: int) -> list[tuple[Path, list[str]]]:
 
 
 def running(root: int) -> dict[tuple[Path, str], tuple[str, str, float]]:
-    """Each check that runs for the command: its crate, its kind, and the seconds that it and its ended children took."""
+    """Each running check of the command: its crate, its kind, and the seconds of it and its ended children."""
     found = {}
     for process, fields in below(root):
         try:

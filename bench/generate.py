@@ -1,17 +1,18 @@
 #!/usr/bin/env python3
-"""Writes LEF and DEF texts of any size, the same for the same numbers and seed.
+"""Writes LEF and DEF texts of any size. The same numbers and seed give the same text.
 
 usage: generate.py lef MACROS [SEED] > x.lef
        generate.py def COMPONENTS [FENCES] [ROWS] [SEED] > x.def    (on the macros of a LEF text of 200 macros)
        generate.py starred COMPONENTS [FENCES] [ROWS] [SEED] > x.def    (on the same)
-       generate.py placed COMPONENTS [FENCES] [BLOCKAGES] [SEED] > x.def    (on those of a LEF text of 200 macros and seed 1)
+       generate.py placed COMPONENTS [FENCES] [BLOCKAGES] [SEED] > x.def    (on those of one of 200 macros and seed 1)
        generate.py tall > x.lef
        generate.py packed COMPONENTS [FENCES] [PERCENT] [ILLEGAL] [SEED] > x.def    (on the macros of `tall`)
 
-`def` throws its cells anywhere; its fences are bands of rows over the left half. `placed` is a fully legal design: fences
-are the left halves of tiles, every cell stands on its rows within its fence, or outside all, beside blockages of two
-sites. Groups name their cells one by one. `packed` is a design of cells of one to four rows that take about so many percent of
-the sites; ILLEGAL percent of its cells stand half a site beside their place. `starred` is `def` with cells in blocks, of which each group names one by a star.
+`def` places its cells anywhere; its fences are bands of rows over the left half. `starred` is `def` with cells in
+blocks, and each group names one block with a star. `placed` is a fully legal design. Its fences are the left halves of
+tiles. Every cell is on its rows within its fence, or outside all fences, next to blockages of two sites. Groups name
+their cells one by one. `packed` is a design of cells of one to four rows that take about PERCENT percent of the sites;
+ILLEGAL percent of its cells are half a site off their places.
 """
 
 from __future__ import annotations
@@ -21,7 +22,7 @@ import sys
 from collections.abc import Iterator
 
 SITE = "SITE core\n  CLASS CORE ;\n  SYMMETRY Y ;\n  SIZE 0.2 BY 2.0 ;\nEND core\n"
-# A cell that stands: its macro, x in sites, its row, and the fence that it is of.
+# A placed cell: its macro, x in sites, its row, and its fence.
 Cell = tuple[int, int, int, int | None]
 
 
@@ -91,7 +92,7 @@ def def_(components: int, fences: int, rows: int, seed: int, *, starred: bool = 
 
 
 def sizes(macros: int, seed: int) -> list[tuple[int, int]]:
-    """The macros' sizes in sites and rows, as the LEF text of that seed has them."""
+    """The macros' sizes in sites and rows, as in the LEF text of this seed."""
     rng = random.Random(seed)
     found: list[tuple[int, int]] = []
     for number in range(macros):
@@ -102,7 +103,7 @@ def sizes(macros: int, seed: int) -> list[tuple[int, int]]:
 
 
 def tiles(fences: int, rows: int) -> tuple[int, int]:
-    """Columns of tiles, and the even number of rows of a tile: one tile for each fence at least."""
+    """Columns of tiles, and the even number of rows of a tile: at least one tile for each fence."""
     down = max(1, min(rows // 2, int(fences ** 0.5)))
     return -(-fences // down), rows // down // 2 * 2
 
@@ -116,13 +117,14 @@ def regions(fences: int, across: int, wide: int, high: int) -> Iterator[str]:
     yield "END REGIONS\n"
 
 
-FILLED = 0.7    # how much of the ground the cells take; the rest is gaps between them
+FILLED = 0.7    # the share of the ground that cells take; the rest is gaps between them
 
 
 def standing(
     wanted: int, fences: int, blockages: int, rows: int, sites: int, rng: random.Random
 ) -> tuple[list[Cell], list[tuple[int, int]]] | None:
-    """Cells (macro, x in sites, row, fence) side by side in pairs of rows, and blockages (x, row); None where there is no room."""
+    """Cells (macro, x in sites, row, fence) next to each other in pairs of rows, and blockages (x, row); None if there
+    is no room."""
     across, high = tiles(fences, rows)
     wide = sites // across
     macros = sizes(200, 1)
@@ -200,7 +202,8 @@ def tall() -> Iterator[str]:
 
 
 def stacked(left: int, right: int, percent: int, rng: random.Random) -> list[tuple[int, int, int]]:
-    """Cells (macro, x in sites, row) side by side in four rows from left to right, of which so many percent are kept."""
+    """Cells (macro, x in sites, row) next to each other in four rows from left to right. Keeps `percent` percent of
+    them."""
     ends = [left] * 4
     cells: list[tuple[int, int, int]] = []
 

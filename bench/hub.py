@@ -1,12 +1,13 @@
 #!/usr/bin/env python3
-"""Prints how long a hub takes to start, to restore a program that dies, and to export, behind many changes, without and with checkpoints.
+"""Prints how long a hub takes to start, to restore a program that dies, and to export, after many changes, without and
+with checkpoints.
 
-usage: bench/hub.py [CHANGES [CELLS [PROGRAM]]]     (20,000 changes of 10,000 cells, for a try; the proved program)
+usage: bench/hub.py [CHANGES [CELLS [PROGRAM]]]     (20,000 changes of 10,000 cells; the proved program)
 
-The design is that of `generate.py packed`: CELLS cells, half of them in 16 fences, with 60 percent of the sites taken. One client of each
-fence turns its cells about one by one, with 64 changes in flight, until all are answered. What the hub then takes is printed, with the
-bytes that stand behind its last state, and how much memory hub and program had at most. Changes are not synced: the disk is the same
-for both. A million changes of 100,000 cells take some five minutes on an idle machine.
+The design is that of `generate.py packed`: CELLS cells, half of them in 16 fences, with 60 percent of the sites taken.
+One client of each fence flips its cells one by one, with 64 changes in flight, until all have replies. It then prints
+the hub's times, the bytes after its last state, and the peak memory of hub and program. Changes are not synced, so the
+disk does not matter. A million changes of 100,000 cells take about five minutes on an idle machine.
 """
 
 from __future__ import annotations
@@ -32,7 +33,7 @@ TURNED = {"N": ("FN", "N"), "FS": ("S", "FS")}
 
 
 class Turns:
-    """The changes of each fence: its cells are turned about, one after the other, and then back."""
+    """The changes of each fence: its cells are flipped, one after the other, and then flipped back."""
 
     def __init__(self, text: str) -> None:
         cells = {name: (f"{name} {x} {y}", TURNED[orient]) for name, x, y, orient in CELL.findall(text)}
@@ -44,12 +45,12 @@ class Turns:
         return f"place f{fence} 0 {spot} {orients[turn // len(cells) % 2]}\n".encode()
 
     def look(self) -> bytes:
-        """A line that looks at a cell of the first fence."""
+        """A line that queries a cell of the first fence."""
         return f"where f0 0 {self.fences[0][0][0].split()[0]}\n".encode()
 
 
 def fill(hub: Hub, turns: Turns, count: int) -> float:
-    """Has so many changes answered, the same number of each team; the seconds that it took."""
+    """Sends this number of changes, the same for each team, and waits for the replies. Returns the seconds."""
     selector, each, begin = selectors.DefaultSelector(), count // FENCES, time.monotonic()
     sent, answered, ends = [0] * FENCES, 0, [hub.client(team) for team in range(FENCES)]
 
@@ -75,7 +76,7 @@ def fill(hub: Hub, turns: Turns, count: int) -> float:
 
 
 def ask(hub: Hub, name: str, line: bytes) -> float:
-    """The seconds until a line is answered, which is to be accepted."""
+    """The seconds until the reply to a line, which must be accepted."""
     begin = time.monotonic()
     with socket.socket(socket.AF_UNIX) as end:
         end.connect(str(hub.folder / "s" / f"{name}.sock"))
@@ -97,19 +98,19 @@ def children(pid: int) -> list[int]:
 
 
 def peaks(hub: Hub) -> str:
-    """How much memory the hub and its program had at most, up to now."""
+    """The peak memory of the hub and its program so far."""
     texts = [Path(f"/proc/{pid}/status").read_text() for pid in (hub.process.pid, children(hub.process.pid)[0])]
     own, program = (int(text.partition("VmHWM:")[2].split()[0]) * 1024 / 1e6 for text in texts)
     return f"hub {own:.0f} MB, program {program:.0f} MB"
 
 
 def measure(folder: Path, program: str, turns: Turns, count: int, words: list[str]) -> None:
-    """What stands behind so many changes, of a hub with these options."""
+    """Prints the costs after this number of changes, for a hub with these options."""
     clear(folder)
     hub = Hub(folder, program, "--no-sync", *words)
     print(f"  start of a new journal {hub.seconds:.2f} s, {peaks(hub)}", flush=True)
     filled = fill(hub, turns, count)
-    # (a checkpoint that is at work has its time)
+    # (waits for a running checkpoint)
     last = time.monotonic() + 120
     while len(children(hub.process.pid)) > 1 and time.monotonic() < last:
         time.sleep(0.1)

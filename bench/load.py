@@ -1,14 +1,14 @@
 #!/usr/bin/env python3
-"""Loads designs of growing size by the proved programs, and prints seconds, peak memory and how they grow.
+"""Loads designs of growing size with the proved programs, and prints seconds, peak memory and how they grow.
 
 usage: bench/load.py [FENCES] [ROWS] [RUNS]    (500, 10000 and 5; from the top; the programs crates/lefence_bench and
                                                 crates/lefence are proved and built first: rt run in each)
 
-The groups of `def` and `placed` name their cells one by one, at even steps and in no order of theirs; those of `starred` by
-one pattern each, which ends with a star.
-`load` is loading alone, from texts that are read; `replay` is all that `lefence replay` does before it answers: reading
-both texts, loading, and the start of the floor. The designs take turns, run after run, and the best of a design's runs is
-printed: other work on a machine makes a run slower, and nothing makes it faster.
+The groups of `def` and `placed` name their cells one by one, at even steps and in no particular order. Those of
+`starred` have one pattern each, which ends with a star. `load` is loading alone, from texts in memory. `replay` is
+everything that `lefence replay` does before the first reply: reading both texts, loading, and the start of the floor.
+The designs take turns, run after run, and the best of each design's runs is printed: other work on a machine makes a
+run slower, and nothing makes it faster.
 """
 
 from __future__ import annotations
@@ -24,12 +24,12 @@ from functools import partial
 from read import PROGRAM, TOP
 
 LEFENCE = os.path.join(TOP, "crates", "lefence", "out", "lefence")
-# What is measured in a run: seconds, and bytes of memory.
+# The figures of a run: seconds, and bytes of memory.
 Figures = tuple[float, ...]
 
 
 def need(program: str) -> None:
-    """Ends the script where the program is not built."""
+    """Ends the script if the program is not built."""
     if not os.access(program, os.X_OK):
         sys.exit(f"build it first: (cd {os.path.dirname(os.path.dirname(program))} && rt run)")
 
@@ -61,7 +61,7 @@ def replay(lef: str, def_: str) -> tuple[float, int]:
 
 
 def best(tasks: Sequence[Callable[[], Figures]], runs: int) -> list[Figures]:
-    """For each task the best figures of so many runs, in which the tasks take turns."""
+    """The best figures of each task over `runs` runs, in which the tasks take turns."""
     found = [task() for task in tasks]
     for _ in range(runs - 1):
         found = [tuple(map(min, zip(old, task()))) for old, task in zip(found, tasks)]
@@ -69,7 +69,7 @@ def best(tasks: Sequence[Callable[[], Figures]], runs: int) -> list[Figures]:
 
 
 def grown(before: Sequence[float] | None, now: Sequence[float]) -> list[str]:
-    """How many times as much each figure is as the one before; nothing where there is none before."""
+    """The ratio of each figure to the one before; empty if there is no earlier figure."""
     return [f"{new / old:.1f}" for new, old in zip(now, before)] if before else [""] * len(now)
 
 

@@ -1,10 +1,10 @@
 #!/usr/bin/env python3
-"""Checks designs in which one thing stands very often, and prints seconds beside those of the design without it.
+"""Checks designs in which one thing occurs very often, and prints seconds next to those of the design without it.
 
 usage: bench/many.py    (from the top; the program crates/lefence is proved and built first: rt run there)
 
-The design is `generate.py packed` with 100,000 cells. To it come 20,000 equal blockages over all cells; or the rectangle of one
-fence, 20,000 times; or 2,000 patterns of one group that begin with a star and that no name ends with.
+The design is `generate.py packed` with 100,000 cells. Added to it are 20,000 equal blockages over all cells; or the
+rectangle of one fence, 20,000 times; or 2,000 patterns of one group that begin with a star and match no name.
 """
 
 from __future__ import annotations
@@ -34,12 +34,12 @@ def fenced(text: str) -> str:
 
 
 def starred(text: str) -> str:
-    """The design in which the first group has many patterns more."""
+    """The design in which the first group has many more patterns."""
     return text.replace("- g0 ", "- g0 " + "".join(f"*zz{number} " for number in range(2_000)), 1)
 
 
 def seconds(lef: str, def_: str) -> float:
-    """Seconds of `check`, which finds violations or none."""
+    """Seconds of `check`, with or without violations."""
     start = time.perf_counter()
     child = subprocess.run([LEFENCE, "check", def_, lef], stdout=subprocess.DEVNULL)
     if child.returncode not in (0, 4):

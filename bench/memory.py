@@ -1,15 +1,17 @@
 #!/usr/bin/env python3
-"""Prints the peak memory and the processor's seconds of each stage of a session, and of `lefence check`.
+"""Prints the peak memory and the processor seconds of each stage of a session, and of `lefence check`.
 
 usage: bench/memory.py [--program PATH ...] [--runs N] [--design DEF LEF] [COUNT]
        (that of crates/lefence, which is built first: rt run there; 1; the designs below; 1000000)
 
-Without --design the designs are those of `generate.py packed`, COUNT cells in 10 fences that take 60 percent of the sites:
-`legal`, and `beside`, whose cells all stand half a site beside their places. The session is one of `lefence serve --export`: all
-teams are opened, then each is checked, written as a DEF text, tidied and committed, verb after verb; at the end comes the export.
-A stage's peak is the greatest resident memory while it lasted (Linux, VmHWM, which is reset before each), in MB of 10^6 bytes and
-in times the DEF text; the peak of `check` is that of its whole run. Of several runs, in which the programs take turns, the least
-is printed.
+Without --design the designs are those of `generate.py packed`, COUNT cells in 10 fences that take 60 percent of the
+sites: `legal`, and `beside`, whose cells are all half a site off their places. The session is one of `lefence serve
+--export`. It opens all teams. Then it checks each, writes it as a DEF text, tidies and commits it, verb after verb. The
+export comes last.
+
+A stage's peak is the greatest resident memory during it (Linux, VmHWM, which is reset at its start). It is printed in
+MB of 10^6 bytes and relative to the DEF text. The peak of `check` is that of its whole run. Over several runs, in which
+the programs take turns, the least is printed.
 """
 
 from __future__ import annotations
@@ -28,7 +30,7 @@ from typing import BinaryIO
 TOP = Path(__file__).resolve().parents[1]
 TICK = 1 / os.sysconf("SC_CLK_TCK")
 VERBS = "check", "def", "tidy", "commit"
-# Of each stage the peak in bytes, and the seconds.
+# For each stage the peak in bytes, and the seconds.
 Figures = dict[str, tuple[float, float]]
 
 
@@ -41,7 +43,7 @@ class Watch:
         self.figures: Figures = {}
 
     def end(self, stage: str) -> None:
-        """Takes the figures of the stage that ends here, and begins the next."""
+        """Records the figures of the stage that ends here, and begins the next."""
         status = (self.folder / "status").read_text()
         peak = re.search(r"VmHWM:\s+(\d+) kB", status)
         fields = (self.folder / "stat").read_text().rpartition(")")[2].split()
@@ -60,7 +62,7 @@ def free_port() -> int:
 
 
 def ask(send: socket.socket, replies: BinaryIO, line: str) -> None:
-    """Sends a line and reads its reply, behind which the bytes of a DEF text come."""
+    """Sends a line and reads its reply, with the bytes of a DEF text after it."""
     send.sendall(line.encode() + b"\n")
     head = replies.readline()
     if not head.startswith(b"ok"):

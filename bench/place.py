@@ -1,16 +1,17 @@
 #!/usr/bin/env python3
-"""Asks a floor to look for places and to move cells, and prints microseconds per command, and seconds of whole teams' commands: the
-best of three runs of each.
+"""Sends commands that find places and move cells, and prints microseconds per command, and seconds of whole teams'
+commands: the best of three runs of each.
 
-usage: bench/place.py [--padding P] [--room] [COUNT ...]    (0; 10000 100000 1000000; from the top; the program crates/lefence is
-                                                            proved and built first: rt run there)
+usage: bench/place.py [--padding P] [--room] [COUNT ...]    (0; 10000 100000 1000000; from the top; the program
+                                                            crates/lefence is proved and built first: rt run there)
 
-The designs are `generate.py packed`: 10 or 500 fences, cells of one to four rows that take 60 or 95 percent of the sites. The
-commands go to cells of the first fence and of the ground team, half of each, over a pipe and a hundred at a time. `find` and
-`legalize` look for a place within twenty sites and two rows of the cell's own. `tidy`, `commit` and `check` are asked of every
-team of a design in which a tenth of the cells stand half a site beside their places. With a padding every team keeps its cells
-that many core sites apart. With --room the cells take 30 percent of the sites, at places at which they are legal for that padding,
-and each line is there twice: with the padding, and without it.
+The designs are `generate.py packed`: 10 or 500 fences, cells of one to four rows that take 60 or 95 percent of the
+sites. The commands concern cells of the first fence and of the ground team, half of each. They are sent over a pipe, a
+hundred at a time. `find` and `legalize` search a place within twenty sites and two rows of the cell's own. `tidy`,
+`commit` and `check` are sent to every team of a design in which a tenth of the cells are half a site off their places.
+
+With a padding P every team keeps its cells P core sites apart. With --room the cells take 30 percent of the sites, at
+places legal for that padding. Each line is then printed twice: with the padding, and without it.
 """
 
 from __future__ import annotations
@@ -30,12 +31,12 @@ RUNS = 3
 ASKED = 500    # commands of a verb
 # A cell: its macro, its corner and its orientation.
 Cell = tuple[str, int, int, str]
-# For each team its cells by their names.
+# For each team its cells by name.
 Teams = dict[str, dict[str, Cell]]
 
 
 def cells_of(def_: str) -> Teams:
-    """Of the first fence and of the ground team the cells, each with its macro and its place."""
+    """The cells of the first fence and of the ground team, each with its macro and its place."""
     cells: dict[str, Cell] = {}
     fences: set[str] = set()
     first: list[str] = []
@@ -53,7 +54,7 @@ def cells_of(def_: str) -> Teams:
 
 
 def verbs(teams: Teams) -> dict[str, list[str]]:
-    """For each verb its commands, in the order in which they are asked."""
+    """For each verb its commands, in the order in which they are sent."""
     rng = random.Random(3)
     told: dict[str, list[str]] = {verb: [] for verb in ("where", "find", "place", "swap", "legalize", "unplace", "undo")}
     for team, cells in teams.items():
@@ -75,7 +76,7 @@ def verbs(teams: Teams) -> dict[str, list[str]]:
 
 
 class Program:
-    """The program over a pipe, with a session of each of these teams, which have this padding."""
+    """The program over a pipe, with a session for each of these teams, which have this padding."""
 
     def __init__(self, lef: str, def_: str, teams: Iterable[str], padding: int) -> None:
         self.child = subprocess.Popen([LEFENCE, "replay", def_, lef], stdin=subprocess.PIPE, stdout=subprocess.PIPE, bufsize=0)
@@ -105,7 +106,8 @@ class Program:
 
 
 def best(asked: list[tuple[list[str], float]], lef: str, def_: str, teams: Iterable[str], padding: int) -> list[float]:
-    """Of each of these lists of commands the best time of all runs, in seconds times its factor; a run asks them one after another."""
+    """The best time of each list of commands over all runs, in seconds times its factor. A run sends the lists one
+    after another."""
     found = [float("inf")] * len(asked)
     for _ in range(RUNS):
         program = Program(lef, def_, teams, padding)
@@ -115,7 +117,7 @@ def best(asked: list[tuple[list[str], float]], lef: str, def_: str, teams: Itera
 
 
 def settle(lef: str, def_: str, teams: list[str], padding: int) -> None:
-    """Puts the cells of all teams at places at which they are legal for the padding."""
+    """Moves the cells of all teams to places that are legal for the padding."""
     lines = [line for team in teams for line in (f"open {team}", f"pad {team} 0 {padding}", f"tidy {team} 0", f"commit {team} 0")]
     settled = def_ + ".settled"
     subprocess.run([LEFENCE, "replay", def_, lef, "--export", settled], input="\n".join(lines) + "\n", text=True, stdout=subprocess.PIPE, check=True)
@@ -123,7 +125,7 @@ def settle(lef: str, def_: str, teams: list[str], padding: int) -> None:
 
 
 def displace(def_: str) -> None:
-    """Puts a tenth of the cells half a site beside their places."""
+    """Moves a tenth of the cells half a site off their places."""
     rng = random.Random(5)
     with open(def_) as text:
         lines = text.read().split("\n")
@@ -137,7 +139,8 @@ def displace(def_: str) -> None:
 
 
 def line_of(lef: str, def_: str, design: tuple[int, int, int], room: int, paddings: list[int]) -> list[str]:
-    """What is printed of a design of so many cells, fences and percent, for each padding; its cells have room for that padding."""
+    """The printed lines of a design (cells, fences, percent), one for each padding. Its cells have room for the padding
+    `room`."""
     count, fences, percent = design
     all_teams = [f"f{fence}" for fence in range(fences)] + ["-"]
     write(def_, "packed", count, fences, percent)

@@ -1,9 +1,10 @@
 #!/usr/bin/env python3
-"""Reads LEF and DEF texts of growing size by the proved program, and prints bytes per second and peak memory.
+"""Reads LEF and DEF texts of growing size with the proved program, and prints bytes per second and peak memory.
 
 usage: bench/read.py      (from the top; the program crates/lefence_bench is proved and built first: rt run there)
 
-Beside it, in the same run, `bytes.split` of this Python over the same bytes, and KLayout's reader where it is installed.
+For comparison, the same run measures `bytes.split` of this Python over the same bytes, and KLayout's reader if it is
+installed.
 """
 
 from __future__ import annotations
@@ -23,7 +24,7 @@ def write(path: str, kind: str, count: int) -> None:
 
 
 def generated(folder: str, kind: str, count: int) -> str:
-    # a folder for each text, since KLayout takes the LEF texts beside a DEF text along
+    # a folder for each text, since KLayout also reads the LEF files next to a DEF file
     own = os.path.join(folder, f"{kind}{count}")
     os.makedirs(own)
     path = os.path.join(own, f"text.{kind}")
@@ -45,7 +46,7 @@ def run(task: str, path: str) -> tuple[float, int]:
 
 
 def split_seconds(path: str) -> float:
-    # in a process of its own: a child's peak memory begins with its parent's
+    # in a separate process: a child's peak memory begins with its parent's
     script = "import sys,time;data=open(sys.argv[1],'rb').read();t=time.perf_counter();data.split();print(time.perf_counter()-t)"
     return float(subprocess.run([sys.executable, "-c", script, path], capture_output=True, check=True).stdout)
 

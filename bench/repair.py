@@ -1,20 +1,26 @@
 #!/usr/bin/env python3
-"""Repairs designs by `lefence repair`, by `tidy` alone and by a reference program, and prints what that takes and how far cells went.
+"""Repairs designs with `lefence repair`, with `tidy` alone and with a reference program, and prints costs and
+displacements.
 
 usage: bench/repair.py [--program PATH] [--reference COMMAND] [COUNT ...]               (100000)
        bench/repair.py [--program PATH] [--reference COMMAND] --design DEF LEF [--shift N]
 
-The program is that of crates/lefence, which is built first (rt run there). The designs of so many cells are `generate.py packed` with
-10 fences, and cells that take 60 or 90 percent of the sites. In `half` each cell stands half a site beside its place; in `sites` up to
-three sites; in `free` up to three sites and a part of one, a third of them in another row; in `placer` it is off by a Gaussian of one row's
-height in x and in y, in any part of a site, as a global placer leaves it. Or the design is that of a DEF text over a LEF text, and with
---shift then also with each cell that is placed N database units to the right.
+The program is that of crates/lefence, which is built first (rt run there). The designs of COUNT cells are `generate.py
+packed` with 10 fences, and cells that take 60 or 90 percent of the sites. The cells are displaced as follows:
 
-Seconds are those of a processor, with reading the texts and the export. The peak of memory, which is also in times the DEF text, is never
-below that of this script, some 17 MB. Ways are in database units, of all cells: their sum, the mean of those that moved, and the largest.
-Of a repair the cells are told that broke a rule or had no place, and what the largest way is at least in any repair. A team whose `tidy`
-is refused moves no cell. The reference is a command with its options; DEF and LEF are put behind its first word, and --export FILE behind
-its last.
+- `half`: each cell is half a site off its place
+- `sites`: up to three sites
+- `free`: up to three sites and a part of one, and a third of the cells in another row
+- `placer`: by a Gaussian of one row's height in x and in y, in any part of a site, like the result of a global placer
+
+Or the design is that of a DEF text over a LEF text, and with --shift also with each placed cell N database units to the
+right.
+
+Seconds are processor seconds, including reading the texts and the export. The peak memory, also printed relative to the
+DEF text, is never below that of this script, about 17 MB. Displacements are in database units, over all cells: their
+sum, the mean of those that moved, and the largest. For a repair it prints the unrepaired cells, and a lower bound of
+the largest displacement in any repair. A team whose `tidy` is refused moves no cell. The reference is a command with
+its options; DEF and LEF are inserted after its first word, and --export FILE is appended.
 """
 
 from __future__ import annotations
@@ -37,7 +43,7 @@ from typing import TypeVar
 TOP = Path(__file__).resolve().parents[1]
 SITE, ROW = 200, 2000
 PLACED = re.compile(r"PLACED \( (-?\d+) (-?\d+) \)")
-# A component's name, and where it stands.
+# A component's name, and its place.
 STANDS = re.compile(r"^\s*- (\S+) [^;]*?\+ (?:PLACED|FIXED) \( (-?\d+) (-?\d+) \)", re.M)
 FENCE = re.compile(r"^\s*- (\S+) [^;]*\+ TYPE FENCE", re.M)
 GROUP = re.compile(r"^\s*- \S+ [^;]*\+ REGION (\S+)", re.M)
@@ -45,7 +51,7 @@ Value = TypeVar("Value")
 
 
 def moved(kind: str, found: re.Match[str], rng: random.Random) -> str:
-    """The clause of a cell that is put beside its place."""
+    """The clause of a cell that is moved off its place."""
     x, y = int(found[1]), int(found[2])
     if kind == "half":
         return f"PLACED ( {x + SITE // 2} {y} )"
@@ -62,7 +68,7 @@ def places(text: Path) -> dict[str, tuple[int, int]]:
 
 
 def ways(before: Path, after: Path) -> str:
-    """The sum of all ways, the mean of the cells that moved, and the largest way."""
+    """The sum of all displacements, the mean of the cells that moved, and the largest displacement."""
     old, new = places(before), places(after)
     found = [abs(x - new[name][0]) + abs(y - new[name][1]) for name, (x, y) in old.items() if name in new]
     gone = [way for way in found if way]
@@ -70,13 +76,14 @@ def ways(before: Path, after: Path) -> str:
 
 
 def apart(work: Callable[..., Value], *given: object) -> Value:
-    """What work returns in a process of its own: the peak memory of a program counts that of the process that starts it."""
+    """The result of `work` in a separate process: the peak memory of a program includes that of the process that starts
+    it."""
     with multiprocessing.Pool(1) as pool:
         return pool.apply(work, given)
 
 
 def figures_of(words: list[str], lines: str) -> tuple[float, int, bytes]:
-    """Seconds of the processor and peak memory in bytes that a program takes over these lines, and what it writes."""
+    """Processor seconds and peak memory in bytes of a program over these lines, and its output."""
     with tempfile.TemporaryFile() as asked, tempfile.TemporaryFile() as told, tempfile.TemporaryFile() as said:
         asked.write(lines.encode())
         asked.seek(0)
@@ -92,7 +99,7 @@ def figures_of(words: list[str], lines: str) -> tuple[float, int, bytes]:
 
 @dataclass(frozen=True)
 class Design:
-    """A design, and what it is called here."""
+    """A design, and its name in this script."""
 
     name: str
     text: Path
@@ -110,13 +117,13 @@ def generate(target: Path, *words: str) -> None:
 
 
 def displace(legal: Path, text: Path, kind: str) -> None:
-    """Writes the text with its cells put beside their places."""
+    """Writes the text with its cells moved off their places."""
     rng = random.Random(1)
     text.write_text(PLACED.sub(lambda found: moved(kind, found, rng), legal.read_text()))
 
 
 def shift(old: Path, new: Path, by: int) -> None:
-    """Writes the text with its placed cells so far to the right."""
+    """Writes the text with its placed cells moved `by` database units to the right."""
     new.write_text(PLACED.sub(lambda found: f"PLACED ( {int(found[1]) + by} {found[2]} )", old.read_text()))
 
 
@@ -141,7 +148,7 @@ def given_designs(folder: Path, given: list[Path], by: int) -> Iterator[Design]:
 
 
 def result(name: str, told: bytes) -> str:
-    """What a repair or a tidy of all teams tells of itself."""
+    """What a repair or a tidy of all teams reports."""
     if name == "repair":
         every = json.loads(told.splitlines()[-1])
         return f"  {every['cells']} cells, {every['left_cells']} left, {every['least_largest']} or more in any repair"
@@ -149,7 +156,7 @@ def result(name: str, told: bytes) -> str:
 
 
 def measure(design: Design, folder: Path, program: str, reference: str | None) -> None:
-    """A line for each way to repair the design."""
+    """Prints a line for each method to repair the design."""
     texts, out, size = [str(design.text), str(design.lef)], folder / "out.def", design.text.stat().st_size
     lines = "".join(f"open {team}\ntidy {team} 0\ncommit {team} 0\n" for team in apart(teams_of, design.text))
     runs = [("tidy", [program, "replay", *texts], lines), ("repair", [program, "repair", *texts], "")]

@@ -1,13 +1,14 @@
 #!/usr/bin/env python3
-"""Asks `where` and `place` over a pipe and over loopback, one by one and a hundred at a time, and prints commands per second.
+"""Sends `where` and `place` over a pipe and over loopback, one by one and a hundred at a time, and prints commands per
+second.
 
-usage: bench/serve.py [CELLS] [COMMANDS] [RUNS]    (100000, 20000 and 5; from the top; the program crates/lefence is proved and
-                                                    built first: rt run there)
+usage: bench/serve.py [CELLS] [COMMANDS] [RUNS]    (100000, 20000 and 5; from the top; the program crates/lefence is
+                                                    proved and built first: rt run there)
 
-The design is fully legal (`generate.py placed`), with a fence for each 2,000 cells; the commands go to the cells of the first
-fence in turn. `place` turns a cell where it stands (N and FN, FS and S are exchanged). Over the pipe `lefence replay` answers,
-over loopback `lefence serve`. `one` waits for each reply before the next command, so it counts the client's time too, this
-Python's; `hundred` sends a hundred commands and then reads their replies. The best of the runs is printed.
+The design is fully legal (`generate.py placed`), with a fence for each 2,000 cells. The commands concern the cells of
+the first fence in turn. `place` flips a cell in place (N and FN, FS and S are exchanged). `lefence replay` answers over
+the pipe, and `lefence serve` over loopback. `one` waits for each reply before the next command, so it includes the time
+of this Python client. `hundred` sends a hundred commands and then reads their replies. The best of the runs is printed.
 """
 
 from __future__ import annotations
@@ -31,7 +32,7 @@ Lines = dict[str, list[bytes]]
 
 
 def commands(def_: str, count: int) -> Lines:
-    """For each verb so many commands to the cells of the first fence."""
+    """For each verb `count` commands to the cells of the first fence."""
     with open(def_) as text:
         entries = [line.split() for line in text if line.startswith("- ")]
     standing = {words[1]: words[-5:-1] for words in entries if "PLACED" in words}
@@ -49,7 +50,7 @@ def commands(def_: str, count: int) -> Lines:
 
 
 def asked(send: Send, replies: BinaryIO, lines: list[bytes], at_a_time: int) -> float:
-    """Commands per second, of lines that are sent so many at a time."""
+    """Commands per second, for lines sent `at_a_time` at a time."""
     start = time.perf_counter()
     for number in range(0, len(lines), at_a_time):
         sent = lines[number:number + at_a_time]

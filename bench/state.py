@@ -1,11 +1,13 @@
 #!/usr/bin/env python3
-"""Prints what saving a floor and starting from what was saved take in processor seconds and peak memory.
+"""Prints the processor seconds and peak memory of saving a floor and of starting from a saved state.
 
-usage: bench/state.py [--program PATH] [--runs N] [COUNT]    (that of crates/lefence, which is built first: rt run there; 3; 1000000)
+usage: bench/state.py [--program PATH] [--runs N] [COUNT]    (that of crates/lefence, which is built first: rt run
+                                                             there; 3; 1000000)
 
-The design is `generate.py packed`, COUNT cells in 10 fences that take 60 percent of the sites, each half a site beside its place. In
-the session all teams are opened and tidied, and all but the last are committed, so the state has an undo entry of every cell. Each line
-is a `lefence replay` of its own; the runs take turns, and the least of each figure is printed, of memory also in times the DEF text.
+The design is `generate.py packed`, COUNT cells in 10 fences that take 60 percent of the sites, each half a site off its
+place. In the session all teams are opened and tidied, and all except the last are committed, so the state has an undo
+entry of every cell. Each line is a separate `lefence replay`. The runs take turns, and the least of each figure is
+printed; memory also relative to the DEF text.
 """
 
 from __future__ import annotations
@@ -19,12 +21,12 @@ from pathlib import Path
 
 from memory import TOP, teams_of
 
-# Peak memory in bytes, and seconds of the processor.
+# Peak memory in bytes, and processor seconds.
 Figures = tuple[float, float]
 
 
 def replay(program: str, words: list[Path | str], lines: str) -> Figures:
-    """The figures of one replay of these lines, each of which is accepted."""
+    """The figures of one replay of these lines. Each line must be accepted."""
     with tempfile.TemporaryFile() as source, tempfile.TemporaryFile() as replies:
         source.write(lines.encode())
         source.seek(0)

@@ -1,9 +1,10 @@
 #!/usr/bin/env python3
-"""Prints what lefence-markers and lefence-summary take in time and memory over designs of which every cell is illegal.
+"""Prints the time and memory of lefence-markers and lefence-summary over designs whose cells are all illegal.
 
-usage: bench/tools.py [CELLS [PROGRAM]]    (1,000,000; in place of the program a description that was written before)
+usage: bench/tools.py [CELLS [PROGRAM]]    (1,000,000; a description written in advance, in place of the program)
 
-`off` has its cells half a site beside their sites; in `pairs` each stands on another one, which is half the text away.
+In `off` the cells are half a site off their sites. In `pairs` each cell overlaps another one, which is half the text
+away.
 """
 
 from __future__ import annotations
@@ -67,9 +68,10 @@ class Design:
 
 
 def write(folder: Path, name: str, is_described: bool, *words: object, **more: int) -> str:
-    """The name of the DEF text; beside it is what the program would say of it, where the program has no part.
+    """Writes the DEF text and returns its name. Without a program, writes the description that the program would print
+    next to it.
 
-    It is made in a process of its own: the peak memory of a tool counts that of the process that starts it.
+    It is made in a separate process: the peak memory of a tool includes that of the process that starts it.
     """
     made = multiprocessing.Process(target=write_design, args=(folder, name, is_described, *words), kwargs=more)
     made.start()

@@ -1,5 +1,5 @@
-/* Preloaded into the program: time goes by. A write time-out of a socket is a sixtieth of what was asked for, so a minute is a second; and
-   whenever the clock is read, it is three seconds later than the last time. */
+/* Preloaded into the program: makes time pass faster. A socket's write time-out is a sixtieth of the requested one, so that a minute
+   becomes a second. Each time the clock is read, it is three seconds later than the time before. */
 #define _GNU_SOURCE
 #include <dlfcn.h>
 #include <sys/socket.h>

@@ -1,4 +1,4 @@
-"""How tests run the proved program."""
+"""Helpers that run the proved program in tests."""
 
 from __future__ import annotations
 
@@ -22,14 +22,14 @@ DEF = TESTS / "data/w.def"
 LEF = TESTS / "data/w.lef"
 # The paths of the small design, as words of a command line.
 DESIGN = [str(DEF), str(LEF)]
-# Seconds after which a test gives up waiting.
+# Seconds after which a test stops waiting.
 PATIENCE = 30
 
 
 @dataclass(frozen=True)
 class Start:
-    """How the program is started: its standard input in place of lines, its standard output in place of a pipe that is read, its
-    folder and environment, what new files may not allow (-1: as here), and what its process does first."""
+    """How to start the program: its standard input instead of lines, its standard output instead of a pipe, its folder
+    and environment, the umask of new files (-1: that of the tests), and what its process does first."""
 
     stdin: int | None = None
     stdout: int | IO[bytes] = subprocess.PIPE
@@ -40,7 +40,8 @@ class Start:
 
 
 def run(words: list[str], lines: str | bytes = "", start: Start = Start()) -> tuple[int, str, str]:
-    """Runs the program with these words over these lines to its end: its status, and what it wrote on both streams."""
+    """Runs the program with these words over these lines to its end. Returns its status and what it wrote on both
+    streams."""
     text = lines if isinstance(lines, bytes) else lines.encode()
     ran = subprocess.run(
         [str(PROGRAM), *words],
@@ -58,13 +59,13 @@ def run(words: list[str], lines: str | bytes = "", start: Start = Start()) -> tu
 
 
 def small_files() -> None:
-    """Before the program begins: no file may grow beyond 100 bytes, and a write beyond fails."""
+    """Runs before the program: no file may grow beyond 100 bytes, and a write beyond fails."""
     signal.signal(signal.SIGXFSZ, signal.SIG_IGN)
     resource.setrlimit(resource.RLIMIT_FSIZE, (100, 100))
 
 
 class InFolder(unittest.TestCase):
-    """Tests in a folder of their own."""
+    """Tests in their own folder."""
 
     def setUp(self) -> None:
         folder = tempfile.TemporaryDirectory(prefix="lefence-tests-")
@@ -72,12 +73,13 @@ class InFolder(unittest.TestCase):
         self.folder = Path(folder.name).resolve()
 
     def names(self) -> list[str]:
-        """What stands in the folder."""
+        """The names in the folder."""
         return sorted(path.name for path in self.folder.iterdir())
 
 
 def preloading(source: str, folder: Path) -> dict[str, str]:
-    """An environment in which a program loads the library of that C text of tests/, which is made in the folder."""
+    """An environment in which a program loads the library made from this C file of tests/. The library is built in the
+    folder."""
     library = folder / source.replace(".c", ".so")
     subprocess.run(["cc", "-O2", "-fPIC", "-shared", "-o", str(library), str(TESTS / source), "-ldl"], check=True)
     return {**os.environ, "LD_PRELOAD": str(library)}
@@ -95,7 +97,7 @@ class Talk:
         self.lines.flush()
 
     def reply(self, line: str) -> str:
-        """The next reply, which is one to this line; of `def` with the text behind it."""
+        """The next reply, which answers this line; for `def`, with the text after it."""
         reply = self.replies.readline().decode()
         verb = line.split()[0] if line.split() else ""
         if verb == "def" and reply.startswith("ok "):
@@ -118,7 +120,7 @@ class Talk:
 
 
 class Session(Talk):
-    """A running program that is sent a line over a pipe and gives its reply."""
+    """A running program that receives lines over a pipe and replies."""
 
     def __init__(self, words: list[str], environment: dict[str, str] | None = None) -> None:
         self.process = subprocess.Popen(
@@ -132,7 +134,7 @@ class Session(Talk):
         super().__init__(self.process.stdin, self.process.stdout)
 
     def end(self) -> tuple[int, str]:
-        """Ends the input; the exit status and what was written on standard error."""
+        """Ends the input. Returns the exit status and what was written on standard error."""
         assert self.process.stderr
         self.lines.close()
         self.replies.read()
@@ -158,7 +160,7 @@ class Client(Talk):
         self.close()
 
     def rest(self) -> str:
-        """Ends what is sent, and returns all replies that are left."""
+        """Ends the sending side, and returns all remaining replies."""
         self.socket.shutdown(socket.SHUT_WR)
         return self.replies.read().decode()
 
@@ -168,13 +170,13 @@ class Client(Talk):
         self.socket.close()
 
     def reset(self) -> None:
-        """Breaks the connection off: what is on its way in either direction is lost."""
+        """Resets the connection: data in transit is lost in both directions."""
         self.socket.setsockopt(socket.SOL_SOCKET, socket.SO_LINGER, struct.pack("ii", 1, 0))
         self.close()
 
 
 def free_port() -> int:
-    """A port that nobody listens on."""
+    """A port on which nobody listens."""
     with socket.socket() as free:
         free.bind(("127.0.0.1", 0))
         port: int = free.getsockname()[1]
@@ -182,7 +184,7 @@ def free_port() -> int:
 
 
 class Service:
-    """A running program that serves connections to a port; at the end of the block it is stopped if it still runs."""
+    """A running program that serves connections to a port. At the end of the block it is stopped if it still runs."""
 
     def __init__(
         self,
@@ -191,7 +193,7 @@ class Service:
         environment: dict[str, str] | None = None,
         files: int | None = None,
     ) -> None:
-        """A service with at most this many open files, if a number is given."""
+        """A service with at most `files` open files, if a number is given."""
         self.port = free_port()
         bounds = ["--port", str(self.port), "--connections", str(connections)]
         self.process = subprocess.Popen(
@@ -216,6 +218,6 @@ class Service:
         return Client(self.port)
 
     def end(self) -> tuple[int, str, str]:
-        """Waits for the end: the exit status, and what was written on both streams."""
+        """Waits for the end. Returns the exit status, and what was written on both streams."""
         written, said = self.process.communicate(timeout=PATIENCE)
         return self.process.returncode, self.first + written.decode(), said.decode()

@@ -1,7 +1,7 @@
-/* Preloaded into the program: refuses growths of memory by their number.
+/* Preloaded into the program: refuses allocations by their number.
  *
- * The file named by REFUSE_CONTROL is four numbers: how many growths were asked for since the first was last set to 0, the
- * first and the last number that are refused (0: none), and how many were refused. A test writes it between two commands. */
+ * The file named by REFUSE_CONTROL has four numbers: the count of allocations requested since a test set it to 0, the first
+ * and the last number to refuse (0: refuse nothing), and the count of those refused. A test writes it between two commands. */
 #define _GNU_SOURCE
 #include <dlfcn.h>
 #include <fcntl.h>

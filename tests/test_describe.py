@@ -1,4 +1,5 @@
-"""`lefence describe`: its lines against the DEF text, read here by a few lines of Python, and against `lefence check`."""
+"""`lefence describe`: compares its lines with the DEF text, read here by a few lines of Python, and with `lefence
+check`."""
 
 from __future__ import annotations
 
@@ -9,7 +10,7 @@ import unittest
 from program import DESIGN, LEF, InFolder, Start, run
 
 Line = dict[str, object]
-# The keys of each kind, which stay.
+# The keys of each kind, which must not change.
 KEYS: dict[str, list[str]] = {
     "design": ["kind", "name", "site", "site_height", "site_width", "units"],
     "row": ["box", "kind", "name", "orient", "sites"],
@@ -20,7 +21,7 @@ KEYS: dict[str, list[str]] = {
     "total": ["cells", "fences", "illegal", "kind", "obstacles", "rows", "soft", "unplaced"],
 }
 SITE = (200, 2000)
-# What describes the small design, in which no cell is placed.
+# The description of the small design, in which no cell is placed.
 SMALL = """\
 {"kind":"design","name":"w","site":"core","site_height":2000,"site_width":200,"units":1000}
 {"box":[0,0,10000,2000],"kind":"row","name":"r0","orient":"N","sites":50}
@@ -37,7 +38,7 @@ SMALL = """\
 {"box":null,"height":2000,"kind":"cell","macro":"INV","name":"g1","orient":null,"other":null,"rule":null,"team":"-","width":400}
 {"cells":5,"fences":2,"illegal":0,"kind":"total","obstacles":1,"rows":4,"soft":0,"unplaced":5}
 """
-# Four rows, of which the third begins further left.
+# Four rows. The third begins further left.
 ROWS = "".join(
     f"ROW r{number} core {left} {2000 * number} {'N' if number % 2 == 0 else 'FS'} DO 50 BY 1 STEP 200 0 ;\n"
     for number, left in enumerate((0, 0, -400, 0))
@@ -78,7 +79,7 @@ GROUPS 2 ;
 END GROUPS
 END DESIGN
 """
-# How many legal cells the large design has; its lines are several times what is written at once.
+# The number of legal cells of the large design. Its lines are several times what is written at once.
 MANY = 5_000
 # A design of one row in which all cells are placed and legal.
 LARGE = (
@@ -102,13 +103,13 @@ def rectangles(text: str) -> list[list[int]]:
 
 
 def sizes(lef: str) -> dict[str, tuple[int, int]]:
-    """Width and height of each macro of a LEF text, 1000 database units to the micron."""
+    """Width and height of each macro of a LEF text, with 1000 database units per micron."""
     found = re.findall(r"^MACRO (\S+)$.*?^  SIZE (\S+) BY (\S+) ;$", lef, re.MULTILINE | re.DOTALL)
     return {name: (round(float(width) * 1000), round(float(height) * 1000)) for name, width, height in found}
 
 
 def told_of(text: str, lef: str) -> list[Line]:
-    """The lines of a DEF text of the forms above, but for what cells break, and for the totals."""
+    """The lines of a DEF text of the forms above, except the rules that cells break, and the totals."""
     name = re.search(r"^DESIGN (\S+) ;$", text, re.MULTILINE)
     assert name
     width, height = SITE
@@ -146,7 +147,7 @@ def told_of(text: str, lef: str) -> list[Line]:
 
 
 class Describe(InFolder):
-    """Each design is written into a folder of its own."""
+    """Describes designs, each written into its own folder."""
 
     def design(self, text: str) -> list[str]:
         """The words for a design of this DEF text and the macros of the small design."""
@@ -155,7 +156,7 @@ class Describe(InFolder):
         return [str(path), str(LEF)]
 
     def described(self, words: list[str], status: int) -> list[Line]:
-        """The lines for these files, each of which is compact JSON with the keys of its kind."""
+        """The lines for these files. Each must be compact JSON with the keys of its kind."""
         found, written, said = run(["describe", *words])
         self.assertEqual((found, said), (status, ""))
         self.assertTrue(written.endswith("\n"))

@@ -1,6 +1,6 @@
-"""Where `--export` writes: the bytes, the mode, what else stands in the folder, the status and the message.
+"""Where `--export` writes: the bytes, the mode, other files in the folder, the status and the message.
 
-No contract knows what files hold.
+No contract knows the contents of files.
 """
 
 from __future__ import annotations
@@ -17,7 +17,7 @@ from program import DEF, DESIGN, LEF, InFolder, Service, Session, Start, free_po
 # A session that places and commits the three cells of team A, and its replies.
 LINES = "open A\nplace A 0 a1 0 0 N\nplace A 0 a2 400 0 N\nplace A 0 a3 800 0 N\ncommit A 0\n"
 REPLIES = "ok 0 0\nok 1\nok 2\nok 3\nok 4\n"
-# The text that is exported then.
+# The text that is then exported.
 EXPORTED = (
     DEF.read_text()
     .replace("- a1 INV + SOURCE DIST ;", "- a1 INV + SOURCE DIST + PLACED ( 0 0 ) N ;")
@@ -31,12 +31,12 @@ NO_FOLDER = ": there is no such folder"
 
 
 def unwritten(target: Path | str, why: str) -> str:
-    """What is told of a path that no text can be written to."""
+    """The message about a path to which no text can be written."""
     return f"lefence: File\nlefence: export file {target} cannot be written{why}\n"
 
 
 class Exports(InFolder):
-    """Exports of the small design, in a folder of their own."""
+    """Exports of the small design, in their own folder."""
 
     def setUp(self) -> None:
         super().setUp()
@@ -166,14 +166,14 @@ class Exported(Exports):
 
 
 class NotExported(Exports):
-    """Exports that are not written: what was there stays as it was, and nothing is left beside it."""
+    """Exports that are not written: older files are unchanged, and no other file is left."""
 
     def refused(self, target: Path | str, why: str = "", start: Start = Start()) -> None:
-        """It shows only when the text is written."""
+        """The fault is noticed only when the text is written."""
         self.assertEqual(self.export(target, start), (3, REPLIES, unwritten(target, why)))
 
     def refused_early(self, target: Path | str, why: str = "") -> None:
-        """It shows before the first line is read."""
+        """The fault is noticed before the first line is read."""
         self.assertEqual(self.export(target), (3, "", unwritten(target, why)))
 
     def test_into_a_folder_that_is_missing(self) -> None:
@@ -195,7 +195,7 @@ class NotExported(Exports):
         self.assertEqual((os.readlink(self.target), self.names()), ("second.def", ["new.def", "second.def"]))
 
     def test_into_a_folder_where_no_file_can_be_made(self) -> None:
-        # (so the system says)
+        # (as the system reports it)
         self.refused_early("/proc/new.def", NO_FOLDER)
 
     @unittest.skipIf(os.geteuid() == 0, "root may write to any folder")
@@ -255,7 +255,7 @@ class NotExported(Exports):
     def test_after_a_signal(self) -> None:
         words = [*DESIGN, "--export", str(self.target)]
         for number in (signal.SIGTERM, signal.SIGINT, signal.SIGHUP):
-            # Whoever runs the tests may have it ignored, which a program would inherit.
+            # The caller of the tests may have it ignored, which a program would inherit.
             self.addCleanup(signal.signal, number, signal.signal(number, signal.SIG_DFL))
             with self.subTest(number.name):
                 session = Session(["replay", *words])

@@ -1,6 +1,6 @@
 """A design of 20,000 cells of one to eight rows, most of them displaced, over sessions of more than 50,000 lines.
 
-No contract can say that memory is there: calls that want it only for large inputs must not answer `OutOfMemory`.
+No contract can say that memory is available: commands that need it only for large inputs must not reply `OutOfMemory`.
 """
 
 from __future__ import annotations
@@ -18,13 +18,13 @@ from program import Service, Session, Talk, run
 
 CELLS = 20_000
 FENCES = 4
-# Sites of a fence, and of the ground beside it.
+# Sites of a fence, and of the ground next to it.
 WIDE = 250
 LINES = 50_000
-# Heights of macros in rows; of each height there are widths from 2 to 11 sites.
+# Heights of macros in rows. For each height there are widths from 2 to 11 sites.
 HEIGHTS = (1,) * 8 + (2,) * 4 + (3, 3, 4, 4, 5, 6, 7, 8)
 MACROS = [(sites, rows) for rows in HEIGHTS for sites in range(2, 12)]
-# How many percent of the spots in a packed floor have a cell.
+# The percentage of the spots in a packed floor that have a cell.
 FILLED = 60
 PLACEMENT = re.compile(r" \+ PLACED \( -?\d+ -?\d+ \) \w+")
 TURNED = {"N": "FN", "FN": "N", "FS": "S", "S": "FS"}
@@ -40,7 +40,7 @@ class Cell(NamedTuple):
 
 
 def lef_text() -> str:
-    """The macros, all with the ground rail below."""
+    """The macros, all with the ground rail at the bottom."""
     parts = ["VERSION 5.8 ;\nSITE core\n  CLASS CORE ;\n  SYMMETRY Y ;\n  SIZE 0.2 BY 2.0 ;\nEND core\n"]
     for number, (sites, rows) in enumerate(MACROS):
         width, height = f"{sites * 0.2:.1f}", f"{rows * 2.0:.1f}"
@@ -51,7 +51,7 @@ def lef_text() -> str:
 
 
 def stacked(team: str, left: int, row: int, source: random.Random) -> list[Cell]:
-    """Cells of a team side by side in eight rows from this row on."""
+    """Cells of a team next to each other in eight rows from this row on."""
     ends = [left] * 8
     cells: list[Cell] = []
     while True:
@@ -79,7 +79,8 @@ def packed(source: random.Random) -> tuple[list[Cell], int]:
 
 
 def displaced(number: int, cell: Cell, rows: int, source: random.Random) -> str:
-    """The cell's entry: half a site or some sites and rows off its spot, or without a place; one in ten is left at its spot."""
+    """The cell's entry: half a site or some sites and rows off its spot, or without a place. One in ten stays at its
+    spot."""
     x, row, chance = cell.x * 200, cell.row, source.randrange(10)
     if chance < 5:
         x += 100
@@ -92,7 +93,8 @@ def displaced(number: int, cell: Cell, rows: int, source: random.Random) -> str:
 
 
 def def_text(source: random.Random) -> tuple[str, list[str]]:
-    """The design, in which the highest cells come first, so that a tidy finds room for them; and the team of each cell."""
+    """The design, in which the highest cells come first, so that a tidy finds room for them; and the team of each
+    cell."""
     cells, rows = packed(source)
     cells.sort(key=lambda cell: -MACROS[cell.macro][1])
     parts = ["VERSION 5.8 ;\nDESIGN large ;\nUNITS DISTANCE MICRONS 1000 ;\n"]
@@ -118,7 +120,7 @@ def entries(text: str) -> list[str]:
 
 
 class Large(unittest.TestCase):
-    """One design for all tests, and what `check` says of it as it is."""
+    """One design for all tests."""
 
     folder: tempfile.TemporaryDirectory[str]
     design: list[str]
@@ -139,14 +141,15 @@ class Large(unittest.TestCase):
         cls.folder.cleanup()
 
     def all_ok(self, talk: Talk, lines: list[str]) -> list[str]:
-        """The replies to the lines, each of which is `ok`."""
+        """The replies to the lines. Each must be `ok`."""
         replies = talk.ask_all(lines)
         refused = [(line, reply) for line, reply in zip(lines, replies) if not reply.startswith("ok")]
         self.assertEqual(refused[:3], [])
         return replies
 
     def session(self, talk: Talk) -> list[str]:
-        """Every team is tidied, every cell turned and looked at, every team checked, written and committed; the entries written."""
+        """Tidies every team, turns and queries every cell, and checks, writes and commits every team. Returns the
+        entries written."""
         each = [f"f{fence}" for fence in range(FENCES)] + ["-"]
         count = 0
 
@@ -173,7 +176,8 @@ class Large(unittest.TestCase):
         return [entry for text in texts for entry in entries(text)]
 
     def exported_by(self, ask: Callable[[list[str]], list[str]], name: str) -> None:
-        """What the session exports is fully legal, differs from the design in places alone, and has the entries that were written."""
+        """Checks the exported file: it is fully legal, differs from the design only in places, and has the entries that
+        were written."""
         target = Path(self.folder.name) / name
         written = ask([*self.design, "--export", str(target)])
         ran = run(["check", str(target), self.design[1]])

@@ -1,7 +1,8 @@
-"""Each growth of memory refused in turn, in the running program.
+"""Each allocation refused in turn, in the running program.
 
-No contract can say that memory is there, or that `OutOfMemory` is answered only where a growth was refused. A small library
-(refuse.c) that is preloaded into the program refuses growths by their number: the k-th of a command alone, and all from the k-th on.
+No contract can say that memory is available, or that `OutOfMemory` is replied only if an allocation was refused. A
+small library (refuse.c) is preloaded into the program. It refuses allocations by their number: only the k-th of a
+command, and all from the k-th on.
 """
 
 from __future__ import annotations
@@ -24,19 +25,19 @@ ALL = 2**63
 SHORT = "no 12 OutOfMemory"
 # The verbs of random requests.
 VERBS = ("place", "legalize", "unplace", "swap", "tidy", "undo", "revert", "commit", "pad", "check", "find", "def")
-# The verbs that take no memory: they ask for no growth that could be refused.
+# The verbs that allocate nothing: they request no memory that could be refused.
 WITHOUT_MEMORY = ("open", "close", "sync", "where", "undo", "pad", "def")
-# How many growths a task can do without: one of the command line, and of a check the first one behind loading, for the list of the
-# cells' places. What was refused alone is then asked for again.
+# The allocations without which a task succeeds: one of the command line, and for a check the first one after loading,
+# for the list of the cells' places. If only that one is refused, it is requested again.
 SPARED = 2
-# How a task ends that found no memory: before its lines, or for the buffers of its lines.
+# How a task ends without memory: before its lines, or for the buffers of its lines.
 NOT_DONE = [(1, "lefence: 24 OutOfMemory\n"), (3, "lefence: OutOfMemory\n")]
-# The program that answers worked rows, and what it writes in the place of all that is left of a row where it finds no memory.
+# The program that answers worked rows, and the line that replaces the rest of its output if it runs out of memory.
 ROWS = TESTS.parent / "crates/lefence_rows/out/lefence_rows"
 ENDED_SHORT = "lefence: 24 OutOfMemory"
 
 PLACES = [("place A 0 a1 0 0 N", "ok 1"), ("place A 0 a2 400 0 N", "ok 2"), ("place A 0 a3 800 0 N", "ok 3")]
-# Scripts over the small design: what is changed in its DEF text, by lines, and requests with their replies.
+# Scripts over the small design: the changed lines of its DEF text, and requests with their replies.
 SCRIPTS: list[tuple[str, dict[int, str], list[tuple[str, str]]]] = [
     (
         "reports",
@@ -129,7 +130,7 @@ def changed(lines: dict[int, str]) -> str:
 
 
 def random_design(source: random.Random) -> str:
-    """A design of two fences, and cells of one and two rows, some placed, some of them illegally."""
+    """A design of two fences, and cells of one and two rows. Some are placed, and some of those illegally."""
     cells = [(f"{team}{n}", source.choice(("INV", "INV", "DBL"))) for team in "abg" for n in range(8)]
     rows = [f"ROW r{n} core 0 {2000 * n} {'FS' if n % 2 else 'N'} DO 50 BY 1 STEP 200 0 ;" for n in range(6)]
 
@@ -150,7 +151,7 @@ def random_design(source: random.Random) -> str:
 
 
 def random_requests(source: random.Random, count: int) -> list[str]:
-    """Requests of all teams, each by its session 0."""
+    """Requests of all teams, each in its session 0."""
     found = []
     for _ in range(count):
         team = source.choice("AB-")
@@ -170,7 +171,7 @@ def random_requests(source: random.Random, count: int) -> list[str]:
 
 
 class Refusing:
-    """The library that refuses, and the file by which it is steered."""
+    """The refusing library, and the file that controls it."""
 
     def __init__(self, folder: Path) -> None:
         self.library = folder / "refuse.so"
@@ -183,18 +184,18 @@ class Refusing:
         self.environment = {**os.environ, "LD_PRELOAD": str(self.library), "REFUSE_CONTROL": str(self.path)}
 
     def refuse(self, first: int, last: int) -> None:
-        """From now on the growths of these numbers are refused, the next one being 1."""
+        """Refuses the allocations of these numbers from now on. The next one is number 1."""
         self.numbers[:] = struct.pack("=4Q", 0, first, last, 0)
 
     def refused(self) -> int:
-        """How many growths were refused; none is from now on."""
+        """The number of refused allocations. Refuses no more from now on."""
         count: int = struct.unpack("=4Q", self.numbers[:])[3]
         self.refuse(0, 0)
         return count
 
 
 class WithRefusals(unittest.TestCase):
-    """Tests that steer one refusing library, in a folder of their own."""
+    """Tests that control one refusing library, in their own folder."""
 
     folder: tempfile.TemporaryDirectory[str]
     refusing: Refusing
@@ -210,14 +211,15 @@ class WithRefusals(unittest.TestCase):
         cls.folder.cleanup()
 
     def run_with(self, words: list[str], lines: str, first: int, last: int) -> tuple[int, str, str, int]:
-        """Runs a program over these lines with these growths refused: its status, what it wrote, and how many were refused."""
+        """Runs a program over these lines with these allocations refused. Returns its status, its output on both
+        streams, and the number refused."""
         self.refusing.refuse(first, last)
         environment = self.refusing.environment
         ran = subprocess.run(words, env=environment, input=lines, capture_output=True, text=True, timeout=60)
         return ran.returncode, ran.stdout, ran.stderr, self.refusing.refused()
 
     def numbers(self, words: list[str], lines: str) -> Iterator[tuple[int, int]]:
-        """The growths to be refused: each alone, and all from each on."""
+        """The allocations to refuse: each alone, and all from each on."""
         self.refusing.refuse(0, 0)
         subprocess.run(words, env=self.refusing.environment, input=lines, capture_output=True, text=True)
         asked = struct.unpack("=4Q", self.refusing.numbers[:])[0]
@@ -228,7 +230,8 @@ class WithRefusals(unittest.TestCase):
 
 
 class GrowthsRefused(WithRefusals):
-    """Each command, each growth: the answer is OutOfMemory, no cell moves, and the command sent again is answered as ever."""
+    """Each command, each allocation: the reply is OutOfMemory, no cell moves, and repeating the command gets the usual
+    reply."""
 
     def design(self, text: str) -> list[str]:
         path = Path(self.folder.name) / "design.def"
@@ -246,7 +249,8 @@ class GrowthsRefused(WithRefusals):
         return [session.ask(f"where {team} 0 {cell}") for team, cell in cells]
 
     def go(self, words: list[str], cells: list[tuple[str, str]], script: list[tuple[str, str]]) -> int:
-        """Answers the script once for each growth of each of its commands, and counts the growths that were refused."""
+        """Runs the script once for each allocation of each of its commands. Returns the number of refused
+        allocations."""
         whole = 0
         for last in (0, ALL):
             session = self.open(words)
@@ -270,7 +274,8 @@ class GrowthsRefused(WithRefusals):
         return whole
 
     def sent_again(self, words: list[str], script: list[tuple[str, str]]) -> None:
-        """For each growth of each command a fresh program: the command sent again, and all later ones, are answered as ever."""
+        """Starts a new program for each allocation of each command: the repeated command, and all later ones, get the
+        usual replies."""
         for at, (line, _) in enumerate(script):
             number, is_left = 1, True
             while is_left:
@@ -309,10 +314,12 @@ class GrowthsRefused(WithRefusals):
 
 
 class StartsRefused(WithRefusals):
-    """Each growth from the start of the program on: it ends or answers a command so; an older exported file stays whole."""
+    """Each allocation from the start of the program: the program ends without memory, or a command replies OutOfMemory.
+    An older exported file stays whole."""
 
     def runs(self, words: list[str], lines: str, *targets: Path) -> Iterator[tuple[str, tuple[int, str, str]]]:
-        """A run for each growth that is refused, over older files, by its name: its status, replies and what it says."""
+        """Runs the program once for each refused allocation, over older files. Yields the allocation's name, and the
+        status, replies and messages."""
         for first, last in self.numbers(words, lines):
             for target in targets:
                 target.write_text("old")
@@ -370,7 +377,7 @@ class StartsRefused(WithRefusals):
                 else:
                     self.assertEqual((status, said), NOT_DONE[0])
                     self.assertIn(written, ("", usual[1]))
-                    # (the lines are written last)
+                    # (the commands are written last)
                     self.assertIn(left, (["old", "old"], [repaired[0], "old"]))
         self.assertLessEqual(len(spared), SPARED, spared)
 
@@ -401,7 +408,7 @@ class StartsRefused(WithRefusals):
 
 @dataclass(frozen=True)
 class WorkedRow:
-    """A row of lefence_rows: its settings, and its requests, each with its reply, or the first line of that."""
+    """A row of lefence_rows: its settings, and its requests, each with its reply or the reply's first line."""
 
     name: str
     settings: list[str]
@@ -439,7 +446,7 @@ WORKED_ROWS = [
         ["= run"],
         [("open A", "ok 0 0"), *next(script for name, _, script in SCRIPTS if name == "tidy, commit and revert")],
     ),
-    # (with limits of its own a row is exported by the library and not by the program, which GrowthsRefused tries)
+    # (with its own limits a row is exported by the library and not by the program, which GrowthsRefused tests)
     WorkedRow(
         "an exported text",
         ["= export", "= limits 65535 1024 4000000 8 64 4000000000"],
@@ -449,16 +456,17 @@ WORKED_ROWS = [
 
 
 class RowsRefused(WithRefusals):
-    """Worked rows that the library answers: a refused growth is told in the place of a reply, and then the others are those of the row
-    without that request; or in the place of all that is left. Nothing else is written, and the program ends as ever."""
+    """Worked rows that the library answers. If an allocation is refused, OutOfMemory replaces a reply, and the other
+    replies are those of the row without that request; or it replaces the rest of the output. Nothing else is written,
+    and the program ends as usual."""
 
     heading = "# A worked row."
     worked: WorkedRow
-    # What is written of the row, for those requests of it that found no memory.
+    # The output of the row if these of its requests ran out of memory.
     written_without: dict[tuple[int, ...], list[str]]
 
     def text_of(self, short: tuple[int, ...]) -> str:
-        """The text of the row without these of its requests; only the index of the rows looks for places."""
+        """The text of the row without these requests. Only the index of the rows searches for places."""
         asked = [request for at, (request, _) in enumerate(self.worked.script) if at not in short]
         return "\n".join([self.heading, "= index", *self.worked.settings, *asked, ""])
 
@@ -468,7 +476,7 @@ class RowsRefused(WithRefusals):
         return lines
 
     def replies_in(self, lines: list[str], short: tuple[int, ...]) -> tuple[list[list[str]], list[str]]:
-        """The lines of each reply to the requests but these, and those behind them: the exported text."""
+        """The lines of each reply, except to these requests, and the lines after them: the exported text."""
         replies: list[list[str]] = []
         rest = list(lines)
         for at, (request, _) in enumerate(self.worked.script):
@@ -483,7 +491,7 @@ class RowsRefused(WithRefusals):
         return replies, rest
 
     def wanted(self, short: tuple[int, ...]) -> list[str]:
-        """What is to be written of the row if these requests, and no other, find no memory."""
+        """The expected output of the row if exactly these requests run out of memory."""
         if short not in self.written_without:
             status, written, said, _ = self.run_with([str(ROWS)], self.text_of(short), 0, 0)
             self.assertEqual((status, said), (0, ""))
@@ -495,7 +503,7 @@ class RowsRefused(WithRefusals):
         return self.written_without[short]
 
     def check(self, written: str) -> None:
-        """What is written is what is wanted, or its first lines and the line that tells that no memory was found for more."""
+        """The output is the expected one, or its first lines and the line that says that memory ran out."""
         lines = self.lines_of(written)
         is_ended = lines[-1:] == [ENDED_SHORT]
         found = lines[:-1] if is_ended else lines

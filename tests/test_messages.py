@@ -1,4 +1,4 @@
-"""What a newcomer's mistakes end in: lines on standard error and a status; and what to do where `tidy` finds no place."""
+"""What a new user's mistakes end in: lines on standard error and a status. Also what to do if `tidy` finds no place."""
 
 from __future__ import annotations
 
@@ -16,15 +16,16 @@ USAGE = "lefence: usage"
 
 
 def line_of(text: str, entry: str) -> int:
-    """The number of the first line that begins so."""
+    """The number of the first line that begins with this text."""
     return next(at for at, line in enumerate(text.splitlines(), 1) if line.startswith(entry))
 
 
 class Mistakes(unittest.TestCase):
-    """Each mistake: the status, what standard error says, and nothing on standard output."""
+    """Each mistake: the status, the text on standard error, and nothing on standard output."""
 
     def said(self, words: list[str], status: int, first: str, second: str = "", start: Start = Start()) -> None:
-        """A second line tells where the fault lies, if it is given. Behind a usage fault comes what is wrong and what can be asked."""
+        """A second line, if given, says where the fault is. After a usage fault, the wrong word and the usage are
+        printed."""
         with self.subTest(" ".join(words)):
             found, written, said = run(words, "", start)
             if first == USAGE:
@@ -185,7 +186,8 @@ class Mistakes(unittest.TestCase):
                 self.said(["check", W_DEF, str(lef)], 1, f"lefence: {first}", where)
 
     def shown(self, text: str, entry: str, says: str, message: str) -> None:
-        """A check of the DEF text is refused by this message, and shows the last line that begins so, with what is said of it."""
+        """A check of the DEF text is refused with this message. It shows the last line that begins with `entry`, with
+        this remark."""
         with tempfile.TemporaryDirectory() as folder:
             path = Path(folder) / "refused.def"
             path.write_text(text)
@@ -240,7 +242,7 @@ class Mistakes(unittest.TestCase):
 
 
 class Help(unittest.TestCase):
-    """What the program says of itself, on standard output."""
+    """The help of the program, on standard output."""
 
     def test_what_the_program_can_be_asked(self) -> None:
         _, _, said = run(["help"])
@@ -271,7 +273,7 @@ class Help(unittest.TestCase):
 
 
 class Wrapper(unittest.TestCase):
-    """./lefence, where it cannot prove and build the program."""
+    """./lefence, if it cannot prove and build the program."""
 
     def test_what_is_lacking_is_told(self) -> None:
         with tempfile.TemporaryDirectory() as folder:
@@ -295,7 +297,7 @@ class Wrapper(unittest.TestCase):
 
 
 class Recipes(unittest.TestCase):
-    """What docs/PROTOCOL.md tells to do."""
+    """The recipes of docs/PROTOCOL.md."""
 
     def test_where_tidy_finds_no_place_the_widest_cells_go_first(self) -> None:
         text = DEF.read_text().replace("- A ( 0 0 ) ( 4000 4000 )", "- A ( 0 0 ) ( 1400 4000 )")

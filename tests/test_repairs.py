@@ -1,6 +1,6 @@
-"""What `repair` writes: the report, the exported text, the lines, the status and the message.
+"""What `repair` writes: the report, the exported text, the commands, the status and the message.
 
-No contract knows what files hold, nor what the report counts.
+No contract knows the contents of files, or what the report counts.
 """
 
 from __future__ import annotations
@@ -11,10 +11,10 @@ from pathlib import Path
 
 from program import DEF, LEF, InFolder, Start, preloading, run
 
-# The keys of the line of a team, and of the line of all teams, in their order.
+# The keys of the line of a team, and of the line of all teams, in order.
 TEAM_KEYS = ["cells", "gaps", "kept", "largest", "least_largest", "left", "mean", "moved", "placed", "pushed", "team", "total", "turned"]
 ALL_KEYS = ["cells", "kept", "largest", "least_largest", "left_cells", "legal", "mean", "moved", "placed", "pushed", "teams", "total", "turned"]
-# The cells of team A, a2 one site right of a1 and over it, and those of the others at legal places.
+# The cells of team A, with a2 one site right of a1 and overlapping it, and the other cells at legal places.
 STANDING = {
     "- a1 INV + SOURCE DIST ;": "- a1 INV + SOURCE DIST + PLACED ( 0 0 ) N ;",
     "- a2 INV + UNPLACED ;": "- a2 INV + PLACED ( 200 0 ) N ;",
@@ -25,13 +25,13 @@ STANDING = {
 # A fence of A that has room for one of its cells.
 NARROW = {"- A ( 0 0 ) ( 4000 4000 ) + TYPE FENCE ;": "- A ( 0 0 ) ( 400 2000 ) + TYPE FENCE ;"}
 
-# A row with free runs of 3, 15 and 4 sites between cells that stand, and three cells of 8, 5 and 3 sites that stand in the widest run, and
-# overlap there: the narrowest has to go, and fits into the run of 3 sites alone.
+# A row with free runs of 3, 15 and 4 sites between cells that do not move. Three cells of 8, 5 and 3 sites are in the
+# widest run and overlap there. The narrowest has to move, and fits only into the run of 3 sites.
 GAPS = {"w8": (8, 11), "s4": (4, 28), "w5": (5, 12), "s5": (5, 3), "w3": (3, 12), "t5": (5, 23)}
 
 
 def of_gaps(site: dict[str, int]) -> tuple[str, str]:
-    """The LEF and DEF texts of that row, its cells at these sites."""
+    """The LEF and DEF texts of that row, with its cells at these sites."""
     macros = "".join(f"MACRO W{it} CLASS CORE ; SIZE {0.2 * it:.1f} BY 2.0 ; SYMMETRY X Y ; SITE core ; END W{it}\n" for it in (3, 4, 5, 8))
     cells = "".join(f"- {name} W{width} + PLACED ( {200 * site[name]} 0 ) N ;\n" for name, (width, _) in GAPS.items())
     lef = f"SITE core CLASS CORE ; SYMMETRY Y ; SIZE 0.2 BY 2.0 ; END core\n{macros}END LIBRARY\n"
@@ -40,7 +40,7 @@ def of_gaps(site: dict[str, int]) -> tuple[str, str]:
 
 
 def tight(sites: int, a1: int) -> dict[str, str]:
-    """A fence of A around a3 and so many sites of a row to its left, on which a1 stands at that site."""
+    """A fence of A around a3 and `sites` sites of a row to its left, with a1 at site `a1`."""
     left = 200 * sites
     return {
         **STANDING,
@@ -51,7 +51,7 @@ def tight(sites: int, a1: int) -> dict[str, str]:
 
 
 def design(changes: dict[str, str]) -> str:
-    """The text of the small design with lines exchanged."""
+    """The text of the small design with lines replaced."""
     text = DEF.read_text()
     for old, new in changes.items():
         assert text.count(old) == 1, old
@@ -60,7 +60,7 @@ def design(changes: dict[str, str]) -> str:
 
 
 class Repairs(InFolder):
-    """Repairs of the small design, in a folder of their own."""
+    """Repairs of the small design, in their own folder."""
 
     def setUp(self) -> None:
         super().setUp()
@@ -69,7 +69,7 @@ class Repairs(InFolder):
         self.lines = self.folder / "lines.txt"
 
     def repair(self, changes: dict[str, str], *words: str) -> tuple[int, list[dict[str, object]]]:
-        """Repairs the design: the status and the lines of the report. Nothing is said on standard error."""
+        """Repairs the design. Returns the status and the lines of the report. Nothing is written on standard error."""
         self.text.write_text(design(changes))
         status, written, said = run(["repair", str(self.text), str(LEF), *words])
         self.assertEqual(said, "")
@@ -78,7 +78,7 @@ class Repairs(InFolder):
         return status, report
 
     def check(self, text: Path) -> int:
-        """The status of a check of that text."""
+        """The status of a check of this DEF text."""
         return run(["check", str(text), str(LEF)])[0]
 
     def test_one_that_takes_its_time_says_how_far_it_is(self) -> None:
@@ -146,7 +146,7 @@ class Repairs(InFolder):
         self.assertEqual(last, "place A 0 a2 0 0 N")
 
     def test_the_widest_goes_first_where_another_order_leaves_it(self) -> None:
-        # In another order w8 and w3 stay in the widest run, and w5 finds no room beside cells that stand.
+        # In another order w8 and w3 stay in the widest run, and w5 finds no room next to cells that do not move.
         begin = {name: site for name, (_, site) in GAPS.items()}
         lef, (widths, stands) = self.folder / "gaps.lef", of_gaps(begin)
         lef.write_text(widths)
@@ -193,7 +193,8 @@ class Repairs(InFolder):
         self.assertEqual(self.names(), ["old.def"])
 
     def test_the_least_largest_way_is_that_of_a_cell_alone(self) -> None:
-        # a1 is 50 + 30 from its site; a2 goes left into A's ground; g1 out of B's ground; b1 into B's ground and to a row.
+        # a1 is 50 + 30 from its site; a2 moves left into A's ground, g1 out of B's ground, and b1 into B's ground and
+        # to a row.
         changes = {
             **STANDING,
             "- a1 INV + SOURCE DIST ;": "- a1 INV + SOURCE DIST + PLACED ( 150 30 ) N ;",
@@ -208,7 +209,7 @@ class Repairs(InFolder):
                 self.assertEqual((status, [line["least_largest"] for line in report], [line["largest"] for line in report]), (0, ways, ways))
 
     def test_the_least_largest_way_counts_no_cell_in_the_way(self) -> None:
-        # a1 and a2 stand on one place, where either may stand alone; b1 has no place, and counts for nothing.
+        # a1 and a2 are on one place, where either may be alone. b1 has no place, and is not counted.
         changes = {**STANDING, "- a2 INV + UNPLACED ;": "- a2 INV + PLACED ( 0 0 ) N ;", "- b1 INV ;": "- b1 INV ;"}
         status, report = self.repair(changes)
         self.assertEqual((status, [line["least_largest"] for line in report], report[0]["largest"]), (0, [0, 0, 0, 0], 400))

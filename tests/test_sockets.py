@@ -1,4 +1,4 @@
-"""What clients of `lefence serve` meet: the address, the order of connections, and connections that break.
+"""What clients of `lefence serve` see: the address, the order of connections, and connections that break.
 
 No contract knows the bytes of sockets.
 """
@@ -19,12 +19,12 @@ from pathlib import Path
 from program import DEF, DESIGN, Client, Service, preloading, run
 
 LISTENING = "listening\n"
-# Lines that change nothing, of which no team has a session, and a last one that ends the connection.
+# Lines that change nothing, for teams without a session, and a last line that ends the connection.
 LINES = b"where B 0 b1\nopen Z\r\n\nhello\nbye\n"
 
 
 def listened_on(port: int) -> list[str]:
-    """The addresses of this machine at which that port is listened on, as the kernel tells them."""
+    """The addresses of this machine on which a program listens at this port, as the kernel reports them."""
     found = []
     for table in ("tcp", "tcp6"):
         path = Path("/proc/net") / table
@@ -134,7 +134,7 @@ class InTurn(unittest.TestCase):
 
 
 class Cut(unittest.TestCase):
-    """Connections that are cut, in pieces or broken off: each ends alone."""
+    """Connections that are cut, sent in pieces or reset: each ends alone."""
 
     def probe(self, service: Service) -> None:
         """The next client is served."""
@@ -207,8 +207,8 @@ class Cut(unittest.TestCase):
             self.assertEqual(service.end(), (0, LISTENING, ""))
 
     def test_replies_go_on_after_the_service_was_stopped_and_continued(self) -> None:
-        # That interrupts a send that waits, if there is a bound on how long it may. (The replies are more than the system's own
-        # buffers take, so that the service has to wait.)
+        # That interrupts a send that waits, if its time is limited. (The replies are larger than the system's own
+        # buffers, so that the service has to wait.)
         count, (_, written, _) = 30_000, run(["replay", *DESIGN], "open A\ndef A 0\n")
         first, text = written[:7].encode(), written[7:].encode()
         self.assertEqual(first, b"ok 0 0\n")

@@ -1,6 +1,6 @@
 """What `--save` writes and `--state` reads: the bytes, the replies after a restart, the status and the message.
 
-No contract knows what files hold.
+No contract knows the contents of files.
 """
 
 from __future__ import annotations
@@ -15,7 +15,7 @@ from pathlib import Path
 
 from program import DEF, DESIGN, LEF, TESTS, InFolder, Service, Session, Start, free_port, run, small_files
 
-# A session that makes changes, undoes and commits, opens a second session and gives a padding, and its replies.
+# A session that makes changes, undoes and commits, opens a second session and sets a padding, and its replies.
 LINES = [
     "open A",
     "place A 0 a1 0 0 N",
@@ -39,7 +39,7 @@ LINES = [
     "close A 1",
     "open A",
 ]
-# The state of the small design as it is loaded.
+# The state of the small design as loaded.
 LOADED = """\
 lefence-state 1
 teams 3
@@ -88,9 +88,9 @@ PLACED = (
     .replace("a3 - -\n", "a3 - -\nundo 1\n0 0,0,N\nundo 1\n0 -\n")
 )
 
-# Worked rows, each request with its reply below it (tools/rows.py tells their form).
+# Worked rows, each request with its reply below it (tools/rows.py describes their form).
 ROWS = TESTS.parent / "crates/lefence_rows/rows"
-# At how many places a row is cut at most; the longest ones only look for places.
+# The most places at which a row is cut. The longest rows only search for places.
 CUTS = 40
 
 
@@ -99,7 +99,7 @@ def joined(lines: list[str]) -> str:
 
 
 def row_texts() -> Iterator[tuple[str, list[str]]]:
-    """The rows that only exchange lines of the small design and ask: where each stands, and its lines."""
+    """The rows that only replace lines of the small design and send requests: the position and the lines of each."""
     for path in sorted(ROWS.glob("*.rows")):
         for row in re.split(r"(?m)^# ", path.read_bytes().decode())[1:]:
             heading, *lines = [line for line in row.split("\n") if line]
@@ -109,7 +109,7 @@ def row_texts() -> Iterator[tuple[str, list[str]]]:
 
 
 class States(InFolder):
-    """States of the small design, in a folder of their own."""
+    """States of the small design, in their own folder."""
 
     def setUp(self) -> None:
         super().setUp()
@@ -181,7 +181,7 @@ class Saved(States):
                 self.assertEqual((status, before + after, said), (0, whole, ""))
 
     def row_design(self, lines: list[str]) -> list[str]:
-        """The paths of the texts of a row: those of the small design with the lines that it exchanges."""
+        """The paths of the texts of a row: those of the small design with the lines that it replaces."""
         texts = {"def": DEF.read_text(), "lef": LEF.read_text()}
         for line in lines:
             if line.startswith("= "):
@@ -200,7 +200,7 @@ class Saved(States):
             replay = ["replay", *self.row_design(lines)]
             asked = [line.removeprefix("> ") for line in lines if line.startswith("> ")]
             whole = joined([line for line in lines if not line.startswith(("= ", "> "))][1:])
-            # (a session ends at its `bye`, and what follows is not answered)
+            # (a session ends at its `bye`, and later lines get no reply)
             ends = [at for at, line in enumerate(asked) if line.split() == ["bye"]]
             for cut in range(1, min([len(asked), *ends]), 1 + len(asked) // CUTS):
                 with self.subTest(name, cut=cut):
@@ -258,7 +258,7 @@ class Saved(States):
 
 
 class NotSaved(States):
-    """States that are not written: what was there stays as it was."""
+    """States that are not written: older files are unchanged."""
 
     def unsaved(self, target: Path | str, why: str = "") -> str:
         return f"lefence: File\nlefence: state file {target} cannot be written{why}\n"
@@ -302,7 +302,7 @@ class NotSaved(States):
 
 
 def edited(text: str, source: random.Random) -> str:
-    """The text with some bytes, a word or a line taken out, doubled or exchanged for others of the text."""
+    """The text with some bytes, a word or a line removed, doubled or replaced by others of the text."""
     parts = re.findall(source.choice((r"(?s).", r"\S+|\s", r".*\n")), text)
     for _ in range(source.randint(1, 3)):
         at = source.randrange(len(parts))
@@ -311,7 +311,7 @@ def edited(text: str, source: random.Random) -> str:
 
 
 class Refused(States):
-    """Texts that are no state of the design: nothing is answered, written or put."""
+    """Texts that are no state of the design: no reply and no file is written."""
 
     def refuse(self, text: str | bytes, fault: str, line: int, shown: str) -> None:
         self.state.write_bytes(text if isinstance(text, bytes) else text.encode())
@@ -405,18 +405,18 @@ class Refused(States):
         self.assertIn("DEF file", said)
 
 
-# Where all cells of the small design stand legally, and the first two in each other's way.
+# Legal places of all cells of the small design. The first two cells are next to each other.
 PLACES = {"a1": (0, 0), "a2": (400, 0), "a3": (800, 0), "b1": (6000, 0), "g1": (4400, 0)}
 CROSSED = {**PLACES, "a2": (200, 0)}
 
 
 def state_at(places: dict[str, tuple[int, int]]) -> str:
-    """A state with the cells at work at these places, and all of them committed at another."""
+    """A state with the cells at these working places, and all of them committed elsewhere."""
     return re.sub("(?m)^([abg][0-9]) - -$", lambda found: f"{found[1]} {places[found[1]][0]},{places[found[1]][1]},N 2000,2000,FS", LOADED)
 
 
 def text_at(places: dict[str, tuple[int, int]]) -> str:
-    """The DEF text with the cells placed so."""
+    """The DEF text with the cells at these places."""
 
     def placed(found: re.Match[str]) -> str:
         x, y = places[found[2]]
@@ -426,7 +426,7 @@ def text_at(places: dict[str, tuple[int, int]]) -> str:
 
 
 class LookedAt(States):
-    """States that `check` and `describe` look at."""
+    """States that `check` and `describe` read."""
 
     def look(self, verb: str) -> tuple[int, str, str]:
         return run([verb, *DESIGN, "--state", str(self.state)])

@@ -1,11 +1,13 @@
 #!/usr/bin/env python3
-"""Proves and builds the program crates/lefence/out/lefence, and says on standard error, a line for each crate as it ends, what is left.
+"""Proves and builds the program crates/lefence/out/lefence. As each crate ends, prints a line on standard error that
+says how much remains.
 
 usage: tools/build.py
 
-It runs the gate's own command, `rt ci`, on a copy of the program's crates without their must-fail edits: crates that do not stand on each
-other are proved side by side. A kit from rattle-kit-13f on keeps what is proved on the machine, by checksums, for the next build and for
-./test, and an interrupted build goes on where it was; an older one begins anew. The log is crates/lefence/out/build.log; the status is 0 if the program was built.
+It runs the gate's own command, `rt ci`, on a copy of the program's crates without their must-fail edits. Crates that do
+not depend on each other are proved in parallel. A kit from rattle-kit-13f on keeps proofs on the machine, by checksums,
+for the next build and for ./test. An interrupted build then continues where it stopped; with an older kit it starts
+again. The log is crates/lefence/out/build.log. The status is 0 if the program was built.
 """
 
 from __future__ import annotations
@@ -26,11 +28,11 @@ from libraries import below, lines_of
 TOP = Path(__file__).resolve().parent.parent
 PROGRAM = Path("crates/lefence/out/lefence")
 LOG = TOP / "crates/lefence/out/build.log"
-# What is left out of the copy.
+# Folders that are not copied.
 UNREAD = shutil.ignore_patterns("out", "must-fail", "mutants")
-# What docs/GATE.md says of a crate: its name and the processor minutes of its proof.
+# A crate's row in docs/GATE.md: its name and the processor minutes of its proof.
 ROW = re.compile(r"\b(l(?:f_|efence)\w*) +(\d+\.\d+)\b")
-# What rt says at the end of a crate's proof, in this run or an earlier one.
+# The line of rt at the end of a crate's proof, in this run or an earlier one.
 ENDED = re.compile(r"^rt: ([a-z_]+) (proved$|is kept)")
 
 
@@ -44,7 +46,8 @@ def lay_out(copy: Path, crates: list[str], listed: dict[str, list[str]]) -> None
 
 
 def lines_of_build(copy: Path, files: Path) -> Iterator[str]:
-    """The lines that rt prints, each written to the log too; the last is its status. Temporary files are put into that folder."""
+    """Yields the lines that rt prints, and writes each to the log too. The last line is its status. `files` is the
+    folder for temporary files."""
     with open(LOG, "w", encoding="utf-8") as log:
         build = subprocess.Popen(
             ["rt", "ci"],
@@ -68,7 +71,8 @@ def lines_of_build(copy: Path, files: Path) -> Iterator[str]:
 
 
 def is_proved(copy: Path, files: Path, crates: list[str]) -> bool:
-    """Proves the crates in the copy, and says what is left as each ends; whether all are proved and the program ran."""
+    """Proves the crates in the copy, and prints what remains as each ends. Returns whether all are proved and the
+    program ran."""
     minutes = {name: float(told) for name, told in ROW.findall((TOP / "docs/GATE.md").read_text(encoding="utf-8"))}
     left, done, since, status = list(crates), 0.0, time.monotonic(), ""
     for status in lines_of_build(copy, files):
@@ -76,7 +80,7 @@ def is_proved(copy: Path, files: Path, crates: list[str]) -> bool:
         if ended and ended[1] in left:
             left.remove(ended[1])
             done += minutes.get(ended[1], 1.0) if ended[2] == "proved" else 0.0
-            # (as long as the others took, by the table)
+            # (in proportion to the time so far, by the table)
             rate = (time.monotonic() - since) / 60 / done if done else 1.0
             some = rate * sum(minutes.get(it, 1.0) for it in left)
             print(f"lefence: {ended[1]} is proved; {len(left)} crates are left, some {some:.0f} minutes", file=sys.stderr)
@@ -89,13 +93,13 @@ def main() -> int:
     LOG.parent.mkdir(parents=True, exist_ok=True)
     print(f"lefence: proving and building {len(crates)} crates, the log is {LOG}", file=sys.stderr)
     with tempfile.TemporaryDirectory(prefix="lefence-build-") as folder:
-        # (what provers leave that are killed goes with the folder; rt runs programs as nobody, who must come to it)
+        # (files of killed provers are removed with the folder; rt runs programs as nobody, who needs access to it)
         copy, files = Path(folder) / "tree", Path(folder) / "files"
         Path(folder).chmod(0o711)
         files.mkdir(mode=0o711)
         lay_out(copy, crates, lines_of(listing))
         if is_proved(copy, files, crates) and (copy / PROGRAM).is_file():
-            # (whole or not at all, also if the build is interrupted here)
+            # (complete or not at all, even if the build is interrupted here)
             made = TOP / f"{PROGRAM}.made"
             shutil.copy(copy / PROGRAM, made)
             made.replace(TOP / PROGRAM)

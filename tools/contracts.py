@@ -1,12 +1,14 @@
 #!/usr/bin/env python3
-"""Prints what each crate promises, from the sources: its first lines, then of each public item the declaration, its conditions
-(`requires`), and the comment above it. What an item ensures is at the item; `tools/definitions.py` prints the definitions.
+"""Prints what each crate promises, from the sources: its first lines, and then its public items. Of each item it prints
+the declaration, the conditions (`requires`) and the comment. What an item ensures is in the source;
+`tools/definitions.py` prints the definitions.
 
 usage: tools/contracts.py            (from the top) prints all crates, as Markdown, in the order of crates.txt
        tools/contracts.py NAME..     prints these crates
-       tools/contracts.py --check    prints what lacks a comment, what the call in a crate's first lines names and no source declares, and
-                                     where the table of crates in docs/ARCHITECTURE.md differs from the first sentences of the crates; at
-                                     last 'N items of M crates'; status 1 where anything is printed before
+       tools/contracts.py --check    prints what lacks a comment, names in the example of a crate's first lines that no
+                                     source declares, and where the table of crates in docs/ARCHITECTURE.md differs from
+                                     the first sentences of the crates; finally 'N items of M crates'; status 1 if
+                                     anything else is printed
        tools/contracts.py --write    writes that table
 """
 
@@ -36,11 +38,11 @@ TABLE = ["| crate | what it is for |", "|---|---|"]
 ITEM = re.compile(r"pub (?:const )?(fn|struct|enum|trait|type|const|static) (\w+)")
 USE = re.compile(r"^pub use ([\w:]+?)(?:::\{([^}]*)\}| as (\w+))?;", re.M)
 CLAUSE = re.compile(r"\s*(requires|ensures)\b")
-# What contracts see of a type, and the fact that it keeps.
+# The model of a type, which contracts see, and its invariant.
 SEEN = re.compile(r"ghost (Value|invariant) = \{ (.*?) \};", re.S)
 SAYS = {"Value": "Model", "invariant": "It keeps"}
 ENDS = ("{", "{}")
-# What the call in a crate's first lines names: functions, types, variants, fields.
+# The names in the example of a crate's first lines: functions, types, variants, fields.
 CODE = re.compile(r"^```\n(.*?)^```", re.M | re.S)
 QUOTED = re.compile(r'b?"[^"]*"|//.*')
 NAMED = re.compile(r"\b([a-z]\w+)(?=\()|\.([a-z]\w+)\b|\b([A-Z]\w+)")
@@ -49,7 +51,8 @@ DECLARED = re.compile(r"\b(?:fn|struct|enum|trait|type|const) (\w+)|^ *(?:pub(?:
 
 
 class Item(NamedTuple):
-    """A public item: its name, that of a method behind its type's, where it stands, the lines of its declaration and of its comment."""
+    """A public item: its name (of a method, with its type), its place, and the lines of its declaration and of its
+    comment."""
 
     name: str
     place: str
@@ -58,7 +61,8 @@ class Item(NamedTuple):
 
 
 class Source(NamedTuple):
-    """The root of a crate: its first lines, the names that it makes public, each with its file or the library that has it, and its files."""
+    """The root of a crate: its first lines, its public names, each with the file or library that declares it, and its
+    files."""
 
     head: list[str]
     exported: dict[str, Path | str]
@@ -66,7 +70,7 @@ class Source(NamedTuple):
 
 
 def source_of(crate: str) -> Source:
-    """What the root of the crate says."""
+    """Reads the root of the crate."""
     folder = Path("crates", crate, "src")
     root = next(path for name in ("lib.rt", "main.rt") if (path := folder / name).exists())
     text = root.read_text(encoding="utf-8")
@@ -81,7 +85,7 @@ def source_of(crate: str) -> Source:
 
 
 def comment(lines: list[str], at: int) -> list[str]:
-    """The comment above a line, attributes between them left out."""
+    """The comment above a line, without attributes."""
     said: list[str] = []
     while at > 0 and lines[at - 1].lstrip().startswith(("///", "#[")):
         at -= 1
@@ -92,13 +96,13 @@ def comment(lines: list[str], at: int) -> list[str]:
 
 
 def is_whole(text: list[str]) -> bool:
-    """Whether the lines of a declaration close what they open."""
+    """Whether the lines of a declaration close all parentheses and brackets."""
     joined = " ".join(text)
     return joined.count("(") == joined.count(")") and joined.count("[") == joined.count("]")
 
 
 def function(lines: list[str], at: int) -> list[str]:
-    """A function without its body, with its conditions alone; of a law with all clauses."""
+    """A function without its body, with its `requires` clauses alone; a law with all clauses."""
     text = [lines[at].rstrip()]
     while not is_whole(text) or not text[-1].endswith(("{", "{}", ";")):
         if is_whole(text) and at + 1 < len(lines) and (CLAUSE.match(lines[at + 1]) or lines[at + 1].strip() in ENDS):
@@ -120,12 +124,12 @@ def function(lines: list[str], at: int) -> list[str]:
 
 
 def indent(line: str) -> int:
-    """How far the line stands in."""
+    """The indentation of the line."""
     return len(line) - len(line.lstrip())
 
 
 def block(lines: list[str], at: int) -> list[str]:
-    """The lines of a block, from the one that opens it to the one that closes it; those of what opens none end with it."""
+    """The lines of a block up to the line that closes it; of a declaration without a block, up to its end."""
     stop = at
     while not lines[stop].rstrip().endswith((";", "{}")) and lines[stop] != "}" and stop + 1 < len(lines):
         stop += 1
@@ -135,7 +139,7 @@ def block(lines: list[str], at: int) -> list[str]:
 
 
 def type_of(lines: list[str], at: int, kind: str) -> list[str]:
-    """A type with what of it is public; a trait with its methods, each with its conditions alone."""
+    """A type with its public parts; a trait with its methods, each with its `requires` clauses alone."""
     if kind in ("const", "static"):
         return [f"{lines[at].partition(' =')[0]};"]
     whole = block(lines, at)
@@ -152,7 +156,7 @@ def type_of(lines: list[str], at: int, kind: str) -> list[str]:
 
 
 def through(lines: list[str]) -> list[str]:
-    """The first line, with those behind it that stand farther in, and what closes them."""
+    """The first line, the more indented lines after it, and the line that closes them."""
     stop = 1
     while stop < len(lines) and indent(lines[stop]) > indent(lines[0]):
         stop += 1
@@ -161,7 +165,7 @@ def through(lines: list[str]) -> list[str]:
 
 
 def items_of(crate: str, source: Source) -> list[Item]:
-    """The public items of a crate, file by file: those that its root makes public, and the public methods of these types."""
+    """The public items of a crate, file by file: those that its root exports, and the public methods of these types."""
     found: list[Item] = []
     facts: dict[str, list[str]] = {}
     for path in source.files:
@@ -183,7 +187,8 @@ def items_of(crate: str, source: Source) -> list[Item]:
 
 
 def owner_of(lines: list[str], at: int, facts: dict[str, list[str]]) -> str:
-    """The type of an impl block of its own methods; of one that implements a trait, a line for the type is put among the facts."""
+    """The type of an impl block with its own methods. For the impl of a trait, adds a line about the type to
+    `facts`."""
     head, bare = lines[at], ""
     while head != bare:
         head, bare = re.sub(r"<[^<>]*>", "", head), head
@@ -196,7 +201,7 @@ def owner_of(lines: list[str], at: int, facts: dict[str, list[str]]) -> str:
 
 
 def print_crate(crate: str) -> None:
-    """Prints the crate's first lines, what it names again, and its items."""
+    """Prints the crate's first lines, its re-exported names, and its items."""
     source = source_of(crate)
     print(f"\n## {crate}\n\n" + "\n".join(source.head))
     for library in dict.fromkeys(of for of in source.exported.values() if isinstance(of, str)):
@@ -217,7 +222,7 @@ def table(crates: list[str]) -> list[str]:
 
 
 def lacking(crates: list[str]) -> list[str]:
-    """What lacks a comment, or is made public and is not found."""
+    """Items that lack a comment, and public names that are not found."""
     said: list[str] = []
     for crate in crates:
         source = source_of(crate)
@@ -232,7 +237,7 @@ def lacking(crates: list[str]) -> list[str]:
 
 
 def unknown(crates: list[str]) -> list[str]:
-    """What the calls in the crates' first lines name, and neither a crate declares nor std's everyday names are."""
+    """Names in the examples of the crates' first lines that neither a crate nor the list STD declares."""
     texts = [path.read_text(encoding="utf-8") for crate in crates for path in Path("crates", crate, "src").rglob("*.rt")]
     known = {name for text in texts for pair in DECLARED.findall(text) for name in pair} | STD
     shown = {crate: QUOTED.sub("", "".join(CODE.findall("\n".join(source_of(crate).head)))) for crate in crates}
@@ -247,7 +252,7 @@ def methods_without(item: Item) -> list[str]:
 
 
 def compare(crates: list[str], is_written: bool) -> int:
-    """Prints what lacks a comment and where the table differs, or writes the table; the status."""
+    """Prints what lacks a comment and where the table differs, or writes the table. Returns the status."""
     page = PAGE.read_text(encoding="utf-8").split("\n")
     start = page.index(TABLE[0]) if TABLE[0] in page else len(page)
     stop = next((at for at in range(start, len(page)) if not page[at].startswith("|")), len(page))

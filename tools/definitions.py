@@ -1,11 +1,11 @@
 #!/usr/bin/env python3
-"""Prints each definition of the crates' specs/ with the comment above it, as Markdown, crate by crate and file by file;
-first those that the public clauses of the crate or of a crate above reach, and behind them those that only a crate's inside uses.
+"""Prints each definition of the crates' specs/ with the comment above it, as Markdown, crate by crate and file by file.
+The definitions that public clauses of any crate reach come first, and then those used only inside the crate.
 
 usage: tools/definitions.py             (from the top) to standard output
-       tools/definitions.py --unused    each definition and lemma of the files of specs/ and proofs/ that nothing names: its name
-                                        stands in no other file, and in its own only in itself and where names are brought in;
-                                        status 1 where there is one
+       tools/definitions.py --unused    each definition and lemma of the files of specs/ and proofs/ that nothing names:
+                                        its name is in no other file, and in its own file only in itself and in
+                                        imports; status 1 if there is one
 """
 
 from __future__ import annotations
@@ -24,13 +24,13 @@ value. Definitions without a line of their own are the cases of the one that sta
 stands first what the clauses of public functions and types reach, and behind it, under 'inside', what only clauses of its
 inside use.
 """
-# The first line of a declaration that says what it is, and of any: `abbrev pub NAME : ..`, or `NAME : ..` alone.
+# The first line of a declaration with a keyword, and of any declaration: `abbrev pub NAME : ..`, or `NAME : ..` alone.
 START = re.compile(r"(?:(?:abbrev|unfoldable|pub|record|data|ruleset|infix[lr]? +\d+) +)+(?!mod )([^\s:({]+)")
 SIGNATURE = re.compile(r"([^\s:({]+) :(?:\s|$)")
-# A line that brings names in, of a .antt file or a .rt file.
+# A line that imports names, of a .antt file or a .rt file.
 IMPORT = re.compile(r"\s*(?:pub |ghost )?(?:use|mod) ")
 WORD = re.compile(r"[^\s(){}\[\],;:.`]+")
-# (a comment does not begin within a text)
+# (a comment does not begin within a string)
 TEXT = r'"(?:\\.|[^"\\\n])*"'
 COMMENT = {".rt": re.compile(TEXT + r"|//.*"), ".antt": re.compile(TEXT + r"|--.*")}
 CLAUSES = re.compile(r"^ *pub (?:const )?fn .*?\n *\{\n|^ *pub fn [^{]*\{\}|^ *pub fn .*?^\{\}", re.S | re.M)
@@ -53,7 +53,7 @@ class Module(NamedTuple):
 
 
 class Words(NamedTuple):
-    """The words of a file: those of the lines that bring names in, and those of each declaration; '' has all others."""
+    """The words of a file: those of its imports, and those of each declaration; '' has all others."""
 
     imported: set[str]
     declared: dict[str, set[str]]
@@ -75,7 +75,7 @@ def crates() -> Iterator[str]:
 
 
 def files(folder: str, ending: str) -> Iterator[str]:
-    """The paths of the files below a folder, those that are made left out."""
+    """The paths of the files below a folder, without generated ones."""
     for path, folders, names in os.walk(folder):
         folders[:] = sorted(name for name in folders if name != "out")
         for name in sorted(names):
@@ -100,7 +100,7 @@ def comment(lines: list[str], at: int) -> str:
 
 
 def module_of(crate: str, name: str) -> Module:
-    """A file of a crate's specs/; cases that follow one another are one definition."""
+    """Reads a file of a crate's specs/. Consecutive cases are one definition."""
     lines = text_of(f"crates/{crate}/specs/{name}.antt").split("\n")
     end = next((at for at, line in enumerate(lines) if not line.startswith("--")), len(lines))
     title = " ".join(line[2:].strip() for line in lines[:end]).strip()
@@ -125,7 +125,7 @@ def public_clauses(crate: str) -> str:
 
 
 def reached(known: dict[str, list[Module]]) -> set[str]:
-    """The names of the definitions that public clauses name, and of those that these name, and so on."""
+    """The names of the definitions that public clauses name, directly or through other definitions."""
     bodies: dict[str, str] = {}
     for modules in known.values():
         for module in modules:
@@ -143,7 +143,7 @@ def reached(known: dict[str, list[Module]]) -> set[str]:
 
 
 def print_table(module: Module, names: set[str], is_inside: bool) -> None:
-    """The definitions of a file that are among the names, or if they are of the inside those that are not."""
+    """Prints the definitions of a file that are in `names`, or with `is_inside` those that are not."""
     rows = [it for it in module.definitions if it.said and (it.name not in names) == is_inside]
     if rows:
         print(f"### {'inside, ' if is_inside else ''}`specs/{module.name}.antt`: {module.title}\n")
@@ -165,7 +165,8 @@ def print_definitions() -> None:
 
 
 def words_of(path: str) -> Words:
-    """The words of a file, comments apart. Only a .antt file has declarations, at its margin or at that of a `module _ ..`."""
+    """The words of a file, without comments. Only a .antt file has declarations, at its margin or at that of a `module
+    _ ..`."""
     ending = os.path.splitext(path)[1]
     found, current, margin = Words(set(), {}), "", 0
     for line in COMMENT[ending].sub('""', text_of(path)).splitlines():
@@ -185,12 +186,12 @@ def words_of(path: str) -> Words:
 
 
 def spellings(name: str) -> set[str]:
-    """How a name is written where it is used: an operator such as ◌+◌ without its places too."""
+    """The ways in which a name is written in the code: an operator such as ◌+◌ also without its places."""
     return {name, *(part for part in name.split("◌") if part)}
 
 
 def is_unused(name: str, path: str, words: dict[str, Words], holders: dict[str, set[str]]) -> bool:
-    """Whether a name that the file declares stands nowhere else; `holders` are the files in which a word stands."""
+    """Whether nothing else names what the file declares. `holders` has the files in which each word is."""
     written = spellings(name)
     if any(holders.get(word, set()) - {path} for word in written):
         return False
@@ -198,7 +199,7 @@ def is_unused(name: str, path: str, words: dict[str, Words], holders: dict[str, 
 
 
 def print_unused() -> int:
-    """Prints what nothing names, and how many definitions and lemmas there are; the status."""
+    """Prints the unused names, and the count of definitions and lemmas. Returns the status."""
     words = {path: words_of(path) for ending in COMMENT for path in files("crates", ending)}
     holders: dict[str, set[str]] = {}
     for path, found in words.items():

@@ -1,6 +1,6 @@
-"""What a statement rests on: the definitions of the crates' specs/ that it names, those that these name, and so on.
+"""The depth of a statement: the definitions of the crates' specs/ that it names, those that these name, and so on.
 
-tools/theorem.py makes the table of depth of docs/THEOREM.md by it.
+tools/theorem.py uses it to make the table of depth of docs/THEOREM.md.
 """
 
 from __future__ import annotations
@@ -12,11 +12,11 @@ from typing import NamedTuple
 
 from definitions import module_of
 
-# What a line brings in: a module under another name, or some of the names of a module, `old as new` among them.
+# The import of a module under another name, or of some of its names, including `old as new`.
 ALIAS = re.compile(r"(?:pub )?use Rattle\.(\S+) as (\w+)$", re.M)
 NAMES = re.compile(r"(?:pub )?use Rattle\.(\S+?)\.\{(.*)\}$", re.M)
 COMMENT = re.compile(r"--.*")
-# A word, with what stands before its dot where it has one; and the name of a field where a record has it.
+# A word, with the part in front of its dot if it has one; and the name of a field of a record.
 WORD = re.compile(r"(?:([^\s(){}\[\],;:.`]*)\.)?([^\s(){}\[\],;:.`]+)")
 FIELD = re.compile(r"^ +pub [^\s:]+ :", re.M)
 DECLARED = "declared."
@@ -24,7 +24,8 @@ VARIANTS = ".TheVariants"
 
 
 class Name(NamedTuple):
-    """A definition: its crate, the file of specs/ that has it, and its name; or a type of the code, with its path as its file."""
+    """A definition: its crate, the file of specs/ that has it, and its name; or a type of the code, with its path as
+    its file."""
 
     crate: str
     module: str
@@ -32,7 +33,7 @@ class Name(NamedTuple):
 
 
 class Module(NamedTuple):
-    """A file of specs/: its definitions without comments, what its other names stand for, and what it calls other files."""
+    """A file of specs/: its definitions without comments, its imported names, and its names for other files."""
 
     texts: dict[str, str]
     brought: dict[str, Name]
@@ -40,7 +41,7 @@ class Module(NamedTuple):
 
 
 class Depth(NamedTuple):
-    """What a statement rests on: definitions, and the types of this repository's code that they name."""
+    """The depth of a statement: definitions, and the types of this repository's code that they name."""
 
     definitions: set[Name]
     types: set[tuple[str, str]]
@@ -51,14 +52,15 @@ class Depth(NamedTuple):
 
 
 def place_of(path: str) -> tuple[str, str]:
-    """The crate and the file of a path as `lf_floor_model.specs.Runs`; of a type of the code, or of its variants, the type's path."""
+    """The crate and the file of a path like `lf_floor_model.specs.Runs`; of a type of the code, or of its variants, the
+    type's path."""
     crate, _, inside = path.partition(".specs.")
     return crate, inside.removesuffix(VARIANTS) if inside.startswith(DECLARED) else inside.partition(".")[0]
 
 
 @cache
 def module(crate: str, name: str) -> Module:
-    """The file of that name; one without anything where this repository has none."""
+    """Reads the file of this name. Returns an empty one if this repository does not have it."""
     path = Path("crates", crate, "specs", f"{name}.antt")
     if not path.exists():
         return Module({}, {}, {})
@@ -74,7 +76,7 @@ def module(crate: str, name: str) -> Module:
 
 
 def named_in(name: Name) -> set[Name]:
-    """What a definition names, of definitions and of types. What stands behind another dot is a field."""
+    """The definitions and types that a definition names. A word after another dot is a field."""
     own = module(name.crate, name.module)
     found: set[Name] = set()
     for before, word in WORD.findall(own.texts[name.name]):
@@ -90,7 +92,7 @@ def named_in(name: Name) -> set[Name]:
 
 
 def depth_of(roots: list[Name]) -> Depth:
-    """What these definitions rest on, themselves among it."""
+    """The definitions and types that these definitions depend on, including themselves."""
     definitions: set[Name] = set()
     types: set[tuple[str, str]] = set()
     wanted = [*roots]
@@ -108,6 +110,6 @@ def depth_of(roots: list[Name]) -> Depth:
 
 
 def lines_of(name: Name) -> int:
-    """How many lines the definition has, comments and empty ones apart."""
+    """The number of lines of the definition, without comments and empty lines."""
     text = COMMENT.sub("", next(it.text for it in module_of(name.crate, name.module).definitions if it.name == name.name))
     return sum(1 for line in text.split("\n") if line.strip())

@@ -1,10 +1,10 @@
 #!/usr/bin/env python3
-"""Prints how many checks the kit is to run side by side: RT_JOBS of ./test and ./lefence, where it is not set.
+"""Prints how many checks the kit should run in parallel: the default of RT_JOBS in ./test and ./lefence.
 
 usage: tools/lanes.py
 
-It is one for each processor that there is to use, as far as memory is free for all. The kit itself plans three times the memory that our
-checks take, and so holds back the crates on which most others wait, while small ones pass them by.
+It is one check for each available processor, as far as free memory allows. The kit itself plans three times the memory
+that our checks take. It would therefore delay the crates on which most others depend, and run small ones first.
 """
 
 from __future__ import annotations
@@ -12,13 +12,13 @@ from __future__ import annotations
 import os
 from pathlib import Path
 
-# What a check of ours takes, in bytes: most take less, the largest 4.1 GB (docs/GATE.md).
+# The memory of one of our checks, in bytes: most take less, the largest 4.1 GB (docs/GATE.md).
 CHECK = 3_200_000_000
 GROUP = Path("/sys/fs/cgroup")
 
 
 def number_in(file: Path, at: int = 0) -> int | None:
-    """The number that stands there in the file's first line; none where there is no such file or no number."""
+    """The number at position `at` in the file's first line; None if there is no such file or number."""
     try:
         return int(file.read_text(encoding="ascii").split("\n", 1)[0].split()[at])
     except (OSError, ValueError, IndexError):
@@ -26,14 +26,14 @@ def number_in(file: Path, at: int = 0) -> int | None:
 
 
 def processors() -> int:
-    """How many processors the process may run on, or fewer by the quota of its control group."""
+    """The number of processors that the process may use, limited by the quota of its control group."""
     found = len(os.sched_getaffinity(0))
     quota, period = number_in(GROUP / "cpu.max"), number_in(GROUP / "cpu.max", 1)
     return min(found, max(quota // period, 1)) if quota and period else found
 
 
 def memory() -> int:
-    """The free memory in bytes, under the limit of the control group too."""
+    """The free memory in bytes, limited by the control group."""
     rows = dict(line.split(":", 1) for line in Path("/proc/meminfo").read_text(encoding="ascii").splitlines())
     free = 1024 * int(rows["MemAvailable"].split()[0])
     limit, held = number_in(GROUP / "memory.max"), number_in(GROUP / "memory.current")

@@ -1,8 +1,8 @@
 #!/usr/bin/env python3
-"""Compares crates.txt with the sources: each crate's line names exactly the libraries that its files name.
+"""Compares crates.txt with the sources: each crate's line must name exactly the libraries that its files name.
 
-usage: tools/libraries.py            (from the top) prints each line that differs; status 1 where one does
-       tools/libraries.py --write    writes the lines anew, in the order in which they stand
+usage: tools/libraries.py            (from the top) prints each line that differs; status 1 if one does
+       tools/libraries.py --write    rewrites the lines, in their present order
 """
 
 from __future__ import annotations
@@ -19,7 +19,7 @@ KIT = Path("/opt/rattle/rlibs")
 
 
 def lines_of(listing: str) -> dict[str, list[str]]:
-    """The crates of crates.txt in their order, each with the libraries that its line names."""
+    """The crates of crates.txt in order, each with the libraries that its line names."""
     found: dict[str, list[str]] = {}
     for line in listing.splitlines():
         name, colon, libraries = line.split("#")[0].partition(":")
@@ -29,7 +29,7 @@ def lines_of(listing: str) -> dict[str, list[str]]:
 
 
 def below(crates: list[str], listing: str) -> list[str]:
-    """These crates and all crates of the repository that they are made of, each behind those that it names."""
+    """These crates and all crates of the repository that they depend on, each after those that it names."""
     listed, found = lines_of(listing), []
 
     def visit(crate: str) -> None:
@@ -44,7 +44,7 @@ def below(crates: list[str], listing: str) -> list[str]:
 
 
 def named_by(crate: str) -> set[str]:
-    """The first words of all paths in the files of a crate, comments apart."""
+    """The first words of all paths in the files of a crate, without comments."""
     words: set[str] = set()
     for folder in ("src", "specs", "proofs"):
         for path in sorted(Path(f"crates/{crate}/{folder}").rglob("*")):

@@ -1,9 +1,10 @@
 #!/usr/bin/env python3
-"""Looks up what the documents name between backticks: each name of more than one word (`team_def`, `IsApart`) must stand in a source,
-and each path that begins with a folder of the repository or with a crate must be there. No line may be one that a merge left.
+"""Looks up the names that the documents have between backticks. Each name of more than one word (`team_def`, `IsApart`)
+must be in a source. Each path that begins with a folder of the repository or with a crate must exist. No line may be a
+conflict marker of a merge.
 
-usage: tools/names.py     (from the top) prints what is nowhere, and what a merge left, with its page and line; status 1 where there is
-                          such a thing
+usage: tools/names.py     (from the top) prints names that are not found, and conflict markers, with page and line;
+                          status 1 if there are any
 """
 
 from __future__ import annotations
@@ -20,14 +21,14 @@ CODE = re.compile(r"`([^`\n]+)`")
 # A name of several words, as `team_def` or `teamDef`, or one that begins with a capital.
 NAME = re.compile(r"[A-Za-z]\w*_\w*[A-Za-z0-9]|\w*[a-z][A-Z]\w*|[A-Z][a-z]\w+")
 PATH = re.compile(r"(\w+)/[\w./-]*\w")
-# What a merge leaves around a passage that two sides changed.
+# A conflict marker of a merge.
 UNMERGED = re.compile(r"(?:<{7}|\|{7}|>{7})(?: |$)|={7}$")
-# What stands for many names.
+# A pattern that matches many names.
 PATTERN = re.compile(r"\*|\bNAME\b")
 
 
 def sources() -> Iterator[Path]:
-    """The files of the repository's folders, those that are made left out."""
+    """The files of the repository's folders, without generated ones."""
     for folder in FOLDERS:
         for path in Path(folder).rglob("*"):
             if path.suffix in ENDINGS and "out" not in path.parts and path.is_file():
@@ -47,12 +48,12 @@ def known() -> set[str]:
 
 
 def is_there(path: str) -> bool:
-    """Whether there is such a file or folder; those of crates stand there without their ending."""
+    """Whether this file or folder exists. Files of crates may be written without their ending."""
     return any(Path(folder, path + ending).exists() for folder in (".", "crates") for ending in ("", ".rt", ".antt"))
 
 
 def named(page: Path) -> Iterator[tuple[int, str]]:
-    """What stands between backticks on the page, with its line; blocks of code left out."""
+    """The text between backticks on the page, with its line, outside of code blocks."""
     is_block = False
     for at, line in enumerate(page.read_text(encoding="utf-8").split("\n"), start=1):
         if line.startswith("```"):
@@ -62,13 +63,13 @@ def named(page: Path) -> Iterator[tuple[int, str]]:
 
 
 def unmerged(page: Path) -> Iterator[tuple[int, str]]:
-    """The lines of the page that a merge left, with their numbers."""
+    """The conflict markers on the page, with their line numbers."""
     lines = page.read_text(encoding="utf-8").split("\n")
     return ((at, line) for at, line in enumerate(lines, start=1) if UNMERGED.match(line))
 
 
 def lacking(code: str, words: set[str], firsts: set[str]) -> list[str]:
-    """What of it is nowhere."""
+    """The names in it that are not found."""
     if PATTERN.search(code):
         return []
     found = [path[0] for path in PATH.finditer(code) if path[1] in firsts and not is_there(path[0])]

@@ -1,7 +1,7 @@
 #!/usr/bin/env python3
-"""Makes docs/picture.svg anew: a small design of four fences in which a few cells break rules, drawn by lefence-picture.
+"""Makes docs/picture.svg: a small design of four fences in which a few cells break rules, drawn by lefence-picture.
 
-usage: tools/picture.py [--program PATH] [--keep FOLDER]    (from the top; the design's texts go to the folder)
+usage: tools/picture.py [--program PATH] [--keep FOLDER]    (from the top; the design's files are written to the folder)
 """
 
 from __future__ import annotations
@@ -24,12 +24,12 @@ FENCES = {
 FIXED = {"cache/ram": (246, 1, 306, 7), "rom": (140, 14, 200, 20)}
 BLOCKED = [(140, 3, 160, 9), (120, 0, 124, 12)]
 SOFT = [(128, 12, 212, 22)]
-# How much of the ground cells take, and how many of them are broken and unplaced.
+# The share of the ground that cells take, and the numbers of broken and unplaced cells.
 FILLED, BROKEN, UNPLACED = 0.8, 7, 4
 
 
 def team_at(site: int, row: int) -> str | None:
-    """Who may stand on a site: a team, or None where an obstacle is."""
+    """The team whose area has the site, or None if an obstacle covers it."""
 
     def holds(box: tuple[int, int, int, int]) -> bool:
         return box[0] <= site < box[2] and box[1] <= row < box[3]
@@ -40,7 +40,7 @@ def team_at(site: int, row: int) -> str | None:
 
 
 def cells(rng: random.Random) -> list[tuple[str, int, str]]:
-    """Cells side by side: each with its team, its width in sites, and its placement clause."""
+    """Cells next to each other: each with its team, its width in sites, and its placement clause."""
     found: list[tuple[str, int, int, int]] = []
     for row in range(ROWS):
         at = 0

@@ -1,12 +1,13 @@
 #!/usr/bin/env python3
-"""Plants the wrong bodies that contracts let through, and sees that the named black-box test fails on each.
+"""Plants the wrong bodies that contracts allow, and checks that the named black-box test fails on each.
 
 usage: tools/planted.py [NAME..]    those of tests/planted/NAME.edit, or all
 
-Such a body gives up, or calls the system otherwise, where no clause can say that it may not. An edit is a line `test:`, a line `file:`,
-and pairs of lines `old:` and `new:`. The committed tree is tried on a copy: the program is built unproved (`rt try`), first as it is,
-on which all of the tests have to pass, and then with each edit. A build takes some two minutes. A line for each edit; the last line is
-`N refused, M survived`, and the status is 0 if and only if none survived.
+A planted body gives up, or calls the system differently, where no clause can forbid it. An edit has a line `test:`, a
+line `file:`, and pairs of lines `old:` and `new:`. The committed tree is tried on a copy. The program is built unproved
+(`rt try`), first unchanged, and then with each edit. All the tests must pass on the unchanged program. A build takes
+about two minutes. It prints a line for each edit. The last line is `N refused, M survived`, and the status is 0 if and
+only if no edit survived.
 """
 
 from __future__ import annotations
@@ -24,13 +25,13 @@ from pathlib import Path
 
 TOP = Path(__file__).resolve().parent.parent
 EDITS = "tests/planted"
-# Seconds that a build may take.
+# The most seconds of a build.
 PATIENCE = 1_800
 
 
 @dataclass(frozen=True)
 class Edit:
-    """A wrong body: the test that is to fail on it, the file, and what stands there in place of what."""
+    """A wrong body: the test that must fail on it, the file, and the replacements in it."""
 
     name: str
     test: str
@@ -46,7 +47,7 @@ def edit_of(path: Path) -> Edit:
 
 
 def plant(room: Path, edit: Edit) -> str:
-    """Puts the wrong body into its file, and returns what stood there."""
+    """Writes the wrong body into its file, and returns the old text."""
     path = room / edit.file
     before = text = path.read_text()
     for old, new in edit.changes:
@@ -64,7 +65,7 @@ def free_port() -> int:
 
 
 def words_of_program(folder: Path) -> list[str] | None:
-    """The words by which a program is running that lies in the folder, up to its own path."""
+    """The command line of a running program that is in the folder, up to the program's own path."""
     for path in Path("/proc").glob("[0-9]*/cmdline"):
         try:
             words = [word.decode() for word in path.read_bytes().split(b"\0")]
@@ -77,7 +78,7 @@ def words_of_program(folder: Path) -> list[str] | None:
 
 
 def launcher(words: list[str], target: Path) -> None:
-    """A program that runs those words with its own behind them; unlike a shell it needs no descriptor."""
+    """Makes a program that runs these words followed by its own arguments. Unlike a shell it needs no descriptor."""
     source = target.with_suffix(".c")
     listed = ", ".join(map(json.dumps, words))
     source.write_text(
@@ -94,7 +95,8 @@ def launcher(words: list[str], target: Path) -> None:
 
 
 def build(room: Path, folder: Path) -> None:
-    """Builds the copy's program unproved, and puts it where the tests look for it: it is taken while it serves a connection."""
+    """Builds the copy's program unproved, and puts it where the tests expect it. It is copied while it serves a
+    connection."""
     port = free_port()
     data = [word for name in ("w.def", "w.lef") for word in ("--data", f"{name}={room}/tests/data/{name}")]
     words = ["rt", "try", "--seconds", "600", *data, "--", "serve", "w.def", "w.lef", "--port", str(port), "--connections", "1"]
@@ -104,13 +106,13 @@ def build(room: Path, folder: Path) -> None:
     try:
         keep_program(trying, room, folder)
     finally:
-        # (whatever ends this tool ends it too)
+        # (it ends when this tool ends, for any reason)
         trying.terminate()
         trying.wait()
 
 
 def keep_program(trying: subprocess.Popen[bytes], room: Path, folder: Path) -> None:
-    """Waits for the program that is built and serves, and puts it where the tests look for it."""
+    """Waits for the built program to serve, and puts it where the tests expect it."""
     end = time.monotonic() + PATIENCE
     while (found := words_of_program(folder)) is None:
         if trying.poll() is not None or time.monotonic() > end:

@@ -1,10 +1,10 @@
 #!/usr/bin/env python3
-"""Prints the folder in which ./test is to have the provers put their temporary files.
+"""Prints the folder in which ./test lets the provers put their temporary files.
 
 usage: tools/room.py
 
-It is the one in memory, where that may hold programs and has room for all of them beside the checks themselves; else the usual one. Each
-check writes up to 400 MB of small files there, and what is proved fills 6 GB of disk beside them.
+It is the folder in memory, if programs may run there and it has room for all files next to the checks themselves;
+otherwise the usual one. Each check writes up to 400 MB of small files there. Proofs take another 6 GB of disk.
 """
 
 from __future__ import annotations
@@ -17,7 +17,7 @@ from pathlib import Path
 from lanes import CHECK, lanes, memory
 
 IN_MEMORY = Path("/dev/shm")
-# What a check, and the folder that its must-fail edits share, take of it at most, in bytes.
+# The most bytes that a check uses of it, with the folder that its must-fail edits share.
 FILES = 1_000_000_000
 
 
@@ -34,7 +34,7 @@ def holds_programs(folder: Path) -> bool:
 
 
 def has_room(folder: Path, checks: int) -> bool:
-    """Whether the files of that many checks fit into it, and into memory beside the checks."""
+    """Whether the files of this number of checks fit into it, and into memory next to the checks."""
     try:
         found = os.statvfs(folder)
     except OSError:

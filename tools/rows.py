@@ -1,11 +1,13 @@
 #!/usr/bin/env python3
-"""Compares the worked rows with what the gate runs the program lefence_rows on.
+"""Compares the worked rows with the input and output on which the gate runs the program lefence_rows.
 
-In crates/lefence_rows/rows/*.rows each request has its reply below it. Line by line, '# ' begins a row with its heading,
-'= ' a setting of its design, and '> ' a request; every other line is written by the program, and empty lines part rows. So
-stdin must be the headings, settings and requests, and stdout the headings and what is written, file by file by their names.
+In crates/lefence_rows/rows/*.rows each request has its reply below it. '# ' begins a row with its heading, '= ' a
+setting of its design, and '> ' a request. Every other line is the program's output, and empty lines separate rows. So
+stdin must have the headings, settings and requests, and stdout the headings and the output, file by file in the order
+of their names.
 
-usage: tools/rows.py            (from the top) prints the lines that differ, at last 'N rows agree'; status 1 where one differs
+usage: tools/rows.py            (from the top) prints the lines that differ, and finally 'N rows agree'; status 1 if one
+                                differs
        tools/rows.py --write    writes stdin and stdout
 """
 
@@ -19,12 +21,12 @@ CRATE = Path("crates/lefence_rows")
 
 
 def text_of(path: Path) -> str:
-    """The text of a file, every byte of it as it stands: a request may hold a carriage return."""
+    """The text of a file with every byte unchanged: a request may contain a carriage return."""
     return path.read_bytes().decode("utf-8")
 
 
 def split(lines: list[str]) -> tuple[list[str], list[str]]:
-    """The lines that rows give to stdin, an empty one between rows, and those that they give to stdout."""
+    """The lines that rows give to stdin, with an empty one between rows, and those that they give to stdout."""
     asked: list[str] = []
     written: list[str] = []
     for line in lines:

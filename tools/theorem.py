@@ -1,18 +1,20 @@
 #!/usr/bin/env python3
 """Compares the quotes of docs/THEOREM.md, and its table of depth, with the sources that they name.
 
-usage: tools/theorem.py            (from the top) prints each quote that differs, and whether the table does; status 1 where one does
+usage: tools/theorem.py            (from the top) prints each quote that differs, and whether the table does; status 1
+                                   if anything differs
        tools/theorem.py --write    writes the texts of the sources into the quotes, and the table
 
-A quote is a comment that names what is quoted, and the fenced block behind it:
+A quote is a comment that names what is quoted, and the fenced block after it:
 
     <!-- crates/lf_floor/src/floor.rt: pub fn step -->                  the signature and all clauses
     <!-- crates/lf_floor/src/floor.rt: pub fn step: step, others -->    the signature and these clauses
     <!-- crates/lf_cells/src/cell.rt: pub struct Cell -->               a type, or likewise some of its fields
     <!-- crates/lf_floor_model/specs/Runs.antt: own_replies, own_state -->    definitions, with the comments above them
 
-A row of the table says how many definitions a statement rests on, and how many of them the page quotes.
-What the statement is made of stands in a comment above the table, one for each row; behind a + beside that of the row before:
+A row of the table says how many definitions a statement depends on, and how many of them the page quotes. A comment
+above the table names the statement's definitions, one comment for each row. After a + the definitions of the row above
+are included:
 
     <!-- depth: one command: lf_floor_model.Steps.Step -->
     <!-- depth: the headline: + lf_floor_model.Runs.Run, lf_floor_model.Runs.IsIsolated -->
@@ -30,7 +32,7 @@ from depth import Name, depth_of, lines_of, module
 PAGE = Path("docs/THEOREM.md")
 QUOTE = re.compile(r"<!-- (crates/\S+?):? (.*?) ?-->")
 FENCE = "```"
-# The head of a definition in a .antt file, and a comment that belongs to one; a line of dashes begins a part of the file.
+# The head of a definition in a .antt file, and a comment of one. A line of dashes begins a part of the file.
 HEAD = re.compile(r"(?:(?:abbrev|unfoldable)(?: pub)?|(?:pub )?(?:record|data)|pub) +([^\s:({]+)")
 SAID = re.compile(r"--(?! ----)")
 # The first line of a clause of a function, and of a field of a type.
@@ -42,12 +44,13 @@ HEADING = ["| what it rests on | definitions | their lines | types of the code |
 
 
 class NotThere(Exception):
-    """The source has nothing of that name, or more than one thing."""
+    """The source has nothing of this name, or more than one thing."""
 
 
 @dataclass(frozen=True)
 class Quote:
-    """A quote of the page: the number of its comment's line, what it names, and the lines of its block, which may be none."""
+    """A quote of the page: the line number of its comment, what it names, and the lines of its block, which may be
+    empty."""
 
     number: int
     file: str
@@ -57,7 +60,7 @@ class Quote:
 
 
 def quotes_in(page: list[str]) -> list[Quote]:
-    """The quotes of the page, in order. The block of one begins on the line behind its comment."""
+    """The quotes of the page, in order. The block of a quote begins on the line after its comment."""
     found: list[Quote] = []
     for at, line in enumerate(page, start=1):
         named = QUOTE.match(line)
@@ -70,7 +73,7 @@ def quotes_in(page: list[str]) -> list[Quote]:
 
 
 def only(places: list[int]) -> int:
-    """The one of these places that there is."""
+    """The only place in the list."""
     if len(places) != 1:
         raise NotThere
     return places[0]
@@ -105,7 +108,7 @@ def item(lines: list[str], head: str) -> list[str]:
 
 
 def some_of(text: list[str], wanted: list[str]) -> list[str]:
-    """The text of an item with these clauses or fields alone, and a line that names the others."""
+    """The text of an item with only these clauses or fields, and a line that names the others."""
     is_type = text[-1] == "}"
     begins = FIELD if is_type else CLAUSE
     names = {at: found[1] for at, line in enumerate(text) if (found := begins.match(line))}
@@ -123,7 +126,7 @@ def some_of(text: list[str], wanted: list[str]) -> list[str]:
 
 
 def source_of(quote: Quote) -> list[str]:
-    """The lines that the quote is to have, as they are in the source."""
+    """The lines of the source that the quote must have."""
     try:
         lines = Path(quote.file).read_text(encoding="utf-8").split("\n")
     except OSError as error:
@@ -137,7 +140,7 @@ def source_of(quote: Quote) -> list[str]:
 
 
 def row_of(title: str, roots: list[Name], quoted: set[Name]) -> str:
-    """A row of the table of depth; `quoted` are the definitions that the page quotes."""
+    """A row of the table of depth. `quoted` are the definitions that the page quotes."""
     if any(root.name not in module(root.crate, root.module).texts for root in roots):
         raise NotThere
     depth = depth_of(roots)
@@ -157,7 +160,7 @@ def quoted_on(page: list[str]) -> set[Name]:
 
 
 def tabled(page: list[str]) -> list[str]:
-    """The page with its table of depth as it is to be."""
+    """The page with the correct table of depth."""
     rows = {at: found for at, line in enumerate(page) if (found := ROW.match(line))}
     if not rows:
         return page

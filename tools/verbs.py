@@ -1,17 +1,19 @@
 #!/usr/bin/env python3
 """Makes the table of commands of docs/PROTOCOL.md, and the tables of the front, from the sources of the program.
 
-A row is made of a verb's name, the fields of its shape, and the comment at its variant of Action or Change in lf_proto/src/verb.rt.
-That comment says what the verb does, then its reply and the numbers of its refusals. The rows are in the order of VERBS; the row of
-open is before them and the row of bye after them, and these two are made of the comments in src/request.rt.
+A row has a verb's name, the fields of its shape, and the comment at its variant of Action or Change in
+lf_proto/src/verb.rt. That comment says what the verb does, then its reply and the numbers of its refusals. The rows are
+in the order of VERBS. The row of open comes first and the row of bye last; both are made from the comments in
+src/request.rt.
 
-front/lefence/tables.py has the verbs of the same sources: one changes the floor if it is no look by `is_query` of lf_floor_model, and
-makes a revision if it is a Change; the refusals of src/reply.rt, with the numbers and names of src/reply_words.rt; the rules of lf_rules,
-and the orientations. front/tcl/tables.tcl has the verbs for Tcl.
+front/lefence/tables.py has the verbs of the same sources. A verb changes the floor if it is no query by `is_query` of
+lf_floor_model, and makes a revision if it is a Change. The table also has the refusals of src/reply.rt, with the
+numbers and names of src/reply_words.rt, the rules of lf_rules, and the orientations. front/tcl/tables.tcl has the verbs
+for Tcl.
 
 usage: tools/verbs.py            (from the top) prints the table
-       tools/verbs.py --check    prints the lines in which the page and the front's tables differ, and which verb or refusal the
-                                 client library lacks; at last 'N commands agree'; status 1 where anything differs
+       tools/verbs.py --check    prints the lines in which the page and the front's tables differ, and verbs or refusals
+                                 that the client library lacks; finally 'N commands agree'; status 1 if anything differs
        tools/verbs.py --write    writes the table into the page, and the front's tables
 """
 
@@ -37,9 +39,9 @@ HEAD = ["| line | reply | what it does | refusals |", "|---|---|---|---|"]
 # A line of an enum that begins a variant, and the last paragraph of a command's comment.
 VARIANT = re.compile(r"    (\w+)\b")
 ANSWERS = re.compile(r"Reply: (.*?)\.(?: Refusals: ([\d, ]+)\.)?")
-# The words behind `ok` of a reply.
+# The words after `ok` of a reply.
 WORDS = re.compile(r"`ok((?: [A-Z]+)*)`")
-# A line of is_query: a command of a session, with its operands in names, is a look.
+# A line of is_query: a command of a session, with named operands, is a query.
 LOOK = re.compile(r"is_query \(To team \(Within session \(?(\w+)(?: \w+)*\)?\)\) = true")
 # The number and the name of a refusal, as put_refusal has them.
 NUMBERED = re.compile(r'b"(\d+)"\)?,\s*(?:Word::Text\()?b"(\w+)"')
@@ -55,12 +57,13 @@ from __future__ import annotations
 
 
 class NotThere(Exception):
-    """A source lacks what a row is made of."""
+    """A source lacks a part of a row."""
 
 
 @dataclass(frozen=True)
 class Verb:
-    """A verb of a session: its variant, its name, and the fields of its shape, with a space in front, or nothing."""
+    """A verb of a session: its variant, its name, and the fields of its shape, with a space in front, or an empty
+    text."""
 
     variant: str
     name: str
@@ -100,7 +103,7 @@ def verbs_of(text: str) -> list[Verb]:
 
 
 def row(line: str, said: list[str]) -> str:
-    """The row of a command, by its line and the paragraphs of its comment."""
+    """The row of a command, from its line and the paragraphs of its comment."""
     answers = ANSWERS.fullmatch(said[-1])
     if len(said) != 2 or not answers:
         raise NotThere(f"no reply of {line}")
@@ -119,7 +122,7 @@ def table() -> list[str]:
 
 
 def looks(text: str) -> set[str]:
-    """The variants of Action that change nothing, by the lines of is_query, each of which must be of a form that is known."""
+    """The variants of Action that change nothing, by the lines of is_query. Each line must have a known form."""
     lines = re.findall(r"^is_query .*", text, flags=re.M)
     found = {look[1] for line in lines if (look := LOOK.fullmatch(line))}
     if len(found) != len(lines) - 2 or lines[0] != "is_query Bye = true" or lines[-1] != "is_query _ = false":
@@ -154,17 +157,17 @@ def front_verb(verb: Verb, said: list[str], is_change: bool, makes_revision: boo
 
 
 def quoted(text: str) -> str:
-    """The text in quotes of Python's."""
+    """The text in quotes, as in Python."""
     return '"' + text.replace("\\", "\\\\").replace('"', '\\"') + '"'
 
 
 def listed(words: list[str]) -> str:
-    """The words as a tuple of Python's."""
+    """The words as a Python tuple."""
     return "(" + ", ".join(map(quoted, words)) + ("," if len(words) == 1 else "") + ")"
 
 
 def refusals() -> dict[int, str]:
-    """The refusals of the program by their numbers, which go from 1 on without a gap."""
+    """The refusals of the program by their numbers, which begin at 1 and have no gap."""
     variants = list(comments((SOURCES / "reply.rt").read_text(encoding="utf-8"), "Refusal"))
     found = {int(number): name for number, name in NUMBERED.findall((SOURCES / "reply_words.rt").read_text(encoding="utf-8"))}
     if [found[number] for number in sorted(found)] != variants or sorted(found) != list(range(1, len(found) + 1)):
@@ -195,7 +198,7 @@ def front_tables() -> list[str]:
 
 
 def tcl_tables(tables: list[str]) -> list[str]:
-    """The lines of the table of Tcl, by those of the front's tables: of each verb what a proc of it needs."""
+    """The lines of the Tcl table, made from the front's tables: what a proc needs of each verb."""
     rows = [ast.literal_eval(line.strip().rstrip(",")) for line in tables if line.startswith('    ("')]
     lines = ["# The verbs of the program: of each its fields behind TEAM and N, the words of its reply behind ok, and what it does."]
     lines += ["# tools/verbs.py --write makes this file of the program's sources: change those.", "", "namespace eval lefence {", "    variable VERBS {"]
@@ -207,7 +210,8 @@ def tcl_tables(tables: list[str]) -> list[str]:
 
 
 def lacking() -> list[str]:
-    """What the client library lacks: a function of CLIENT that makes a verb's line, a class of REFUSALS with a refusal's number."""
+    """What the client library lacks: functions of CLIENT that make a verb's line, and classes of REFUSALS with a
+    refusal's number."""
     client = CLIENT.read_text(encoding="utf-8")
     asked = set(re.findall(r'scope\.line\("(\w+)"|f"(\w+) \{name\(team\)\}', client))
     names = {first or second for first, second in asked}
@@ -222,13 +226,13 @@ def lacking() -> list[str]:
 
 
 def numbers_of(kind: ast.ClassDef) -> list[object]:
-    """What the class assigns to `number`."""
+    """The values that the class assigns to `number`."""
     assigned = (node for node in kind.body if isinstance(node, ast.Assign) and isinstance(node.value, ast.Constant))
     return [node.value.value for node in assigned if isinstance(node.value, ast.Constant) and ast.unparse(node.targets[0]) == "number"]
 
 
 def differing(had: list[str], made: list[str], path: Path, what: str) -> bool:
-    """Whether a file's lines differ from those that are made; prints in which."""
+    """Whether a file's lines differ from the generated ones. Prints the differences."""
     if had != made:
         print("\n".join(difflib.unified_diff(had, made, str(path), "the sources", n=0, lineterm="")))
         print(f"{what}: tools/verbs.py --write")

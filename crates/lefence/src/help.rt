@@ -1,8 +1,8 @@
-//! What the program says of itself.
+//! The help texts of the program.
 
 use lf_app::{Help, Subcommand};
 
-/// What the program can be asked.
+/// The usage: all subcommands and their options.
 pub(crate) const USAGE: &str =
     "  lefence [demo]                answers the lines of standard input over the built-in design
   lefence check DEF LEF... [--state FILE] [--sessions N]
@@ -20,7 +20,7 @@ pub(crate) const USAGE: &str =
   (a path that begins with '-' stands behind '--'; docs/PROTOCOL.md says more)
 ";
 
-/// What follows the usage where it was asked for.
+/// The text after the usage, if help was requested.
 const MORE: &str = "
   lefence demo --help           and so for each of the others: what it does, with an example
   lefence --version             the version
@@ -95,7 +95,7 @@ example:
   lefence repair chip.def tech.lef cells.lef --export new.def
 ";
 
-/// What a subcommand does.
+/// Returns the help of a subcommand.
 fn text_of(chosen: Subcommand) -> &'static str {
     match chosen {
         Subcommand::Demo => DEMO,
@@ -107,7 +107,7 @@ fn text_of(chosen: Subcommand) -> &'static str {
     }
 }
 
-/// The texts of what was asked, one behind the other.
+/// Returns the requested help: one or two texts to print one after the other.
 pub(crate) fn texts_of(help: Help) -> [&'static str; 2] {
     match help {
         Help::Program => [USAGE, MORE],

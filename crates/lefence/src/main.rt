@@ -1,8 +1,12 @@
 //! The program `lefence`: it passes its words and the standard streams to `lf_app`.
 //!
-//! Its exit status is that of the task (`lf_app::perform_over`). Words that name no task are answered with the help that they ask for, and
-//! status 0, or else with the usage and status 2; it is 1 where an allocation for the words fails, and 3 where the help cannot be
-//! written.
+//! Its exit status is that of the task (`lf_app::perform_over`). If the words name no task, it
+//! prints the help that they request, with status 0, or else the usage, with status 2. The status
+//! is 1 if an allocation for the words fails, and 3 if the help cannot be written.
+//!
+//! Modules, in reading order:
+//!
+//! - `help`: the help texts
 #![tactic(auto)]
 
 mod help;
@@ -18,7 +22,7 @@ use std::io::Write;
 use std::process::ExitCode;
 use std::time::Duration;
 
-/// The exit status if the words name no task, or an allocation for them failed.
+/// Returns the exit status if the words name no task, or an allocation for them failed.
 fn usage_status(fault: &UsageFault) -> u8 {
     match fault {
         UsageFault::Usage => 2,
@@ -26,7 +30,8 @@ fn usage_status(fault: &UsageFault) -> u8 {
     }
 }
 
-/// The words of the command line. A word that is no text names no task.
+/// Returns the words of the command line. `Err(Usage)` if a word is no text, `Err(OutOfMemory)` if
+/// an allocation fails.
 fn words(rt: &HostRuntime) -> Result<Vec<String>, UsageFault> {
     let words = match std::env::args(rt) {
         Ok(words) => words,
@@ -40,7 +45,7 @@ fn words(rt: &HostRuntime) -> Result<Vec<String>, UsageFault> {
         .map_err(|_: AllocError| UsageFault::OutOfMemory)
 }
 
-/// The words, lent.
+/// Borrows the words. `Err(OutOfMemory)` if an allocation fails.
 fn lent(alloc: Global, words: &[String]) -> Result<Vec<&str>, UsageFault> {
     let mut texts = Vec::new(alloc);
     for word in words {
@@ -51,7 +56,7 @@ fn lent(alloc: Global, words: &[String]) -> Result<Vec<&str>, UsageFault> {
     Ok(texts)
 }
 
-/// Writes what was asked of the program to standard output.
+/// Writes the requested help to standard output.
 fn put_help(rt: &HostRuntime, help: Help) -> io::Result<()> {
     let mut writer = io::writer(rt);
     for text in texts_of(help) {
@@ -60,7 +65,7 @@ fn put_help(rt: &HostRuntime, help: Help) -> io::Result<()> {
     writer.flush()
 }
 
-/// Says what was asked of the program, and returns the exit status.
+/// Prints the requested help, and returns the exit status.
 fn show(rt: &HostRuntime, help: Help) -> u8 {
     match put_help(rt, help) {
         Ok(()) => 0,
@@ -71,8 +76,8 @@ fn show(rt: &HostRuntime, help: Help) -> u8 {
     }
 }
 
-/// Says which word is wrong, or which is missing, and what it may be: of what the parser of the words says, the lines before its
-/// own usage.
+/// Prints which word is wrong or missing, and what is allowed: the lines of the parser's message in
+/// front of its own usage.
 fn complain(rt: &HostRuntime, words: &[&str]) {
     let Ok(Some(said)) = lf_app::usage_message(rt.alloc(), words) else {
         return;
@@ -89,7 +94,8 @@ fn complain(rt: &HostRuntime, words: &[&str]) {
     }
 }
 
-/// What words do that name no task: they ask for help, or are at fault, which is told.
+/// Handles words that name no task: prints the requested help or the fault. Returns the exit
+/// status.
 fn answer(rt: &HostRuntime, words: &[&str], fault: UsageFault) -> u8 {
     match lf_app::help_of(words) {
         Some(help) if matches!(fault, UsageFault::Usage) => show(rt, help),
@@ -100,7 +106,7 @@ fn answer(rt: &HostRuntime, words: &[&str], fault: UsageFault) -> u8 {
     }
 }
 
-/// How many seconds a repair says nothing.
+/// The seconds between progress messages of a repair.
 const PAUSE: u64 = 2;
 
 /// Does the task over the files, the network and the standard streams.
@@ -131,7 +137,7 @@ fn run(rt: &HostRuntime) -> Result<u8, UsageFault> {
     Ok(perform(rt, &task).status)
 }
 
-/// Prints a usage fault of these words, and what the program can be asked; a failure to write it is no further fault.
+/// Prints a usage fault of these words, and the usage. A failure to write it is no further fault.
 fn tell(rt: &HostRuntime, fault: &UsageFault, words: &[&str]) {
     let _ = eprintln!(rt; "lefence: {fault}");
     if matches!(fault, UsageFault::Usage) {

@@ -1,10 +1,11 @@
-//! Reads LEF and DEF texts, or loads a design, and says how long that took: for `bench/`.
+//! Reads LEF and DEF texts, or loads a design, and prints how long that took, for `bench/`.
 //!
-//! It takes the words `lex FILE`, `lef FILE` or `def FILE` for one text, or `load LEF DEF` for a design. What was read is counted on
-//! standard output, and the nanoseconds that it took, without reading the files, go to standard error.
+//! It takes the words `lex FILE`, `lef FILE` or `def FILE` for one text, or `load LEF DEF` for a
+//! design. It prints counts of what was read on standard output. On standard error it prints the
+//! nanoseconds taken, without those for reading the files.
 //!
-//! No function owns more than one of the library, the document and the design: what a function must drop at each of
-//! its ends is proved end by end.
+//! No function owns more than one of the library, the document and the design: the proof handles
+//! every drop at every return separately.
 #![tactic(auto)]
 
 use lf_def::{DefDoc, read_def};
@@ -16,7 +17,7 @@ use std::rt::{Clock, Files};
 use std::time::Instant;
 use std::{fs, io};
 
-/// Prints how long it took since then.
+/// Prints the time since `start`.
 fn tell_time<R: Clock + Eprint>(rt: &R, start: &Instant) -> io::Result<()> {
     let taken = start.elapsed(rt)?;
     eprintln!(rt; "{} ns", taken.as_nanos())
@@ -27,12 +28,12 @@ fn tell_fault<R: Print>(rt: &R, fault: &LoadFault<'_>) -> io::Result<()> {
     println!(rt; "{fault:?}")
 }
 
-/// Prints which words the program takes.
+/// Prints the words that the program takes.
 fn tell_usage<R: Eprint>(rt: &R) -> io::Result<()> {
     eprintln!(rt; "lex FILE, lef FILE, def FILE or load LEF DEF")
 }
 
-/// How many tokens the text has before its end or its first fault.
+/// Counts the tokens of the text up to its end or its first fault.
 fn count_tokens(text: &[u8]) -> u64 {
     let mut lexer = Lexer::new(text);
     for count in 0..u64::MAX {
@@ -50,7 +51,7 @@ fn lex<R: Clock + Print + Eprint>(rt: &R, text: &[u8]) -> io::Result<()> {
     println!(rt; "tokens {tokens}")
 }
 
-/// How many sites and macros the LEF text has.
+/// Counts the sites and macros of the LEF text.
 fn count_library<'a>(alloc: Global, text: &'a [u8]) -> Result<(usize, usize), LoadFault<'a>> {
     let mut library = Library::new(alloc);
     read_lef(&mut library, text)?;
@@ -67,7 +68,7 @@ fn lef<R: AllocGlobal + Clock + Print + Eprint>(rt: &R, text: &[u8]) -> io::Resu
     }
 }
 
-/// How many rows, components and groups the DEF text has.
+/// Counts the rows, components and groups of the DEF text.
 fn count_document<'a>(
     alloc: Global,
     text: &'a [u8],
@@ -92,7 +93,7 @@ fn def<R: AllocGlobal + Clock + Print + Eprint>(rt: &R, text: &[u8]) -> io::Resu
     }
 }
 
-/// How many rows, fences and cells the design has.
+/// Counts the rows, fences and cells of the design.
 fn counts_of(design: &Loaded) -> (usize, usize, usize) {
     (
         design.frame.rows.len(),
@@ -101,7 +102,7 @@ fn counts_of(design: &Loaded) -> (usize, usize, usize) {
     )
 }
 
-/// How many rows, fences and cells the design of the library and the document has.
+/// Loads the design of the library and the document, and counts its rows, fences and cells.
 fn count_design<'a>(
     alloc: Global,
     library: &'a Library,
@@ -113,7 +114,7 @@ fn count_design<'a>(
     }
 }
 
-/// Loads the design of the library and the document; the nanoseconds are those of loading alone.
+/// Loads the design of the library and the document, and prints the nanoseconds of loading alone.
 fn load_document<R: AllocGlobal + Clock + Print + Eprint>(
     rt: &R,
     library: &Library,

@@ -1,4 +1,4 @@
-//! The design of a row: the built-in texts with some of their lines exchanged.
+//! The design of a row: the built-in texts with some of their lines replaced.
 
 ghost use Rattle.std.specs.Prelude.{◌≡◌, ℕ, List, Option};
 ghost use Rattle.lf_floorplan.specs.declared.limits.Limits.{Limits as TheLimits};
@@ -33,21 +33,21 @@ use std::alloc::{AllocError, Global};
 use std::io;
 use std::io::Write;
 
-/// The most lines that a row may ask.
+/// The most lines of requests in a row.
 const MOST_LINES: u32 = 1_000;
 
-/// What is asked of a design.
+/// The outputs that a row requests.
 #[derive(Clone, Copy)]
 pub struct Asked<'a> {
-    /// Whether it is asked what its texts say, and nothing else.
+    /// Whether only the contents of its texts are requested.
     pub is_read: bool,
-    /// Whether its report is asked for.
+    /// Whether its report is requested.
     pub is_checked: bool,
-    /// Whether only the seeker by index answers, and not the plain one beside it.
+    /// Whether only the seeker by index is used, and not the plain one too.
     pub is_by_index_alone: bool,
-    /// Whether the exported text is asked for, once the requests are answered.
+    /// Whether the exported text is requested after the replies.
     pub is_exported: bool,
-    /// Whether the requests are handed over as one list.
+    /// Whether the requests are passed as one list.
     pub is_run: bool,
     /// The requests.
     pub lines: &'a [u8],
@@ -60,11 +60,11 @@ pub struct Design {
     lef: Vec<u8>,
     def: Vec<u8>,
     limits: Limits,
-    /// Whether these are not the standard ones.
+    /// Whether the limits differ from the standard ones.
     is_limited: bool,
 }
 
-/// The line, with a line feed for each `~` in it.
+/// Returns the line, with a line feed for each `~` in it.
 fn with_feeds(alloc: Global, line: &[u8]) -> Result<Vec<u8>, AllocError> {
     let mut new = Vec::new(alloc);
     for byte in line {
@@ -73,7 +73,7 @@ fn with_feeds(alloc: Global, line: &[u8]) -> Result<Vec<u8>, AllocError> {
     Ok(new)
 }
 
-/// The first lines of the text, so many of them.
+/// Returns the first `count` lines of the text.
 fn first_lines(alloc: Global, text: &[u8], count: usize) -> Result<Vec<u8>, AllocError> {
     let mut new = Vec::new(alloc);
     for (i, line) in text.split(|byte| *byte == b'\n').enumerate() {
@@ -101,7 +101,7 @@ fn put_fault<W: Write>(alloc: Global, writer: &mut W, refusal: &LoadFault<'_>) -
 }
 
 impl Design {
-    /// The built-in design.
+    /// Makes the built-in design.
     pub fn new(alloc: Global) -> Result<Design, AllocError> {
         Ok(Design {
             alloc,
@@ -112,27 +112,27 @@ impl Design {
         })
     }
 
-    /// Exchanges a line of the LEF text.
+    /// Replaces a line of the LEF text.
     pub fn set_lef(&mut self, number: usize, line: &[u8]) -> Result<(), AllocError> {
         let line = with_feeds(self.alloc, line)?;
         self.lef = with_line(self.alloc, &self.lef, number, &line)?;
         Ok(())
     }
 
-    /// Exchanges a line of the DEF text.
+    /// Replaces a line of the DEF text.
     pub fn set_def(&mut self, number: usize, line: &[u8]) -> Result<(), AllocError> {
         let line = with_feeds(self.alloc, line)?;
         self.def = with_line(self.alloc, &self.def, number, &line)?;
         Ok(())
     }
 
-    /// Keeps the first lines of the LEF text, so many of them.
+    /// Keeps the first `count` lines of the LEF text.
     pub fn cut_lef(&mut self, count: usize) -> Result<(), AllocError> {
         self.lef = first_lines(self.alloc, &self.lef, count)?;
         Ok(())
     }
 
-    /// Keeps the first lines of the DEF text, so many of them.
+    /// Keeps the first `count` lines of the DEF text.
     pub fn cut_def(&mut self, count: usize) -> Result<(), AllocError> {
         self.def = first_lines(self.alloc, &self.def, count)?;
         Ok(())
@@ -144,9 +144,9 @@ impl Design {
         self.is_limited = true;
     }
 
-    /// Writes what the design answers: its refusal, or what its texts say, where that is asked; or else `loaded`, its report
-    /// where it is asked for, the replies to the lines, and the exported text where it is asked for; replies and text by the
-    /// plain seeker too, where they differ.
+    /// Writes the output of the design: its refusal; or what its texts contain, if requested; or
+    /// `loaded`, its report if requested, the replies, and the exported text if requested. Replies
+    /// and text by the plain seeker are written too if they differ.
     pub fn answer<W: Write>(&self, asked: &Asked<'_>, writer: &mut W) -> io::Result<()> {
         let mut library = Library::new(self.alloc);
         match read_lef(&mut library, &self.lef) {
@@ -155,7 +155,7 @@ impl Design {
         }
     }
 
-    /// The same, given the library of the LEF text.
+    /// Does the same, given the library of the LEF text.
     fn answer_on<W: Write>(
         &self,
         library: &Library,
@@ -168,7 +168,7 @@ impl Design {
         }
     }
 
-    /// The same, given the document of the DEF text too.
+    /// Does the same, given also the document of the DEF text.
     fn answer_over<W: Write>(
         &self,
         library: &Library,
@@ -191,7 +191,7 @@ impl Design {
         }
     }
 
-    /// The texts, as the program is handed them.
+    /// Returns the texts, as passed to the program.
     fn texts(&self) -> RowTexts<'_> {
         RowTexts {
             alloc: self.alloc,
@@ -200,7 +200,8 @@ impl Design {
         }
     }
 
-    /// Writes `loaded`, and the report where it is asked for: that of `lefence check`, and that of the library if it differs.
+    /// Writes `loaded`, and the report if requested: that of `lefence check`, and that of the
+    /// library if it differs.
     fn put_head<W: Write>(
         &self,
         loaded: &Loaded,
@@ -219,8 +220,8 @@ impl Design {
         put_both(writer, &shipped, b"but by check_all\n", &report)
     }
 
-    /// Writes the replies, with the exported text if it is asked for; then they are those of `lefence replay`, and those of the
-    /// library too, if they differ.
+    /// Writes the replies, with the exported text if requested. In that case they are those of
+    /// `lefence replay`, and those of the library too if they differ.
     fn put_shipped<W: Write>(
         &self,
         asked: &Asked<'_>,
@@ -236,7 +237,7 @@ impl Design {
         put_both(writer, &text, b"but by export\n", replies)
     }
 
-    /// Writes what the plain seeker answers, where it is asked too and answers otherwise.
+    /// Writes the replies by the plain seeker, if it is used and its replies differ.
     fn compare<W: Write>(
         &self,
         library: &Library,
@@ -260,7 +261,7 @@ impl Design {
     }
 }
 
-/// The text of the report of the design as loaded, and a line feed.
+/// Returns the text of the report of the design as loaded, and a line feed.
 fn report_line(alloc: Global, loaded: &Loaded) -> Result<Vec<u8>, AllocError> {
     let mut line = Vec::new(alloc);
     let mut places = Vec::new(alloc);
@@ -278,7 +279,7 @@ fn report_line(alloc: Global, loaded: &Loaded) -> Result<Vec<u8>, AllocError> {
     Ok(line)
 }
 
-/// Writes the text, and the other one behind these words, if it differs.
+/// Writes the text. If the other text differs, writes these words and the other text.
 fn put_both<W: Write>(writer: &mut W, text: &[u8], words: &[u8], other: &[u8]) -> io::Result<()> {
     writer.write_all(text)?;
     if text == other {
@@ -288,7 +289,7 @@ fn put_both<W: Write>(writer: &mut W, text: &[u8], words: &[u8], other: &[u8]) -
     writer.write_all(other)
 }
 
-/// The text of the document, with the committed places of the floor in it.
+/// Returns the text of the document with the committed places of the floor.
 fn exported<S: Seeker + Drop>(
     alloc: Global,
     floor: &Floor<S>,
@@ -300,7 +301,7 @@ fn exported<S: Seeker + Drop>(
     export(alloc, document, &places)
 }
 
-/// Puts the lines of a text behind the replies, each behind a bar.
+/// Appends the lines of a text to the replies, each after a bar.
 fn put_lines(replies: &mut Vec<u8>, text: &[u8]) -> Result<(), AllocError> {
     for line in text.split(|byte| *byte == b'\n') {
         replies.push(b'|')?;
@@ -310,7 +311,7 @@ fn put_lines(replies: &mut Vec<u8>, text: &[u8]) -> Result<(), AllocError> {
     Ok(())
 }
 
-/// Puts the exported text behind the replies.
+/// Appends the exported text to the replies.
 fn put_export<S: Seeker + Drop>(
     alloc: Global,
     floor: &Floor<S>,
@@ -323,7 +324,7 @@ fn put_export<S: Seeker + Drop>(
     put_lines(replies, &text)
 }
 
-/// Puts the replies to the lines, each answered for itself, or all run as one list where that is asked for.
+/// Appends the replies to the lines, answered one by one, or run as one list if requested.
 fn put_answers<S: Seeker + Drop>(
     alloc: Global,
     floor: &mut Floor<S>,
@@ -339,13 +340,14 @@ fn put_answers<S: Seeker + Drop>(
     let mut source = FromRead::new(&mut reader);
     let mut sink = ToWrite::new(replies);
     match serve_lines_within(alloc, floor, &mut source, &mut sink, MOST_LINES) {
-        // (a list of replies fails only for want of memory)
+        // (writing to a list of replies fails only if an allocation fails)
         Ending::OutOfMemory | Ending::WriteFault => Err(AllocError),
         _ => Ok(()),
     }
 }
 
-/// Puts the replies to the lines on the floor of the document's design, and the exported text where it is asked for.
+/// Appends the replies to the lines on the floor of the document's design, and the exported text if
+/// requested.
 fn put_replies<S: Seeker + Drop>(
     alloc: Global,
     floor: &mut Floor<S>,
@@ -363,8 +365,8 @@ fn put_replies<S: Seeker + Drop>(
     put_export(alloc, floor, document, replies)
 }
 
-/// The replies to the lines on the floor of the document's design, its places looked for by this seeker, and the exported
-/// text where it is asked for.
+/// Returns the replies to the lines on the floor of the document's design, with places found by
+/// this seeker, and the exported text if requested.
 fn replies_by<S: Seeker + Drop>(
     alloc: Global,
     loaded: Loaded,
@@ -384,7 +386,7 @@ fn replies_by<S: Seeker + Drop>(
     }
 }
 
-/// The same by the index of the rows.
+/// Does the same with the index of the rows.
 fn replies_by_index(
     alloc: Global,
     loaded: Loaded,

@@ -1,8 +1,8 @@
-//! Answers worked rows, and prints what LEF and DEF texts say.
+//! Answers worked rows, and prints what LEF and DEF texts contain.
 //!
-//! Worked rows are written in `rows/`, each request with its reply below it, and `tools/rows.py` makes of them `stdin` and
-//! `stdout`, on which the gate runs this program. A row of standard input begins with a heading, which is copied, and has the
-//! built-in design afresh:
+//! Worked rows are in `rows/`, each request with its reply below it. `tools/rows.py` makes `stdin`
+//! and `stdout` of them, and the gate runs this program on them. A row of standard input begins
+//! with a heading, which is copied. Each row begins again with the built-in design:
 //!
 //! ```text
 //! # The heading.
@@ -14,21 +14,39 @@
 //! open A
 //! ```
 //!
-//! In `rows/` a request has `> ` in front, as `> open A`, and the lines without a mark are what the program writes: `loaded`
-//! and the report below the settings, and the reply `ok 0 0` below its request.
+//! In `rows/` a request has `> ` in front, as in `> open A`. The lines without a mark are the
+//! program's output: `loaded` and the report below the settings, and the reply `ok 0 0` below its
+//! request. The settings:
 //!
-//! `lef` and `def` exchange a line of the design's texts for another, or for several with `~` between them; each counts
-//! lines as those before it left them. `cut` keeps the first lines of a text alone; `limits` are those of rows, fences,
-//! components, sessions, undo entries and revisions; `check` asks for the report of the design; `read` asks what the texts
-//! say and nothing else (`reading`); `export` asks for the exported text, which stands behind the replies with a `|` in
-//! front of each line; `run` hands the requests over as one list, not line by line. All other lines are requests, but empty
-//! ones, which part rows. What is written of a row is the refusal of its design; or what its texts say; or `loaded`, the
-//! report if it is asked for, the replies, and the exported text if it is asked for. Each row is answered twice, its places
-//! looked for by index and by a look at every site, and replies that differ are written too; `= index` leaves the second out.
+//! - `lef` and `def` replace a line of the design's texts with another, or with several if `~` is
+//!   between them; lines are counted after the earlier settings were applied
+//! - `cut` keeps only the first lines of a text
+//! - `limits` are those of rows, fences, components, sessions, undo entries and revisions
+//! - `check` requests the report of the design
+//! - `read` requests only what the texts contain (`print_texts`)
+//! - `export` requests the exported text, which follows the replies with a `|` in front of each
+//!   line
+//! - `run` passes the requests as one list, not line by line
+//! - `index` searches places by the index alone
 //!
-//! Where the limits are the standard ones, reports are those that `lefence check` writes, and a row with an exported text is
-//! answered by `lefence replay` (`shipped`); what the calls of the library answer beside them is written too if it differs.
-//! Where memory runs out, the line of that refusal stands in the place of all that is left.
+//! All other lines are requests, except empty lines, which separate rows. The output of a row is
+//! the refusal of its design, or what its texts contain, or `loaded`, the report if requested, the
+//! replies, and the exported text if requested. Each row is answered twice, with places searched by
+//! index and by trying every site. Replies that differ are written too; `index` omits the second
+//! search.
+//!
+//! If the limits are the standard ones, reports are written by `lefence check`, and a row with an
+//! exported text is answered by `lefence replay` (`shipped_program`). The library's own results are
+//! written too if they differ. If memory runs out, the line of that refusal replaces all remaining
+//! output.
+//!
+//! Modules, in reading order:
+//!
+//! - `print_texts`: what LEF and DEF texts contain
+//! - `run_requests`: replies to the requests of a row passed as one list
+//! - `shipped_program`: the program itself over the texts of a row
+//! - `design`: the design of a row, and its replies
+//! - `row`: the lines of a row
 #![tactic(auto)]
 
 mod design;

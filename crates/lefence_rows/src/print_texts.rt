@@ -1,4 +1,5 @@
-//! What texts say: a line for each site, macro, row, region, group, component and blockage, and one for the header.
+//! The contents of texts: a line for each site, macro, row, region, group, component and blockage,
+//! and one for the header.
 
 use itoa::Buffer;
 use lf_def::{
@@ -58,7 +59,8 @@ fn put_symmetry<W: Write>(writer: &mut W, symmetry: Symmetry) -> io::Result<()> 
     Ok(())
 }
 
-/// Writes a site: its name, whether it is a core site, its size in millionths of a micron, its symmetry.
+/// Writes a site: its name, whether it is a core site, its size in millionths of a micron, and its
+/// symmetry.
 fn put_site<W: Write>(writer: &mut W, site: &Site) -> io::Result<()> {
     writer.write_all(b"site")?;
     put_word(writer, site.name.as_bytes())?;
@@ -70,7 +72,8 @@ fn put_site<W: Write>(writer: &mut W, site: &Site) -> io::Result<()> {
     writer.write_all(b"\n")
 }
 
-/// Writes a macro: its name, its size and origin in millionths of a micron, its rail and symmetry.
+/// Writes a macro: its name, its size and origin in millionths of a micron, and its rail and
+/// symmetry.
 fn put_macro<W: Write>(writer: &mut W, mac: &Macro) -> io::Result<()> {
     writer.write_all(b"macro")?;
     put_word(writer, mac.name.as_bytes())?;
@@ -96,7 +99,8 @@ pub fn put_library<W: Write>(writer: &mut W, library: &Library) -> io::Result<()
     Ok(())
 }
 
-/// Writes the header: the design, the version, the divider, the brackets, and the units where they are given.
+/// Writes the header: the design, the version, the divider, the brackets, and the units if they are
+/// given.
 fn put_header<W: Write>(writer: &mut W, header: &Header) -> io::Result<()> {
     writer.write_all(b"design")?;
     put_word(writer, header.design.as_bytes())?;
@@ -109,7 +113,7 @@ fn put_header<W: Write>(writer: &mut W, header: &Header) -> io::Result<()> {
     writer.write_all(b"\n")
 }
 
-/// Writes a row: its name, site and location, its sites across and up, and its step where it is given.
+/// Writes a row: its name, site and location, its sites across and up, and its step if it is given.
 fn put_row<W: Write>(writer: &mut W, row: &Row) -> io::Result<()> {
     writer.write_all(b"row")?;
     put_word(writer, row.name.as_bytes())?;
@@ -151,7 +155,8 @@ fn put_group<W: Write>(writer: &mut W, group: &Group) -> io::Result<()> {
     writer.write_all(b"\n")
 }
 
-/// Writes a placement: its kind, its location where it has one, and the bytes of its clause, with `~` for a line feed.
+/// Writes a placement: its kind, its location if it has one, and the bytes of its clause, with `~`
+/// for a line feed.
 fn put_placement<W: Write>(
     writer: &mut W,
     text: &[u8],

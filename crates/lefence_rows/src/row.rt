@@ -1,4 +1,4 @@
-//! A row: what its lines say of the design, and what they ask.
+//! A row: the lines with its settings and requests.
 
 use crate::design::{Asked, Design};
 use lf_frame::Limits;
@@ -7,7 +7,7 @@ use std::alloc::{AllocError, Global};
 use std::io;
 use std::io::Write;
 
-/// A row, as far as its lines were taken.
+/// A row with the lines taken so far.
 #[derive(Drop)]
 pub struct Row {
     design: Design,
@@ -20,12 +20,12 @@ pub struct Row {
     lines: Vec<u8>,
 }
 
-/// Whether the line begins a row.
+/// Returns whether the line begins a row.
 pub fn is_heading(line: &[u8]) -> bool {
     line.starts_with(b"# ")
 }
 
-/// The number that the word writes, up to 4,000,000,000; 0 where it writes none.
+/// Returns the number that the word writes, up to 4,000,000,000, or 0 if it writes no number.
 fn number_of(word: &[u8]) -> u32 {
     match read_fixed(word, 0, 4_000_000_000) {
         Ok(number) => u32::try_from(number).unwrap_or(0),
@@ -33,7 +33,7 @@ fn number_of(word: &[u8]) -> u32 {
     }
 }
 
-/// The number in front of a space, and what stands behind it.
+/// Returns the number in front of a space, and what follows the space.
 fn split_number(text: &[u8]) -> (usize, &[u8]) {
     match text.iter().position(|byte| *byte == b' ') {
         Some(at) => (number_of(&text[..at]) as usize, &text[at + 1..]),
@@ -41,7 +41,7 @@ fn split_number(text: &[u8]) -> (usize, &[u8]) {
     }
 }
 
-/// The limits that six numbers write.
+/// Returns the limits that six numbers write, or `None` if they are no limits.
 fn limits_of(text: &[u8]) -> Option<Limits> {
     let mut words = text.split(|byte| *byte == b' ');
     Limits::checked(
@@ -55,7 +55,7 @@ fn limits_of(text: &[u8]) -> Option<Limits> {
 }
 
 impl Row {
-    /// A row without lines, on the built-in design.
+    /// Makes a row without lines, on the built-in design.
     pub fn new(alloc: Global) -> Result<Row, AllocError> {
         Ok(Row {
             design: Design::new(alloc)?,
@@ -85,7 +85,7 @@ impl Row {
         Ok(())
     }
 
-    /// Takes what a line says of the texts or asks of the design, and tells whether it does.
+    /// Applies a setting of the texts or of the outputs. Returns whether the line is a setting.
     fn set(&mut self, setting: &[u8]) -> Result<bool, AllocError> {
         if let Some(rest) = setting.strip_prefix(b"lef ") {
             let (number, line) = split_number(rest);
@@ -103,7 +103,7 @@ impl Row {
         Ok(true)
     }
 
-    /// Takes limits, or what is asked of the design, and tells whether it is either.
+    /// Applies a setting of the limits or of the outputs. Returns whether it is one.
     fn ask(&mut self, setting: &[u8]) -> bool {
         if let Some(rest) = setting.strip_prefix(b"limits ") {
             if let Some(limits) = limits_of(rest) {
@@ -125,7 +125,7 @@ impl Row {
         true
     }
 
-    /// Writes what the row answers.
+    /// Writes the output of the row.
     pub fn finish<W: Write>(&self, writer: &mut W) -> io::Result<()> {
         if !self.is_begun {
             return Ok(());

@@ -1,4 +1,4 @@
-//! Replies to the requests of a row that are handed over all at once, as one list.
+//! Replies to the requests of a row that are passed as one list.
 
 ghost use Rattle.std.specs.Prelude.{◌≡◌};
 
@@ -7,7 +7,7 @@ use lf_legalize::Seeker;
 use lf_proto::{Command, Refusal, Reply, Request, RequestList, parse_line, reply_text};
 use std::alloc::{AllocError, Global};
 
-/// The requests of the lines, in their order; a line that is no request is left out.
+/// Returns the requests of the lines, in order. A line that is no request is skipped.
 fn requests_of(alloc: Global, lines: &[u8]) -> Result<RequestList, AllocError> {
     let mut list = RequestList::new(alloc);
     for line in lines.split(|byte| *byte == b'\n') {
@@ -18,7 +18,7 @@ fn requests_of(alloc: Global, lines: &[u8]) -> Result<RequestList, AllocError> {
     Ok(list)
 }
 
-/// The team that a request is to; `bye` is to none.
+/// Returns the team that a request names, or no bytes for `bye`.
 fn team_of<'a>(request: &Option<Request<'a>>) -> &'a [u8] {
     match request {
         Some(Command::To { team, .. }) => team,
@@ -26,7 +26,7 @@ fn team_of<'a>(request: &Option<Request<'a>>) -> &'a [u8] {
     }
 }
 
-/// The positions of the cells that a reply names: the cell, and the other one.
+/// Returns the positions of the cells that a reply names: the cell, and the other cell.
 fn cells_in(reply: &Reply) -> (Option<u32>, Option<u32>) {
     match reply {
         Reply::Refused(Refusal::Unplaced { cell }) => (Some(*cell), None),
@@ -36,7 +36,7 @@ fn cells_in(reply: &Reply) -> (Option<u32>, Option<u32>) {
     }
 }
 
-/// The name of the team's cell of that position.
+/// Returns the name of the team's cell at this position, or no bytes if there is no such cell.
 fn name_in<'a, S: Seeker + Drop>(floor: &'a Floor<S>, team: &[u8], cell: Option<u32>) -> &'a [u8] {
     match cell {
         Some(own) => floor.name_of(team, own as usize).unwrap_or(b""),
@@ -44,7 +44,7 @@ fn name_in<'a, S: Seeker + Drop>(floor: &'a Floor<S>, team: &[u8], cell: Option<
     }
 }
 
-/// Puts the text of a reply to a request behind the others.
+/// Appends the text of a reply to a request.
 fn put_reply<S: Seeker + Drop>(
     floor: &Floor<S>,
     request: &Option<Request<'_>>,
@@ -61,7 +61,7 @@ fn put_reply<S: Seeker + Drop>(
     )
 }
 
-/// Puts the replies to the requests of these lines, all run as one list, behind what is there.
+/// Appends the replies to the requests of these lines, run as one list.
 pub fn put_run<S: Seeker + Drop>(
     alloc: Global,
     floor: &mut Floor<S>,

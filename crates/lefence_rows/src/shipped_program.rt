@@ -1,5 +1,5 @@
-//! What the program itself answers of a row: the report of `lefence check`, and the replies and the exported text of
-//! `lefence replay`, over texts in memory.
+//! The program's own output for a row: the report of `lefence check`, and the replies and the
+//! exported text of `lefence replay`, over texts in memory.
 
 ghost use Rattle.std.specs.Prelude.{◌≡◌, false};
 
@@ -13,7 +13,7 @@ use lf_units::Sequence;
 use std::alloc::{AllocError, Global};
 use std::collections::VecDeque;
 
-/// The path of the LEF text; that of every other text is the DEF text's.
+/// The path of the LEF text. Every other path is that of the DEF text.
 const LEF: &str = "row.lef";
 
 /// The texts of a row.
@@ -60,7 +60,7 @@ impl OutputFiles for KeptExport {
     }
 }
 
-/// No services: none can be offered.
+/// A listener on which no service can be offered.
 #[derive(Clone, Copy)]
 struct NoServices {
     failed: bool,
@@ -94,14 +94,14 @@ impl PortListener for NoServices {
     }
 }
 
-/// What a task wrote, and the text that it exported, if it did.
+/// What a task wrote, and the text that it exported, if any.
 #[derive(Drop)]
 pub struct Shipped {
     pub written: Vec<u8>,
     pub exported: Vec<u8>,
 }
 
-/// Does the task over these texts and lines; what is told of a fault stands behind what is written.
+/// Does the task over these texts and lines. The lines of a fault follow what is written.
 fn performed(texts: &RowTexts<'_>, task: &Task<'_>, lines: &[u8]) -> Result<Shipped, AllocError> {
     let mut reader = lines;
     let mut written = Vec::new(texts.alloc);
@@ -123,14 +123,14 @@ fn performed(texts: &RowTexts<'_>, task: &Task<'_>, lines: &[u8]) -> Result<Ship
     Ok(Shipped { written, exported })
 }
 
-/// The list of the LEF path alone.
+/// Makes the list of the LEF path alone.
 fn lef_alone(alloc: Global) -> Result<Sequence<&'static str>, AllocError> {
     let mut lefs = Sequence::new(alloc);
     lefs.push(LEF)?;
     Ok(lefs)
 }
 
-/// What `lefence check` writes.
+/// Returns what `lefence check` writes.
 pub fn report(texts: &RowTexts<'_>) -> Result<Vec<u8>, AllocError> {
     let task = Task::Check {
         def: "row.def",
@@ -141,7 +141,7 @@ pub fn report(texts: &RowTexts<'_>) -> Result<Vec<u8>, AllocError> {
     Ok(performed(texts, &task, b"")?.written)
 }
 
-/// What `lefence replay --export` writes of these lines.
+/// Returns what `lefence replay --export` writes for these lines.
 pub fn replay(texts: &RowTexts<'_>, lines: &[u8]) -> Result<Shipped, AllocError> {
     let task = Task::Replay {
         def: "row.def",

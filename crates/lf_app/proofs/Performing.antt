@@ -7,7 +7,7 @@ use Rattle.lf_task_designs.specs.Faults.{BlamesDevices, IsEarly}
 use Rattle.lf_app.specs.Exits.{EndsTask, IsJobFault, IsOutcome}
 use Rattle.lf_task_serve.specs.Exits.{alone}
 
--- a fault of a job over devices is one over what they hold
+-- A fault of a job over devices is a fault over the readers and writers that they hold.
 pub std_fault : (gives : ReadsFile) (job : Job) (a a' b b' c c' d d' e e' f f' : Option (List ℕ)) (kept kept' reader writer export service sound : Type 0)
     (failed : Bool) (exit : TaskExit)
     → EndsTask (λ fault. IsJobFault gives job fault (alone a b c d) × BlamesDevices fault kept reader writer export service sound) e f failed exit
@@ -19,12 +19,12 @@ std_fault gives job a a' b b' c c' d d' e e' f f' kept kept' reader writer expor
   record { status = ends.2.status; told = rw (sym e_is, sym f_is) ends.2.told; untold = λ (none : exit.is_told ≡ false). ap not none },
 )
 
--- an outcome over devices is one over what they hold
+-- An outcome over devices is an outcome over the readers and writers that they hold.
 pub std_outcome : (gives : ReadsFile) (job : Job) (a a' b b' c c' d d' : Option (List ℕ)) (status : ℕ) → IsOutcome gives job (alone a b c d) status
     → a ≡ a' → b ≡ b' → c ≡ c' → d ≡ d' → IsOutcome gives job (alone a' b' c' d') status
 std_outcome gives job a a' b b' c c' d d' status is a_is b_is c_is d_is = rw (sym a_is, sym b_is, sym c_is, sym d_is) is
 
--- and so is a fault
+-- The same for the end of a task with a fault.
 pub std_ends : (gives : ReadsFile) (job : Job) (a a' b b' c c' d d' e e' f f' : Option (List ℕ)) (kept kept' : Type 0) (failed : Bool) (exit : TaskExit)
     → EndsTask (λ fault. IsJobFault gives job fault (alone a b c d) × (IsEarly fault → kept)) e f failed exit
     → a ≡ a' → b ≡ b' → c ≡ c' → d ≡ d' → e ≡ e' → f ≡ f' → (kept → kept')

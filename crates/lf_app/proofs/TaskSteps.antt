@@ -1,4 +1,4 @@
--- Tasks over a design that is loaded.
+-- Tasks over a loaded design.
 use Rattle.std.proofs.Common.{◌≡◌, arith, inl, inr, ℕ}
 use Rattle.lf_cli.specs.declared.parse.Task.{Task}
 use Rattle.lf_cli.specs.declared.parse.Task.TheVariants.{Demo, Replay, Serve, Check, Describe, Repair}
@@ -11,7 +11,7 @@ use Rattle.lf_app.specs.Exits.{IsOutcome}
 use Rattle.lf_task_serve.specs.Exits.{Streams}
 use Rattle.lf_task_files.specs.Faults.{IsDone, IsFailure}
 
--- the status of a fault is one of a task that was not done
+-- The status of a fault is that of a task that failed.
 pub failing : (fault : Fault) (status : ℕ) → status ≡ status_of fault → IsFailure status
 failing (Refused file refusal) status is = inl is
 failing (File file why) status is = inr is
@@ -30,14 +30,14 @@ failing (Unlisted path why) status is = inr is
 failing NoMemory status is = inl is
 failing NoRoom status is = inl is
 
--- no task is done and not done
+-- No task both succeeds and fails.
 pub not_both : (status : ℕ) → IsDone status → IsFailure status → ⊥
 not_both status (inl is) (inl fails) = omega (arith, is, fails)
 not_both status (inl is) (inr fails) = omega (arith, is, fails)
 not_both status (inr is) (inl fails) = omega (arith, is, fails)
 not_both status (inr is) (inr fails) = omega (arith, is, fails)
 
--- the status of the outcome of a job is one of a task that was done
+-- The status of the outcome of a job is that of a task that succeeded.
 pub succeeds : (gives : ReadsFile) (job : Job) (io : Streams) (status : ℕ) → IsOutcome gives job io status → IsDone status
 succeeds gives demo io status (limits, slots, is) = inl is.3
 succeeds gives (replay def lefs state number lines save export) io status (limits, slots, is) = inl is.1
@@ -46,7 +46,7 @@ succeeds gives (check def lefs state number) io status (limits, slots, is) = is.
 succeeds gives (describe def lefs state number) io status (limits, slots, is) = is.shown.2.done
 succeeds gives (repair def lefs teams legal export lines) io status (limits, slots, is) = is.repaired.judged.done
 
--- 4 is the status of a check, a description or a repair alone
+-- Only a check, a description or a repair has status 4.
 pub checked : (gives : ReadsFile) (task : Task) (io : Streams) (status : ℕ) → IsOutcome gives (as_job task) io status → status ≡ 4 → ReadsNone task
 checked gives Demo io status (limits, slots, is) four = let zero : status ≡ 0 = is.3 in absurd (omega (arith, zero, four))
 checked gives (Replay def lefs state number lines save export) io status (limits, slots, is) four =

@@ -20,36 +20,37 @@ use Rattle.lf_task_repair.specs.Exits.{IsNotRepaired, IsOpenRepaired}
 use Rattle.lf_task_files.specs.Exits.{IsOpenUndescribed, IsReported}
 use Rattle.lf_task_serve.specs.Exits.{IsServiceFault, IsUndone, IsServedDesign, Streams}
 
--- a task ends with a fault of this kind
+-- A task ends with a fault of this kind.
 abbrev pub EndsTask : (Fault → Type 0) → Option (List ℕ) → Option (List ℕ) → Bool → TaskExit → Type 0
 EndsTask why old new failed exit = (fault : Fault) × why fault × EndsWith fault old new failed exit
 
--- a job that asks for no state at the end, and for no lines of a repair: nothing is put behind the exported text
+-- A job that requests no final state and no commands of a repair: nothing is written after the
+-- exported text.
 abbrev pub AsksForNoState : Job → Type 0
 AsksForNoState (replay def lefs state slots lines save export) = save ≡ None
 AsksForNoState (serve def lefs state slots port connections save export) = save ≡ None
 AsksForNoState (repair def lefs teams legal export lines) = lines ≡ None
 AsksForNoState job = Unit {0}
 
--- a job that asks for no text to be put into a file
+-- A job that requests no text to be written to a file.
 abbrev pub AsksForNoFile : Job → Type 0
 AsksForNoFile (replay def lefs state slots lines save export) = (save ≡ None) × (export ≡ None)
 AsksForNoFile (serve def lefs state slots port connections save export) = (save ≡ None) × (export ≡ None)
 AsksForNoFile (repair def lefs teams legal export lines) = (lines ≡ None) × (export ≡ None)
 AsksForNoFile job = Unit {0}
 
--- a job that repairs nothing: nobody is told how far it is
+-- A job that repairs nothing: no progress is reported.
 abbrev pub RepairsNothing : Job → Type 0
 RepairsNothing (repair def lefs teams legal export lines) = ⊥
 RepairsNothing job = Unit {0}
 
--- a job that reads nothing of standard input
+-- A job that reads nothing from standard input.
 abbrev pub ReadsNoInput : Job → Type 0
 ReadsNoInput demo = ⊥
 ReadsNoInput (replay def lefs state slots lines save export) = ⊥
 ReadsNoInput job = Unit {0}
 
--- how many session slots each team of a job's design has
+-- The number of session slots of each team of a job's design.
 abbrev pub slots_of : Job → ℕ
 slots_of (check def lefs state slots) = slots
 slots_of (describe def lefs state slots) = slots
@@ -57,12 +58,12 @@ slots_of (replay def lefs state slots lines save export) = slots
 slots_of (serve def lefs state slots port connections save export) = slots
 slots_of _ = 8
 
--- the most lines of its input that a job answers
+-- The most lines of its input that a job answers.
 abbrev pub reads_of : Job → ℕ
 reads_of (replay def lefs state slots lines save export) = lines
 reads_of _ = most_lines
 
--- the outcome of a job that is done on a design within these limits, with this status
+-- The outcome of a job that succeeds on a design within these limits, with this status.
 abbrev pub IsOutcomeWithin : Limits → ReadsFile → Job → Streams → ℕ → Type 0
 IsOutcomeWithin limits gives demo io status =
     (loaded : Loaded) × IsTextDesign limits DEMO_DEF.now DEMO_LEF.now loaded
@@ -79,14 +80,15 @@ IsOutcomeWithin limits gives (describe def lefs state slots) io status = IsOpenD
 IsOutcomeWithin limits gives (repair def lefs teams legal export lines) io status =
     IsOpenRepaired limits gives def lefs teams legal export lines io.before io.after io.old_puts io.new_puts status
 
--- the outcome of a job that is done, with this status
+-- The outcome of a job that succeeds, with this status.
 abbrev pub IsOutcome : ReadsFile → Job → Streams → ℕ → Type 0
 IsOutcome gives job io status = (limits : Limits) × AreWithSlots (slots_of job) limits × IsOutcomeWithin limits gives job io status
 
 -- ---- faults
 
--- why a job on a design within these limits is not done: there is no design, or no floor in the state that was asked for; or there is,
--- and the lines, the service, what is put, the report, the description or the repair fails
+-- Why a job on a design within these limits fails: there is no design, or no floor in the requested
+-- state; or the lines, the service, a written file, the report, the description or the repair
+-- fails.
 abbrev pub IsJobFaultWithin : Limits → ReadsFile → Job → Fault → Streams → Type 0
 IsJobFaultWithin limits gives demo fault io =
     IsJobStop (IsTextFault limits DEMO_DEF.now DEMO_LEF.now) (IsTextDesign limits DEMO_DEF.now DEMO_LEF.now)
@@ -107,6 +109,6 @@ IsJobFaultWithin limits gives (describe def lefs state slots) fault io =
 IsJobFaultWithin limits gives (repair def lefs teams legal export lines) fault io =
     IsNotRepaired limits gives def lefs teams legal export lines io.before io.after io.old_puts io.new_puts fault
 
--- why a job is not done
+-- Why a job fails.
 abbrev pub IsJobFault : ReadsFile → Job → Fault → Streams → Type 0
 IsJobFault gives job fault io = (limits : Limits) × AreWithSlots (slots_of job) limits × IsJobFaultWithin limits gives job fault io

@@ -1,32 +1,61 @@
-//! The program: what it does for each command.
+//! Performs the program's tasks, one for each command.
 //!
-//! `perform` does a `Task` over the files and the network of a runtime. `perform_over` does it over any
-//! files that are read (`InputFiles`) and written (`Exports`), services (`PortListener`) and devices, and its contract says of each what was
-//! done. `Task`, `UsageFault`, `command_of`, `Help` and `help_of` are those of `lf_cli`; `InputFiles`, `Fault` and `TaskExit` are those of
-//! `lf_task_designs`, which reads and loads designs and tells faults; `PortListener` and `serve_lines_within` are those of `lf_task_serve`, and
-//! `Progress` is that of `lf_task_repair`.
+//! `perform` does a `Task` over the files and the network of a runtime. `perform_over` does it over
+//! any input files (`InputFiles`), output files (`OutputFiles`), services (`PortListener`) and
+//! other devices. Its contract states what was done with each of them. `Task`, `UsageFault`,
+//! `command_of`, `Help` and `help_of` come from `lf_cli`. `InputFiles`, `Fault` and `TaskExit` come
+//! from `lf_task_designs`, which reads and loads designs and reports faults. `PortListener` and
+//! `serve_lines_within` come from `lf_task_serve`, and `Progress` from `lf_task_repair`.
 //!
-//! Status 0 or 4: the task is done, and no fault is written. The design is that of the LEF texts, in the order of the words, and of
-//! the DEF text, within the standard limits but for the number of session slots, where one is asked for; a demo has the built-in
-//! texts. Demo and replay have served the lines, at most as many as asked for, to their end or a `bye`; serve has written `listening`
-//! and served that many connections, at 127.0.0.1 and that port, within 1,000,000 lines each and 4,200 reads for each line; check has
-//! written the report of all cells at their places in the DEF text, and describe the description, or both with `--state` at the
-//! working places that the state tells; repair has asked the floor commands, each of them accepted, and written a report. 4, which
-//! only these three return, says that the design is not fully legal: of repair the committed one at the end. With `--export` exactly
-//! the exported text, with the committed places of the floor at the end, was put at the path, with `--save` then the state, and with
-//! `--lines` of repair then the lines of its commands; nothing else ever is.
+//! Status 0 or 4: the task succeeded, and no fault is written. The design is that of the LEF files,
+//! in the order of the words, and of the DEF file. Its limits are the standard ones, except the
+//! number of session slots if one is given. The demo has the built-in texts. Then, depending on the
+//! task:
 //!
-//! Status 1 or 3: there is one fault (`Fault`), whose status it is. It is the first of: the files and texts, LEF before DEF; what
-//! loading finds; the saved state; a team to be repaired that is none; the paths of what is to be put; the port; how the lines, the
-//! service or the repair ended; the report or the description; what is put at the end. Its one or two lines are written to `faults`,
-//! unless that has failed (`TaskExit::is_told`). If a text, the design, a file or memory for them is the fault, nothing was written to
-//! the writer.
+//! - demo and replay have served the lines, at most the given limit, to their end or a `bye`
+//! - serve has written `listening` and served the given number of connections at 127.0.0.1 and the
+//!   given port, each within 1,000,000 lines and 4,200 reads a line
+//! - check has written the report of all cells at their places in the DEF text, or with `--state`
+//!   at their working places in the state
+//! - describe has written the description, with the same places
+//! - repair has sent commands to the floor, which accepted each of them, and has written a report
 //!
-//! Of the files and the network of a runtime contracts know nothing; so of `perform` they say nothing of texts, exports and services.
+//! Only check, describe and repair return 4, which means that the design is not fully legal; for
+//! repair it is the committed design at the end. With `--export` the exported text was written to
+//! the path: exactly the DEF text with the floor's committed places at the end. With `--save` the
+//! state was written next, and with `--lines` of repair the lines of its commands. No other file is
+//! ever written.
+//!
+//! Status 1 or 3: there is one fault (`Fault`), which determines the status. It is the first one,
+//! in this order:
+//!
+//! 1. the LEF files and their texts, then the DEF file and its text
+//! 2. loading
+//! 3. the saved state
+//! 4. a team to repair that does not exist
+//! 5. the paths of the files to write
+//! 6. the port
+//! 7. the end of the lines, the service or the repair
+//! 8. the report or the description
+//! 9. the files written at the end
+//!
+//! Its one or two lines are written to `faults`, unless that has failed (`TaskExit::is_told`). If
+//! the fault is that of a text, the design, a file or memory for them, nothing was written to the
+//! writer.
+//!
+//! Contracts know nothing of the files and the network of a runtime. The contract of `perform`
+//! therefore says nothing of texts, exports and services.
+//!
+//! Used by `lefence`.
+//!
+//! Modules, in reading order:
+//!
+//! - `tasks`: what the program does for each task
+//!
+//! From `crates/lf_tests_app/src/tasks.rt`:
 //!
 //! ```
-//! let task = command_of(rt.alloc(), &words)?;
-//! let exit = perform(rt, &task, &mut reader, &mut writer, &mut faults);
+//! let exit = perform(&rt, &Task::Demo, &mut reader, &mut written, &mut faults);
 //! ```
 #![tactic(auto)]
 

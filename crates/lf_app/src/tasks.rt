@@ -1,4 +1,4 @@
-//! What the program does for a task.
+//! What the program does for each task.
 
 ghost use Rattle.std.specs.Prelude.{◌≡◌, ◌⊎◌, false, not, ⊤, IfErr, IfOk, IsTrue, OnErr, OnOk};
 ghost use Rattle.lf_cli.specs.Command.{ReadsNone, as_job};
@@ -35,7 +35,7 @@ use std::io::{Read, Write};
 use std::net::Net;
 use std::rt::Files;
 
-/// Answers the lines of the reader over the design that the program holds.
+/// Answers the lines of the reader over the built-in design.
 fn demo<'a, R: Source, W: Sink>(
     alloc: Global,
     limits: Limits,
@@ -193,7 +193,7 @@ fn outcome_within<
     }
 }
 
-/// The session slots of each team of the task's design.
+/// Returns the session slots of each team of the task's design.
 fn slots_of(task: &Task<'_>) -> Slots
     ensures { result.number ≡ slots_of (as_job task.now) }
 {
@@ -231,19 +231,32 @@ fn outcome<'a, T: InputFiles, E: OutputFiles, V: PortListener, R: Source, W: Sin
     outcome_within(alloc, around, task, limits)
 }
 
-/// Does the task and returns how it ended: with status 0 if it is done, 1 if a text or the design was refused, a team is not one of
-/// it, or an allocation failed before the first line, for the report, for a line of a description, for a repair or its lines, for the
-/// exported text or for the state, 3 if a file, the reader, the writer, the port or a connection failed, too many lines came, or an
-/// allocation for the lines failed; 4 if a check, a description or a repair is done and the design is not fully legal. A fault is
-/// told once, here: in a line of its own, and then in a second line that names the file and its line, the path, the port or the team
-/// that is at fault, and why, where that is known.
+/// Does the task and returns how it ended. The exit status is one of:
 ///
-/// The LEF files are read in the order of the words, then the DEF file, then the design is loaded, then the saved state is read and
-/// its floor restored, then the paths of the exported text and of the state at the end are tried, then the port is listened on, up
-/// to the first fault; only then is the first line read, or the report made. A check, a description and a repair read no line, and
-/// none of them nor a service reads from the reader. After all that has ended without a fault the exported text is written, and then
-/// the state, or the lines of a repair, to `exports`: no other text ever is. What is served is the port of this machine that is asked
-/// for, and nothing else.
+/// - 0 if the task succeeded
+/// - 1 if a text or the design was refused, or a team is not in the design
+/// - 1 if an allocation failed: before the first line, for the report, a line of a description, a
+///   repair or its commands, the exported text or the state
+/// - 3 if a file, the reader, the writer, the port or a connection failed
+/// - 3 if the limit on lines was exceeded, or an allocation for the lines failed
+/// - 4 if a check, a description or a repair succeeded and the design is not fully legal
+///
+/// A fault is reported once, here. Its first line names it. A second line names the file and its
+/// line, the path, the port or the team at fault, and the reason if it is known.
+///
+/// The steps, up to the first fault:
+///
+/// 1. Read the LEF files in the order of the words, and then the DEF file.
+/// 2. Load the design.
+/// 3. Read the saved state, and restore its floor.
+/// 4. Try the paths of the exported text and of the final state.
+/// 5. Listen on the port.
+/// 6. Read the first line, or make the report.
+///
+/// A check, a description and a repair read no line, and neither they nor a service read from the
+/// reader. If there is no fault, the exported text is written at the end to `exports`, and then the
+/// state, or the commands of a repair. No other text is ever written there. Only the requested port
+/// of this machine is served.
 pub fn perform_over<
     T: InputFiles,
     E: OutputFiles,
@@ -284,7 +297,7 @@ pub fn perform_over<
     }
 }
 
-/// How a task ended, and the devices that it was given.
+/// How a task ended, and its devices.
 #[derive(Drop)]
 struct Performed<R, W, F> {
     exit: TaskExit,
@@ -293,8 +306,8 @@ struct Performed<R, W, F> {
     faults: F,
 }
 
-/// Does the task over the files and the network of a runtime and over these devices, which it gives back: what else it works on is
-/// let go here, so that `perform` has one end.
+/// Does the task over the files and the network of a runtime and over these devices, which it
+/// returns. Everything else is dropped here, so that `perform` has a single return.
 fn perform_with<T: Files + Net + AllocGlobal, R: Source + Drop, W: Sink + Drop, F: Sink + Drop>(
     rt: &T,
     task: &Task<'_>,

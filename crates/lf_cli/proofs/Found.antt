@@ -1,4 +1,4 @@
--- What the argument parser finds, as its specification says it.
+-- What the argument parser finds, as its specification defines it.
 use Rattle.std.proofs.Common.{◌≡◌, inl, inr, true, List, [], ◌∷◌, Option, Some, None, is_some, unwrap_or, option_map, refl, sym, ap, ap₂, subst, ◌∙◌}
 use Rattle.std.specs.Borrow.{Bor}
 use Rattle.std.specs.Prelude.{Box}
@@ -20,7 +20,7 @@ use Rattle.lf_cli.specs.Command.{command_line, job_found, job_of, unless_fault}
 
 -- ---- the subcommand
 
--- the name of what is found of a subcommand
+-- The name of what is found of a subcommand.
 names_found : {Z : Type 0} (found : Option (Box SubCommand Z))
     → option_map (λ b. (out-SubCommand (box_value b)).name.now) found ≡ option_map (λ p. p.0) (subcommand_rows found)
 names_found None = refl
@@ -41,7 +41,7 @@ subcommand_is m r name rows = both_found r (subcommand_rows_of m) (name ∙ name
 
 -- ---- the words
 
--- the declared command line is one of which the parser's specification speaks
+-- The parser's specification covers the declared command line.
 is_spoken : is_simple_and_free command_line ≡ true
 unfolding clap_on_literals
 is_spoken = refl
@@ -50,7 +50,7 @@ is_known : is_simple command_line ≡ true
 unfolding clap_on_literals
 is_known = refl
 
--- words in which it finds no fault
+-- The parser finds no fault in the words.
 taken_in : (app : App) (words : List Text) (m : ArgMatches) → is_simple_and_free app ≡ true → is_simple app ≡ true
     → (is_simple_and_free app ≡ true → fault_of app words ≡ []) → HasMatchesOf app words m
     → unless_fault (fault_of app words) (job_found (subcommand_of app words)) ≡ job_found (subcommand_rows_of m)
@@ -64,7 +64,7 @@ taken app words m is none has =
     subst (λ (a : App). unless_fault (fault_of a words) (job_found (subcommand_of a words)) ≡ job_found (subcommand_rows_of m))
     is (taken_in app words m (ap is_simple_and_free is ∙ is_spoken) (ap is_simple is ∙ is_known) none has)
 
--- words in which it finds one
+-- The parser finds a fault in the words.
 refused_in : (kinds : Kinds) (app : App) (words : List Text) (e : Error) → fault_of app words ≡ kinds → HasKind kinds e
     → (kind_of e ≡ OutOfMemory → ⊥)
     → unless_fault (fault_of app words) (job_found (subcommand_of app words)) ≡ None

@@ -31,7 +31,7 @@ from_true text e =
       digits_from (without_leading_plus text) parts.1,
     )
 
--- the number of a text that is one of these
+-- The number of a text that is a numeral within the bounds.
 pub number_some : (least most n : ℕ) (text : List ℕ) → IsNumeral 10 (without_leading_plus text) → n ≡ digits_value 10 (without_leading_plus text)
     → least ≤ n → n ≤ most → Some n ≡ number_in least most text
 number_some least most n text numeral is low high =
@@ -39,7 +39,7 @@ number_some least most n text numeral is low high =
     let high' : nat_le (number_of text) most ≡ true = le-leb (number_of text) most (omega (arith, is, high)) in
     rw (is_true text numeral, low', high', is) refl
 
--- what a number in the bounds says of its text
+-- If a number within the bounds is found, its text writes that number.
 pub from_number : (least most n : ℕ) (text : List ℕ) → number_in least most text ≡ Some n
     → (is_number text ≡ true) × (nat_le least (number_of text) ≡ true) × (nat_le (number_of text) most ≡ true)
 from_number least most n text e = by (is_number text) refl (nat_le least (number_of text)) refl (nat_le (number_of text) most) refl
@@ -51,7 +51,7 @@ from_number least most n text e = by (is_number text) refl (nat_le least (number
     by true is false low c high = let same : None ≡ Some n = sym (rw (is, low) refl) ∙ e in absurd (false≢true (ap is_some same))
     by true is true low false high = let same : None ≡ Some n = sym (rw (is, low, high) refl) ∙ e in absurd (false≢true (ap is_some same))
 
--- a text that is no number, or too large a one
+-- A text that is no number, or whose number is too large.
 pub number_none : (least most k : ℕ) (text : List ℕ) → ¬ (IsNumeral 10 (without_leading_plus text) × (digits_value 10 (without_leading_plus text) < 2 ^ k))
     → most < 2 ^ k → None ≡ number_in least most text
 number_none least most k text not_read fits = by (number_in least most text) refl
@@ -63,7 +63,7 @@ number_none least most k text not_read fits = by (number_in least most text) ref
         let high : number_of text ≤ most = leb-true (number_of text) most said.2 in
         absurd (not_read (from_true text said.0, omega (arith, high, fits)))
 
--- a number out of the bounds
+-- A number out of the bounds.
 pub number_out : (least most n : ℕ) (text : List ℕ) → n ≡ digits_value 10 (without_leading_plus text) → (n < least) ⊎ (most < n)
     → None ≡ number_in least most text
 number_out least most n text is out = by (number_in least most text) refl out

@@ -1,4 +1,4 @@
--- The command line as it is declared to the argument parser, and the jobs that its words name.
+-- The command line as declared to the argument parser, and the jobs that its words name.
 use Rattle.std.specs.Prelude.{◌&&◌, ◌||◌, ℕ, Bool, true, false, List, [], ◌∷◌, fold, length, map, nat_le, nat_lt, position, slice_get, Option, Some, None}
 use Rattle.std.specs.Prelude.{is_some, option_map, option_and_then, unwrap_or, bytes_eq, codes, if◌then◌else◌}
 use Rattle.std.specs.Char.{digit_value}
@@ -21,7 +21,7 @@ use Rattle.lf_cli.specs.declared.subcommand.Subcommand.TheVariants.{Demo, Check,
 
 -- ---- the subcommands
 
--- the word of a subcommand
+-- The word of a subcommand.
 abbrev pub word_of : Subcommand → Text
 word_of Demo = codes "demo"
 word_of Check = codes "check"
@@ -30,21 +30,21 @@ word_of Replay = codes "replay"
 word_of Serve = codes "serve"
 word_of Repair = codes "repair"
 
--- all of them, in the order in which they are listed
+-- All subcommands, in the order in which they are listed.
 abbrev pub subcommands : List Subcommand
 subcommands = Demo ∷ Check ∷ Describe ∷ Replay ∷ Serve ∷ Repair ∷ []
 
--- the subcommand of that word
+-- The subcommand of this word.
 abbrev pub subcommand_named : Text → Option Subcommand
 subcommand_named word = option_and_then (slice_get subcommands) (position (λ chosen. bytes_eq (word_of chosen) word) subcommands)
 
--- ---- what is declared
+-- ---- declarations
 
--- the path of the DEF text
+-- The path of the DEF file.
 abbrev pub def_rule : Rule
 def_rule = record (new_rule (codes "def")) { required = true }
 
--- the paths of the LEF texts, one at least
+-- The paths of the LEF files, at least one.
 abbrev pub lef_rule : Rule
 lef_rule = record (new_rule (codes "lef")) {
   required = true;
@@ -52,35 +52,35 @@ lef_rule = record (new_rule (codes "lef")) {
   action = Some Append;
 }
 
--- an option whose value is a text: it stands once at most
+-- An option whose value is a text, given at most once.
 abbrev pub text_rule : Text → Rule
 text_rule name = record (new_rule name) { long = Some name }
 
--- an option whose value is a text: it may stand more than once
+-- An option whose value is a text, which may be repeated.
 abbrev pub repeated_rule : Text → Rule
 repeated_rule name = record (text_rule name) { action = Some Append }
 
--- an option whose value is a number up to this one, and 1 at least
+-- An option whose value is a number from 1 to `most`.
 abbrev pub number_rule : Text → ℕ → Rule
 number_rule name most = record (text_rule name) { parser = Some (parser.Unsigned 1 most) }
 
--- an option without a value
+-- An option without a value.
 abbrev pub flag_rule : Text → Rule
 flag_rule name = record (text_rule name) { action = Some SetTrue }
 
--- the option may not be left out
+-- The option is required.
 abbrev pub needed : Rule → Rule
 needed rule = record rule { required = true }
 
--- a subcommand of that name, whose words are the paths of a design and these options
+-- A subcommand of this name that takes the paths of a design and these options.
 abbrev pub design_line : Text → List Rule → App
 design_line name options = fold with_rule (new_app name) (def_rule ∷ lef_rule ∷ options)
 
--- the number of session slots of each team
+-- The number of session slots of each team.
 abbrev pub slots_rule : Rule
 slots_rule = number_rule (codes "sessions") 64
 
--- the words that a subcommand takes
+-- The words that a subcommand takes.
 abbrev pub line_of : Subcommand → App
 line_of Demo = new_app (word_of Demo)
 line_of Check = design_line (word_of Check) (text_rule (codes "state") ∷ slots_rule ∷ [])
@@ -95,51 +95,53 @@ line_of Repair = design_line (word_of Repair)
     (repeated_rule (codes "team") ∷ flag_rule (codes "keep") ∷ flag_rule (codes "all")
     ∷ text_rule (codes "export") ∷ text_rule (codes "lines") ∷ [])
 
--- the program with one subcommand more
+-- The program with one more subcommand.
 abbrev pub with_line : App → Subcommand → App
 with_line app chosen = with_subcommand app (line_of chosen).top
 
--- the program with its subcommands
+-- The program with its subcommands.
 abbrev pub command_line : App
 command_line = fold with_line (new_app (codes "lefence")) subcommands
 
 -- ---- jobs
 
--- what a command line asks for, with the paths as they are written: of the DEF text and of the LEF texts in order; then, of all but
--- repair, of the saved state, and the number of session slots of each team; then of each what its comment says
+-- What a command line requests. The paths are as written: first those of the DEF file and of the
+-- LEF files in order. All jobs except repair then have the path of the saved state and the number
+-- of session slots of each team. The comments list the further fields.
 pub data Job : Type 0 where
   demo : Job
   check : Text → List Text → Option Text → ℕ → Job
   describe : Text → List Text → Option Text → ℕ → Job
-  -- the most lines that are answered; the paths of the state and of the text that are written
+  -- The most lines that are answered; the paths of the state and of the DEF file to write.
   replay : Text → List Text → Option Text → ℕ → ℕ → Option Text → Option Text → Job
-  -- the port and the number of connections; the paths of the state and of the text that are written
+  -- The port and the number of connections; the paths of the state and of the DEF file to write.
   serve : Text → List Text → Option Text → ℕ → ℕ → ℕ → Option Text → Option Text → Job
-  -- the teams, all of them if none is named; what may be done with legal cells; the paths of the text and of the lines
+  -- The teams, or all if the list is empty; what may be done with legal cells; the paths of the DEF
+  -- file and of the command lines.
   repair : Text → List Text → List Text → LegalCells → Option Text → Option Text → Job
 
 -- ---- the files of a job
 
--- both paths are given, and they are the same
+-- True if both paths are given and are the same.
 abbrev pub is_same : Option Text → Option Text → Bool
 is_same (Some one) (Some other) = bytes_eq one other
 is_same _ _ = false
 
--- the path is given, and is one of these
+-- True if the path is given and is one of `paths`.
 abbrev pub is_among : Option Text → List Text → Bool
 is_among None paths = false
 is_among (Some path) paths = list_any (bytes_eq path) paths
 
--- of a job that reads a DEF text, LEF texts and a state, and that saves and exports: the option, of which the one that saves is given,
--- whose text would take the place of one that the job reads, or of the other that it writes. The exported text may replace the DEF
--- text that it was read from, and the saved state the state that was read. Paths are compared as they are written: other spellings of
--- a path, and links, are not seen
+-- The option whose file would replace one that the job reads, or the other file that it writes.
+-- `saves` is the option that saves. The exported text may replace the DEF file, and the saved state
+-- may replace the state that was read. Paths are compared as written: other spellings of a path,
+-- and links, are not recognized.
 abbrev pub clash_among : Text → Text → List Text → Option Text → Option Text → Option Text → Option Text
 clash_among saves def lefs state save export =
     if is_same save (Some def) || is_among save lefs then Some saves
     else if is_same export state || (is_same export save || is_among export lefs) then Some (codes "export") else None
 
--- the option of a job whose text would take the place of another of its texts
+-- The option of a job whose file would replace another of its files.
 abbrev pub clash_of : Job → Option Text
 clash_of (replay def lefs state slots lines save export) = clash_among (codes "save") def lefs state save export
 clash_of (serve def lefs state slots port connections save export) = clash_among (codes "save") def lefs state save export
@@ -148,51 +150,51 @@ clash_of _ = None
 
 -- ---- numbers
 
--- the text is a number: digits, one at least, which may follow '+' and begin with zeros
+-- True if the text is a number: at least one digit, after an optional '+'. It may begin with zeros.
 abbrev pub is_number : Text → Bool
 is_number text = nat_lt 0 (length (without_leading_plus text)) && list_all (λ digit. nat_lt (digit_value digit) 10) (without_leading_plus text)
 
--- the number that the digits of a text write
+-- The number that the digits of a text write.
 abbrev pub number_of : Text → ℕ
 number_of text = digits_value 10 (without_leading_plus text)
 
--- the number that the text writes; none if it is not in this range
+-- The number that the text writes, or `None` if it is out of this range.
 abbrev pub number_in : ℕ → ℕ → Text → Option ℕ
 number_in least most text =
     if is_number text && (nat_le least (number_of text) && nat_le (number_of text) most) then Some (number_of text) else None
 
 -- ---- what the parser finds of a subcommand's arguments
 
--- the values of an argument, in order
+-- The values of an argument, in order.
 abbrev pub values_of : Text → List Row → List Text
 values_of name rows = unwrap_or (all_of name rows) []
 
--- the option without a value stands among the words
+-- True if the option without a value is among the words.
 abbrev pub is_set : Text → List Row → Bool
 is_set name rows = option_map_or (λ text. bytes_eq text (codes "true")) (first_of name rows) false
 
--- the most lines that are answered: a million if none is asked for
+-- The most lines that are answered: a million by default.
 abbrev pub most_lines : Option Text → Option ℕ
 most_lines None = Some 1000000
 most_lines (Some text) = number_in 1 4294967295 text
 
--- the number of session slots of each team: 8 if none is asked for
+-- The number of session slots of each team: 8 by default.
 abbrev pub slots_asked : Option Text → Option ℕ
 slots_asked None = Some 8
 slots_asked (Some text) = number_in 1 64 text
 
--- the number of session slots that is asked for among the words
+-- The number of session slots that the words request.
 abbrev pub slots_among : List Row → Option ℕ
 slots_among rows = slots_asked (first_of (codes "sessions") rows)
 
--- the port and the number of connections of a service: both are needed
+-- The port and the number of connections of a service. Both are required.
 abbrev pub service_of : List Row → Option (ℕ × ℕ)
 service_of rows =
     option_and_then (λ port. option_map (λ connections. (port, connections))
     (option_and_then (number_in 1 1000000) (first_of (codes "connections") rows)))
     (option_and_then (number_in 1 65535) (first_of (codes "port") rows))
 
--- what '--keep' and '--all' say of legal cells: one of them at most may stand
+-- What '--keep' and '--all' mean for legal cells. At most one of them may be given.
 abbrev pub legal_cells : Bool → Bool → Option LegalCells
 legal_cells false false = Some MoveAsNeeded
 legal_cells true false = Some Stay
@@ -201,7 +203,7 @@ legal_cells true true = None
 
 -- ---- what the words name
 
--- the job of a subcommand on these paths
+-- The job of a subcommand on these paths.
 abbrev pub job_on : Subcommand → Text → List Text → List Row → Option Job
 job_on Demo def lefs rows = Some demo
 job_on Check def lefs rows = option_map (λ slots. check def lefs (first_of (codes "state") rows) slots) (slots_among rows)
@@ -220,45 +222,46 @@ job_on Repair def lefs rows = option_map
     (λ legal. repair def lefs (values_of (codes "team") rows) legal (first_of (codes "export") rows) (first_of (codes "lines") rows))
     (legal_cells (is_set (codes "keep") rows) (is_set (codes "all") rows))
 
--- a subcommand takes the path of a DEF text and one path at least of a LEF text
+-- The job of a subcommand that takes the path of a DEF file and at least one path of a LEF file.
 abbrev pub job_over : Subcommand → Option Text → List Text → List Row → Option Job
 job_over chosen None lefs rows = None
 job_over chosen (Some def) [] rows = None
 job_over chosen (Some def) (lef ∷ lefs) rows = job_on chosen def (lef ∷ lefs) rows
 
--- the subcommand has no design
+-- True if the subcommand has no design.
 abbrev pub is_demo : Subcommand → Bool
 is_demo Demo = true
 is_demo _ = false
 
--- the job of a subcommand of which this was found
+-- The job of a subcommand for which this was found.
 abbrev pub job_by : Subcommand → List Row → Option Job
 job_by chosen rows = if is_demo chosen then Some demo else job_over chosen (first_of (codes "def") rows) (values_of (codes "lef") rows) rows
 
--- what is asked for where the parser finds this subcommand; where it finds none it is the demo
+-- The job that is requested if the parser finds this subcommand. If it finds no subcommand, the job
+-- is the demo.
 abbrev pub job_asked : Option (Text × List Row) → Option Job
 job_asked None = Some demo
 job_asked (Some (word, rows)) = option_and_then (λ chosen. job_by chosen rows) (subcommand_named word)
 
--- the job, where no option of it writes over another of its texts
+-- The job, or `None` if one of its options overwrites another of its files.
 abbrev pub unless_clash : Job → Option Job
 unless_clash job = if is_some (clash_of job) then None else Some job
 
--- the job where the parser finds this subcommand
+-- The job if the parser finds this subcommand.
 abbrev pub job_found : Option (Text × List Row) → Option Job
 job_found found = option_and_then unless_clash (job_asked found)
 
--- the job, if the parser finds no fault
+-- The job, if the parser finds no fault.
 abbrev pub unless_fault : Kinds → Option Job → Option Job
 unless_fault [] job = job
 unless_fault (kind ∷ kinds) job = None
 
--- the job of a command line, of which the first word is the program's name: by what the parser's own specification finds in
--- the words
+-- The job of a command line, by what the parser's own specification finds in the words. The first
+-- word is the program's name.
 abbrev pub job_of : List Text → Option Job
 job_of words = unless_fault (fault_of command_line words) (job_found (subcommand_of command_line words))
 
--- the job that a task does
+-- The job that a task does.
 abbrev pub as_job : Task → Job
 as_job task.Demo = demo
 as_job (task.Check def lefs state slots) = check def.now (map (λ lef. lef.now) lefs) (option_map (λ path. path.now) state) slots.number
@@ -272,7 +275,7 @@ as_job (task.Serve def lefs state slots port connections save export) =
 as_job (task.Repair def lefs teams legal export lines) = repair def.now (map (λ lef. lef.now) lefs) (map (λ team. team.now) teams)
     legal (option_map (λ path. path.now) export) (option_map (λ path. path.now) lines)
 
--- the task reads no line
+-- Holds if the task reads no line.
 abbrev pub ReadsNone : Task → Type 0
 ReadsNone task.Demo = ⊥
 ReadsNone (task.Replay def lefs state slots lines save export) = ⊥

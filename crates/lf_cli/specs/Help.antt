@@ -1,10 +1,11 @@
--- Words that ask what the program can be asked.
+-- Requests for help and for the version.
 use Rattle.std.specs.Prelude.{ℕ, List, [], ◌∷◌, Option, Some, None, option_map, bytes_eq, codes, if◌then◌else◌}
 use Rattle.lf_cli.specs.Command.{subcommand_named}
 use Rattle.lf_cli.specs.declared.help.Help.{Help}
 use Rattle.lf_cli.specs.declared.help.Help.TheVariants.{Program, Version, Of}
 
--- what the words ask to be told: behind the program's name '--help' or '--version' stands alone, or a subcommand and '--help'
+-- The help that the words request. The program's name is followed by '--help' or '--version' alone,
+-- or by a subcommand and '--help'.
 abbrev pub help_asked : List (List ℕ) → Option Help
 help_asked (name ∷ word ∷ []) =
     if bytes_eq word (codes "--help") then Some Program

@@ -1,22 +1,22 @@
-//! Words that ask what the program can be asked.
+//! Requests for help and for the version.
 
 ghost use Rattle.std.specs.Prelude.{◌≡◌, ◌∷◌, [], map};
 ghost use Rattle.lf_cli.specs.Help.{help_asked};
 
 use crate::subcommand::{Subcommand, subcommand_named};
 
-/// What the words ask to be shown.
+/// The help that the words request.
 #[derive(Clone, Copy, Debug, PartialEq, Eq)]
 pub enum Help {
-    /// What the program can be asked.
+    /// The help of the program.
     Program,
-    /// Its version.
+    /// The version of the program.
     Version,
-    /// What a subcommand does.
+    /// The help of a subcommand.
     Of(Subcommand),
 }
 
-/// What the one word behind the program's name asks to be shown.
+/// Returns the help that the only word after the program's name requests.
 fn program_topic(word: &str) -> Option<Help>
     ensures { result ≡ help_asked ([] ∷ word.now ∷ []) }
 {
@@ -27,7 +27,7 @@ fn program_topic(word: &str) -> Option<Help>
     }
 }
 
-/// What the two words behind the program's name ask to be shown.
+/// Returns the help that the two words after the program's name request.
 fn subcommand_topic(subcommand: &str, word: &str) -> Option<Help>
     ensures { result ≡ help_asked ([] ∷ subcommand.now ∷ word.now ∷ []) }
 {
@@ -37,8 +37,8 @@ fn subcommand_topic(subcommand: &str, word: &str) -> Option<Help>
     None
 }
 
-/// What the words ask to be shown, of which the first is the program's name: it is followed by `--help` or `--version` alone,
-/// or by a subcommand and `--help`. None for all other words.
+/// Returns the help that the words request. The first word is the program's name. It is followed by
+/// `--help` or `--version` alone, or by a subcommand and `--help`. `None` for all other words.
 pub fn help_of(words: &[&str]) -> Option<Help>
     ensures { result ≡ help_asked (map (λ word. word.now) words.now) }
 {

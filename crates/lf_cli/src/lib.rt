@@ -1,13 +1,25 @@
-//! The words of the command line: the task that they name, or what they ask to be shown.
+//! Parses the words of the command line: the task that they name, or the help that they request.
 //!
-//! The first word is the program's name. `lefence` alone and `lefence demo` are the demo; the other subcommands take the path of a
-//! DEF text, then those of one LEF text or more, and their options. Paths are taken as they are written, and no file is looked at.
-//! Which task words name is said by a definition (`job_of`): what `clap`, by its own specification, finds in them of the command
-//! line that is declared (`command_line`).
+//! The first word is the program's name. `lefence` alone and `lefence demo` are the demo. The other
+//! subcommands take the path of a DEF file, then the paths of one or more LEF files, and their
+//! options. Paths are taken as written, and no file is opened. A definition (`job_of`) specifies
+//! which task words name. It is based on what `clap`, by its own specification, finds in the words
+//! for the declared command line (`command_line`).
+//!
+//! Used by `lf_task_designs`, `lf_task_repair` and `lf_app`.
+//!
+//! Modules, in reading order:
+//!
+//! - `session_slots`: the number of session slots of a team
+//! - `subcommand`: the subcommands and their options, as declared to `clap`
+//! - `parse`: the task that the words name, and messages about wrong words
+//! - `help`: requests for help and for the version
+//!
+//! From `crates/lf_tests_protocol/src/words.rt`:
 //!
 //! ```
-//! let words = ["lefence", "replay", "design.def", "cells.lef", "--lines", "10"];
-//! let task = command_of(alloc, &words)?;
+//! let words = words_of(alloc, line)?;
+//! Ok(is_named(&command_of(alloc, words.as_slice()), named))
 //! ```
 #![tactic(auto)]
 

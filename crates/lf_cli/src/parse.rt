@@ -18,24 +18,25 @@ use lf_units::Sequence;
 use std::alloc::{AllocError, Global};
 use thiserror::Error;
 
-/// The most lines that are answered if none is asked for.
+/// The most lines that are answered if the option is absent.
 const USUAL_LINES: u32 = 1_000_000;
 
 /// The highest port.
 const MOST_PORT: u32 = 65_535;
 
-/// What a repair does with cells that stand legally.
+/// What a repair does with legal cells.
 #[derive(Clone, Copy, Debug, PartialEq, Eq)]
 pub enum LegalCells {
-    /// They may move, but only where a cell would have no place or would go far.
+    /// They move only if a cell would otherwise have no place or a large displacement.
     MoveAsNeeded,
     /// They stay.
     Stay,
-    /// They move wherever that makes the whole way shorter.
+    /// They move if that makes the total displacement smaller.
     Move,
 }
 
-/// What the program is to do. A design is given by the path of a DEF text and by those of LEF texts, one at least, in order.
+/// What the program is to do. A design is given by the path of a DEF file and by the paths of one
+/// or more LEF files, in order.
 #[derive(Drop)]
 pub enum Task<'a> {
     /// Answers the lines of standard input over the built-in design.
@@ -44,7 +45,7 @@ pub enum Task<'a> {
     Check {
         def: &'a str,
         lefs: Sequence<&'a str>,
-        /// The path of the saved state that tells where the cells stand, if one does.
+        /// The path of the saved state that has the cells' places, if any.
         state: Option<&'a str>,
         slots: Slots,
     },
@@ -52,7 +53,7 @@ pub enum Task<'a> {
     Describe {
         def: &'a str,
         lefs: Sequence<&'a str>,
-        /// The path of the saved state that tells where the cells stand, if one does.
+        /// The path of the saved state that has the cells' places, if any.
         state: Option<&'a str>,
         slots: Slots,
     },
@@ -60,42 +61,43 @@ pub enum Task<'a> {
     Replay {
         def: &'a str,
         lefs: Sequence<&'a str>,
-        /// The path of the saved state that is gone on from, if one is.
+        /// The path of the saved state from which to continue, if any.
         state: Option<&'a str>,
         slots: Slots,
-        /// The most lines that are answered: from 1 to 4,294,967,295; 1,000,000 if none is asked for.
+        /// The most lines that are answered: from 1 to 4,294,967,295; 1,000,000 by default.
         lines: u32,
-        /// The path that the state at the end is saved to, if that is asked for.
+        /// The path to which the final state is saved, if any.
         save: Option<&'a str>,
-        /// The path of the exported text, if one is asked for.
+        /// The path of the exported DEF file, if any.
         export: Option<&'a str>,
     },
     /// Answers the lines of connections over a design.
     Serve {
         def: &'a str,
         lefs: Sequence<&'a str>,
-        /// The path of the saved state that is gone on from, if one is.
+        /// The path of the saved state from which to continue, if any.
         state: Option<&'a str>,
         slots: Slots,
-        /// The port to listen on: 1 at least.
+        /// The port to listen on: at least 1.
         port: u16,
         /// The number of connections to serve: from 1 to 1,000,000.
         connections: u32,
-        /// The path that the state at the end is saved to, if that is asked for.
+        /// The path to which the final state is saved, if any.
         save: Option<&'a str>,
-        /// The path of the exported text, if one is asked for.
+        /// The path of the exported DEF file, if any.
         export: Option<&'a str>,
     },
     /// Gives the cells of a design legal places.
     Repair {
         def: &'a str,
         lefs: Sequence<&'a str>,
-        /// The names of the teams whose cells are repaired, in order; all teams are if there is none.
+        /// The names of the teams whose cells are repaired, in order. If empty, all teams are
+        /// repaired.
         teams: Sequence<&'a str>,
         legal: LegalCells,
-        /// The path of the exported text, if one is asked for.
+        /// The path of the exported DEF file, if any.
         export: Option<&'a str>,
-        /// The path of the lines of commands that do the repair, if they are asked for.
+        /// The path of the file for the commands of the repair, if any.
         lines: Option<&'a str>,
     },
 }
@@ -103,7 +105,8 @@ pub enum Task<'a> {
 /// Why the words name no task.
 #[derive(Clone, Copy, Debug, PartialEq, Eq, Drop, Error)]
 pub enum UsageFault {
-    /// They are no command of the program: it comes only where the words name no task by the definition.
+    /// They are not a command of the program. Returned only if the words name no task by the
+    /// definition.
     #[error("usage")]
     Usage,
     /// An allocation failed.
@@ -111,7 +114,7 @@ pub enum UsageFault {
     OutOfMemory,
 }
 
-/// The number that the text writes: from 1 to this one.
+/// Returns the number that the text writes, or `None` if it is not from 1 to `most`.
 #[tactic(auto, using(crate::proofs::Numbers::number_none, crate::proofs::Numbers::number_some, crate::proofs::Numbers::number_out))]
 fn number_in(text: &str, most: u32) -> Option<u32>
     ensures number { result ≡ number_in 1 most text.now }
@@ -130,7 +133,7 @@ fn number_in(text: &str, most: u32) -> Option<u32>
     Some(number)
 }
 
-/// The port that the text writes.
+/// Returns the port that the text writes, or `None` if it is not from 1 to 65535.
 fn port_in(text: &str) -> Option<u16>
     ensures { result ≡ number_in 1 65535 text.now }
 {
@@ -138,7 +141,7 @@ fn port_in(text: &str) -> Option<u16>
     Some(number as u16)
 }
 
-/// The session slots that the text writes.
+/// Returns the session slots that the text writes, or `None` if they are not from 1 to 64.
 fn slots_in(text: &str) -> Option<Slots>
     ensures { option_map (λ slots. slots.number) result ≡ number_in 1 64 text.now }
 {
@@ -146,21 +149,21 @@ fn slots_in(text: &str) -> Option<Slots>
     Some(Slots { number })
 }
 
-/// The first value of the argument of that name.
+/// Returns the first value of the argument of this name.
 fn value_of<'a>(matches: &ArgMatches<'a>, name: &str) -> Option<&'a str>
     ensures { option_map (λ text. text.now) result ≡ first_of name.now (rows_of (found_of matches.now)) }
 {
     matches.get_str(name)
 }
 
-/// The values of the argument of that name, in order, if there are any.
+/// Returns the values of the argument of this name, in order, or `None` if it has no value.
 fn all_of<'m, 'a>(matches: &'m ArgMatches<'a>, name: &str) -> Option<&'m [&'a str]>
     ensures { option_map (λ texts. map (λ text. text.now) texts.now) result ≡ all_of name.now (rows_of (found_of matches.now)) }
 {
     matches.get_strs(name)
 }
 
-/// The values of the argument of that name, in order.
+/// Copies the values of the argument of this name, in order.
 fn values_of<'a>(
     alloc: Global,
     matches: &ArgMatches<'a>,
@@ -174,7 +177,7 @@ fn values_of<'a>(
     }
 }
 
-/// Whether the option of that name, which has no value, stands among the words.
+/// Returns whether the option of this name, which has no value, is among the words.
 fn is_set(matches: &ArgMatches<'_>, name: &str) -> bool
     ensures { result ≡ is_set name.now (rows_of (found_of matches.now)) }
 {
@@ -184,7 +187,7 @@ fn is_set(matches: &ArgMatches<'_>, name: &str) -> bool
     }
 }
 
-/// The most lines that are answered.
+/// Returns the most lines to answer, or `None` if the option's value is wrong.
 fn most_lines(matches: &ArgMatches<'_>) -> Option<u32>
     ensures { result ≡ most_lines (first_of (codes "lines") (rows_of (found_of matches.now))) }
 {
@@ -194,7 +197,7 @@ fn most_lines(matches: &ArgMatches<'_>) -> Option<u32>
     }
 }
 
-/// The session slots of each team.
+/// Returns the session slots of each team, or `None` if the option's value is wrong.
 fn slots_of(matches: &ArgMatches<'_>) -> Option<Slots>
     ensures { option_map (λ slots. slots.number) result ≡ slots_among (rows_of (found_of matches.now)) }
 {
@@ -204,7 +207,7 @@ fn slots_of(matches: &ArgMatches<'_>) -> Option<Slots>
     }
 }
 
-/// The port and the number of connections of a service.
+/// Returns the port and the number of connections of a service. `None` if one is missing or wrong.
 fn service_of(matches: &ArgMatches<'_>) -> Option<(u16, u32)>
     ensures { result ≡ service_of (rows_of (found_of matches.now)) }
 {
@@ -213,7 +216,7 @@ fn service_of(matches: &ArgMatches<'_>) -> Option<(u16, u32)>
     Some((port, connections))
 }
 
-/// What `--keep` and `--all` say of legal cells: one of them at most may stand.
+/// Returns what `--keep` and `--all` mean for legal cells, or `None` if both are given.
 fn legal_cells(keep: bool, all: bool) -> Option<LegalCells>
     ensures { result ≡ legal_cells keep all }
 {
@@ -225,7 +228,7 @@ fn legal_cells(keep: bool, all: bool) -> Option<LegalCells>
     }
 }
 
-/// The task of a check on these paths.
+/// Makes the task of a check on these paths.
 fn check_on<'a>(def: &'a str, lefs: Sequence<&'a str>, matches: &ArgMatches<'a>) -> Option<Task<'a>>
     ensures { option_map as_job result ≡ job_on Check def.now (map (λ lef. lef.now) lefs.entry) (rows_of (found_of matches.now)) }
 {
@@ -239,7 +242,7 @@ fn check_on<'a>(def: &'a str, lefs: Sequence<&'a str>, matches: &ArgMatches<'a>)
     })
 }
 
-/// The task of a description on these paths.
+/// Makes the task of a description on these paths.
 fn describe_on<'a>(
     def: &'a str,
     lefs: Sequence<&'a str>,
@@ -257,7 +260,7 @@ fn describe_on<'a>(
     })
 }
 
-/// The task of a replay on these paths.
+/// Makes the task of a replay on these paths.
 fn replay_on<'a>(
     def: &'a str,
     lefs: Sequence<&'a str>,
@@ -278,7 +281,7 @@ fn replay_on<'a>(
     })
 }
 
-/// The task of a service on these paths.
+/// Makes the task of a service on these paths.
 fn serve_on<'a>(def: &'a str, lefs: Sequence<&'a str>, matches: &ArgMatches<'a>) -> Option<Task<'a>>
     ensures { option_map as_job result ≡ job_on Serve def.now (map (λ lef. lef.now) lefs.entry) (rows_of (found_of matches.now)) }
 {
@@ -296,7 +299,7 @@ fn serve_on<'a>(def: &'a str, lefs: Sequence<&'a str>, matches: &ArgMatches<'a>)
     })
 }
 
-/// The task of a repair on these paths.
+/// Makes the task of a repair on these paths.
 fn repair_on<'a>(
     alloc: Global,
     def: &'a str,
@@ -322,7 +325,7 @@ fn repair_on<'a>(
     }
 }
 
-/// The task of a subcommand on these paths.
+/// Makes the task of a subcommand on these paths.
 fn task_on<'a>(
     alloc: Global,
     chosen: Subcommand,
@@ -343,14 +346,14 @@ fn task_on<'a>(
     }
 }
 
-/// Whether the subcommand has no design.
+/// Returns whether the subcommand has no design.
 fn is_demo(chosen: Subcommand) -> bool
     ensures { result ≡ is_demo chosen }
 {
     matches!(chosen, Subcommand::Demo)
 }
 
-/// The task of a subcommand of which `clap` found this.
+/// Makes the task of a subcommand from what `clap` found of it.
 fn task_over<'a>(
     alloc: Global,
     chosen: Subcommand,
@@ -375,14 +378,14 @@ fn task_over<'a>(
     }
 }
 
-/// The subcommand that `clap` found, with what it found of it.
+/// Returns the subcommand that `clap` found, with what it found of its arguments.
 fn subcommand_found<'m, 'a>(matches: &'m ArgMatches<'a>) -> Option<(&'a str, &'m ArgMatches<'a>)>
     ensures { option_map (λ found. (found.0.now, rows_of (found_of found.1.now))) result ≡ subcommand_rows_of matches.now }
 {
     matches.subcommand()
 }
 
-/// The task that is asked for by what `clap` found.
+/// Makes the task from what `clap` found.
 fn task_from<'a>(alloc: Global, matches: &ArgMatches<'a>) -> Result<Option<Task<'a>>, AllocError>
     ensures { IfOk result (λ task. option_map as_job task ≡ job_asked (subcommand_rows_of matches.now)) }
 {
@@ -395,7 +398,7 @@ fn task_from<'a>(alloc: Global, matches: &ArgMatches<'a>) -> Result<Option<Task<
     }
 }
 
-/// Whether both paths are given, and are the same.
+/// Returns whether both paths are given and are the same.
 fn is_same(one: Option<&str>, other: Option<&str>) -> bool
     ensures { result ≡ is_same (option_map (λ path. path.now) one.entry) (option_map (λ path. path.now) other.entry) }
 {
@@ -405,14 +408,14 @@ fn is_same(one: Option<&str>, other: Option<&str>) -> bool
     }
 }
 
-/// Whether the path is one of these.
+/// Returns whether the path is one of `paths`.
 fn is_listed(path: &str, paths: &[&str]) -> bool
     ensures { result ≡ list_any (λ other. bytes_eq path.now other.now) paths.now }
 {
     paths.iter().any(|other| path == *other)
 }
 
-/// Whether the path is given, and is one of these.
+/// Returns whether the path is given and is one of `paths`.
 fn is_among(path: Option<&str>, paths: &[&str]) -> bool
     ensures { result ≡ is_among (option_map (λ path. path.now) path.entry) (map (λ other. other.now) paths.now) }
 {
@@ -422,7 +425,8 @@ fn is_among(path: Option<&str>, paths: &[&str]) -> bool
     }
 }
 
-/// The option whose text would take the place of another of these: the one of that name, which saves, or that of an export.
+/// Returns the option whose file would replace another file of the task, or `None`. `saves` is the
+/// name of the option that saves; the other option is `export`.
 fn clash_among(
     saves: &'static str,
     def: &str,
@@ -443,7 +447,8 @@ fn clash_among(
     None
 }
 
-/// The option whose text would take the place of another text of the task, in time linear in the number of LEF texts.
+/// Returns the option whose file would replace another file of the task, or `None`. Takes time
+/// linear in the number of LEF files.
 fn clash_of(task: &Task<'_>) -> Option<&'static str>
     ensures { option_map (λ word. word.now) result ≡ clash_of (as_job task.now) }
 {
@@ -475,7 +480,7 @@ fn clash_of(task: &Task<'_>) -> Option<&'static str>
     }
 }
 
-/// The task, where no option of it writes over another of its texts.
+/// Returns the task, or `None` if one of its options would overwrite another of its files.
 fn unless_clash<'a>(task: Task<'a>) -> Option<Task<'a>>
     ensures { option_map as_job result ≡ unless_clash (as_job task.entry) }
 {
@@ -485,7 +490,7 @@ fn unless_clash<'a>(task: Task<'a>) -> Option<Task<'a>>
     Some(task)
 }
 
-/// The task of what `clap` found.
+/// Makes the task from what `clap` found, if its files do not clash.
 fn task_of<'a>(alloc: Global, matches: &ArgMatches<'a>) -> Result<Option<Task<'a>>, AllocError>
     ensures { IfOk result (λ task. option_map as_job task ≡ job_found (subcommand_rows_of matches.now)) }
 {
@@ -496,7 +501,7 @@ fn task_of<'a>(alloc: Global, matches: &ArgMatches<'a>) -> Result<Option<Task<'a
     }
 }
 
-/// What `clap` finds in the words.
+/// Returns what `clap` finds in the words.
 fn matches_of<'a>(alloc: Global, words: &'a [&'a str]) -> Result<ArgMatches<'a>, UsageFault>
     ensures ok { IfOk result (λ matches. job_of (map (λ word. word.now) words.now) ≡ job_found (subcommand_rows_of matches)) }
     ensures err { IfErr result (λ fault. fault ≡ Usage → job_of (map (λ word. word.now) words.now) ≡ None) }
@@ -511,21 +516,30 @@ fn matches_of<'a>(alloc: Global, words: &'a [&'a str]) -> Result<ArgMatches<'a>,
     }
 }
 
-/// The task that the words name; the first word is the program's name, and that name alone is the
-/// demo.
+/// Returns the task that the words name. The first word is the program's name, which alone means
+/// the demo.
 ///
-/// The others take the path of a DEF text, then of one LEF text or more. `serve` needs `--port P`, from 1 to 65535, and
-/// `--connections N`, from 1 to 1,000,000; `replay` may have `--lines N`, from 1 to 4,294,967,295; both may have
-/// `--save FILE` and `--export FILE`, and they, `check` and `describe` may have `--state FILE` and `--sessions N`, from 1 to 64.
-/// `repair` may have `--export FILE`, `--lines FILE`, `--keep` or `--all`, and `--team NAME` any number of times; each other
-/// option stands once at most. No FILE that is written may be one that is read, or be written twice, by paths as they are written; but
-/// `--export` may name the DEF text, and `--save` the FILE of `--state`.
-/// Numbers are digits; `+` in front and leading zeros are allowed. Options are before, between or after
-/// the paths, with the value after `=` or as the next word, which may not begin with
-/// '-' unless it is '-'. After `--` each word is a path. Words for help and for the version are usage
-/// faults like any others.
+/// The other tasks take the path of a DEF file, then the paths of one or more LEF files. Their
+/// options:
 ///
-/// `Err` of `Usage` only if the words name no task; of `OutOfMemory` if an allocation fails.
+/// - `serve` needs `--port P`, from 1 to 65535, and `--connections N`, from 1 to 1,000,000
+/// - `replay` may have `--lines N`, from 1 to 4,294,967,295
+/// - `serve` and `replay` may have `--save FILE` and `--export FILE`
+/// - `serve`, `replay`, `check` and `describe` may have `--state FILE` and `--sessions N`, from 1
+///   to 64
+/// - `repair` may have `--export FILE`, `--lines FILE`, `--keep` or `--all`, and `--team NAME` any
+///   number of times
+///
+/// Each option except `--team` is given at most once. No FILE that is written may be one that is
+/// read, or be written twice; paths are compared as written. There are two exceptions: `--export`
+/// may name the DEF file, and `--save` may name the FILE of `--state`.
+///
+/// Numbers are digits; a leading `+` and leading zeros are allowed. Options are in front of,
+/// between or after the paths. The value follows after `=` or as the next word, which may not begin
+/// with '-' unless it is '-'. After `--` each word is a path. Words that request help or the
+/// version are usage faults.
+///
+/// `Err(Usage)` only if the words name no task; `Err(OutOfMemory)` if an allocation fails.
 pub fn command_of<'a>(alloc: Global, words: &'a [&'a str]) -> Result<Task<'a>, UsageFault>
     ensures ok { IfOk result (λ task. job_of (map (λ word. word.now) words.now) ≡ Some (as_job task)) }
     ensures err { IfErr result (λ fault. fault ≡ Usage → job_of (map (λ word. word.now) words.now) ≡ None) }
@@ -538,7 +552,7 @@ pub fn command_of<'a>(alloc: Global, words: &'a [&'a str]) -> Result<Task<'a>, U
     }
 }
 
-/// The text of the error, unless it is the help or the version that was asked for.
+/// Returns the text of the error, or `None` if it is the requested help or version.
 fn usage_text(alloc: Global, error: &clap::Error) -> Result<Option<String>, AllocError> {
     if !error.use_stderr() {
         return Ok(None);
@@ -547,7 +561,7 @@ fn usage_text(alloc: Global, error: &clap::Error) -> Result<Option<String>, Allo
     Ok(Some(text))
 }
 
-/// What is said of a task: which of its options would write over another of its texts, if one would.
+/// Returns a message if one option of the task would overwrite another of its files, or `None`.
 fn clash_in(
     alloc: Global,
     matches: &ArgMatches<'_>,
@@ -566,8 +580,8 @@ fn clash_in(
     Ok(Some(text))
 }
 
-/// What is said of words in which `clap` finds no fault: they name a task, or hold options that exclude each other, or one that would
-/// write over a text of another.
+/// Returns a message about words in which `clap` finds no fault: the options exclude each other, or
+/// one would overwrite another's file. `None` if the words name a task.
 fn excluded_in(alloc: Global, matches: &ArgMatches<'_>) -> Result<Option<String>, AllocError> {
     if let Some(task) = task_from(alloc, matches)? {
         return clash_in(alloc, matches, &task);
@@ -576,8 +590,9 @@ fn excluded_in(alloc: Global, matches: &ArgMatches<'_>) -> Result<Option<String>
     Ok(Some(text))
 }
 
-/// What is said of words that name no task: which of them is wrong, or which is missing, and what it may be, as `clap` says it.
-/// None of words that name one, or that ask for help or the version. Contracts know nothing of the text.
+/// Returns a message about words that name no task, as `clap` writes it: the wrong or missing word,
+/// and what is allowed. `None` if they name a task or request help or the version. Contracts know
+/// nothing of the text. `Err` if an allocation fails.
 pub fn usage_message<'a>(
     alloc: Global,
     words: &'a [&'a str],

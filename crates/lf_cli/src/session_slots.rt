@@ -5,7 +5,7 @@ ghost use Rattle.std.specs.Prelude.{◌≡◌, ◌≤◌};
 /// The most session slots of a team.
 pub(crate) const MOST_SLOTS: u32 = 64;
 
-/// How many session slots each team has: as many of its sessions may be open at a time.
+/// The number of session slots of each team, which is the most sessions it may have open at a time.
 #[derive(Clone, Copy, Debug, PartialEq, Eq)]
 pub struct Slots {
     pub number: u32,
@@ -14,7 +14,7 @@ pub struct Slots {
 }
 
 impl Slots {
-    /// What a team has if nothing else is asked for.
+    /// Returns the default number of slots, 8.
     pub fn standard() -> Self
         ensures { result.number ≡ 8 }
     {

@@ -1,4 +1,4 @@
-//! The subcommands of the program, as they are declared to `clap`.
+//! The subcommands of the program, as declared to `clap`.
 
 ghost use Rattle.std.specs.Prelude.{◌≡◌, [], ◌∷◌, bytes_eq, codes, false, fold, IfOk, position};
 ghost use Rattle.clap.specs.Simple.{app_of, with_rule};
@@ -42,7 +42,7 @@ const SUBCOMMANDS: [Subcommand; 6] = [
     Subcommand::Repair,
 ];
 
-/// The word of a subcommand.
+/// Returns the word of a subcommand.
 fn word_of(chosen: Subcommand) -> &'static str
     ensures { result.now ≡ word_of chosen }
 {
@@ -56,7 +56,7 @@ fn word_of(chosen: Subcommand) -> &'static str
     }
 }
 
-/// Where the subcommand of that word stands among these.
+/// Returns the position of the subcommand of this word in the list.
 fn position_of(subcommands: &[Subcommand], word: &str) -> Option<usize>
     ensures { result ≡ position (λ chosen. bytes_eq (word_of chosen) word.now) subcommands.now }
 {
@@ -65,7 +65,7 @@ fn position_of(subcommands: &[Subcommand], word: &str) -> Option<usize>
         .position(|chosen| word_of(*chosen) == word)
 }
 
-/// The subcommand of that word.
+/// Returns the subcommand of this word, or `None` if there is no such subcommand.
 pub(crate) fn subcommand_named(word: &str) -> Option<Subcommand>
     ensures { result ≡ subcommand_named word.now }
 {
@@ -74,7 +74,7 @@ pub(crate) fn subcommand_named(word: &str) -> Option<Subcommand>
     subcommands.get(position).copied()
 }
 
-/// The path of the DEF text.
+/// Declares the path of the DEF file.
 fn def_path<'a>(alloc: Global) -> Arg<'a>
     ensures rule { rule_of result ≡ def_rule }
     ensures local { result.global ≡ false }
@@ -82,7 +82,7 @@ fn def_path<'a>(alloc: Global) -> Arg<'a>
     Arg::new(alloc, "def").required(true)
 }
 
-/// The paths of the LEF texts, one at least.
+/// Declares the paths of one or more LEF files.
 fn lef_paths<'a>(alloc: Global) -> Arg<'a>
     ensures rule { rule_of result ≡ lef_rule }
     ensures local { result.global ≡ false }
@@ -93,7 +93,7 @@ fn lef_paths<'a>(alloc: Global) -> Arg<'a>
         .action(ArgAction::Append)
 }
 
-/// An option whose value is a text, which stands once at most.
+/// Declares an option whose value is a text, given at most once.
 fn text<'a>(alloc: Global, name: &'a str) -> Arg<'a>
     ensures rule { rule_of result ≡ text_rule name.now }
     ensures local { result.global ≡ false }
@@ -101,7 +101,7 @@ fn text<'a>(alloc: Global, name: &'a str) -> Arg<'a>
     Arg::new(alloc, name).long(name)
 }
 
-/// An option whose value is a text, which may stand more than once.
+/// Declares an option whose value is a text, which may be repeated.
 fn repeated<'a>(alloc: Global, name: &'a str) -> Arg<'a>
     ensures rule { rule_of result ≡ repeated_rule name.now }
     ensures local { result.global ≡ false }
@@ -109,7 +109,7 @@ fn repeated<'a>(alloc: Global, name: &'a str) -> Arg<'a>
     text(alloc, name).action(ArgAction::Append)
 }
 
-/// An option without a value.
+/// Declares an option without a value.
 fn flag<'a>(alloc: Global, name: &'a str) -> Arg<'a>
     ensures rule { rule_of result ≡ flag_rule name.now }
     ensures local { result.global ≡ false }
@@ -117,7 +117,7 @@ fn flag<'a>(alloc: Global, name: &'a str) -> Arg<'a>
     text(alloc, name).action(ArgAction::SetTrue)
 }
 
-/// An option whose value is a number from 1 up to this one.
+/// Declares an option whose value is a number from 1 to `most`.
 fn number<'a>(alloc: Global, name: &'a str, most: u64) -> Arg<'a>
     ensures rule { rule_of result ≡ number_rule name.now most }
     ensures local { result.global ≡ false }
@@ -125,7 +125,7 @@ fn number<'a>(alloc: Global, name: &'a str, most: u64) -> Arg<'a>
     text(alloc, name).value_parser(ValueParser::unsigned(1, most))
 }
 
-/// An option that may not be left out, whose value is a number from 1 up to this one.
+/// Declares a required option whose value is a number from 1 to `most`.
 fn needed_number<'a>(alloc: Global, name: &'a str, most: u64) -> Arg<'a>
     ensures rule { rule_of result ≡ needed (number_rule name.now most) }
     ensures local { result.global ≡ false }
@@ -133,7 +133,7 @@ fn needed_number<'a>(alloc: Global, name: &'a str, most: u64) -> Arg<'a>
     number(alloc, name, most).required(true)
 }
 
-/// A subcommand of that name, whose words are the paths of a design.
+/// Declares a subcommand of this name that takes the paths of a design.
 fn over_design<'a>(alloc: Global, name: &'a str) -> Result<Command<'a>, AllocError>
     ensures line { IfOk result (λ made. app_of made ≡ design_line name.now []) }
     ensures local { IfOk result (λ made. (out-Command made).has_globals ≡ false) }
@@ -143,7 +143,7 @@ fn over_design<'a>(alloc: Global, name: &'a str) -> Result<Command<'a>, AllocErr
         .arg(lef_paths(alloc))
 }
 
-/// The number of session slots of each team.
+/// Declares the number of session slots of each team.
 fn slots<'a>(alloc: Global) -> Arg<'a>
     ensures rule { rule_of result ≡ slots_rule }
     ensures local { result.global ≡ false }
@@ -151,7 +151,8 @@ fn slots<'a>(alloc: Global) -> Arg<'a>
     number(alloc, "sessions", MOST_SLOTS as u64)
 }
 
-/// A subcommand of that name that looks at a design, which may stand as a saved state tells.
+/// Declares a subcommand of this name that reads a design, optionally with the places of a saved
+/// state.
 fn look<'a>(alloc: Global, name: &'a str) -> Result<Command<'a>, AllocError>
     ensures line { IfOk result (λ made. app_of made ≡ design_line name.now (text_rule (codes "state") ∷ slots_rule ∷ [])) }
     ensures local { IfOk result (λ made. (out-Command made).has_globals ≡ false) }
@@ -160,8 +161,8 @@ fn look<'a>(alloc: Global, name: &'a str) -> Result<Command<'a>, AllocError>
     command.arg(slots(alloc))
 }
 
-/// What a subcommand that answers lines may have besides the paths of the design: the path of the saved state, the number of session
-/// slots, and the paths of the state and of the text that are written.
+/// Adds the options of a subcommand that answers lines: the path of the saved state, the number of
+/// session slots, and the paths of the state and the DEF file to write.
 fn with_outputs<'a>(alloc: Global, command: Command<'a>) -> Result<Command<'a>, AllocError>
     requires local { (out-Command command).has_globals ≡ false }
     ensures line { IfOk result (λ made. app_of made ≡ fold with_rule (app_of command.entry)
@@ -175,7 +176,7 @@ fn with_outputs<'a>(alloc: Global, command: Command<'a>) -> Result<Command<'a>, 
         .arg(text(alloc, "export"))
 }
 
-/// The subcommand that answers the lines of standard input.
+/// Declares the subcommand that answers the lines of standard input.
 fn replay<'a>(alloc: Global) -> Result<Command<'a>, AllocError>
     ensures line { IfOk result (λ made. app_of made ≡ line_of Replay) }
     ensures local { IfOk result (λ made. (out-Command made).has_globals ≡ false) }
@@ -185,7 +186,7 @@ fn replay<'a>(alloc: Global) -> Result<Command<'a>, AllocError>
     with_outputs(alloc, command)
 }
 
-/// The subcommand that answers the lines of connections.
+/// Declares the subcommand that answers the lines of connections.
 fn serve<'a>(alloc: Global) -> Result<Command<'a>, AllocError>
     ensures line { IfOk result (λ made. app_of made ≡ line_of Serve) }
     ensures local { IfOk result (λ made. (out-Command made).has_globals ≡ false) }
@@ -196,7 +197,7 @@ fn serve<'a>(alloc: Global) -> Result<Command<'a>, AllocError>
     with_outputs(alloc, command)
 }
 
-/// The subcommand that gives cells legal places, with the options that say which cells move.
+/// Declares the subcommand that repairs cells, with the options that select which cells move.
 fn repair_of_cells<'a>(alloc: Global) -> Result<Command<'a>, AllocError>
     ensures line { IfOk result (λ made. app_of made
         ≡ design_line (codes "repair") (repeated_rule (codes "team") ∷ flag_rule (codes "keep") ∷ flag_rule (codes "all") ∷ [])) }
@@ -208,7 +209,7 @@ fn repair_of_cells<'a>(alloc: Global) -> Result<Command<'a>, AllocError>
         .arg(flag(alloc, "all"))
 }
 
-/// The subcommand that gives cells legal places.
+/// Declares the subcommand that repairs cells.
 fn repair<'a>(alloc: Global) -> Result<Command<'a>, AllocError>
     ensures line { IfOk result (λ made. app_of made ≡ line_of Repair) }
     ensures local { IfOk result (λ made. (out-Command made).has_globals ≡ false) }
@@ -218,7 +219,7 @@ fn repair<'a>(alloc: Global) -> Result<Command<'a>, AllocError>
         .arg(text(alloc, "lines"))
 }
 
-/// The words that a subcommand takes.
+/// Declares the words that a subcommand takes.
 fn line_of<'a>(alloc: Global, chosen: Subcommand) -> Result<Command<'a>, AllocError>
     ensures line { IfOk result (λ made. app_of made ≡ line_of chosen) }
     ensures local { IfOk result (λ made. (out-Command made).has_globals ≡ false) }
@@ -233,7 +234,7 @@ fn line_of<'a>(alloc: Global, chosen: Subcommand) -> Result<Command<'a>, AllocEr
     }
 }
 
-/// The command with one more subcommand.
+/// Adds one more subcommand to the command.
 fn with<'a>(
     alloc: Global,
     command: Command<'a>,
@@ -244,7 +245,7 @@ fn with<'a>(
     command.subcommand(line_of(alloc, chosen)?)
 }
 
-/// The command line that the program takes.
+/// Declares the command line of the program.
 pub(crate) fn command_line<'a>(alloc: Global) -> Result<Command<'a>, AllocError>
     ensures { IfOk result (λ made. app_of made ≡ command_line) }
 {

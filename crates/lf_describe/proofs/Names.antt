@@ -1,4 +1,4 @@
--- Names that are texts, and those that are none.
+-- Names that are UTF-8, and names that are not.
 use Rattle.std.proofs.Common.{◌≡◌, ℕ, zero, suc, ◌<◌, Bool, true, false, List, [], ◌∷◌, ap, arith, refl}
 use Rattle.std.specs.Prelude.{All, if◌then◌else◌}
 use Rattle.std.specs.Str.{IsAscii, IsUtf8, is_utf8}
@@ -11,11 +11,11 @@ use Rattle.lf_orient.specs.declared.Orient.TheVariants.{N, W, S, E, FN, FW, FS, 
 use Rattle.lf_orient.specs.Words.{orient_word}
 use Rattle.lf_describe.specs.Description.{text_data, orient_data}
 
--- UTF-8 is told
+-- A name that is UTF-8 is written.
 pub told : (name : List ℕ) → IsUtf8 name → text_data name ≡ string name
 told name is = ap (λ (b : Bool). if b then string name else null) (is_utf8-from_IsUtf8 name is)
 
--- and anything else is null
+-- Any other name is null.
 pub untold : (name : List ℕ) → (IsUtf8 name → ⊥) → text_data name ≡ null
 untold name is_not = by (is_utf8 name) refl
   where
@@ -23,7 +23,7 @@ untold name is_not = by (is_utf8 name) refl
     by true holds = absurd (is_not (IsUtf8-from_is_utf8 name holds))
     by false fails = ap (λ (b : Bool). if b then string name else null) fails
 
--- visible bytes are ASCII
+-- Visible bytes are ASCII.
 pub ascii : (bytes : List ℕ) → All IsPrinted bytes → IsAscii bytes
 ascii [] all i = omega arith
 ascii (b ∷ bytes) all zero = let is : IsPrinted b = All-head IsPrinted b bytes all in omega (arith, is.most)
@@ -48,6 +48,6 @@ word FW = two 70 87 (omega arith) (omega arith)
 word FS = two 70 83 (omega arith) (omega arith)
 word FE = two 70 69 (omega arith) (omega arith)
 
--- the word of an orientation is told
+-- The word of an orientation is written.
 pub told_word : (o : Orient) → text_data (orient_word o) ≡ orient_data o
 told_word o = told (orient_word o) (IsUtf8-from_ascii (orient_word o) (word o))

@@ -98,7 +98,7 @@ only : (x : Data) → has_float x ≡ false → (i : ℕ) (d : Data) → slice_g
 only x none zero d at = let same : x ≡ d = cc in subst (λ (e : Data). has_float e ≡ false) same none
 only x none (suc i) d at = absurd cc
 
--- no line of a part has a number with a fraction
+-- No line of a part has a number with a fraction.
 pub no_float : (told : DescribedDesign) (part : Part) (i : ℕ) (d : Data) → slice_get (part_lines told part) i ≡ Some d → has_float d ≡ false
 no_float told Design i d at = only _ (design told.frame.now) i d at
 no_float told Rows i d at = each (row_data told.frame.now) (row told.frame.now) _ i d at

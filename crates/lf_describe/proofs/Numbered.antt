@@ -6,7 +6,7 @@ pub count : {X Y : Type 0} (h : ℕ × X → Y) (n : ℕ) (xs : List X) → leng
 count h n [] = refl
 count h n (x ∷ xs) = ap suc (count h (n + 1) xs)
 
--- the line of a number
+-- The line of a number.
 pub line : {X Y : Type 0} (h : ℕ × X → Y) (n k : ℕ) (xs : List X) (x : X) → slice_get xs k ≡ Some x → slice_get (map h (enumerate_from n xs)) k ≡ Some (h (n + k, x))
 line h n k [] x at = absurd cc
 line {Y = Y} h n zero (y ∷ xs) x at =

@@ -1,4 +1,4 @@
--- A text that is written piece by piece, some of which waits.
+-- A text that is written in chunks through a buffer.
 use Rattle.std.proofs.Common.{◌≡◌, ℕ, zero, suc, ◌+◌, List, [], ◌∷◌, ◌++◌, length, take, drop, Option, Some, Result, Ok, Err, ◌<◌, refl, sym, ◌∙◌, ap, subst, arith, slice_get}
 use Rattle.std.specs.Prelude.{flat_map, OnErr, OnOk}
 use Rattle.std.specs.Io.KnownBytes.{Appends, Keeps}
@@ -6,7 +6,7 @@ use Rattle.std.proofs.lemmas.List.{append_assoc, append-nil, take-append-drop}
 use Rattle.std.proofs.KnownBytes.{Appends-nil, Appends-trans, Appends-kept}
 use Rattle.lf_describe.specs.Written.{AppendsFront, WritesFrontOf}
 
--- nothing is written, and all waits
+-- Nothing is written, and all bytes wait.
 pub nothing : (a : Option (List ℕ)) (text : List ℕ) → WritesFrontOf a a text text
 nothing a text = ([], refl, Appends-nil a)
 
@@ -17,31 +17,31 @@ pub written : (a b : Option (List ℕ)) (text rest : List ℕ) → rest ≡ [] �
 written a b text rest none (front, e, p) =
     subst (Appends a b) (sym (e ∙ ap (λ (r : List ℕ). front ++ r) none ∙ append-nil front)) p
 
--- one more piece behind a text
+-- One more chunk after a text.
 pub behind : (a b c : Option (List ℕ)) (text v x u : List ℕ) → WritesFrontOf a b text v → WritesFrontOf b c (v ++ x) u → WritesFrontOf a c (text ++ x) u
 behind a b c text v x u (s, e, p) (t, f, q) = (s ++ t, same, Appends-trans a b c s t p q)
   where
     same : text ++ x ≡ (s ++ t) ++ u
     same = ap (λ (y : List ℕ). y ++ x) e ∙ append_assoc s v x ∙ ap (λ (y : List ℕ). s ++ y) f ∙ sym (append_assoc s t u)
 
--- a front of a text is one of what goes on behind it
+-- A front of a text is a front of the longer text.
 pub goes_on : (a b : Option (List ℕ)) (text more : List ℕ) → AppendsFront a b text → AppendsFront a b (text ++ more)
 goes_on a b text more (rest, (front, e, p)) =
     (rest ++ more, (front, ap (λ (y : List ℕ). y ++ more) e ∙ append_assoc front rest more, p))
 
--- a piece behind a text was cut short
+-- A chunk after a text was cut short.
 pub cut_behind : (a b c : Option (List ℕ)) (text v x : List ℕ) → WritesFrontOf a b text v → AppendsFront b c (v ++ x) → AppendsFront a c (text ++ x)
 cut_behind a b c text v x left (u, right) = (u, behind a b c text v x u left right)
 
--- nothing more is written
+-- Nothing more is written.
 pub kept : (a b c : Option (List ℕ)) (text v : List ℕ) → WritesFrontOf a b text v → Keeps b c → WritesFrontOf a c text v
 kept a b c text v (s, e, p) keeps = (s, e, Appends-kept a b c s p keeps)
 
--- what waits is written
+-- The waiting bytes are written.
 pub whole : (a b c : Option (List ℕ)) (text v : List ℕ) → WritesFrontOf a b text v → Appends b c v → Appends a c text
 whole a b c text v (s, e, p) q = subst (Appends a c) (sym e) (Appends-trans a b c s v p q)
 
--- what waits is cut short
+-- The waiting bytes are cut short.
 pub cut_last : (a b c : Option (List ℕ)) (text v : List ℕ) → WritesFrontOf a b text v → AppendsFront b c v → AppendsFront a c text
 cut_last a b c text v (s, e, p) (rest, (front, f, q)) =
     (rest, (s ++ front, e ∙ ap (λ (y : List ℕ). s ++ y) f ∙ sym (append_assoc s front rest), Appends-trans a b c s front p q))
@@ -68,12 +68,12 @@ there_is [] k less = absurd (omega (arith, less))
 there_is (x ∷ xs) zero less = (x, refl)
 there_is (x ∷ xs) (suc k) less = there_is xs k (omega (arith, less))
 
--- a front of what waits is written
+-- A front of the waiting bytes is written.
 pub taken : (a b c : Option (List ℕ)) (text rest : List ℕ) (n : ℕ) → WritesFrontOf a b text rest → Appends b c (take n rest) → WritesFrontOf a c text (drop n rest)
 taken a b c text rest n (s, e, p) q =
     (s ++ take n rest, e ∙ ap (λ (y : List ℕ). s ++ y) (sym (take-append-drop n rest)) ∙ sym (append_assoc s (take n rest) (drop n rest)), Appends-trans a b c s (take n rest) p q)
 
--- the front as the first bytes
+-- The front as the first bytes.
 pub first_bytes : (a b : Option (List ℕ)) (text : List ℕ) → AppendsFront a b text → (n : ℕ) × Appends a b (take n text)
 first_bytes a b text (rest, (front, e, p)) =
     (length front, subst (Appends a b) (sym (ap (take (length front)) e ∙ front_of front rest)) p)
@@ -82,7 +82,7 @@ first_bytes a b text (rest, (front, e, p)) =
     front_of [] y = refl
     front_of (b ∷ x) y = ap (λ (l : List ℕ). b ∷ l) (front_of x y)
 
--- ---- pieces by their numbers
+-- ---- chunks by their numbers
 
 one_more : {X : Type 0} (g : X → List ℕ) (xs : List X) (i : ℕ) (x : X) → slice_get xs i ≡ Some x → flat_map g (take (suc i) xs) ≡ flat_map g (take i xs) ++ g x
 one_more g [] i x at = absurd cc
@@ -94,11 +94,11 @@ cut_at g xs zero = refl
 cut_at g [] (suc i) = refl
 cut_at g (y ∷ ys) (suc i) = ap (λ (l : List ℕ). g y ++ l) (cut_at g ys i) ∙ sym (append_assoc (g y) (flat_map g (take i ys)) (flat_map g (drop i ys)))
 
--- before the first piece
+-- Before the first chunk.
 pub before_first : {X : Type 0} (g : X → List ℕ) (xs : List X) (a : Option (List ℕ)) (w : List ℕ) → WritesFrontOf a a (w ++ flat_map g (take 0 xs)) w
 before_first g xs a w = subst (λ (t : List ℕ). WritesFrontOf a a t w) (sym (append-nil w)) (nothing a w)
 
--- behind the piece of this number
+-- After the chunk of this number.
 pub behind_piece : {X : Type 0} (g : X → List ℕ) (xs : List X) (i : ℕ) (x : X) (a b c : Option (List ℕ)) (w v u : List ℕ) → slice_get xs i ≡ Some x →
     WritesFrontOf a b (w ++ flat_map g (take i xs)) v → WritesFrontOf b c (v ++ g x) u → WritesFrontOf a c (w ++ flat_map g (take (i + 1) xs)) u
 behind_piece g xs i x a b c w v u at left right =
@@ -107,7 +107,7 @@ behind_piece g xs i x a b c w v u at left right =
     append_assoc w (flat_map g (take i xs)) (g x) ∙ ap (λ (l : List ℕ). w ++ l) (sym (one_more g xs i x at)) ∙ ap (λ (n : ℕ). w ++ flat_map g (take n xs)) next in
     subst (λ (t : List ℕ). WritesFrontOf a c t u) same (behind a b c (w ++ flat_map g (take i xs)) v (g x) u left right)
 
--- the piece of this number was cut short
+-- The chunk of this number was cut short.
 pub cut_piece : {X : Type 0} (g : X → List ℕ) (xs : List X) (i : ℕ) (x : X) (a b c : Option (List ℕ)) (w v : List ℕ) → slice_get xs i ≡ Some x →
     WritesFrontOf a b (w ++ flat_map g (take i xs)) v → AppendsFront b c (v ++ g x) → AppendsFront a c (w ++ flat_map g xs)
 cut_piece g xs i x a b c w v at left right =

@@ -1,4 +1,4 @@
--- What the program found of a design is what a report says of it.
+-- The program's counts agree with the report.
 use Rattle.std.proofs.Common.{◌≡◌, ℕ, suc, ◌+◌, Bool, List, [], ◌∷◌, ◌++◌, length, map, Option, Some, Result, refl, sym, ◌∙◌, ap, subst, arith, slice_get}
 use Rattle.std.specs.Prelude.{flat_map, count_by, is_none, is_some, ◌↔◌, IfOk, IsTrue, OnErr, OnOk}
 use Rattle.std.specs.List.{enumerate_from}
@@ -29,7 +29,7 @@ each_same {X = X} {Y = Y} g h n (x ∷ xs) same =
     let rest = each_same g h (n + 1) xs (λ k y at. subst (λ (m : ℕ). g (m, y) ≡ h (m, y)) (omega arith) (same (suc k) y at)) in
     ap (λ (y : Y). y ∷ map g (enumerate_from (n + 1) xs)) here ∙ ap (λ (ys : List Y). h (n, x) ∷ ys) rest
 
--- the lines of the cells by their verdicts are those by the rules
+-- The lines of the cells by their verdicts are the lines by the rules.
 pub cells_are : (l : Legalizer) (f : Frame) (cells : List (Listed (List ℕ))) (verdicts : List (Option Broken)) → AreVerdicts l f 0 cells verdicts →
     map (λ e. cell_data f cells e.1 (verdict_at verdicts e.0)) (enumerate_from 0 cells) ≡ cell_lines l f cells
 cells_are l f cells verdicts are =
@@ -43,7 +43,7 @@ pub text_of_parts : (told : DescribedDesign) → flat_map (part_text told) PARTS
 unfolding parts_text
 text_of_parts told = refl
 
--- the text of all parts is that of all lines
+-- The text of all parts is the text of all lines.
 pub parts_are : (l : Legalizer) (told : DescribedDesign) → AreVerdicts l told.frame.now 0 (cells_in told) told.verdicts.now →
     parts_text told ≡ lines_text l told.frame.now (names_in told) (cells_in told)
 unfolding parts_text lines_text
@@ -67,11 +67,11 @@ parts_are l told are = fused line_text (part_lines told) PARTS ∙ ap (flat_map 
         count_by is_some verdicts ≡ length (violations_in l f 0 cells) → flat_map (part_lines told) PARTS ≡ lines_of l f (names_in told) cells
     lines same_cells same_count = ap (λ (cs : List Data). all cs (count_by is_some verdicts)) same_cells ∙ ap (all (cell_lines l f cells)) same_count
 
--- and the counts are those of the report
+-- The counts are those of the report.
 pub counts_are : (l : Legalizer) (told : DescribedDesign) → AreVerdicts l told.frame.now 0 (cells_in told) told.verdicts.now → Counts told (report_of l told.frame.now 0 (cells_in told))
 counts_are l told are = record { illegal = illegal_are l told.frame.now (cells_in told) told.verdicts.now are; unplaced = refl }
 
--- ---- what was written of it
+-- ---- what was written
 
 pub text_is : {T E : Type 0} (told : DescribedDesign) (l : Legalizer) (r : Result T E) (a b : Option (List ℕ)) → OnOk r (Appends a b (parts_text told)) →
     AreVerdicts l told.frame.now 0 (cells_in told) told.verdicts.now → OnOk r (Appends a b (lines_text l told.frame.now (names_in told) (cells_in told)))

@@ -1,4 +1,5 @@
--- What is told of a design: its lines, each an object of JSON. Lengths are in database units, and a box is told as [left, bottom, right, top].
+-- The description of a design: lines, each a JSON object. Lengths are in database units, and a box
+-- is [left, bottom, right, top].
 use Rattle.std.specs.Prelude.{◌≡◌, ℕ, ℤ, if◌then◌else◌, List, [], ◌∷◌, ◌++◌, Option, length, map, filter, flat_map, slice_get, codes}
 use Rattle.std.specs.List.{enumerate_from}
 use Rattle.std.specs.Option.{option_map_or, option_and_then}
@@ -33,27 +34,27 @@ use Rattle.lf_reports.specs.Reports.{broken_among, listed_at, name_among, report
 
 -- ---- values
 
--- a name as a text; null if its bytes are no UTF-8 text
+-- A name as a text; null if its bytes are not UTF-8.
 abbrev pub text_data : List ℕ → Data
 text_data name = if is_utf8 name then string name else null
 
--- a name of visible characters is told as it is
+-- A name of visible characters is written unchanged.
 abbrev pub NamesAreWritten : Type 0
 NamesAreWritten = (name : List ℕ) → IsName name → text_data name ≡ string name
 
--- a name; null if there is none
+-- A name, or null if there is no name.
 abbrev pub text_or_null : Option (List ℕ) → Data
 text_or_null name = option_map_or text_data name null
 
--- a whole number
+-- A whole number.
 abbrev pub whole_data : ℤ → Data
 whole_data z = number (of_integer z)
 
--- how many there are
+-- A count.
 abbrev pub count_data : ℕ → Data
 count_data n = number (unsigned n)
 
--- a rectangle: left, bottom, right and top
+-- A rectangle: left, bottom, right and top.
 abbrev pub rect_data : Rect → Data
 rect_data r = array (items_of (whole_data r.x1 ∷ whole_data r.y1 ∷ whole_data r.x2 ∷ whole_data r.y2 ∷ []))
 
@@ -62,7 +63,7 @@ orient_data o = string (orient_word o)
 
 -- ---- lines
 
--- the design: its name, the database units per micron, and its core site
+-- The design: its name, the database units per micron, and its core site.
 abbrev pub design_data : Frame → Data
 design_data f =
     object (member (codes "kind") (string (codes "design"))
@@ -72,7 +73,7 @@ design_data f =
     (member (codes "site_width") (whole_data f.pitch.x)
     (member (codes "units") (count_data f.header.units) no_members))))))
 
--- a row of the frame
+-- A row of the frame.
 abbrev pub row_data : Frame → Row → Data
 row_data f r =
     object (member (codes "box") (rect_data (row_area f.pitch r))
@@ -81,45 +82,46 @@ row_data f r =
     (member (codes "orient") (orient_data r.orient)
     (member (codes "sites") (count_data r.sites) no_members)))))
 
--- a fence, by the name of its team
+-- A fence, by the name of its team.
 abbrev pub fence_data : Team → Data
 fence_data t =
     object (member (codes "kind") (string (codes "fence"))
     (member (codes "name") (text_data t.name)
     (member (codes "rects") (array (items_of (map rect_data t.rects))) no_members)))
 
--- an obstacle, with the name of the FIXED component whose box it is, if it is one
+-- An obstacle. If its box is that of a FIXED component, `name` is the component's.
 abbrev pub obstacle_data : Option (List ℕ) → Rect → Data
 obstacle_data name r =
     object (member (codes "box") (rect_data r)
     (member (codes "kind") (string (codes "obstacle"))
     (member (codes "name") (text_or_null name) no_members)))
 
--- a rectangle of a soft blockage
+-- A rectangle of a soft blockage.
 abbrev pub soft_data : Rect → Data
 soft_data r = object (member (codes "box") (rect_data r) (member (codes "kind") (string (codes "soft")) no_members))
 
--- the name of the team of this number: that of its fence, or of the ground team
+-- The name of the team of this number: that of its fence, or of the ground team.
 abbrev pub team_name : Frame → ℕ → List ℕ
 team_name f team = option_map_or (λ t. t.name) (slice_get f.teams team) ground_name
 
--- the box of the cell where it stands; null if it is unplaced
+-- The box of the cell at its place; null if it is unplaced.
 abbrev pub box_data : Frame → Listed (List ℕ) → Data
 box_data f c = option_map_or (λ p. rect_data (box_at (turned (size_of f (macro_of f c.mac)) p.orient) p.x p.y)) c.place null
 
--- how a cell faces where it stands; null if it is unplaced
+-- The orientation of a cell at its place; null if it is unplaced.
 abbrev pub orientation_data : Option Place → Data
 orientation_data place = option_map_or (λ p. orient_data p.orient) place null
 
--- the number of the rule that is broken; null if none is
+-- The number of the broken rule; null if no rule is broken.
 abbrev pub rule_data : Option Broken → Data
 rule_data broken = option_map_or (λ b. count_data (number_of b.rule)) broken null
 
--- the name of the other cell that is met, if there is one
+-- The name of the other cell that breaks the rule with this one, if there is one.
 abbrev pub other_of : List (Listed (List ℕ)) → Option Broken → Option (List ℕ)
 other_of cells broken = option_and_then (name_among cells) (option_and_then (λ b. b.other) broken)
 
--- a cell among those that are listed, with its macro's size when it faces north, and with the first rule that it breaks, if it breaks one
+-- A cell among the listed cells. Its size is that of its macro when it faces north. The rule is the
+-- first one that it breaks, if any.
 abbrev pub cell_data : Frame → List (Listed (List ℕ)) → Listed (List ℕ) → Option Broken → Data
 cell_data f cells c broken =
     object (member (codes "box") (box_data f c)
@@ -133,7 +135,7 @@ cell_data f cells c broken =
     (member (codes "team") (text_data (team_name f c.team))
     (member (codes "width") (whole_data (size_of f (macro_of f c.mac)).x) no_members))))))))))
 
--- how many there are of each kind; of the cells also how many break a rule, and how many are unplaced
+-- The counts of each kind, of cells that break a rule, and of unplaced cells.
 abbrev pub total_data : Frame → ℕ → ℕ → ℕ → Data
 total_data f cells illegal unplaced =
     object (member (codes "cells") (count_data cells)
@@ -145,46 +147,46 @@ total_data f cells illegal unplaced =
     (member (codes "soft") (count_data (length f.soft))
     (member (codes "unplaced") (count_data unplaced) no_members))))))))
 
--- the totals of a report
+-- The totals of a report.
 abbrev pub report_total : Frame → Report → Data
 report_total f report = total_data f report.cells (length report.violations) report.unplaced
 
 -- ---- the description
 
--- the places of the DEF text, in loading order
+-- The places of the DEF text, in loading order.
 abbrev pub places_of : List Cell → List (Option Place)
 places_of cells = map (λ c. c.place) cells
 
--- the movable cells, each at its place in the DEF text
+-- The movable cells, each at its place in the DEF text.
 abbrev pub cells_of : Loaded → List (Listed (List ℕ))
 cells_of loaded = listed_at loaded.cells (places_of loaded.cells)
 
--- the names of the FIXED components, in the order of the DEF text
+-- The names of the FIXED components, in the order of the DEF text.
 abbrev pub fixed_names : List Component → List (List ℕ)
 fixed_names components = map (λ c. c.name) (filter is_fixed components)
 
--- the obstacles: the first ones are the boxes of the FIXED components, in their order
+-- The obstacles. The first ones are the boxes of the FIXED components, in their order.
 abbrev pub obstacle_lines : List (List ℕ) → List Rect → List Data
 obstacle_lines names obstacles = map (λ e. obstacle_data (slice_get names e.0) e.1) (enumerate_from 0 obstacles)
 
--- the cells of a frame, each with the first rule that it breaks where it stands, as a check has it
+-- The cells of a frame, each with the first rule that it breaks at its place, as in a check.
 abbrev pub cell_lines : Legalizer → Frame → List (Listed (List ℕ)) → List Data
 cell_lines l f cells = map (λ e. cell_data f cells e.1 (broken_among l f 0 cells e.0 e.1)) (enumerate_from 0 cells)
 
--- the design, its rows, fences, obstacles, soft blockages and movable cells, and the totals
+-- The design, its rows, fences, obstacles, soft blockages and movable cells, and the totals.
 abbrev pub lines_of : Legalizer → Frame → List (List ℕ) → List (Listed (List ℕ)) → List Data
 lines_of l f names cells =
     design_data f ∷ (map (row_data f) f.rows ++ (map fence_data f.teams ++ (obstacle_lines names f.obstacles ++ (map soft_data f.soft
     ++ (cell_lines l f cells ++ report_total f (report_of l f 0 cells) ∷ [])))))
 
--- a line: JSON without spaces, and a line feed
+-- A line: JSON without spaces, and a line feed.
 abbrev pub line_text : Data → List ℕ
 line_text d = compact_text d ++ 10 ∷ []
 
--- the text of all lines
+-- The text of all lines.
 unfoldable pub lines_text : Legalizer → Frame → List (List ℕ) → List (Listed (List ℕ)) → List ℕ
 lines_text l f names cells = flat_map line_text (lines_of l f names cells)
 
--- what is written of a loaded design and the document that it was loaded from
+-- The description of a loaded design and the document from which it was loaded.
 abbrev pub description : Legalizer → Loaded → Document → List ℕ
 description l loaded document = lines_text l loaded.frame (fixed_names document.components) (cells_of loaded)

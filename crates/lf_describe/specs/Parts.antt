@@ -11,15 +11,15 @@ use Rattle.lf_describe.specs.declared.line_kinds.Part.{Part}
 use Rattle.lf_describe.specs.declared.line_kinds.Part.TheVariants.{Design, Rows, Fences, Obstacles, Soft, Cells, Total}
 use Rattle.lf_describe.specs.Description.{cell_data, design_data, fence_data, line_text, obstacle_lines, row_data, soft_data, total_data}
 
--- the names of the FIXED components
+-- The names of the FIXED components.
 abbrev pub names_in : DescribedDesign → List (List ℕ)
 names_in told = map (λ n. n.now) told.names.now
 
--- the movable cells
+-- The movable cells.
 abbrev pub cells_in : DescribedDesign → List (Listed (List ℕ))
 cells_in told = map named told.cells.now
 
--- the lines of a part
+-- The lines of a part.
 abbrev pub part_lines : DescribedDesign → Part → List Data
 part_lines told Design = design_data told.frame.now ∷ []
 part_lines told Rows = map (row_data told.frame.now) told.frame.now.rows
@@ -29,15 +29,16 @@ part_lines told Soft = map soft_data told.frame.now.soft
 part_lines told Cells = map (λ e. cell_data told.frame.now (cells_in told) e.1 (verdict_at told.verdicts.now e.0)) (enumerate_from 0 (cells_in told))
 part_lines told Total = total_data told.frame.now (length (cells_in told)) (count_by is_some told.verdicts.now) (count_by (λ c. is_none c.place) (cells_in told)) ∷ []
 
--- the text of a part
+-- The text of a part.
 abbrev pub part_text : DescribedDesign → Part → List ℕ
 part_text told part = flat_map line_text (part_lines told part)
 
--- the text of all parts, in their order
+-- The text of all parts, in order.
 unfoldable pub parts_text : DescribedDesign → List ℕ
 parts_text told = flat_map (part_text told) PARTS
 
--- the report has as many unplaced cells, and as many violations as there are verdicts that say that a rule is broken
+-- The report has the same count of unplaced cells, and a violation for each verdict that names a
+-- broken rule.
 pub record Counts (told : DescribedDesign) (report : Report) : Type 0 where
   pub illegal : count_by is_some told.verdicts.now ≡ length report.violations
   pub unplaced : count_by (λ c. is_none c.place) (cells_in told) ≡ report.unplaced

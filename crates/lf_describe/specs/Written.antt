@@ -1,4 +1,4 @@
--- A text that is written piece by piece.
+-- A text that is written in chunks.
 use Rattle.std.specs.Prelude.{◌≡◌, ℕ, Bool, List, ◌++◌, Option, Result, Ok, Err, false, true}
 use Rattle.std.specs.Io.KnownBytes.{Appends}
 use Rattle.lf_describe.specs.declared.description.DescribeFailure.{DescribeFailure}
@@ -6,15 +6,15 @@ use Rattle.lf_describe.specs.declared.description.DescribeFailure.TheVariants as
 use Rattle.lf_describe.specs.declared.line_output.LineFault.{LineFault}
 use Rattle.lf_describe.specs.declared.line_output.LineFault.TheVariants as line
 
--- of the text a front is appended, and this rest waits
+-- A front of the text is appended, and `rest` remains.
 abbrev pub WritesFrontOf : Option (List ℕ) → Option (List ℕ) → List ℕ → List ℕ → Type 0
 WritesFrontOf old new text rest = (front : List ℕ) × (text ≡ front ++ rest) × Appends old new front
 
--- a front of the text is appended
+-- A front of the text is appended.
 abbrev pub AppendsFront : Option (List ℕ) → Option (List ℕ) → List ℕ → Type 0
 AppendsFront old new text = (rest : List ℕ) × WritesFrontOf old new text rest
 
--- the fault is the writer's
+-- True if the fault is the writer's.
 abbrev pub is_line_writers : LineFault → Bool
 is_line_writers line.OutOfMemory = false
 is_line_writers line.Output = true
@@ -24,7 +24,7 @@ is_writers undescribed.OutOfMemory = false
 is_writers undescribed.LineOutOfMemory = false
 is_writers undescribed.Output = true
 
--- it is not done, since the writer failed
+-- True if the result is an error because the writer failed.
 abbrev pub is_line_output : {T : Type 0} → Result T LineFault → Bool
 is_line_output (Ok value) = false
 is_line_output (Err fault) = is_line_writers fault

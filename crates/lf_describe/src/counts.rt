@@ -1,4 +1,4 @@
-//! The cells of a design, and which of them break a rule.
+//! Lists the cells of a design, checks them, and counts those that break a rule.
 
 ghost use Rattle.std.specs.Prelude.{◌≡◌, ◌≤◌, ◌↔◌, All, IfOk, IsTrue, count_by, is_none, is_some, length, map};
 ghost use Rattle.lf_rules.specs.declared.report_types.Report.{Report};
@@ -13,18 +13,18 @@ use lf_rules::{Broken, Listed, Padding};
 use lf_segments::{FrameIndex, IndexedFrame};
 use std::alloc::{AllocError, Global};
 
-/// How many cells there are, and what is to tell of them.
+/// The number of cells, and how many of them are illegal or unplaced.
 #[derive(Clone, Copy)]
 pub(crate) struct Counts {
-    /// How many there are.
+    /// The number of cells.
     pub(crate) cells: usize,
-    /// How many break a rule where they stand.
+    /// The number of cells that break a rule at their places.
     pub(crate) illegal: usize,
-    /// How many are unplaced.
+    /// The number of unplaced cells.
     pub(crate) unplaced: usize,
 }
 
-/// The cells, each at its place in the DEF text.
+/// Returns the cells, each at its place in the DEF text. `Err` if an allocation fails.
 pub(crate) fn listed<'a>(
     alloc: Global,
     cells: &'a LoadedCells,
@@ -44,7 +44,8 @@ pub(crate) fn listed<'a>(
     Ok(listed)
 }
 
-/// The verdict of each cell of a design: the first rule that it breaks where it stands, or none.
+/// Returns the verdict of each cell of a design: the first rule that it breaks at its place, or
+/// `None`. `Err` if an allocation fails.
 pub(crate) fn verdicts_of(
     alloc: Global,
     frame: &Frame,
@@ -64,21 +65,21 @@ pub(crate) fn verdicts_of(
     )
 }
 
-/// How many of the verdicts say that a rule is broken.
+/// Counts the verdicts that name a broken rule.
 fn illegal_in(verdicts: &[Option<Broken>]) -> usize
     ensures { result ≡ count_by is_some verdicts.now }
 {
     verdicts.iter().filter(|verdict| verdict.is_some()).count()
 }
 
-/// How many of the cells are unplaced.
+/// Counts the unplaced cells.
 fn unplaced_in(cells: &[Listed<&[u8]>]) -> usize
     ensures { result ≡ count_by (λ c. is_none c.place) (map named cells.now) }
 {
     cells.iter().filter(|cell| cell.place.is_none()).count()
 }
 
-/// How many cells there are, how many break a rule, by the verdict of each, and how many are unplaced.
+/// Counts the cells, those that break a rule by their verdicts, and the unplaced ones.
 pub(crate) fn counts_of(cells: &[Listed<&[u8]>], verdicts: &[Option<Broken>]) -> Counts
     ensures cells { result.cells ≡ length (map named cells.now) }
     ensures illegal { result.illegal ≡ count_by is_some verdicts.now }
@@ -91,7 +92,7 @@ pub(crate) fn counts_of(cells: &[Listed<&[u8]>], verdicts: &[Option<Broken>]) ->
     }
 }
 
-/// Whether no cell breaks a rule and none is unplaced.
+/// Returns whether no cell breaks a rule and no cell is unplaced.
 pub(crate) fn is_clean(counts: &Counts) -> bool
     ensures { (report : Report) → counts.now.illegal ≡ length report.violations → counts.now.unplaced ≡ report.unplaced → IsTrue result ↔ IsClean report }
 {

@@ -1,4 +1,4 @@
-//! What is told of a design.
+//! What is described of a design.
 
 ghost use Rattle.std.specs.Prelude.{◌≡◌, All, length};
 ghost use Rattle.lf_reports.specs.Reports.{IsListed, named};
@@ -6,8 +6,8 @@ ghost use Rattle.lf_reports.specs.Reports.{IsListed, named};
 use lf_floorplan::Frame;
 use lf_rules::{Broken, Listed};
 
-/// What is told of a design: the frame, the names of the FIXED components in the order of the DEF text, and the movable cells
-/// in loading order, each with the first rule that it breaks.
+/// The parts of a design that are described. The names of the FIXED components are in the order of
+/// the DEF text. The movable cells are in loading order, each with the first rule that it breaks.
 #[derive(Clone, Copy)]
 pub(crate) struct DescribedDesign<'a> {
     pub(crate) frame: &'a Frame,

@@ -1,4 +1,4 @@
-//! Writes the description of a loaded design.
+//! The description of a loaded design.
 
 ghost use Rattle.std.specs.Prelude.{◌≡◌, ◌≤◌, ◌↔◌, ◌||◌, ℕ, All, IfErr, IfOk, IsTrue, OnErr, OnOk, length, map, take};
 ghost use Rattle.std.specs.Io.KnownBytes.{Appends};
@@ -27,13 +27,14 @@ use std::alloc::{AllocError, Global};
 pub enum DescribeFailure {
     /// An allocation failed before the first line; nothing was written.
     OutOfMemory,
-    /// An allocation for a line failed; lines before it may have been written.
+    /// An allocation for a line failed; earlier lines may have been written.
     LineOutOfMemory,
     /// The writer failed; a front of the description may have been written.
     Output,
 }
 
-/// The names of the FIXED components, in the order of the DEF text.
+/// Returns the names of the FIXED components, in the order of the DEF text. `Err` if an allocation
+/// fails.
 fn fixed_names<'a>(
     alloc: Global,
     components: &'a [Component<'_>],
@@ -49,7 +50,7 @@ fn fixed_names<'a>(
     Ok(names)
 }
 
-/// What is told of a fault of the lines.
+/// Converts a fault of the lines into the error of a description.
 fn line_failure(fault: LineFault) -> DescribeFailure
     ensures late { result ≡ Undescribed.OutOfMemory → ⊥ }
     ensures output { is_writers result ≡ is_line_writers fault }
@@ -60,7 +61,7 @@ fn line_failure(fault: LineFault) -> DescribeFailure
     }
 }
 
-/// Writes what is told; returns whether no cell is unplaced and none breaks a rule.
+/// Writes the description. Returns whether no cell is unplaced and no cell breaks a rule.
 fn write_description<W: Sink>(
     alloc: Global,
     told: &DescribedDesign<'_>,
@@ -79,8 +80,8 @@ fn write_description<W: Sink>(
     }
 }
 
-/// Writes the lines of a frame and its cells, of which the FIXED components have these names; returns whether no cell is unplaced
-/// and none breaks a rule.
+/// Writes the lines of a frame and its cells. `names` are the names of the FIXED components.
+/// Returns whether no cell is unplaced and no cell breaks a rule.
 fn describe_cells<W: Sink>(
     alloc: Global,
     frame: &Frame,
@@ -111,16 +112,18 @@ fn describe_cells<W: Sink>(
     write_description(alloc, &told, writer)
 }
 
-/// Writes the description of a design, each cell at its place in the DEF text, as JSON Lines: an object a line, with the design
-/// first, then its rows, fences, obstacles, soft blockages and movable cells, and the totals last. It is appended to what the
-/// writer holds, and flushed. Returns whether the design is fully legal at these places.
+/// Writes the description of a design as JSON Lines, one object on each line, with each cell at its
+/// place in the DEF text. The design comes first, then its rows, fences, obstacles, soft blockages
+/// and movable cells, and finally the totals. The text is appended to what the writer holds, and
+/// flushed. Returns whether the design is fully legal at these places.
 ///
-/// `document` is the document that the design was loaded from: it names the FIXED components, whose boxes are the first obstacles,
-/// so the obstacle of a number has the name of the FIXED component of that number, if there is one. A name whose bytes are no
-/// UTF-8 text is written as null.
+/// `document` is the document from which the design was loaded. It names the FIXED components,
+/// whose boxes are the first obstacles. The obstacle of a number therefore has the name of the
+/// FIXED component of that number, if there is one. A name whose bytes are not UTF-8 is written as
+/// null.
 ///
-/// If an allocation or the writer fails, a front of the description is written; none of it if an allocation failed before the
-/// first line.
+/// `Err` if an allocation or the writer fails; then a front of the description may be written.
+/// Nothing is written if an allocation fails before the first line.
 pub fn describe<W: Sink>(
     alloc: Global,
     loaded: &Loaded,

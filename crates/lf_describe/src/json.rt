@@ -1,4 +1,4 @@
-//! The lines as JSON.
+//! The lines as JSON values. A function that allocates returns `Err` if an allocation fails.
 
 ghost use Rattle.std.specs.Prelude.{◌≡◌, IfOk, map, option_map};
 ghost use Rattle.serde_json.specs.Data.{null, string};
@@ -19,21 +19,22 @@ use serde_json::{Value, json};
 use std::alloc::{AllocError, Global};
 use std::str;
 
-/// What stands where there is nothing.
+/// Returns the null value, which is written for something absent.
 fn null_value() -> Value
     ensures { view result ≡ null }
 {
     Value::Null
 }
 
-/// A text.
+/// Makes the value of a text.
 fn string_value(alloc: Global, text: &str) -> Result<Value, AllocError>
     ensures { IfOk result (λ v. view v ≡ string text.now) }
 {
     json!(in alloc; text)
 }
 
-/// A name as a text; null if its bytes are no UTF-8 text. `Err` if an allocation fails.
+/// Makes the value of a name: a text, or null if its bytes are not UTF-8. `Err` if an allocation
+/// fails.
 pub fn name_value(alloc: Global, name: &[u8]) -> Result<Value, AllocError>
     ensures { IfOk result (λ v. view v ≡ text_data name.now) }
 {
@@ -43,7 +44,7 @@ pub fn name_value(alloc: Global, name: &[u8]) -> Result<Value, AllocError>
     }
 }
 
-/// A name as a text; null if there is none.
+/// Makes the value of a name, or null if there is no name.
 fn text_or_null(alloc: Global, name: Option<&[u8]>) -> Result<Value, AllocError>
     ensures { IfOk result (λ v. view v ≡ named_or_null (option_map (λ bytes. bytes.now) name.entry)) }
 {
@@ -53,14 +54,14 @@ fn text_or_null(alloc: Global, name: Option<&[u8]>) -> Result<Value, AllocError>
     }
 }
 
-/// A rectangle: its left, bottom, right and top.
+/// Makes the value of a rectangle: its left, bottom, right and top in database units.
 fn rect_value(alloc: Global, rect: &Rect) -> Result<Value, AllocError>
     ensures { IfOk result (λ v. view v ≡ rect_data rect.now) }
 {
     json!(in alloc; [rect.x1, rect.y1, rect.x2, rect.y2])
 }
 
-/// The rectangles, in their order.
+/// Makes the values of the rectangles, in order.
 fn rect_values(alloc: Global, rects: &[Rect]) -> Result<Vec<Value>, AllocError>
     ensures { IfOk result (λ values. map view values.items ≡ map rect_data rects.now) }
 {
@@ -71,14 +72,14 @@ fn rect_values(alloc: Global, rects: &[Rect]) -> Result<Vec<Value>, AllocError>
     Ok(values)
 }
 
-/// An orientation by its word.
+/// Makes the value of an orientation: its word.
 fn orient_value(alloc: Global, orient: Orient) -> Result<Value, AllocError>
     ensures { IfOk result (λ v. view v ≡ orient_data orient) }
 {
     name_value(alloc, orient_word(orient))
 }
 
-/// The line of the design.
+/// Makes the line of the design.
 pub(crate) fn design_value(alloc: Global, frame: &Frame) -> Result<Value, AllocError>
     ensures { IfOk result (λ v. view v ≡ design_data frame.now) }
 {
@@ -90,7 +91,7 @@ pub(crate) fn design_value(alloc: Global, frame: &Frame) -> Result<Value, AllocE
     json!(in alloc; {"kind": "design", "name": name, "site": site, "site_height": height, "site_width": width, "units": units})
 }
 
-/// The line of a row.
+/// Makes the line of a row.
 pub(crate) fn row_value(alloc: Global, frame: &Frame, row: &Row) -> Result<Value, AllocError>
     requires { IsCoreRow frame.now.pitch row.now }
     ensures { IfOk result (λ v. view v ≡ row_data frame.now row.now) }
@@ -102,7 +103,7 @@ pub(crate) fn row_value(alloc: Global, frame: &Frame, row: &Row) -> Result<Value
     json!(in alloc; {"box": rect, "kind": "row", "name": name, "orient": orient, "sites": sites})
 }
 
-/// The line of a fence.
+/// Makes the line of a fence.
 pub(crate) fn fence_value(alloc: Global, fence: &Team) -> Result<Value, AllocError>
     ensures { IfOk result (λ v. view v ≡ fence_data fence.now) }
 {
@@ -111,7 +112,8 @@ pub(crate) fn fence_value(alloc: Global, fence: &Team) -> Result<Value, AllocErr
     json!(in alloc; {"kind": "fence", "name": name, "rects": rects})
 }
 
-/// The line of an obstacle, with the name of the FIXED component whose box it is, if it is one.
+/// Makes the line of an obstacle. If its box is that of a FIXED component, `name` is the
+/// component's.
 pub(crate) fn obstacle_value(
     alloc: Global,
     name: Option<&[u8]>,
@@ -124,7 +126,7 @@ pub(crate) fn obstacle_value(
     json!(in alloc; {"box": rect, "kind": "obstacle", "name": name})
 }
 
-/// The line of a rectangle of a soft blockage.
+/// Makes the line of a rectangle of a soft blockage.
 pub(crate) fn soft_value(alloc: Global, soft: &Rect) -> Result<Value, AllocError>
     ensures { IfOk result (λ v. view v ≡ soft_data soft.now) }
 {
@@ -132,7 +134,7 @@ pub(crate) fn soft_value(alloc: Global, soft: &Rect) -> Result<Value, AllocError
     json!(in alloc; {"box": rect, "kind": "soft"})
 }
 
-/// The name of the team of this number.
+/// Returns the name of the team of this number.
 fn team_name(frame: &Frame, team: usize) -> &[u8]
     ensures { result.now ≡ name_of_team frame.now team }
 {
@@ -142,7 +144,7 @@ fn team_name(frame: &Frame, team: usize) -> &[u8]
     }
 }
 
-/// The size of the cell's macro when it faces north.
+/// Returns the size of the cell's macro when it faces north.
 fn cell_size(frame: &Frame, cell: &Listed<&[u8]>) -> Point
     requires { IsListed frame.now (named cell.now) }
     ensures { result ≡ size_of frame.now (macro_of frame.now cell.now.mac) }
@@ -150,7 +152,7 @@ fn cell_size(frame: &Frame, cell: &Listed<&[u8]>) -> Point
     size_in_units(&mac_at(frame, cell.mac).size, frame.header.units)
 }
 
-/// The box of the cell where it stands; null if it is unplaced.
+/// Makes the value of the cell's box at its place, or null if it is unplaced.
 fn box_value(alloc: Global, frame: &Frame, cell: &Listed<&[u8]>) -> Result<Value, AllocError>
     requires { IsListed frame.now (named cell.now) }
     ensures { IfOk result (λ v. view v ≡ box_data frame.now (named cell.now)) }
@@ -161,7 +163,7 @@ fn box_value(alloc: Global, frame: &Frame, cell: &Listed<&[u8]>) -> Result<Value
     }
 }
 
-/// The orientation of the cell where it stands; null if it is unplaced.
+/// Makes the value of the cell's orientation at its place, or null if it is unplaced.
 fn facing_value(alloc: Global, place: &Option<Place>) -> Result<Value, AllocError>
     ensures { IfOk result (λ v. view v ≡ orientation_data place.now) }
 {
@@ -171,7 +173,7 @@ fn facing_value(alloc: Global, place: &Option<Place>) -> Result<Value, AllocErro
     }
 }
 
-/// The number of the rule that is broken; null if there is none.
+/// Makes the value of the broken rule's number, or null if no rule is broken.
 fn rule_value(broken: &Option<Broken>) -> Value
     ensures { view result ≡ rule_data broken.now }
 {
@@ -181,7 +183,8 @@ fn rule_value(broken: &Option<Broken>) -> Value
     }
 }
 
-/// The name of the other cell that is met, if there is one.
+/// Returns the name of the other cell that breaks the rule with this one, or `None` if there is no
+/// other cell.
 fn other_name<'a>(cells: &[Listed<&'a [u8]>], broken: &Option<Broken>) -> Option<&'a [u8]>
     ensures { option_map (λ bytes. bytes.now) result ≡ other_of (map named cells.now) broken.now }
 {
@@ -197,7 +200,7 @@ fn other_name<'a>(cells: &[Listed<&'a [u8]>], broken: &Option<Broken>) -> Option
     }
 }
 
-/// The line of a cell among those that are listed.
+/// Makes the line of a cell among the listed cells.
 pub(crate) fn cell_value(
     alloc: Global,
     frame: &Frame,
@@ -224,7 +227,7 @@ pub(crate) fn cell_value(
     })
 }
 
-/// The line of the totals.
+/// Makes the line of the totals.
 pub(crate) fn total_value(
     alloc: Global,
     frame: &Frame,

@@ -2,7 +2,8 @@
 
 ghost use Rattle.lf_describe.specs.Description.{NamesAreWritten};
 
-/// A name of visible characters, as each name of a text is, is written as it is.
+/// A name of visible characters is written unchanged. Each name of a LEF or DEF text has only such
+/// characters.
 pub fn names_are_written()
     ensures { NamesAreWritten }
 {}

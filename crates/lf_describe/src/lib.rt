@@ -1,11 +1,27 @@
-//! What `describe` writes of a design: JSON Lines, an object a line.
+//! Writes what `describe` shows of a design: JSON Lines, one object on each line.
 //!
-//! The design comes first, then its rows, fences, obstacles, soft blockages and movable cells, each cell at its place in the DEF text
-//! and with the first rule that it breaks there, and the totals last; `docs/PROTOCOL.md` has the keys. Each line is compact JSON. The
-//! whole text is a definition (`description`) of the loaded design and of what the DEF text says.
+//! The design comes first, then its rows, fences, obstacles, soft blockages and movable cells, and
+//! finally the totals. Each cell is shown at its place in the DEF text, with the first rule that it
+//! breaks there. `docs/PROTOCOL.md` lists the keys. Each line is compact JSON. The whole text is a
+//! definition (`description`) over the loaded design and the document of the DEF text.
+//!
+//! Used by `lf_task_files` and `lf_repair_report`.
+//!
+//! Modules, in reading order:
+//!
+//! - `counts`: the cells of a design, their verdicts, and counts
+//! - `described`: the parts of a design that are described
+//! - `json`: the lines as JSON values
+//! - `line_output`: lines written to a sink through a buffer
+//! - `line_kinds`: the kinds of lines, in order
+//! - `description`: the whole description
+//! - `laws`: a law on names
+//!
+//! From `crates/lf_repair_report/src/report.rt`:
 //!
 //! ```
-//! let legal = describe(alloc, &loaded, &document, &mut writer)?;
+//! let name = name_value(alloc, team)?;
+//! team_value(alloc, name, left, gaps, least, repaired)
 //! ```
 #![tactic(auto)]
 

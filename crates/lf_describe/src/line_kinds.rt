@@ -34,7 +34,7 @@ pub(crate) enum Part {
     Total,
 }
 
-/// The kinds of lines, in their order.
+/// The kinds of lines, in order.
 const PARTS: [Part; 7] = [
     Part::Design,
     Part::Rows,
@@ -45,7 +45,7 @@ const PARTS: [Part; 7] = [
     Part::Total,
 ];
 
-/// How many cells there are, how many break a rule, and how many are unplaced.
+/// Counts the cells, those that break a rule, and the unplaced ones.
 pub(crate) fn counts_in(told: &DescribedDesign<'_>) -> Counts
     ensures cells { result.cells ≡ length (cells_in told.now) }
     ensures illegal { result.illegal ≡ count_by is_some told.now.verdicts.now }
@@ -54,7 +54,7 @@ pub(crate) fn counts_in(told: &DescribedDesign<'_>) -> Counts
     counts_of(told.cells, told.verdicts)
 }
 
-/// The line of the row of this number.
+/// Makes the line of the row of this number.
 fn row_line(alloc: Global, frame: &Frame, number: usize) -> Result<Value, AllocError>
     requires { number < length frame.now.rows }
     ensures { IfOk result (λ v. Some (view v) ≡ slice_get (map (row_data frame.now) frame.now.rows) number) }
@@ -62,7 +62,7 @@ fn row_line(alloc: Global, frame: &Frame, number: usize) -> Result<Value, AllocE
     row_value(alloc, frame, &frame.rows.as_slice()[number])
 }
 
-/// The line of the fence of this number.
+/// Makes the line of the fence of this number.
 fn fence_line(alloc: Global, frame: &Frame, number: usize) -> Result<Value, AllocError>
     requires { number < length frame.now.teams }
     ensures { IfOk result (λ v. Some (view v) ≡ slice_get (map fence_data frame.now.teams) number) }
@@ -70,7 +70,7 @@ fn fence_line(alloc: Global, frame: &Frame, number: usize) -> Result<Value, Allo
     fence_value(alloc, &frame.teams.as_slice()[number])
 }
 
-/// The name of this number, if there is one.
+/// Returns the name of this number, or `None` if there are fewer names.
 fn name_at<'a>(names: &[&'a [u8]], number: usize) -> Option<&'a [u8]>
     ensures { option_map (λ name. name.now) result ≡ slice_get (map (λ n. n.now) names.now) number }
 {
@@ -80,7 +80,7 @@ fn name_at<'a>(names: &[&'a [u8]], number: usize) -> Option<&'a [u8]>
     }
 }
 
-/// The obstacle of this number.
+/// Returns the obstacle of this number.
 fn obstacle_at(frame: &Frame, number: usize) -> &Rect
     requires { number < length frame.now.obstacles }
     ensures { slice_get frame.now.obstacles number ≡ Some result.now }
@@ -88,7 +88,7 @@ fn obstacle_at(frame: &Frame, number: usize) -> &Rect
     &frame.obstacles.as_slice()[number]
 }
 
-/// The line of the obstacle of this number.
+/// Makes the line of the obstacle of this number.
 fn obstacle_line(
     alloc: Global,
     frame: &Frame,
@@ -101,7 +101,7 @@ fn obstacle_line(
     obstacle_value(alloc, name_at(names, number), obstacle_at(frame, number))
 }
 
-/// The line of the soft rectangle of this number.
+/// Makes the line of the soft rectangle of this number.
 fn soft_line(alloc: Global, frame: &Frame, number: usize) -> Result<Value, AllocError>
     requires { number < length frame.now.soft }
     ensures { IfOk result (λ v. Some (view v) ≡ slice_get (map soft_data frame.now.soft) number) }
@@ -109,7 +109,7 @@ fn soft_line(alloc: Global, frame: &Frame, number: usize) -> Result<Value, Alloc
     soft_value(alloc, &frame.soft.as_slice()[number])
 }
 
-/// The cell of this number.
+/// Returns the cell of this number.
 fn cell_at<'a>(told: &DescribedDesign<'a>, number: usize) -> &'a Listed<&'a [u8]>
     requires { number < length (cells_in told.now) }
     ensures there { slice_get (cells_in told.now) number ≡ Some (named result.now) }
@@ -118,7 +118,7 @@ fn cell_at<'a>(told: &DescribedDesign<'a>, number: usize) -> &'a Listed<&'a [u8]
     &told.cells[number]
 }
 
-/// The verdict of the cell of this number.
+/// Returns the verdict of the cell of this number.
 fn verdict_of(told: &DescribedDesign<'_>, number: usize) -> Option<Broken>
     requires { number < length (cells_in told.now) }
     ensures { result ≡ verdict_at told.now.verdicts.now number }
@@ -126,7 +126,7 @@ fn verdict_of(told: &DescribedDesign<'_>, number: usize) -> Option<Broken>
     told.verdicts[number]
 }
 
-/// The line of the cell of this number.
+/// Makes the line of the cell of this number.
 fn cell_line(alloc: Global, told: &DescribedDesign<'_>, number: usize) -> Result<Value, AllocError>
     requires { number < length (cells_in told.now) }
     ensures { IfOk result (λ v. Some (view v) ≡ slice_get (part_lines told.now Part.Cells) number) }
@@ -136,7 +136,7 @@ fn cell_line(alloc: Global, told: &DescribedDesign<'_>, number: usize) -> Result
     cell_value(alloc, told.frame, told.cells, cell, &verdict)
 }
 
-/// How many lines a part has.
+/// Returns the number of lines of a part.
 #[tactic(auto, using(crate::proofs::Numbered::count))]
 fn count_in(told: &DescribedDesign<'_>, part: Part) -> usize
     ensures { result ≡ length (part_lines told.now part) }
@@ -152,7 +152,7 @@ fn count_in(told: &DescribedDesign<'_>, part: Part) -> usize
     }
 }
 
-/// The line of this number of a part.
+/// Makes the line of this number of a part.
 fn line_in(
     alloc: Global,
     told: &DescribedDesign<'_>,
@@ -173,7 +173,8 @@ fn line_in(
     }
 }
 
-/// Writes the line of this number of a part, behind what waits; some of it may wait now.
+/// Writes the line of this number of a part, after the buffered bytes. Bytes may remain in the
+/// buffer.
 fn put_number<W: Sink>(
     alloc: Global,
     told: &DescribedDesign<'_>,
@@ -197,7 +198,7 @@ fn put_number<W: Sink>(
     put_line(alloc, writer, waiting, &value)
 }
 
-/// Writes the lines of a part, behind what waits; some of it may wait now.
+/// Writes the lines of a part, after the buffered bytes. Bytes may remain in the buffer.
 fn put_part<W: Sink>(
     alloc: Global,
     told: &DescribedDesign<'_>,
@@ -216,7 +217,7 @@ fn put_part<W: Sink>(
     Ok(())
 }
 
-/// Writes the lines of these parts, behind what waits; some of it may wait now.
+/// Writes the lines of these parts, after the buffered bytes. Bytes may remain in the buffer.
 fn write_kinds<W: Sink>(
     alloc: Global,
     told: &DescribedDesign<'_>,
@@ -235,7 +236,7 @@ fn write_kinds<W: Sink>(
     Ok(())
 }
 
-/// Writes what waits and the lines of these parts, and flushes.
+/// Writes the buffered bytes and the lines of these parts, and flushes.
 fn write_all_kinds<W: Sink>(
     alloc: Global,
     told: &DescribedDesign<'_>,
@@ -252,7 +253,7 @@ fn write_all_kinds<W: Sink>(
     put_last(writer, waiting)
 }
 
-/// Writes all parts in their order, and flushes.
+/// Writes all parts in order, and flushes.
 pub(crate) fn put_parts<W: Sink>(
     alloc: Global,
     told: &DescribedDesign<'_>,

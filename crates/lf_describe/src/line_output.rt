@@ -1,4 +1,4 @@
-//! Lines on their way to a writer.
+//! Lines written to a sink through a buffer.
 
 ghost use Rattle.std.specs.Prelude.{◌≡◌, ◌++◌, ◌||◌, [], false, OnErr, OnOk};
 ghost use Rattle.std.specs.Io.KnownBytes.{Appends};
@@ -11,7 +11,7 @@ use lf_io::{Sink, send};
 use serde_json::Value;
 use std::alloc::{AllocError, Global};
 
-/// How many bytes wait at most before they are handed to the writer, but for the line that makes them more.
+/// The buffered bytes at which the buffer is written. The last line may exceed this.
 const ROOM: usize = 65_536;
 
 /// Why lines were not written.
@@ -23,7 +23,7 @@ pub(crate) enum LineFault {
     Output,
 }
 
-/// Hands the bytes to the writer; if it fails, a front of them was written.
+/// Sends the bytes to the writer. If it fails, a front of them is written.
 fn put_bytes<W: Sink>(writer: &mut W, bytes: &[u8]) -> Result<(), LineFault>
     ensures ok { OnOk result (Appends (W.contents writer.old) (W.contents writer.new) bytes.now) }
     ensures err { OnErr result (AppendsFront (W.contents writer.old) (W.contents writer.new) bytes.now) }
@@ -36,7 +36,7 @@ fn put_bytes<W: Sink>(writer: &mut W, bytes: &[u8]) -> Result<(), LineFault>
     }
 }
 
-/// Hands all that waits to the writer.
+/// Sends all buffered bytes to the writer, and empties the buffer.
 fn flush_buffer<W: Sink>(writer: &mut W, waiting: &mut Vec<u8>) -> Result<(), LineFault>
     ensures ok { OnOk result (WritesFrontOf (W.contents writer.old) (W.contents writer.new) waiting.old.items waiting.new.items) }
     ensures none { OnOk result (waiting.new.items ≡ []) }
@@ -49,7 +49,7 @@ fn flush_buffer<W: Sink>(writer: &mut W, waiting: &mut Vec<u8>) -> Result<(), Li
     Ok(())
 }
 
-/// Appends the text of the value and a line feed to what waits.
+/// Appends the text of the value and a line feed to the buffer. `Err` if an allocation fails.
 fn push_line(alloc: Global, waiting: &mut Vec<u8>, value: &Value) -> Result<(), AllocError>
     requires { has_float (view value.now) ≡ false }
     ensures { OnOk result (waiting.new.items ≡ waiting.old.items ++ line_text (view value.now)) }
@@ -60,7 +60,7 @@ fn push_line(alloc: Global, waiting: &mut Vec<u8>, value: &Value) -> Result<(), 
     Ok(())
 }
 
-/// Writes the value as a line, behind what waits; some of it may wait now.
+/// Writes the value as a line, after the buffered bytes. Bytes may remain in the buffer.
 pub(crate) fn put_line<W: Sink>(
     alloc: Global,
     writer: &mut W,
@@ -82,7 +82,7 @@ pub(crate) fn put_line<W: Sink>(
     flush_buffer(writer, waiting)
 }
 
-/// Writes all that waits.
+/// Writes all buffered bytes.
 pub(crate) fn put_last<W: Sink>(writer: &mut W, waiting: &Vec<u8>) -> Result<(), LineFault>
     ensures ok { OnOk result (Appends (W.contents writer.old) (W.contents writer.new) waiting.now.items) }
     ensures err { OnErr result (AppendsFront (W.contents writer.old) (W.contents writer.new) waiting.now.items) }

@@ -1,14 +1,27 @@
-//! Devices: what bytes come from and go to, and whether a call of theirs has failed.
+//! Devices: sources and sinks of bytes that know whether one of their calls has failed.
 //!
-//! `FromRead` makes a `Source` of a reader of std, and `ToWrite` a `Sink` of a writer; both borrow it.
+//! `FromRead` makes a `Source` of a reader of std, and `ToWrite` makes a `Sink` of a writer. Both
+//! borrow it. A source is where bytes come from, and a sink is where they are written.
 //!
-//! Contracts see of a source the bytes that are still to be read (`remaining`) and how many reads were made (`reads`), and of a
-//! sink the bytes that it holds (`contents`) and whether all of them are flushed (`is_flushed`); of both whether a call has failed
-//! (`has_failed`), and which reader or writer is held (`holds`). The bytes are seen only where the reader or writer makes them known.
+//! Contracts see the bytes that a source has still to read (`remaining`) and the number of its
+//! reads (`reads`). They see the bytes that a sink holds (`contents`) and whether all are flushed
+//! (`is_flushed`). Of both they see whether a call has failed (`has_failed`), and which reader or
+//! writer is held (`holds`). The bytes are visible only if the reader or writer makes them known.
+//!
+//! Used by most other crates.
+//!
+//! Modules, in reading order:
+//!
+//! - `traits`: the traits of sources and sinks
+//! - `sender`: sending of all bytes of a text
+//! - `std_adapters`: devices over std's readers and writers
+//!
+//! From `crates/lf_tests_floor/src/connections.rt`:
 //!
 //! ```
-//! let mut sink = ToWrite::new(&mut writer);
-//! send(&mut sink, b"ok 0 0\n")?;
+//! let mut source = FromRead::new(reader);
+//! let mut sink = ToWrite::new(writer);
+//! serve_safely(alloc, floor, &mut source, &mut sink, limits)
 //! ```
 #![tactic(auto)]
 

@@ -1,12 +1,12 @@
-//! Bytes that are sent whole.
+//! Sending of all bytes of a text.
 
 ghost use Rattle.std.specs.Prelude.{◌≡◌, OnErr, OnOk, ℕ, take, true};
 ghost use Rattle.std.specs.Io.KnownBytes.{Appends};
 
 use crate::traits::{DeviceFault, Sink};
 
-/// Writes all the bytes, in as many calls as it takes, and flushes them; `Err` if a call fails, and then a front of them, perhaps
-/// nothing, is written.
+/// Writes all the bytes, in as many calls as needed, and flushes them. `Err` if a call fails; then
+/// a front of the bytes, perhaps nothing, is written.
 pub fn send<W: Sink>(sink: &mut W, bytes: &[u8]) -> Result<(), DeviceFault>
     ensures ok { OnOk result (Appends (W.contents sink.old) (W.contents sink.new) bytes.now) }
     ensures flushed { OnOk result (W.is_flushed sink.new ≡ true) }

@@ -1,4 +1,4 @@
-//! Devices over std's readers and writers. A call that a signal interrupts is made again.
+//! Devices over std's readers and writers. A call that a signal interrupts is repeated.
 
 ghost use Rattle.std.specs.Prelude.{◌≡◌, false, true};
 ghost use Rattle.std.specs.Io.{ReadsAtMost, WritesAtMost};
@@ -8,15 +8,15 @@ use crate::traits::{DeviceFault, Sink, Source};
 use std::io;
 use std::io::{ErrorKind, Read, Write};
 
-/// How often a call is made at most, if a signal interrupts it each time.
+/// The most calls made if a signal interrupts each of them.
 const TRIES: u32 = 1_000;
 
-/// Whether a signal interrupted the call.
+/// Returns whether a signal interrupted the call.
 fn is_interrupted(error: &io::Error) -> bool {
     error.kind() == ErrorKind::Interrupted
 }
 
-/// A read, made again where a signal interrupts it.
+/// Reads, and repeats the read if a signal interrupts it.
 fn read_through<R: Read>(reader: &mut R, buffer: &mut [u8]) -> io::Result<usize>
     ensures bound { ReadsAtMost result buffer.new }
     ensures bytes { ReadConsumes (R.remaining reader.old) (R.remaining reader.new) result buffer.new }
@@ -30,7 +30,7 @@ fn read_through<R: Read>(reader: &mut R, buffer: &mut [u8]) -> io::Result<usize>
     reader.read(buffer)
 }
 
-/// A write, made again where a signal interrupts it.
+/// Writes, and repeats the write if a signal interrupts it.
 fn write_through<W: Write>(writer: &mut W, bytes: &[u8]) -> io::Result<usize>
     ensures bound { WritesAtMost result bytes.now }
     ensures bytes { WriteAppends (W.contents writer.old) (W.contents writer.new) result bytes.now }
@@ -44,7 +44,7 @@ fn write_through<W: Write>(writer: &mut W, bytes: &[u8]) -> io::Result<usize>
     writer.write(bytes)
 }
 
-/// A flush, made again where a signal interrupts it.
+/// Flushes, and repeats the flush if a signal interrupts it.
 fn flush_through<W: Write>(writer: &mut W) -> io::Result<()>
     ensures { Keeps (W.contents writer.old) (W.contents writer.new) }
 {
@@ -57,7 +57,7 @@ fn flush_through<W: Write>(writer: &mut W) -> io::Result<()>
     writer.flush()
 }
 
-/// A source over a reader, which it borrows. A read that a signal interrupts is made again, up to 999 times.
+/// A source over a borrowed reader. A read that a signal interrupts is repeated, up to 999 times.
 #[derive(Drop)]
 pub struct FromRead<'a, R> {
     reader: &'a mut R,
@@ -66,7 +66,7 @@ pub struct FromRead<'a, R> {
 }
 
 impl<'a, R: Read> FromRead<'a, R> {
-    /// A source over the reader, of which no read was made.
+    /// Makes a source over the reader. No read is made yet.
     pub fn new(reader: &'a mut R) -> FromRead<'a, R>
         ensures remaining { ⟦<FromRead<'a, R> as Source>⟧.remaining result ≡ R.remaining reader.old }
         ensures reads { ⟦<FromRead<'a, R> as Source>⟧.reads result ≡ 0 }
@@ -103,8 +103,8 @@ impl<'a, R: Read> Source for FromRead<'a, R> {
     }
 }
 
-/// A sink over a writer, which it borrows. A write that takes no byte fails; a call that a signal interrupts is made again, up
-/// to 999 times.
+/// A sink over a borrowed writer. A write that takes no byte fails. A call that a signal interrupts
+/// is repeated, up to 999 times.
 #[derive(Drop)]
 pub struct ToWrite<'a, W> {
     writer: &'a mut W,
@@ -113,7 +113,7 @@ pub struct ToWrite<'a, W> {
 }
 
 impl<'a, W: Write> ToWrite<'a, W> {
-    /// A sink over the writer, to which nothing was written yet.
+    /// Makes a sink over the writer. Nothing is written yet.
     pub fn new(writer: &'a mut W) -> ToWrite<'a, W>
         ensures contents { ⟦<ToWrite<'a, W> as Sink>⟧.contents result ≡ W.contents writer.old }
         ensures flushed { ⟦<ToWrite<'a, W> as Sink>⟧.is_flushed result ≡ true }

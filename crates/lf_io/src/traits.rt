@@ -1,29 +1,29 @@
-//! What bytes come from and go to.
+//! The traits of sources and sinks.
 
 ghost use Rattle.std.specs.Prelude.{◌≡◌, ◌<◌, ◌≤◌, ◌+◌, ℕ, List, Option, Bool, ◌||◌, IfOk, OnOk, length, is_err, false, true};
 ghost use Rattle.std.specs.Io.{ReadsAtMost, WritesAtMost};
 ghost use Rattle.std.specs.Io.KnownBytes.{ReadConsumes, WriteAppends, Keeps};
 
-/// A call of a device failed.
+/// The error of a failed call of a device.
 #[derive(Clone, Copy, Debug, PartialEq, Eq)]
 pub struct DeviceFault;
 
-/// Where bytes come from.
+/// A source of bytes.
 pub trait Source {
-    /// The bytes that reads will return from here on, if they are known.
+    /// The bytes that the following reads will return, if known.
     ghost remaining: { Self → Option (List ℕ) };
 
-    /// How many reads were made.
+    /// The number of reads made.
     ghost reads: { Self → ℕ };
 
     /// Whether a call has failed.
     ghost has_failed: { Self → Bool };
 
-    /// Which reader the source holds, if it holds one by a reference.
+    /// The reader that the source holds, if it holds one by a reference.
     ghost holds: { Self → ℕ } = { λ _. 0 };
 
-    /// Reads into the front of the buffer and returns how many bytes; 0 is the end of the input. Each call counts as a read.
-    /// `Err` if the read fails.
+    /// Reads into the front of the buffer and returns the number of bytes; 0 is the end of the
+    /// input. Each call counts as a read. `Err` if the read fails.
     fn read(&mut self, buffer: &mut [u8]) -> Result<usize, DeviceFault>
         requires countable { reads self.old < 18446744073709551615 }
         ensures bound { ReadsAtMost result buffer.new }
@@ -33,9 +33,9 @@ pub trait Source {
         ensures held { holds self.new ≡ holds self.old };
 }
 
-/// Where bytes go.
+/// A sink for bytes.
 pub trait Sink {
-    /// The bytes that the sink holds, if they are known.
+    /// The bytes that the sink holds, if known.
     ghost contents: { Self → Option (List ℕ) };
 
     /// Whether everything written is flushed.
@@ -44,10 +44,11 @@ pub trait Sink {
     /// Whether a call has failed.
     ghost has_failed: { Self → Bool };
 
-    /// Which writer the sink holds, if it holds one by a reference.
+    /// The writer that the sink holds, if it holds one by a reference.
     ghost holds: { Self → ℕ } = { λ _. 0 };
 
-    /// Takes a front of the bytes, at least one, and returns how many. `Err` if the write fails, or takes none.
+    /// Takes a front of the bytes, at least one, and returns the number taken. `Err` if the write
+    /// fails or takes no byte.
     fn write(&mut self, bytes: &[u8]) -> Result<usize, DeviceFault>
         requires { 0 < length bytes.now }
         ensures bound { WritesAtMost result bytes.now }
@@ -57,7 +58,7 @@ pub trait Sink {
         ensures failed { has_failed self.new ≡ (has_failed self.old || is_err result) }
         ensures held { holds self.new ≡ holds self.old };
 
-    /// Makes sure that everything written has gone out. `Err` if that fails.
+    /// Makes sure that everything written is passed on. `Err` if that fails.
     fn flush(&mut self) -> Result<(), DeviceFault>
         ensures bytes { Keeps (contents self.old) (contents self.new) }
         ensures flushed { OnOk result (is_flushed self.new ≡ true) }

@@ -1,16 +1,30 @@
-//! Files that are written: a text replaces a file as a whole, or the file is unchanged.
+//! Writes files: a text replaces a file as a whole, or the file is unchanged.
 //!
-//! A text is a `TextSource`: it is written piece by piece, and need not be in memory as a whole. `OutputFiles` is where such texts go, and
-//! `FsOutputFiles` puts them into files: into a new file beside the target, which takes the target's name once it is stored. A pipe
-//! or a device is written to as it is. Where standard output goes to the target, the text goes behind what is there.
+//! A text is a `TextSource`. It is written in chunks, and need not be in memory as a whole.
+//! `OutputFiles` is the trait of what takes such texts, and `FsOutputFiles` writes them into files.
+//! It writes to a new file next to the target, which takes the target's name once it is stored. A
+//! pipe or a device is written to directly. If standard output is redirected to the target, the
+//! text is appended to it.
 //!
-//! Contracts see of an `OutputFiles` its `puts`: the paths and texts that were put so far, the last one first, or none if the
-//! implementation does not make them known, and whether a file could not be written (`has_failed`). Of `FsOutputFiles` no put is known.
+//! Contracts see the `puts` of an `OutputFiles`: the paths and texts written so far, the latest
+//! first, or `None` if the implementation does not make them known. They also see whether a file
+//! could not be written (`has_failed`). The `puts` of `FsOutputFiles` are unknown.
+//!
+//! Used by `lf_task_designs`, `lf_task_files`, `lf_task_serve`, `lf_task_repair` and `lf_app`.
+//!
+//! Modules, in reading order:
+//!
+//! - `text_source`: texts that are written in chunks
+//! - `replace`: replacement of a file by a new one
+//! - `output_files`: the trait of what takes texts, and its implementation for files
+//!
+//! From `crates/lf_task_files/src/export.rt`:
 //!
 //! ```
-//! let mut exports = FsOutputFiles::new(rt);
-//! exports.try_path("out.def")?;
-//! exports.put("out.def", &text)?;
+//! match exports.put(path, &exported) {
+//!     Ok(()) => Ok(()),
+//!     Err(unwritten) => Err(export_fault(path, unwritten)),
+//! }
 //! ```
 #![tactic(auto)]
 

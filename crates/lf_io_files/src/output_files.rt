@@ -1,4 +1,4 @@
-//! Where exported texts go.
+//! The files into which texts are exported.
 
 ghost use Rattle.std.specs.Prelude.{◌≡◌, ◌||◌, ℕ, Bool, List, Option, None, OnErr, OnOk, false, true};
 ghost use Rattle.std.specs.IoError.{error_kind};
@@ -10,25 +10,25 @@ use std::io;
 use std::io::ErrorKind;
 use std::rt::Files;
 
-/// Why a file cannot be written, where the system says it.
+/// Why a file cannot be written, if the system reports it.
 #[derive(Clone, Copy, Debug, PartialEq, Eq)]
 pub enum WriteFailureKind {
-    /// There is no such folder.
+    /// Its folder does not exist.
     NoFolder,
-    /// A folder has its path.
+    /// The path is that of a folder.
     Folder,
     /// This user may not write it.
     Denied,
-    /// What holds it can only be read.
+    /// Its file system is read-only.
     ReadOnly,
-    /// There is no room for it.
+    /// The disk is full.
     Full,
     /// Another reason.
     Other,
 }
 
-/// Why a text was not put into its file. A regular file is then unchanged; a pipe, a device, or the file that standard output goes to
-/// may hold a front of the text.
+/// Why a text was not written to its file. A regular file is then unchanged. A pipe, a device, or
+/// the file that standard output is redirected to may hold a front of the text.
 #[derive(Clone, Copy, Debug, PartialEq, Eq)]
 pub enum WriteFailure {
     /// The file cannot be written.
@@ -37,7 +37,7 @@ pub enum WriteFailure {
     OutOfMemory,
 }
 
-/// Why a file was not written.
+/// Returns the reason why a file was not written.
 fn unwritten_of(error: &io::Error) -> WriteFailure
     ensures { result ≡ unwritten_of (error_kind error.now) }
 {
@@ -52,7 +52,7 @@ fn unwritten_of(error: &io::Error) -> WriteFailure
     }
 }
 
-/// The result for a text that was written, or was not, or for a path that was tried.
+/// Converts the result of writing a text, or of trying a path.
 fn put_result(written: io::Result<()>) -> Result<(), WriteFailure>
     ensures { result ≡ result_of_write written }
 {
@@ -62,7 +62,7 @@ fn put_result(written: io::Result<()>) -> Result<(), WriteFailure>
     }
 }
 
-/// Writes the text to the file of that path, or to the device.
+/// Writes the text to the file of this path, or to the device.
 fn write_to<T: Files + AllocGlobal, P: TextSource>(
     files: &T,
     path: &str,
@@ -74,29 +74,32 @@ fn write_to<T: Files + AllocGlobal, P: TextSource>(
     replace(files, path, text)
 }
 
-/// Where exported texts go, by the paths of their files.
+/// Takes exported texts, by the paths of their files.
 pub trait OutputFiles {
-    // The texts that were put, the last one first, if they are known.
+    // The texts written so far, the latest first, if known.
     ghost puts: { Self → Option (List Put) } = { λ _. None };
 
-    // Whether a file could not be written.
+    // True if a file could not be written.
     ghost has_failed: { Self → Bool };
 
-    /// Tries, before there is a text, whether one can be put into the file of that path, as far as that shows; it puts nothing.
-    /// `Ok` is no promise.
+    /// Checks, without a text, whether the file of this path can be written, as far as this can be
+    /// known. Writes nothing. `Ok` is no promise. `Err` if the file cannot be written, or an
+    /// allocation fails.
     fn try_path(&mut self, path: &str) -> Result<(), WriteFailure>
         ensures unput { puts self.new ≡ puts self.old }
         ensures failed { has_failed self.new ≡ (is_of_file result || has_failed self.old) };
 
-    /// Puts the whole text into the file of that path, in place of what was there, and nothing else; `Err` if it could not: a regular
-    /// file is then unchanged, and a pipe, a device, or the file that standard output goes to may hold a front of the text.
+    /// Replaces the file of this path with the whole text, and writes nothing else. `Err` if it
+    /// could not. Then a regular file is unchanged, and a pipe, a device, or the file that standard
+    /// output is redirected to may hold a front of the text.
     fn put<P: TextSource>(&mut self, path: &str, text: &P) -> Result<(), WriteFailure>
         ensures ok { OnOk result (PutsFile (puts self.old) (puts self.new) path.now (P.text text.now)) }
         ensures err { OnErr result (puts self.new ≡ puts self.old) }
         ensures failed { has_failed self.new ≡ (is_of_file result || has_failed self.old) };
 }
 
-/// The files of a runtime. Contracts know nothing of what they hold, nor of what was put into them.
+/// The files of a runtime. Contracts know nothing of their contents, or of the texts written to
+/// them.
 #[derive(Clone, Copy)]
 pub struct FsOutputFiles<'a, T> {
     files: &'a T,
@@ -104,7 +107,7 @@ pub struct FsOutputFiles<'a, T> {
 }
 
 impl<'a, T: Files + AllocGlobal> FsOutputFiles<'a, T> {
-    /// The files of this runtime, none of which has failed.
+    /// Takes the files of this runtime. No file has failed yet.
     pub fn new(files: &'a T) -> Self
         ensures fresh { ⟦<FsOutputFiles<'a, T> as OutputFiles>⟧.has_failed result ≡ false }
     {
@@ -115,7 +118,8 @@ impl<'a, T: Files + AllocGlobal> FsOutputFiles<'a, T> {
     }
 }
 
-/// The result for a text that was written, or was not, or for a path that was tried; it is noted whether a file could not be written.
+/// Converts the result of writing a text, or of trying a path. Sets `failed` if a file could not be
+/// written.
 fn note_failure(failed: &mut bool, written: io::Result<()>) -> Result<(), WriteFailure>
     ensures told { result ≡ result_of_write written }
     ensures noted { failed.new ≡ (is_of_file result || failed.old) }

@@ -1,4 +1,4 @@
-//! How a file is replaced: the text is written to a new file beside it, which then takes its name.
+//! Replacement of a file: the text is written to a new file next to it, which then takes its name.
 
 ghost use Rattle.std.specs.Prelude.{IfOk};
 ghost use Rattle.std.specs.Io.KnownBytes.{Appends};
@@ -12,16 +12,17 @@ use std::path::Path;
 use std::rt::Files;
 use std::{fs, io};
 
-/// How many names are tried for the new file.
+/// The number of names tried for the new file.
 const TRIES: u32 = 1_000;
 
-/// How many links are followed.
+/// The most links followed.
 const LINKS: u32 = 40;
 
-/// What leads to the file that standard output goes to.
+/// The path that leads to the file of standard output.
 const OUTPUT: &str = "/proc/self/fd/1";
 
-/// What was found; none if the file is not there or cannot be looked at; `Err` if an allocation failed.
+/// Returns the outcome, or `None` if the file does not exist or cannot be examined. `Err` if an
+/// allocation failed.
 fn found<T: Drop>(outcome: io::Result<T>) -> io::Result<Option<T>> {
     match outcome {
         Ok(it) => Ok(Some(it)),
@@ -30,7 +31,8 @@ fn found<T: Drop>(outcome: io::Result<T>) -> io::Result<Option<T>> {
     }
 }
 
-/// Whether something other than a regular file has the path: a pipe or a device, which is written to as it is.
+/// Returns whether the path is something other than a regular file: a pipe or a device, which is
+/// written to directly.
 pub(crate) fn is_special<T: Files>(files: &T, path: &str) -> io::Result<bool> {
     match found(fs::metadata(files, path))? {
         Some(known) => Ok(!known.is_file()),
@@ -38,7 +40,7 @@ pub(crate) fn is_special<T: Files>(files: &T, path: &str) -> io::Result<bool> {
     }
 }
 
-/// Writes the text to what has the path.
+/// Writes the text directly to the path.
 pub(crate) fn write_through<T: Files + AllocGlobal, P: TextSource>(
     rt: &T,
     path: &str,
@@ -49,7 +51,7 @@ pub(crate) fn write_through<T: Files + AllocGlobal, P: TextSource>(
     Ok(())
 }
 
-/// The path that a link of that name leads to.
+/// Returns the path to which the link leads, given the path named in the link.
 fn follow_link(alloc: Global, link: &str, named: &str) -> io::Result<String> {
     match Path::new(link).parent() {
         Some(folder) => Ok(String::from_str(alloc, folder.join(alloc, named)?.as_str())?),
@@ -57,7 +59,8 @@ fn follow_link(alloc: Global, link: &str, named: &str) -> io::Result<String> {
     }
 }
 
-/// The path that one comes to by links, whether a file is there or not; `Err` where they go round.
+/// Returns the path to which links lead, whether a file exists there or not. `Err` after 40 links,
+/// which may form a loop.
 fn followed<T: Files + AllocGlobal>(rt: &T, path: &str) -> io::Result<String> {
     let mut at = String::from_str(rt.alloc(), path)?;
     for _ in 0..LINKS {
@@ -69,7 +72,7 @@ fn followed<T: Files + AllocGlobal>(rt: &T, path: &str) -> io::Result<String> {
     Err(io::Error::from(ErrorKind::Other))
 }
 
-/// The path of the file itself, to which links may lead.
+/// Returns the path of the file itself, to which links may lead.
 fn target_of<T: Files + AllocGlobal>(rt: &T, path: &str) -> io::Result<String> {
     match found(fs::canonicalize(rt, path))? {
         Some(target) => Ok(String::from_str(rt.alloc(), target.as_str())?),
@@ -77,7 +80,8 @@ fn target_of<T: Files + AllocGlobal>(rt: &T, path: &str) -> io::Result<String> {
     }
 }
 
-/// Whether standard output goes to the file of that path, as far as the system tells.
+/// Returns whether standard output is redirected to the file of this path, as far as the system
+/// shows.
 fn is_output<T: Files + AllocGlobal>(rt: &T, target: &str) -> io::Result<bool> {
     match found(fs::canonicalize(rt, OUTPUT))? {
         Some(output) => Ok(output.as_str() == target),
@@ -98,7 +102,7 @@ fn store<T: Files + AllocGlobal, P: TextSource>(
     Ok(file)
 }
 
-/// Stores the text behind what the file holds.
+/// Stores the text at the end of the file.
 fn store_behind<T: Files + AllocGlobal, P: TextSource>(
     rt: &T,
     path: &str,
@@ -109,7 +113,7 @@ fn store_behind<T: Files + AllocGlobal, P: TextSource>(
     Ok(())
 }
 
-/// The name of a new file beside the target.
+/// Returns the name of a new file next to the target.
 fn name_beside(alloc: Global, target: &str, number: u32) -> io::Result<String> {
     let mut name = String::from_str(alloc, target)?;
     name.push_str(".partial")?;
@@ -117,7 +121,7 @@ fn name_beside(alloc: Global, target: &str, number: u32) -> io::Result<String> {
     Ok(name)
 }
 
-/// Gives the new file the older one's permissions, and stores the text in it.
+/// Gives the new file the permissions of the older one, and stores the text in it.
 fn fill<T: Files + AllocGlobal, P: TextSource>(
     rt: &T,
     target: &str,
@@ -133,7 +137,7 @@ fn fill<T: Files + AllocGlobal, P: TextSource>(
     store(rt, file, text)
 }
 
-/// Fills the new file of that name and renames it once it is closed; if that fails, the new file is removed.
+/// Fills the new file and renames it once it is closed. If that fails, removes the new file.
 fn fill_and_rename<T: Files + AllocGlobal, P: TextSource>(
     rt: &T,
     name: &str,
@@ -158,7 +162,7 @@ fn fill_and_rename<T: Files + AllocGlobal, P: TextSource>(
     renamed
 }
 
-/// A new file beside the target, with its name.
+/// Makes a new file next to the target, and returns it with its name.
 fn new_beside<T: Files + AllocGlobal>(rt: &T, target: &str) -> io::Result<(String, T::File)> {
     for number in 0..TRIES {
         let name = name_beside(rt.alloc(), target, number)?;
@@ -171,15 +175,15 @@ fn new_beside<T: Files + AllocGlobal>(rt: &T, target: &str) -> io::Result<(Strin
     Err(io::Error::from(ErrorKind::AlreadyExists))
 }
 
-/// Makes a new file beside the target, and removes it.
+/// Makes a new file next to the target, and removes it.
 fn try_beside<T: Files + AllocGlobal>(rt: &T, target: &str) -> io::Result<()> {
     let (name, file) = new_beside(rt, target)?;
     drop(file);
     fs::remove_file(rt, &name)
 }
 
-/// Whether a text can be put where the path leads, as far as that shows beforehand: `Err` if a folder is there, or no file
-/// can be made there.
+/// Checks whether a text can be written to the path, as far as this can be known in advance. `Err`
+/// if the path is a folder, or no file can be made there.
 pub(crate) fn try_path<T: Files + AllocGlobal>(rt: &T, path: &str) -> io::Result<()> {
     if let Some(known) = found(fs::metadata(rt, path))? {
         if known.is_dir() {
@@ -196,9 +200,9 @@ pub(crate) fn try_path<T: Files + AllocGlobal>(rt: &T, path: &str) -> io::Result
     try_beside(rt, &target)
 }
 
-/// Writes the text to a new file beside the target, and gives it the target's name: what had that name before is replaced
-/// at once, and unchanged if anything fails. Where standard output goes to that file, the text goes behind what was written
-/// there.
+/// Writes the text to a new file next to the target, and gives it the target's name. An existing
+/// file is replaced at once, and is unchanged if anything fails. If standard output is redirected
+/// to that file, the text is appended to it.
 pub(crate) fn replace<T: Files + AllocGlobal, P: TextSource>(
     rt: &T,
     path: &str,

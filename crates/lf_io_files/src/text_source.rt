@@ -1,4 +1,4 @@
-//! Texts that are written piece by piece.
+//! Texts that are written in chunks.
 
 ghost use Rattle.std.specs.Prelude.{ℕ, List, IfOk, OnOk};
 ghost use Rattle.std.specs.Io.KnownBytes.{Appends};
@@ -7,7 +7,7 @@ use std::alloc::Global;
 use std::io;
 use std::io::{BufWriter, Write};
 
-/// How many bytes of small pieces are written at once.
+/// The number of bytes of small chunks that are written at once.
 const WAITING: usize = 65_536;
 
 /// A text that need not be in memory as a whole.
@@ -15,13 +15,13 @@ pub trait TextSource {
     /// The whole text.
     ghost text: { Self → List ℕ };
 
-    /// Writes the whole text, in as many pieces as it takes: on success it is appended to what the writer holds, if that is known.
-    /// `Err` if a write fails, and then a part of it may be written.
+    /// Writes the whole text, in as many chunks as needed. On success the writer's bytes, if known,
+    /// end with the text. `Err` if a write fails; then a part of the text may be written.
     fn write_to<W: Write>(&self, writer: &mut W) -> io::Result<()>
         ensures { OnOk result (Appends (W.contents writer.old) (W.contents writer.new) (text self.now)) };
 }
 
-/// Writes the whole text, small pieces together, and gives the writer back.
+/// Writes the whole text, small chunks together, and returns the writer.
 pub(crate) fn with_buffer<P: TextSource, W: Write + Drop>(
     alloc: Global,
     writer: W,

@@ -6,16 +6,16 @@ use Rattle.lf_rules.specs.Legalizer.{Legalizer}
 use Rattle.lf_floor_model.specs.States.{FloorState}
 use Rattle.lf_server.specs.Connections.{Accepted, Accepts, AreServed, ClientBytes, Closes, ServesConnections, AcceptsAndCloses, ServesNext, ConnectionState}
 
--- no connection was accepted
+-- No connection was accepted.
 pub passes_none : (now : Option Accepted) → AcceptsAndCloses now now [] []
 passes_none None = tt
 passes_none (Some before) = refl
 
--- what is accepted, or nothing
+-- What is accepted, or nothing.
 abbrev known : Option Accepted → Accepted
 known now = unwrap_or now (record { clients = []; closed = [] })
 
--- a connection was accepted, and then closed
+-- A connection was accepted and then closed.
 pub passes_one : (before mid after : Option Accepted) (from : ClientBytes) (end : ConnectionState)
     → Accepts before mid from → Closes mid after end → AcceptsAndCloses before after (from ∷ []) (end ∷ [])
 passes_one None mid after from end accepts closes = tt
@@ -23,7 +23,7 @@ passes_one (Some before) None after from end accepts closes = absurd (false≢tr
 passes_one (Some before) (Some mid) after from end accepts closes =
     closes ∙ ap (λ (o : Option Accepted). Some (record { clients = (known o).clients; closed = end ∷ (known o).closed })) accepts
 
--- one more was accepted and closed
+-- One more connection was accepted and closed.
 pub passes_more : (before mid after : Option Accepted) (clients : List ClientBytes) (closed : List ConnectionState) (from : ClientBytes) (end : ConnectionState)
     → AcceptsAndCloses before mid clients closed → AcceptsAndCloses mid after (from ∷ []) (end ∷ []) → AcceptsAndCloses before after (from ∷ clients) (end ∷ closed)
 passes_more None mid after clients closed from end earlier last = tt
@@ -31,12 +31,12 @@ passes_more (Some before) None after clients closed from end earlier last = absu
 passes_more (Some before) (Some mid) after clients closed from end earlier last =
     last ∙ ap (λ (o : Option Accepted). Some (record { clients = from ∷ (known o).clients; closed = end ∷ (known o).closed })) earlier
 
--- as many reads were made as are allowed, of a reader of which none was made before
+-- The limit on reads is reached if no read was made before and `most` reads follow.
 pub all_reads : {Failed : Type 0} (old new most : ℕ) → old ≡ 0 → Failed ⊎ (new ≡ old + most) → Failed ⊎ (new ≡ most)
 all_reads old new most none (inl failed) = inl failed
 all_reads old new most none (inr made) = inr (omega (arith, none, made))
 
--- one connection more
+-- One more connection is served.
 pub serves_more : (lines reads count : ℕ) (before mid after : Option Accepted) (old half new : FloorState)
     → AreServed lines reads count before mid old half → ServesNext lines reads mid after half new → AreServed lines reads (count + 1) before after old new
 serves_more lines reads count before mid after old half new earlier last = record {
@@ -47,7 +47,7 @@ serves_more lines reads count before mid after old half new earlier last = recor
   connects = λ l. (half, earlier.connects l, last.serves l);
 }
 
--- none so far
+-- No connection is served yet.
 pub serves_none : (lines reads : ℕ) (now : Option Accepted) (floor : FloorState) → AreServed lines reads 0 now now floor floor
 serves_none lines reads now floor = record {
   clients = [];

@@ -20,7 +20,7 @@ use Rattle.lf_server.proofs.Steps.{goes_join, goes_none, goes_stop}
 
 -- ---- the lines that have their line feed
 
--- one more line feed ends one more piece
+-- One more line feed ends one more piece.
 snoc_by : (b : ℕ) (rest : List ℕ) (ends : Bool) → is_line_feed b ≡ ends → pieces (rest ++ 10 ∷ []) ≡ pieces rest ++ [] ∷ [] → pieces (b ∷ (rest ++ 10 ∷ [])) ≡ pieces (b ∷ rest) ++ [] ∷ []
 snoc_by b rest true is ih =
     slice_split-cons_yes is_line_feed b (rest ++ 10 ∷ []) is ∙ (ap (λ (l : List (List ℕ)). [] ∷ l) ih ∙ ap (λ (l : List (List ℕ)). l ++ [] ∷ []) (sym (slice_split-cons_yes is_line_feed b rest is)))
@@ -32,7 +32,7 @@ pieces-snoc : (bytes : List ℕ) → pieces (bytes ++ 10 ∷ []) ≡ pieces byte
 pieces-snoc [] = refl
 pieces-snoc (b ∷ rest) = snoc_by b rest (is_line_feed b) refl (pieces-snoc rest)
 
--- the last piece, and its line, were a line feed to follow
+-- The last piece and its line, if a line feed followed.
 ended-snoc : (p : List ℕ) (parts : List (List ℕ)) → (last : Line) × (lines_in ((p ∷ parts) ++ [] ∷ []) ≡ ended_in (p ∷ parts) ++ last ∷ [])
 ended-snoc p [] = (ended_line p, refl)
 ended-snoc p (q ∷ parts) = let h = ended-snoc q parts in (h.0, ap (λ (t : List Line). ended_line p ∷ t) h.1)
@@ -60,7 +60,7 @@ held_ends (Some bytes) = (ended_line (bytes ++ []), refl)
 from_start : (bytes : List ℕ) → lines_from (Some []) (pieces bytes) ≡ lines_of bytes
 from_start bytes = ap lines_in (with_front-nil bytes)
 
--- what was acted on is what has its line feed
+-- The lines acted on are those that have their line feed.
 ended_are : (l : Legalizer) (w v : Writer) (p q : ℕ) (old mid : FloorState) (held : Option (List ℕ)) (read : List ℕ) (first : ContinuesServing l w v p q old mid (Some []) held read []) → lines first.done ≡ ended_lines read
 ended_are l w v p q old mid held read first =
     let a = held_ends held in
@@ -78,7 +78,7 @@ acted_is WriteFault limit all whole acted stops = stops
 acted_is ReadFault limit all whole acted stops = absurd stops
 acted_is OutOfMemory limit all whole acted stops = absurd stops
 
--- the lines of the input, if it is known, are those of what was read and of what is left
+-- The bytes of the input, if known, are those read and then the rest.
 abbrev IsInput : Option (List ℕ) → List ℕ → List ℕ → Type 0
 IsInput input read rest = IfSome input (λ bytes. bytes ≡ read ++ rest)
 
@@ -105,7 +105,7 @@ finishes_stop l e None c w u p r old new read consumed stops = finishes_by l e N
 finishes_stop l e (Some x) None w u p r old new read consumed stops = absurd consumed
 finishes_stop l e (Some x) (Some y) w u p r old new read consumed stops = finishes_by l e (Some x) (Some y) w u p r old new read y consumed consumed (stops y)
 
--- the read that found a stop
+-- The read that found a stop.
 pub read_stop : (l : Legalizer) (e : Ending) (a b c : Option (List ℕ)) (w v u : Writer) (p q r : ℕ) (old mid new : FloorState) (held : Option (List ℕ)) (read piece : List ℕ) → Consumes a b read → Consumes b c piece
     → ContinuesServing l w v p q old mid (Some []) held read [] → ((rest : List ℕ) → StopsServing l e v u q r mid new (lines_from held (pieces (piece ++ rest)))) → FinishesServing l e a c w u p r old new
 read_stop l e a b c w v u p q r old mid new held read piece before now first second =
@@ -113,7 +113,7 @@ read_stop l e a b c w v u p q r old mid new held read piece before now first sec
     (λ rest. subst (λ (x : List ℕ). StopsServing l e w u p r old new (lines_from (Some []) (pieces x))) (sym (append_assoc read piece rest))
     (goes_stop l e w v u p q r old mid new (Some []) held read [] (piece ++ rest) first (second rest)))
 
--- the read that found the end of the input
+-- The read that found the end of the input.
 pub read_end : (l : Legalizer) (e : Ending) (a b c : Option (List ℕ)) (w v u : Writer) (p q r : ℕ) (old mid new : FloorState) (held : Option (List ℕ)) (read buffer : List ℕ) (count : ℕ) → count ≡ 0
     → Consumes a b read → Consumes b c (take count buffer) → IsAtEnd c
     → ContinuesServing l w v p q old mid (Some []) held read [] → StopsServing l e v u q r mid new (lines_from held ([] ∷ [])) → FinishesServing l e a c w u p r old new
@@ -126,7 +126,7 @@ read_end l e a b c w v u p q r old mid new held read buffer count none before no
     all (Some x) None consumed at_end = absurd consumed
     all (Some x) (Some y) consumed at_end = consumed ∙ ap (λ (t : List ℕ). read ++ t) at_end
 
--- one more read
+-- One more read.
 pub read_on : (l : Legalizer) (a b c : Option (List ℕ)) (w v u : Writer) (p q r : ℕ) (old mid new : FloorState) (held held' : Option (List ℕ)) (read piece : List ℕ) → Consumes a b read → Consumes b c piece
     → ContinuesServing l w v p q old mid (Some []) held read [] → ContinuesServing l v u q r mid new held held' piece [] → (x : List ℕ) × Consumes a c x × ContinuesServing l w u p r old new (Some []) held' x []
 read_on l a b c w v u p q r old mid new held held' read piece before now first second = (
@@ -143,7 +143,7 @@ read_on l a b c w v u p q r old mid new held held' read piece before now first s
       second,
 )
 
--- no more can be read
+-- No more can be read.
 pub read_fault : (l : Legalizer) (a b c : Option (List ℕ)) (w v : Writer) (p q : ℕ) (old mid : FloorState) (held : Option (List ℕ)) (read : List ℕ) → Consumes a b read → Keeps b c
     → ContinuesServing l w v p q old mid (Some []) held read [] → FinishesServing l ReadFault a c w v p q old mid
 read_fault l a b c w v p q old mid held read before kept first = record {

@@ -1,4 +1,4 @@
--- How long the text of a reply is.
+-- Bounds on the length of a reply's text.
 use Rattle.std.proofs.Common.{◌≡◌, ℕ, ◌+◌, ◌≤◌, List, [], ◌∷◌, ◌++◌, length, arith, length-append, refl}
 use Rattle.std.specs.List.{join_with_byte}
 use Rattle.std.proofs.Common.{◌<◌}
@@ -13,7 +13,7 @@ use Rattle.lf_proto.specs.declared.reply.Refusal.TheVariants.{BadRequest, NoTeam
 use Rattle.lf_proto.specs.declared.reply.Refusal.TheVariants.{SessionsFull, RevisionsSpent, OutOfMemory}
 use Rattle.lf_proto.specs.ReplyText.{line_text, refusal_words, reply_text}
 
--- the bytes of the words, and one more for each
+-- The bytes of the words, and one more for each word.
 abbrev pub total : List (List ℕ) → ℕ
 total [] = 0
 total (w ∷ ws) = length w + (1 + total ws)
@@ -23,7 +23,7 @@ joined_within [] = omega arith
 joined_within (w ∷ []) = omega arith
 joined_within (w ∷ v ∷ ws) = omega (arith, length-append w (32 ∷ join_with_byte 32 (v ∷ ws)), joined_within (v ∷ ws))
 
--- a line is no longer than its words with one byte for each, and its line feed; nothing follows it
+-- A line is no longer than its words with one byte for each, and its line feed.
 pub line_within : (words : List (List ℕ)) → length (line_text words ++ []) ≤ total words + 1
 line_within words =
     omega (arith, length-append (line_text words) [], length-append (join_with_byte 32 words) (10 ∷ []), joined_within words)
@@ -41,7 +41,7 @@ number_small Overlap = omega arith
 rule_short : (rule : Rule) → length (decimal (number_of rule)) ≤ 1
 rule_short rule = length-decimal-le 1 (number_of rule) (omega arith) (omega (arith, number_small rule)) (omega (arith, number_small rule))
 
--- the line of a refusal other than Stale, whose revision is any number
+-- The line of a refusal other than `Stale`, whose revision is any number.
 pub refusal_within : (r : Refusal) (a b : List ℕ) → ((revision : ℕ) → r ≡ Stale revision → ⊥) → length a ≤ 1024 → length b ≤ 1024
     → length (reply_text (Refused r) a b) ≤ 4096
 refusal_within BadRequest a b other p q = omega (arith, line_within (codes "no" ∷ refusal_words BadRequest a b))

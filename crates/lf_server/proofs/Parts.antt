@@ -1,4 +1,4 @@
--- Texts that are sent in parts.
+-- Texts sent in parts.
 use Rattle.std.proofs.Common.{◌≡◌, ℕ, ◌+◌, List, [], ◌∷◌, ◌++◌, length, min, take, Option, refl, sym, ◌∙◌, subst, append-nil, Result, Ok, Err, arith}
 use Rattle.std.specs.Prelude.{OnErr, codes, decimal}
 use Rattle.std.specs.Io.KnownBytes.{Appends}
@@ -14,11 +14,11 @@ use Rattle.lf_floor.specs.declared.response.Response.{Response}
 use Rattle.lf_floor.specs.declared.response.Response.TheVariants.{Def as Apart}
 use Rattle.lf_server.specs.Exchanges.{text_of}
 
--- a front of the bytes was written
+-- A front of the bytes was written.
 abbrev pub Front : Option (List ℕ) → Option (List ℕ) → List ℕ → Type 0
 Front a b bytes = (n : ℕ) × Appends a b (take n bytes)
 
--- a front of the first part is one of the whole
+-- A front of the first part is a front of the whole.
 pub first_front : (a b : Option (List ℕ)) (x y : List ℕ) → Front a b x → Front a b (x ++ y)
 first_front a b x y (n, written) =
     (min n (length x), subst (Appends a b) (sym (take-append-le (min n (length x)) x y (omega arith) ∙ take_min n x)) written)
@@ -27,7 +27,7 @@ pub front_first : {T E : Type 0} (r : Result T E) (a b : Option (List ℕ)) (x y
 front_first (Ok t) a b x y front = tt
 front_first (Err e) a b x y front = first_front a b x y front
 
--- so are the first part and a front of the second
+-- The first part and a front of the second are a front of the whole.
 pub front_behind : (a b c : Option (List ℕ)) (x y : List ℕ) → Appends a b x → Front b c y → Front a c (x ++ y)
 front_behind a b c x y first (n, written) =
     (length x + n, subst (Appends a c) (sym (take-append-add x y n)) (Appends-more a b c x (take n y) first written))
@@ -37,17 +37,17 @@ pub front_after : {T E : Type 0} (r : Result T E) (a b c : Option (List ℕ)) (x
 front_after (Ok t) a b c x y first front = tt
 front_after (Err e) a b c x y first front = front_behind a b c x y first front
 
--- the parts of a report's text
+-- The parts of a report's text.
 pub report_parts : (floor : FloorState) (team : List ℕ) (reply : Reply) (text bytes : List ℕ) → reply ≡ Report text → bytes ≡ text
     → (codes "ok " ++ bytes) ++ codes "\n" ≡ text_of floor team reply
 report_parts floor team reply text bytes is shown = rw (is, shown) (sym (append-nil (line_text (codes "ok" ∷ text ∷ []))))
 
--- the parts of a DEF text's
+-- The parts of a DEF text.
 pub def_parts : (floor : FloorState) (team : List ℕ) (reply : Reply) (text line counted bytes : List ℕ) → reply ≡ Def text → counted ≡ text
     → line ≡ line_text (codes "ok" ∷ decimal (length counted) ∷ []) → bytes ≡ text → line ++ bytes ≡ text_of floor team reply
 def_parts floor team reply text line counted bytes is same line_is shown = rw (is, line_is, same, shown) refl
 
--- the line before a DEF text that is put in pieces, and the text
+-- The line in front of a DEF text that is written in chunks, and the text.
 pub response_parts : (floor : FloorState) (team : List ℕ) (response : Response) (count : ℕ) (line : List ℕ) → response ≡ Apart count
     → count ≡ length (def_text floor team) → line ≡ line_text (codes "ok" ∷ decimal count ∷ [])
     → line ++ def_text floor team ≡ text_of floor team (reply_in floor team response)

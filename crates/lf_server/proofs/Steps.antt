@@ -141,7 +141,7 @@ exchanged l stop w w' old new line asked reply team is own ends answered = recor
 abbrev told : (l : Legalizer) (stop : Option Ending) (w w' : Writer) (old new : FloorState) (line : Line) → IsExchanged l stop w w' old new line → Exchange
 told l stop w w' old new line e = record { line = line; reply = e.reply; text = e.text }
 
--- ---- going on
+-- ---- continuing
 
 pub goes_none : (l : Legalizer) (w : Writer) (left : ℕ) (floor : FloorState) (held : Option (List ℕ)) (bytes : List ℕ)
     → ContinuesServing l w w left left floor floor held held bytes bytes
@@ -153,7 +153,7 @@ goes_none l w left floor held bytes = record {
   goes_on = λ rest. refl;
 }
 
--- one part after another
+-- One part after another.
 pub goes_join : (l : Legalizer) (w v u : Writer) (p q r : ℕ) (old mid new : FloorState) (a b c : Option (List ℕ)) (x y z : List ℕ)
     → ContinuesServing l w v p q old mid a b x y → ContinuesServing l v u q r mid new b c y z → ContinuesServing l w u p r old new a c x z
 goes_join l w v u p q r old mid new a b c x y z first second = record {
@@ -167,7 +167,7 @@ goes_join l w v u p q r old mid new a b c x y z first second = record {
       ∙ ap (λ (t : List Line). t ++ lines_from c (pieces (z ++ rest))) (sym (lines_join first.done second.done))));
 }
 
--- then serving stops, at lines that follow
+-- Then serving stops, at the lines that follow.
 stops_after : (l : Legalizer) (ending : Ending) (w v u : Writer) (p q r : ℕ) (old mid new : FloorState) (done : List Exchange) (all : List Line)
     → AnswersLines l old w done mid v → p ≡ length done + q → NoneIsBye (lines done) → StopsServing l ending v u q r mid new all
     → StopsServing l ending w u p r old new (lines done ++ all)
@@ -201,7 +201,7 @@ goes_more l w left floor old new piece fed feeds more = record {
   goes_on = λ rest. (feed_step old new piece rest fed feeds).0 ∙ ap (λ (got : Got). given_line got new.line ++ lines_from new.pending (pieces (drop fed.used piece ++ rest))) more;
 }
 
--- the line comes first of what is left
+-- The line is the first of the rest.
 next_line : (old new : Framing) (piece rest : List ℕ) (fed : Fed) (line : Line) → Feeds old piece fed new → IsGivenLine fed.got new.line line
     → lines_from old.pending (pieces (piece ++ rest)) ≡ line ∷ lines_from new.pending (pieces (drop fed.used piece ++ rest))
 next_line old new piece rest fed line feeds is =
@@ -222,7 +222,7 @@ full_line l w left floor old new piece rest fed line none feeds is =
     subst (StopsServing l TooManyLines w w left left floor floor) (sym (next_line old new piece rest fed line feeds is))
     (stops_full l w left floor line (lines_from new.pending (pieces (drop fed.used piece ++ rest))) none)
 
--- the line is the last one acted on
+-- The line is the last one acted on.
 abbrev pub last_line : (line : Line) (more : List Line) → EndsAt (line ∷ more) (line ∷ [])
 last_line line more =
     record { before = []; last = line; rest = more; all_are = refl; acted_are = refl; none_before = All-nil (λ (line : Line). is_bye line ≡ false) }
@@ -297,7 +297,7 @@ finish_done l w w' left old new held got bytes line some within finishes is e =
 
 -- ---- the lines of a piece
 
--- what is left of a piece
+-- The rest of a chunk.
 abbrev pub rest_of : ℕ → List ℕ → List ℕ
 rest_of at piece = take (length piece - at) (drop at piece)
 

@@ -27,7 +27,7 @@ use Rattle.lf_server.specs.declared.serve_loop.Ending.TheVariants.{Done, Bye as 
 
 -- ---- the floor alone
 
--- line after line, the floor answers
+-- Line after line, the floor answers.
 abbrev pub Acts : Legalizer → FloorState → List Exchange → FloorState → Type 0
 Acts l old [] new = new ≡ old
 Acts l old (e ∷ later) new = (mid : FloorState) × AnswersTo l old (asked_on e.line) e.reply e.text mid × Acts l mid later new
@@ -69,12 +69,12 @@ run_of l old new (e ∷ later) (mid, answers, rest) =
 
 -- ---- one team's texts
 
--- the name of the cell of that position in the team's state
+-- The name of the cell at this position in the team's state.
 abbrev name_for : TeamState → Option ℕ → List ℕ
 name_for s None = []
 name_for s (Some own) = unwrap_or (name_at s.cells own) []
 
--- the text of a reply of the team in that state
+-- The text of a reply of the team in this state.
 abbrev text_for : TeamState → Reply → List ℕ
 text_for s reply = reply_text reply (name_for s (cells_in reply).0) (name_for s (cells_in reply).1)
 
@@ -88,7 +88,7 @@ text_for_is floor team s there reply =
     ap (λ (n : List ℕ). reply_text reply n (name_in floor team (cells_in reply).1)) (name_for_is floor team s there (cells_in reply).0)
     ∙ ap (λ (n : List ℕ). reply_text reply (name_for s (cells_in reply).0) n) (name_for_is floor team s there (cells_in reply).1)
 
--- the texts of the replies to a team's own orders
+-- The texts of the replies to a team's own orders.
 abbrev pub own_texts : Legalizer → Frame → ℕ → List (TeamCommand (List ℕ) Place) → TeamState → List (List ℕ)
 own_texts l f number [] s = []
 own_texts l f number (order ∷ orders) s =
@@ -101,15 +101,15 @@ and_false : (b : Bool) → (b && false) ≡ false
 and_false true = refl
 and_false false = refl
 
--- the orders of a line and of those after it
+-- The orders of a line and of the lines after it.
 abbrev orders_with : List ℕ → Option (Command (List ℕ) Place) → Reply → List (Command (List ℕ) Place) → List Reply → List (TeamCommand (List ℕ) Place)
 orders_with team asked_now reply cs rs = own_commands team (with_command asked_now cs) (with_reply asked_now reply rs)
 
--- one line, and those after it, to which the team got the replies to its own orders
+-- One line and the lines after it, for which the team got the replies to its own orders.
 module _ (l : Legalizer) (frame : Frame) (team : List ℕ) (number : ℕ) (named : team_number frame team ≡ Some number) (old mid : FloorState)
     (same_frame : old.frame ≡ frame) (e : Exchange) (cs : List (Command (List ℕ) Place)) (rs : List Reply) (texts : List (List ℕ))
     (later : (s : TeamState) → state_of mid team ≡ Some s → texts ≡ own_texts l frame number (own_commands team cs rs) s) where
-  -- the team gets the replies to the line and those after it
+  -- The team gets the replies to the line and the lines after it.
   abbrev Told : Option (Command (List ℕ) Place) → TeamState → Type 0
   Told now s = reply_before team now e texts ≡ own_texts l frame number (orders_with team now e.reply cs rs) s
 
@@ -119,7 +119,7 @@ module _ (l : Legalizer) (frame : Frame) (team : List ℕ) (number : ℕ) (named
   counted name order b is =
       (ap (λ (b : Bool). cond b (e.text ∷ texts) texts) is, ap (λ (b : Bool). cond b (order ∷ own_commands team cs rs) (own_commands team cs rs)) is)
 
-  -- the line leaves the team alone
+  -- The line does not concern the team.
   skip : (now : Option (Command (List ℕ) Place)) (s : TeamState) → state_of old team ≡ Some s → state_of mid team ≡ state_of old team
       → reply_before team now e texts ≡ texts → orders_with team now e.reply cs rs ≡ own_commands team cs rs → Told now s
   skip now s there kept told_same asked_same =
@@ -131,7 +131,7 @@ module _ (l : Legalizer) (frame : Frame) (team : List ℕ) (number : ℕ) (named
       let is = counted name order false none in
       skip (Some (To name order)) s there kept is.0 is.1
 
-  -- the line is the team's own
+  -- The line is the team's own.
   turn : (order : TeamCommand (List ℕ) Place) (s : TeamState) → state_of old team ≡ Some s → is_short e.reply ≡ false
       → IsAnswerOf l old (To team order) e.reply mid → e.text ≡ text_of mid team e.reply → Told (Some (To team order)) s
   turn order s there plain answers text_is =
@@ -192,7 +192,7 @@ answered_frame : (l : Legalizer) (old mid : FloorState) (now : Option (Command (
 answered_frame l old mid None reply text refuses = ap (λ (f : FloorState). f.frame) refuses.kept
 answered_frame l old mid (Some command) reply text steps = step_frame l old mid command reply (is_short reply) steps.step
 
--- the team gets the replies to its own orders, byte for byte
+-- The team gets the replies to its own orders, byte for byte.
 pub told_own : (l : Legalizer) (frame : Frame) (team : List ℕ) (number : ℕ) → team_number frame team ≡ Some number
     → (done : List Exchange) (old new : FloorState) → old.frame ≡ frame → Acts l old done new → (s : TeamState) → state_of old team ≡ Some s
     → reply_texts team done ≡ own_texts l frame number (own_commands team (commands done) (replies done)) s

@@ -13,20 +13,20 @@ use Rattle.lf_server.specs.declared.serve_loop.Served.{Served}
 
 -- ---- the lines
 
--- the lines of pieces that have their line feed: all but the last piece
+-- The lines of these pieces that have their line feed: all except the last piece.
 abbrev pub ended_in : List (List ℕ) → List Line
 ended_in [] = []
 ended_in (last ∷ []) = []
 ended_in (piece ∷ next ∷ pieces) = ended_line piece ∷ ended_in (next ∷ pieces)
 
--- the lines of these bytes that have their line feed
+-- The lines of these bytes that have their line feed.
 abbrev pub ended_lines : List ℕ → List Line
 ended_lines bytes = ended_in (slice_split is_line_feed bytes)
 
 abbrev pub NoneIsBye : List Line → Type 0
 NoneIsBye acted = All (λ line. is_bye line ≡ false) acted
 
--- the last of the lines acted on, with those before it; they are the first of all
+-- The last of the lines acted on, with the earlier ones. They are the first of all lines.
 pub record EndsAt (all acted : List Line) : Type 0 where
   pub before : List Line
   pub last : Line
@@ -35,7 +35,7 @@ pub record EndsAt (all acted : List Line) : Type 0 where
   pub acted_are : acted ≡ before ++ last ∷ []
   pub none_before : NoneIsBye before
 
--- the lines acted on are the first of all, as many as are allowed, and another one follows
+-- The lines acted on are the first of all lines, as many as are allowed, and another line follows.
 pub record StopsShort (limit : ℕ) (all acted : List Line) : Type 0 where
   pub next : Line
   pub rest : List Line
@@ -43,8 +43,14 @@ pub record StopsShort (limit : ℕ) (all acted : List Line) : Type 0 where
   pub full : length acted ≡ limit
   pub none : NoneIsBye acted
 
--- The lines acted on, of all lines of the input, of which `whole` were read with their line feed: all lines; those up to the
--- first bye; those that were read whole; those up to one whose reply was not written; as many as are allowed; or none.
+-- The lines acted on. `all` are the lines of the input, and `whole` are those read with their line
+-- feed.
+-- - `Done`: all lines
+-- - `Bye`: the lines up to the first bye
+-- - `ReadFault`: the lines read whole
+-- - `WriteFault`: the lines up to one whose reply was not written
+-- - `TooManyLines`: as many as are allowed
+-- - `OutOfMemory`: no line
 abbrev pub AreLinesActedOn : Ending → ℕ → List Line → List Line → List Line → Type 0
 AreLinesActedOn Done limit all whole acted = (acted ≡ all) × NoneIsBye acted
 AreLinesActedOn Bye limit all whole acted = (e : EndsAt all acted) × (is_bye e.last ≡ true)
@@ -55,12 +61,13 @@ AreLinesActedOn OutOfMemory limit all whole acted = acted ≡ []
 
 -- ---- the floor and the writer
 
--- each line acted on was answered, and each reply's text written and flushed; at a fault of the writer all but the last
+-- Each line acted on got its reply, and each reply's text was written and flushed. At a fault of
+-- the writer this excludes the last reply.
 abbrev pub WritesReplies : Ending → Legalizer → FloorState → Writer → List Exchange → FloorState → Writer → Type 0
 WritesReplies WriteFault l old before done new after = BreaksOffLastReply l old before done new after
 WritesReplies _ l old before done new after = AnswersLines l old before done new after
 
--- the replies that were written and flushed, of this many lines acted on
+-- The count of replies written and flushed, given the count of lines acted on.
 abbrev pub CountsAnswered : Ending → ℕ → ℕ → Type 0
 CountsAnswered WriteFault acted answered = acted ≡ answered + 1
 CountsAnswered _ acted answered = answered ≡ acted

@@ -1,4 +1,4 @@
--- The requests of a connection's lines, and the answer to each.
+-- The requests of a connection's lines, and the reply to each.
 use Rattle.std.specs.Prelude.{◌≡◌, ℕ, Bool, true, false, List, [], ◌∷◌, ◌++◌, map, Option, Some, None, option_and_then, unwrap_or, MatchOption}
 use Rattle.lf_floorplan.specs.declared.place.Place.{Place}
 use Rattle.lf_rules.specs.Legalizer.{Legalizer}
@@ -16,15 +16,15 @@ use Rattle.lf_floor_model.specs.Steps.{Step}
 use Rattle.lf_floor.specs.Responses.{team_of}
 use Rattle.lf_server.specs.Devices.{Writer, SendsText, BreaksText}
 
--- a line without its line end, or None if it is over the limit
+-- A line without its line end, or `None` if it is over the limit.
 abbrev pub Line : Type 0
 Line = Option (List ℕ)
 
--- the request of a line; one over the limit has none
+-- The request of a line. A line over the limit has no request.
 abbrev pub asked_on : Line → Option (Command (List ℕ) Place)
 asked_on line = option_and_then command_on line
 
--- the request is 'bye'
+-- True if the request is 'bye'.
 abbrev pub asks_end : Option (Command (List ℕ) Place) → Bool
 asks_end (Some Bye) = true
 asks_end (Some (To team order)) = false
@@ -35,23 +35,23 @@ is_bye line = asks_end (asked_on line)
 
 -- ---- the text of a reply
 
--- the positions of the cells that a reply names: the cell, and the other one
+-- The positions of the cells that a reply names: the cell, and the other cell.
 abbrev pub cells_in : Reply → Option ℕ × Option ℕ
 cells_in (Refused (Unplaced cell)) = (Some cell, None)
 cells_in (Refused (NoPlace cell)) = (Some cell, None)
 cells_in (Refused (Illegal rule cell other)) = (Some cell, other)
 cells_in _ = (None, None)
 
--- the name of the team's cell of that position, and no byte if there is none
+-- The name of the team's cell at this position, or no bytes if there is no such cell.
 abbrev pub name_in : FloorState → List ℕ → Option ℕ → List ℕ
 name_in floor team None = []
 name_in floor team (Some own) = unwrap_or (option_and_then (λ s. name_at s.cells own) (state_of floor team)) []
 
--- the text of a reply to a command of the team
+-- The text of a reply to a command of the team.
 abbrev pub text_of : FloorState → List ℕ → Reply → List ℕ
 text_of floor team reply = reply_text reply (name_in floor team (cells_in reply).0) (name_in floor team (cells_in reply).1)
 
--- the reply carries a text of any length: a report, or a team's DEF text
+-- True if the reply contains a text of any length: a report, or a team's DEF text.
 abbrev pub is_long : Reply → Bool
 is_long (Report text) = true
 is_long (Def text) = true
@@ -59,38 +59,38 @@ is_long _ = false
 
 -- ---- one line
 
--- a line, the reply to it, and the reply's text
+-- A line, the reply to it, and the reply's text.
 pub record Exchange : Type 0 where
   pub line : Line
   pub reply : Reply
   pub text : List ℕ
 
--- a line that is no request is answered BadRequest, and the floor is unchanged
+-- A line that is no request gets `BadRequest`, and the floor is unchanged.
 pub record RefusesLine (old : FloorState) (reply : Reply) (text : List ℕ) (new : FloorState) : Type 0 where
   pub reply_is : reply ≡ Refused BadRequest
   pub text_is : text ≡ reply_text reply [] []
   pub kept : new ≡ old
 
--- a request is one step of the floor, with this reply and its text
+-- A request is one step of the floor, with this reply and its text.
 pub record StepsOn (l : Legalizer) (old : FloorState) (command : Command (List ℕ) Place) (reply : Reply) (text : List ℕ) (new : FloorState) : Type 0 where
   pub step : Step l old command reply new
   pub text_is : text ≡ text_of new (team_of command) reply
 
--- the line's request is answered with this reply and text, and the floor goes from old to new
+-- The line's request gets this reply and text, and the floor changes from `old` to `new`.
 abbrev pub AnswersTo : Legalizer → FloorState → Option (Command (List ℕ) Place) → Reply → List ℕ → FloorState → Type 0
 AnswersTo l old asked reply text new = MatchOption asked (RefusesLine old reply text new) (λ command. StepsOn l old command reply text new)
 
 -- ---- many lines
 
--- line after line: each is answered, and its reply's text is written whole and flushed before the next line is acted on; so the
--- floor and the writer go from old to new
+-- Each line gets its reply, and the reply's text is written whole and flushed before the next line
+-- is acted on. The floor changes from `old` to `new`, and the writer from `before` to `after`.
 abbrev pub AnswersLines : Legalizer → FloorState → Writer → List Exchange → FloorState → Writer → Type 0
 AnswersLines l old before [] new after = (new ≡ old) × (after ≡ before)
 AnswersLines l old before (e ∷ later) new after =
     (mid : FloorState) × (between : Writer) × AnswersTo l old (asked_on e.line) e.reply e.text mid × SendsText before between e.text
     × AnswersLines l mid between later new after
 
--- the same, but of the last text only a front was written
+-- The same, except that only a front of the last text was written.
 pub record BreaksOffLastReply (l : Legalizer) (old : FloorState) (before : Writer) (done : List Exchange) (new : FloorState) (after : Writer) : Type 0 where
   pub earlier : List Exchange
   pub last : Exchange

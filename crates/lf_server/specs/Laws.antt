@@ -1,4 +1,5 @@
--- What serving does to the teams: the lines are commands, and each team gets the replies to its own orders.
+-- What serving does to the teams: the lines are commands, and each team gets the replies to its own
+-- orders.
 use Rattle.std.specs.Prelude.{◌≡◌, ℕ, List, [], ◌∷◌, Option, Some, None, ◌&&◌, not, bytes_eq, if◌then◌else◌}
 use Rattle.lf_floorplan.specs.declared.loaded.Loaded.{Loaded}
 use Rattle.lf_floorplan.specs.declared.place.Place.{Place}
@@ -22,7 +23,7 @@ abbrev pub with_command : Option (Command (List ℕ) Place) → List (Command (L
 with_command None later = later
 with_command (Some command) later = command ∷ later
 
--- the commands of the lines, in their order; a line that is no request has none
+-- The commands of the lines, in order. A line that is no request has no command.
 abbrev pub commands : List Exchange → List (Command (List ℕ) Place)
 commands [] = []
 commands (e ∷ later) = with_command (asked_on e.line) (commands later)
@@ -31,12 +32,12 @@ abbrev pub with_reply : Option (Command (List ℕ) Place) → Reply → List Rep
 with_reply None reply later = later
 with_reply (Some command) reply later = reply ∷ later
 
--- the replies to them
+-- The replies to these commands.
 abbrev pub replies : List Exchange → List Reply
 replies [] = []
 replies (e ∷ later) = with_reply (asked_on e.line) e.reply (replies later)
 
--- however serving ends, the floor has gone through a run of the commands of the lines acted on, with these replies
+-- However serving ends, the floor has run the commands of the lines acted on, with these replies.
 abbrev pub ServingRuns : Type 0
 ServingRuns =
     (l : Legalizer) (ending : Ending) (old new : FloorState) (before after : Writer) (done : List Exchange)
@@ -44,19 +45,20 @@ ServingRuns =
 
 -- ---- what a team gets, byte for byte
 
--- the text of a reply to the team of that name, other than OutOfMemory, in front of the later ones
+-- The text of the reply if it is to this team and not `OutOfMemory`, in front of the later texts.
 abbrev pub reply_before : List ℕ → Option (Command (List ℕ) Place) → Exchange → List (List ℕ) → List (List ℕ)
 reply_before team None e later = later
 reply_before team (Some Bye) e later = later
 reply_before team (Some (To name order)) e later = if bytes_eq name team && not (is_short e.reply) then e.text ∷ later else later
 
--- the texts of the replies to the team of that name, without OutOfMemory
+-- The texts of the replies to the team of this name, without `OutOfMemory`.
 abbrev pub reply_texts : List ℕ → List Exchange → List (List ℕ)
 reply_texts team [] = []
 reply_texts team (e ∷ later) = reply_before team (asked_on e.line) e (reply_texts team later)
 
--- in two servings of floors of one frame, a team that begins in the same state and sends the same commands gets the same texts,
--- byte for byte, whatever the other teams have and send; commands answered OutOfMemory are left out
+-- Two servings of floors that have the same frame: a team that begins in the same state and sends
+-- the same commands gets the same texts, byte for byte. The other teams may have and send anything.
+-- Commands with the reply `OutOfMemory` are not considered.
 abbrev pub RepliesAreOwn : Type 0
 RepliesAreOwn =
     (l : Legalizer) (team : List ℕ) (end end' : Ending) (a a' b b' : FloorState) (v v' w w' : Writer) (done others : List Exchange) (s : TeamState)
@@ -65,7 +67,7 @@ RepliesAreOwn =
     → own_commands team (commands done) (replies done) ≡ own_commands team (commands others) (replies others)
     → reply_texts team done ≡ reply_texts team others
 
--- the same from two loaded designs that agree for the team
+-- The same for two loaded designs that agree for the team.
 abbrev pub RepliesFollowDesign : Type 0
 RepliesFollowDesign =
     (l : Legalizer) (team : List ℕ) (end end' : Ending) (a b : Loaded) (a' b' : FloorState) (v v' w w' : Writer) (done others : List Exchange)

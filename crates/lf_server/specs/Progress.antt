@@ -1,4 +1,4 @@
--- How far serving has come, and how it stops: what the loops keep.
+-- The progress of serving and how it stops: the invariants of the loops.
 use Rattle.std.specs.Prelude.{◌≡◌, ℕ, ◌+◌, ◌-◌, Bool, IfSome, true, false, List, [], ◌++◌, length, Option, Some, None, ◌⊎◌}
 use Rattle.std.specs.Io.KnownBytes.{Consumes}
 use Rattle.lf_floorplan.specs.declared.place.Place.{Place}
@@ -17,38 +17,39 @@ use Rattle.lf_server.specs.Endings.{AreLinesActedOn, WritesReplies, NoneIsBye, e
 use Rattle.lf_server.specs.declared.serve_loop.Ending.{Ending}
 use Rattle.lf_server.specs.declared.serve_loop.Ending.TheVariants.{Bye, ReadFault, WriteFault, OutOfMemory}
 
--- what the framer gave
+-- The line that the framer gave.
 abbrev pub IsGivenLine : Got → List ℕ → Line → Type 0
 IsGivenLine got bytes line = ((got ≡ IsLine) × (line ≡ Some bytes)) ⊎ ((got ≡ TooLong) × (line ≡ None))
 
 -- ---- one line
 
--- the team that a request is to; 'bye' and a line that is no request are to none
+-- The team that a request names. 'bye' and a line that is no request name no team.
 abbrev pub team_asked : Option (Command (List ℕ) Place) → List ℕ
 team_asked None = []
 team_asked (Some command) = team_of command
 
--- the request is answered with this reply and the reply's own text
+-- The request gets this reply with the reply's own text.
 abbrev pub IsAnswered : Legalizer → FloorState → Option (Command (List ℕ) Place) → Reply → FloorState → Type 0
 IsAnswered l old asked reply new = AnswersTo l old asked reply (text_of new (team_asked asked) reply) new
 
--- what was written of the one reply, by how the connection goes on
+-- What was written of the one reply, depending on how the connection continues.
 abbrev pub ExchangeEnds : Option Ending → Writer → Writer → Line → List ℕ → Type 0
 ExchangeEnds None w w' line text = SendsText w w' text × (is_bye line ≡ false)
 ExchangeEnds (Some Bye) w w' line text = SendsText w w' text × (is_bye line ≡ true)
 ExchangeEnds (Some WriteFault) w w' line text = BreaksText w w' text
 ExchangeEnds (Some _) w w' line text = ⊥
 
--- a line was acted on
+-- One line was acted on.
 pub record IsExchanged (l : Legalizer) (stop : Option Ending) (w w' : Writer) (old new : FloorState) (line : Line) : Type 0 where
   pub reply : Reply
   pub text : List ℕ
   pub answers : AnswersTo l old (asked_on line) reply text new
   pub ends : ExchangeEnds stop w w' line text
 
--- ---- many
+-- ---- many lines
 
--- the bytes held became these, lines were acted on, and serving goes on
+-- The framer's pending bytes changed from `held` to `held'`, lines were acted on, and serving
+-- continues.
 pub record ContinuesServing (l : Legalizer) (w w' : Writer) (left left' : ℕ) (old new : FloorState) (held held' : Option (List ℕ)) (from to : List ℕ) : Type 0 where
   pub done : List Exchange
   pub exchanged : AnswersLines l old w done new w'
@@ -56,20 +57,20 @@ pub record ContinuesServing (l : Legalizer) (w w' : Writer) (left left' : ℕ) (
   pub no_bye : NoneIsBye (lines done)
   pub goes_on : (rest : List ℕ) → lines_from held (pieces (from ++ rest)) ≡ lines done ++ lines_from held' (pieces (to ++ rest))
 
--- the lines acted on if serving stops in the middle of the input, or at its end
+-- The lines acted on if serving stops in the middle of the input, or at its end.
 abbrev pub StopsServingAt : Ending → ℕ → List Line → List Line → Type 0
 StopsServingAt ReadFault limit all acted = ⊥
 StopsServingAt OutOfMemory limit all acted = ⊥
 StopsServingAt ending limit all acted = AreLinesActedOn ending limit all [] acted
 
--- of these lines some were acted on, and serving stops
+-- Some of these lines were acted on, and serving stops.
 pub record StopsServing (l : Legalizer) (ending : Ending) (w w' : Writer) (left left' : ℕ) (old new : FloorState) (all : List Line) : Type 0 where
   pub done : List Exchange
   pub comes : WritesReplies ending l old w done new w'
   pub counts : left ≡ length done + left'
   pub stops : StopsServingAt ending left all (lines done)
 
--- the input was served to an ending
+-- The input was served to an ending.
 pub record FinishesServing (l : Legalizer) (ending : Ending) (input rest : Option (List ℕ)) (w w' : Writer) (left left' : ℕ) (old new : FloorState) : Type 0 where
   pub read : List ℕ
   pub reads : Consumes input rest read
@@ -78,12 +79,12 @@ pub record FinishesServing (l : Legalizer) (ending : Ending) (input rest : Optio
   pub counts : left ≡ length done + left'
   pub acted_on : IfSome input (λ bytes. AreLinesActedOn ending left (lines_of bytes) (ended_lines read) (lines done))
 
--- the replies counted as answered
+-- The number of replies counted as answered.
 abbrev pub answered_count : Ending → ℕ → ℕ
 answered_count WriteFault lines = lines - 1
 answered_count _ lines = lines
 
--- whether a call of the writer has failed, by how serving ends: only at a fault of the writer has one
+-- Whether a call of the writer has failed. Only at a fault of the writer does it change.
 abbrev pub SinkFailsAtWriteFault : Ending → Bool → Bool → Type 0
 SinkFailsAtWriteFault WriteFault old new = new ≡ true
 SinkFailsAtWriteFault _ old new = new ≡ old

@@ -1,4 +1,4 @@
-//! Where connections come from.
+//! The source of connections.
 
 ghost use Rattle.std.specs.Prelude.{◌≡◌, List, None, ℕ, Option, Bool, ◌||◌, IfOk, OnErr, is_err, false, true};
 ghost use Rattle.lf_server.specs.Connections.{Accepted, Accepts, Closes, IsUnused, client, connection_state};
@@ -12,51 +12,52 @@ use std::io::{Read, Write};
 use std::net::{Ipv4Addr, Net, OpenListener, OpenStream};
 use std::time::Duration;
 
-/// How many seconds a client may leave its replies unread before its connection ends.
+/// The seconds a client may leave its replies unread before its connection ends.
 const PATIENCE: u64 = 60;
 
-/// A service: where it listens, how many connections it serves, and within which limits.
+/// A service: the address it listens on, the number of connections it serves, and the limits on
+/// each.
 #[derive(Clone, Copy, Debug, PartialEq, Eq)]
 pub struct ServiceConfig {
-    /// The address that is listened on.
+    /// The address to listen on.
     pub ip: Ipv4Addr,
     pub port: u16,
-    /// How many connections are served, one after the other.
+    /// The number of connections to serve, one after the other.
     pub connections: u32,
     /// The limits on each connection.
     pub limits: ServeLimits,
 }
 
-/// A connection that was accepted.
+/// An accepted connection.
 #[derive(Drop)]
 pub struct Connection<R, W> {
-    /// What the client sends.
+    /// The source of what the client sends.
     pub reader: R,
-    /// What the client is sent.
+    /// The sink of what is sent to the client.
     pub writer: W,
 }
 
-/// Where connections come from.
+/// A source of connections.
 pub trait Acceptor {
     ghost use Rattle.lf_server.specs.declared.acceptor.ServiceConfig.{ServiceConfig};
 
-    /// What a client sends.
+    /// The source of what a client sends.
     type Reader: Source + Drop;
 
-    /// What a client is sent.
+    /// The sink of what is sent to a client.
     type Writer: Sink + Drop;
 
-    /// The clients whose connections were accepted so far, and how those stood that were closed, if that is known.
+    /// The clients accepted so far and the final states of the closed connections, if known.
     ghost accepted: { Self → Option Accepted } = { λ _. None };
 
-    /// The services that were offered, the last one first, if they are known.
+    /// The services offered so far, the latest first, if known.
     ghost offers: { Self → Option (List ServiceConfig) } = { λ _. None };
 
     /// Whether a call has failed.
     ghost has_failed: { Self → Bool };
 
-    /// Accepts the next connection, of which nothing was read and to which nothing was written. `Err` if none can be accepted, or it
-    /// cannot be both read from and written to.
+    /// Accepts the next connection, which is unused: no byte is read from it or written to it yet.
+    /// `Err` if no connection can be accepted, or it cannot be both read from and written to.
     fn accept(&mut self) -> Result<Connection<Self::Reader, Self::Writer>, DeviceFault>
         ensures ok { IfOk result (λ connection. Accepts (accepted self.old) (accepted self.new)
             (client (Self.Reader.remaining connection.reader) (Self.Writer.contents connection.writer))) }
@@ -75,7 +76,7 @@ pub trait Acceptor {
         ensures failed { has_failed self.new ≡ has_failed self.old };
 }
 
-/// A connection over a stream.
+/// Makes a connection over a stream. `Err` if the stream cannot be duplicated.
 fn connection_over<S: Read + Write + OpenStream + Drop>(
     stream: S,
 ) -> io::Result<Connection<ClientReader<S>, ClientWriter<S>>>
@@ -91,8 +92,9 @@ fn connection_over<S: Read + Write + OpenStream + Drop>(
     })
 }
 
-/// The next connection of the listener. A client that leaves its replies unread for 60 seconds ends its connection. `Err` if none
-/// can be accepted, or it cannot be both read from and written to.
+/// Accepts the next connection of the listener. A client that leaves its replies unread for 60
+/// seconds ends its connection. `Err` if no connection can be accepted, or it cannot be both read
+/// from and written to.
 pub fn accept_from<T: Net>(
     listener: &T::Listener,
 ) -> io::Result<Connection<ClientReader<T::Stream>, ClientWriter<T::Stream>>>
@@ -103,7 +105,7 @@ pub fn accept_from<T: Net>(
     connection_over(stream)
 }
 
-/// The connections of a listener, which it borrows. Contracts know nothing of who connects.
+/// The connections of a borrowed listener. Contracts know nothing of who connects.
 #[derive(Drop)]
 pub(crate) struct FromListener<'a, T: Net> {
     listener: &'a T::Listener,
@@ -111,7 +113,7 @@ pub(crate) struct FromListener<'a, T: Net> {
 }
 
 impl<'a, T: Net> FromListener<'a, T> {
-    /// An acceptor over the listener, of which no call has failed.
+    /// Makes an acceptor over the listener. No call of it has failed yet.
     pub(crate) fn new(listener: &'a T::Listener) -> FromListener<'a, T> {
         FromListener {
             listener,

@@ -1,4 +1,4 @@
-//! Answers to lines, and the texts of short ones.
+//! Replies to lines, and the texts of short replies.
 
 ghost use Rattle.std.specs.Prelude.{◌≡◌, ◌≤◌, ℕ, decimal, false, length, option_map, vec_capacity};
 ghost use Rattle.std.specs.Fmt.{signed_decimal};
@@ -18,7 +18,7 @@ use lf_floorplan::Place;
 use lf_legalize::Seeker;
 use lf_proto::{Command, Refusal, Reply, Request, parse_line, reply_text};
 
-/// The request of a line; one over the limit has none.
+/// Returns the request of a line, or `None` if the line is too long or is no request.
 pub(crate) fn request_in<'a>(line: Option<&'a [u8]>) -> Option<Request<'a>>
     ensures { option_map command_of result ≡ asked_on (option_map (λ bytes. bytes.now) line.entry) }
 {
@@ -28,7 +28,7 @@ pub(crate) fn request_in<'a>(line: Option<&'a [u8]>) -> Option<Request<'a>>
     }
 }
 
-/// Whether the request ends the connection.
+/// Returns whether the request ends the connection.
 pub(crate) fn is_end(request: &Option<Request>) -> bool
     ensures { result ≡ asks_end (option_map command_of request.now) }
 {
@@ -39,7 +39,7 @@ pub(crate) fn is_end(request: &Option<Request>) -> bool
     }
 }
 
-/// The positions of the cells that a reply names: the cell, and the other one.
+/// Returns the positions of the cells that a reply names: the cell, and the other cell.
 fn cells_in(reply: &Reply) -> (Option<u32>, Option<u32>)
     ensures { result ≡ cells_in reply.now }
 {
@@ -51,7 +51,7 @@ fn cells_in(reply: &Reply) -> (Option<u32>, Option<u32>)
     }
 }
 
-/// The name of the team's cell of that position.
+/// Returns the name of the team's cell at this position, or no bytes if there is no such cell.
 fn name_in<'a, K: Seeker + Drop>(floor: &'a Floor<K>, team: &[u8], cell: Option<u32>) -> &'a [u8]
     ensures name { result.now ≡ name_in floor.now team.now cell }
     ensures short { length result.now ≤ 1024 }
@@ -62,17 +62,17 @@ fn name_in<'a, K: Seeker + Drop>(floor: &'a Floor<K>, team: &[u8], cell: Option<
     }
 }
 
-/// A number of 32 bits is at most 10 digits long.
+/// Lemma: a number of 32 bits has at most 10 digits.
 fn number_is_short(number: u32)
     ensures { length (decimal number) ≤ 10 }
 {}
 
-/// A coordinate is at most 10 digits and a sign long.
+/// Lemma: a coordinate has at most 10 digits and a sign.
 fn coordinate_is_short(coordinate: i32)
     ensures { length (signed_decimal coordinate) ≤ 11 }
 {}
 
-/// A place is written in two coordinates, and its orientation in two letters at most.
+/// Lemma: the two coordinates of a place are short, and its orientation has at most two letters.
 fn place_is_short(place: &Place)
     ensures x { length (signed_decimal place.now.x) ≤ 11 }
     ensures y { length (signed_decimal place.now.y) ≤ 11 }
@@ -82,7 +82,7 @@ fn place_is_short(place: &Place)
     coordinate_is_short(place.y);
 }
 
-/// The line of a refusal fits the buffer.
+/// Lemma: the line of a refusal fits into the buffer.
 fn refusal_fits(refusal: &Refusal, cell_name: &[u8], other_name: &[u8])
     requires cell { length cell_name.now ≤ 1024 }
     requires other { length other_name.now ≤ 1024 }
@@ -94,7 +94,7 @@ fn refusal_fits(refusal: &Refusal, cell_name: &[u8], other_name: &[u8])
     }
 }
 
-/// The text of a reply that is neither a report nor a DEF text fits the buffer.
+/// Lemma: the text of a reply that is neither a report nor a DEF text fits into the buffer.
 fn text_fits(reply: &Reply, cell_name: &[u8], other_name: &[u8])
     requires cell { length cell_name.now ≤ 1024 }
     requires other { length other_name.now ≤ 1024 }
@@ -122,7 +122,8 @@ fn text_fits(reply: &Reply, cell_name: &[u8], other_name: &[u8])
     }
 }
 
-/// Replaces what is in the buffer by the text of a reply to a command of the team that is neither a report nor a DEF text.
+/// Replaces the buffer's contents with the text of a reply to one of the team's commands. The reply
+/// is neither a report nor a DEF text.
 pub(crate) fn write_short_reply<K: Seeker + Drop>(
     text: &mut Vec<u8>,
     floor: &Floor<K>,
@@ -144,7 +145,7 @@ pub(crate) fn write_short_reply<K: Seeker + Drop>(
     }
 }
 
-/// The team that a request is to; `bye` and a line that is no request are to none.
+/// Returns the team that a request names, or no bytes for `bye` and for a line that is no request.
 pub(crate) fn team_asked<'a>(request: &Option<Request<'a>>) -> &'a [u8]
     ensures { result.now ≡ team_asked (option_map command_of request.now) }
 {
@@ -155,7 +156,7 @@ pub(crate) fn team_asked<'a>(request: &Option<Request<'a>>) -> &'a [u8]
     }
 }
 
-/// Answers a line: one step of the floor, or `BadRequest`. A DEF text is still to be put.
+/// Answers a line with one step of the floor, or with `BadRequest`. A DEF text is not written yet.
 pub(crate) fn answer<K: Seeker + Drop>(floor: &mut Floor<K>, request: &Option<Request>) -> Response
     ensures stays { KeepsDesign floor.old floor.new }
     ensures answered { (l : Legalizer) → IsAnswered l floor.old (option_map command_of request.now)

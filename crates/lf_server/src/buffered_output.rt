@@ -1,4 +1,4 @@
-//! A text that goes to a sink in pieces.
+//! Output of a text to a sink in chunks.
 
 ghost use Rattle.std.specs.Prelude.{◌≡◌, ◌≤◌, ◌++◌, ℕ, List, OnErr, OnOk, false, take, true, vec_capacity};
 ghost use Rattle.std.specs.Io.KnownBytes.{Appends};
@@ -8,8 +8,8 @@ use crate::responses::{put, send_both};
 use lf_io::{DeviceFault, Sink, send};
 use lf_team_def::Output;
 
-/// A text on its way to a sink, of which as much waits as the buffer has room for. Once a call of the sink has failed, no other is
-/// made.
+/// A text that is being written to a sink. The buffer holds the bytes not sent yet. After a call of
+/// the sink has failed, no other call is made.
 #[derive(Drop)]
 pub(crate) struct BufferedOutput<'a, W> {
     sink: &'a mut W,
@@ -18,7 +18,7 @@ pub(crate) struct BufferedOutput<'a, W> {
 }
 
 impl<'a, W: Sink> BufferedOutput<'a, W> {
-    /// What the buffer holds is the first piece.
+    /// Makes an output over the sink. The buffer's contents are the beginning of the text.
     pub(crate) fn new(sink: &'a mut W, waiting: &'a mut Vec<u8>) -> BufferedOutput<'a, W>
         ensures sink { result.sink.now ≡ sink.old }
         ensures same_sink { result.sink.ghost_name ≡ sink.entry.ghost_name }
@@ -33,7 +33,7 @@ impl<'a, W: Sink> BufferedOutput<'a, W> {
         }
     }
 
-    /// Writes what waits and flushes it; `Err` if a call of the sink fails or has failed.
+    /// Writes the buffered bytes and flushes. `Err` if a call of the sink fails or has failed.
     pub(crate) fn finish(&mut self) -> Result<(), DeviceFault>
         ensures ok { (before : W) (text : List ℕ)
             → IsUnderWay self.old.failed (W.contents before) (W.contents self.old.sink.now) text self.old.waiting.now.items

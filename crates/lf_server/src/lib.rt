@@ -1,19 +1,38 @@
-//! Serving lines: one reply to each, in order, written and flushed before the next line is acted on.
+//! Serves lines: one reply to each, in order, written and flushed before the next line is acted on.
 //!
-//! `serve` serves one connection, over any source and sink; `serve_connections` takes connections from any `Acceptor` and serves
-//! each to its end before the next, and `serve_tcp` those of a TCP listener. Each line is one step of the floor, or answered
-//! `BadRequest` with the floor unchanged. A DEF text is written in pieces, and is never in memory as a whole. The devices of
-//! `lf_io` are named here again.
+//! `serve` serves one connection, over any source and sink. `serve_connections` takes connections
+//! from any `Acceptor` and serves each to its end before the next. `serve_tcp` does this for a TCP
+//! listener. Each line is one step of the floor, or gets `BadRequest` with the floor unchanged. A
+//! DEF text is written in chunks and is never in memory as a whole. The devices of `lf_io` are
+//! exported again.
 //!
-//! Contracts see of a connection its lines, the reply to each with its text, and the floor after it (`Serves`), where the bytes of
-//! the input and of the output are known; how it ended says which lines were acted on (`Ending`). However it ended, the frame and
-//! the positions of components are unchanged, and a fully legal committed design stays so (`Stays`). Of connections they see how many
-//! were accepted, what the client of each sends and is sent, how each stands in the end, and that just these were served
-//! (`AreServed`), where what is accepted is known.
+//! Contracts describe a connection by its lines, the reply to each with its text, and the floor
+//! after it (`ServesLines`), if the bytes of input and output are known. How it ended determines
+//! which lines were acted on (`Ending`). In all cases the frame and the positions of components are
+//! unchanged, and a fully legal committed design stays fully legal (`KeepsDesign`).
+//!
+//! Of several connections, contracts count those accepted. They describe what each client sends and
+//! receives and how each connection ends, and that no others were served (`AreServed`). This holds
+//! if the acceptor makes known what it accepts.
+//!
+//! Used by `lf_laws_slice_texts`, `lf_task_serve` and `lf_app`.
+//!
+//! Modules, in reading order:
+//!
+//! - `answer`: the reply to a line, and the texts of short replies
+//! - `buffered_output`: a text written to a sink in chunks
+//! - `responses`: replies sent to a sink
+//! - `serve_loop`: the loop that serves one connection
+//! - `tcp_client`: readers and writers over streams
+//! - `acceptor`: the trait of what accepts connections, and the TCP one
+//! - `tcp`: connections served one after the other
+//! - `laws`: laws over whole connections
+//!
+//! From `crates/lf_task_serve/src/serve_lines.rt`:
 //!
 //! ```
-//! let limits = ServeLimits { lines: 1_000_000, reads: 4_200_000_000 };
-//! let served = serve(alloc, &mut floor, &mut source, &mut sink, limits);
+//! let served = serve(alloc, floor, source, sink, limits_of(lines));
+//! served.ending
 //! ```
 #![tactic(auto)]
 

@@ -1,4 +1,4 @@
-//! Replies that are sent.
+//! Sending of replies.
 
 ghost use Rattle.std.specs.Prelude.{◌≡◌, ◌≤◌, ◌+◌, ◌++◌, ◌∷◌, [], ℕ, OnErr, OnOk, codes, decimal, false, length, take, true, vec_capacity, vec_len};
 ghost use Rattle.std.specs.Io.KnownBytes.{Appends};
@@ -16,7 +16,7 @@ use lf_io::{DeviceFault, Sink, send};
 use lf_legalize::Seeker;
 use lf_proto::Reply;
 
-/// Appends bytes for which there is room.
+/// Appends bytes to a buffer that has room for them.
 pub(crate) fn put(out: &mut Vec<u8>, bytes: &[u8])
     requires room { vec_len out.old + length bytes.now ≤ vec_capacity out.old }
     ensures items { out.new.items ≡ out.old.items ++ bytes.now }
@@ -28,7 +28,7 @@ pub(crate) fn put(out: &mut Vec<u8>, bytes: &[u8])
     }
 }
 
-/// Replaces what is in the buffer by the line before a DEF text of this many bytes.
+/// Replaces the buffer's contents with the line in front of a DEF text of `count` bytes.
 fn put_def_line(text: &mut Vec<u8>, count: usize)
     requires room { 4096 ≤ vec_capacity text.old }
     ensures line { text.new.items ≡ line_text (codes "ok" ∷ decimal count ∷ []) }
@@ -58,8 +58,9 @@ pub(crate) fn send_both<W: Sink>(
     send(sink, second)
 }
 
-/// Sends the text of a reply to a command of the team, as `send` does. A report or a DEF text is sent as it lies in the reply; the
-/// line before a DEF text, and any other reply, goes through the buffer.
+/// Sends the text of a reply to a command of the team, as `send` does. A report or a DEF text is
+/// sent directly from the reply. The line in front of a DEF text, and any other reply, goes through
+/// the buffer.
 fn send_reply<K: Seeker + Drop, W: Sink>(
     sink: &mut W,
     text: &mut Vec<u8>,
@@ -92,7 +93,7 @@ fn send_reply<K: Seeker + Drop, W: Sink>(
     }
 }
 
-/// Puts the DEF text of the team to the sink, of which no call has failed.
+/// Writes the team's DEF text to the output, whose sink has not failed.
 fn put_pieces<K: Seeker + Drop, W: Sink>(
     pieces: &mut BufferedOutput<'_, W>,
     floor: &Floor<K>,
@@ -109,7 +110,8 @@ fn put_pieces<K: Seeker + Drop, W: Sink>(
     floor.write_def(team, pieces);
 }
 
-/// Sends what the buffer holds and the DEF text of the team behind it, as `send` does, in pieces that fit the buffer.
+/// Sends the buffer's contents and then the team's DEF text, as `send` does, in chunks that fit
+/// into the buffer.
 fn send_def<K: Seeker + Drop, W: Sink>(
     sink: &mut W,
     text: &mut Vec<u8>,
@@ -129,7 +131,8 @@ fn send_def<K: Seeker + Drop, W: Sink>(
     pieces.finish()
 }
 
-/// Sends the text of the response to a command of the team, as `send` does: a DEF text in pieces, behind its line.
+/// Sends the text of the response to a command of the team, as `send` does. A DEF text follows its
+/// line in chunks.
 pub(crate) fn send_response<K: Seeker + Drop, W: Sink>(
     sink: &mut W,
     text: &mut Vec<u8>,

@@ -1,4 +1,4 @@
-//! The loop that serves lines.
+//! The loop that serves one connection.
 
 ghost use Rattle.std.specs.Prelude.{◌≡◌, ◌≢◌, ◌<◌, ◌≤◌, ◌+◌, ◌++◌, ◌∷◌, ◌⊎◌, [], IfSome, MatchOption, Some, None, List, ℕ};
 ghost use Rattle.std.specs.Prelude.{length, drop, option_map, true, false, vec_capacity};
@@ -20,27 +20,30 @@ use std::alloc::Global;
 /// The most bytes of a line, and of a reply that is neither a report nor a DEF text.
 const LINE: usize = 4096;
 
-/// How many bytes of a DEF text are written at once; no less than a line.
+/// The bytes of a DEF text that are written at once, at least those of a line.
 const PIECE: usize = 65_536;
 
-/// How serving a connection ended, and so which lines were acted on.
+/// How serving a connection ended, which determines the lines acted on.
 #[derive(Clone, Copy, Debug, PartialEq, Eq)]
 pub enum Ending {
     /// The input ended, and all lines were acted on.
     Done,
-    /// A line said `bye`: the lines up to the first of these were acted on.
+    /// A line said `bye`: the lines up to the first such line were acted on.
     Bye,
-    /// The reader failed, or the limit on reads was reached: the lines that were read with their line feed were acted on.
+    /// The reader failed, or the limit on reads was reached: the lines that were read with their
+    /// line feed were acted on.
     ReadFault,
-    /// The writer failed, or took no byte: of the reply to the last line acted on a front was written, perhaps nothing.
+    /// The writer failed, or took no byte: a front of the reply to the last line acted on was
+    /// written, perhaps nothing.
     WriteFault,
-    /// A line followed the last one allowed: as many as are allowed were acted on.
+    /// Another line followed the last one allowed: the allowed number of lines was acted on.
     TooManyLines,
     /// An allocation for the buffers failed: nothing was read, and no line was acted on.
     OutOfMemory,
 }
 
-/// How a connection was served: the lines acted on, the replies written and flushed, and the ending.
+/// How a connection was served: the lines acted on, the replies written and flushed, and the
+/// ending.
 #[derive(Clone, Copy, Debug, PartialEq, Eq)]
 pub struct Served {
     pub lines: u64,
@@ -48,14 +51,15 @@ pub struct Served {
     pub ending: Ending,
 }
 
-/// The most lines acted on, and the most reads.
+/// The most lines to act on, and the most reads.
 #[derive(Clone, Copy, Debug, PartialEq, Eq)]
 pub struct ServeLimits {
     pub lines: u64,
     pub reads: u64,
 }
 
-/// The line that the framer gave, or None if it needs more bytes; the inner None is a line over the limit.
+/// Returns the line that the framer gave, or `None` if it needs more bytes. The inner `None` is a
+/// line over the limit.
 fn line_given(framer: &LineFramer, got: Got) -> Option<Option<&[u8]>>
     ensures { MatchOption result (got ≡ Got.More) (λ line. IsGivenLine got framer.now.line (option_map (λ bytes. bytes.now) line)) }
 {
@@ -66,7 +70,8 @@ fn line_given(framer: &LineFramer, got: Got) -> Option<Option<&[u8]>>
     }
 }
 
-/// Answers one line and writes the reply; returns how the connection ends, if it does.
+/// Answers one line and writes the reply. Returns how the connection ends, or `None` if it
+/// continues.
 fn answer_line<K: Seeker + Drop, W: Sink>(
     floor: &mut Floor<K>,
     sink: &mut W,
@@ -96,7 +101,8 @@ fn answer_line<K: Seeker + Drop, W: Sink>(
     None
 }
 
-/// Takes the piece up to its first line feed, and answers the line that ends there, if one may be acted on.
+/// Reads the chunk up to its first line feed, and answers the line that ends there if one may be
+/// acted on. Returns the number of bytes used, and how the connection ends if it does.
 fn take_line<K: Seeker + Drop, W: Sink>(
     floor: &mut Floor<K>,
     sink: &mut W,
@@ -135,7 +141,8 @@ fn take_line<K: Seeker + Drop, W: Sink>(
     (fed.used, answer_line(floor, sink, text, line))
 }
 
-/// Answers the lines that end in a piece.
+/// Answers the lines that end in a chunk. Returns how the connection ends, or `None` if it
+/// continues.
 fn answer_lines_in<K: Seeker + Drop, W: Sink>(
     floor: &mut Floor<K>,
     sink: &mut W,
@@ -173,7 +180,8 @@ fn answer_lines_in<K: Seeker + Drop, W: Sink>(
     None
 }
 
-/// Answers what is left at the end of the input.
+/// Answers the unfinished line at the end of the input, if there is one. Returns how the connection
+/// ends.
 fn finish<K: Seeker + Drop, W: Sink>(
     floor: &mut Floor<K>,
     sink: &mut W,
@@ -206,7 +214,7 @@ fn finish<K: Seeker + Drop, W: Sink>(
     }
 }
 
-/// Reads the input piece by piece and answers its lines, in at most this many reads.
+/// Reads the input chunk by chunk and answers its lines, in at most `reads` reads.
 fn serve_lines<K: Seeker + Drop, S: Source, W: Sink>(
     floor: &mut Floor<K>,
     source: &mut S,
@@ -251,7 +259,8 @@ fn serve_lines<K: Seeker + Drop, S: Source, W: Sink>(
     Ending::ReadFault
 }
 
-/// What is returned of a connection: a last reply that was not written is not counted as answered.
+/// The result of serving a connection. A reply that could not be written is not counted in
+/// `answered`.
 fn served_of(lines: u64, ending: Ending) -> Served
     ensures lines { result.lines ≡ lines }
     ensures ending { result.ending ≡ ending }
@@ -272,14 +281,16 @@ fn served_of(lines: u64, ending: Ending) -> Served
     }
 }
 
-/// Serves the lines of the source until it ends, a line says `bye`, a device fails or a limit is met: one reply to
-/// each line acted on, in order, each written whole and flushed before the next line is acted on. A line is one step of
-/// the floor, or is answered `BadRequest`, and then the floor is unchanged.
+/// Serves the lines of the source until it ends, a line says `bye`, a device fails, or a limit is
+/// reached. Each line acted on gets one reply, in order, written whole and flushed before the next
+/// line is acted on. A line is one step of the floor, or gets `BadRequest` and leaves the floor
+/// unchanged.
 ///
-/// At most as many lines are acted on and as many reads are made as the limits allow. The reader has failed, or that many
-/// reads were made, if the ending is `ReadFault`, and the writer has failed if it is `WriteFault`; at other endings neither
-/// has. Neither has failed before. The frame and the positions of components are unchanged, and a fully legal committed
-/// design stays so.
+/// The limits bound the lines acted on and the reads made. The source and the sink must not have
+/// failed before. If the ending is `ReadFault`, the reader has failed or `limits.reads` reads were
+/// made. If it is `WriteFault`, the writer has failed. At other endings neither has failed. The
+/// frame and the positions of components are unchanged, and a fully legal committed design stays
+/// fully legal.
 pub fn serve<K: Seeker + Drop, S: Source, W: Sink>(
     alloc: Global,
     floor: &mut Floor<K>,

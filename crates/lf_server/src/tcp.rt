@@ -1,4 +1,4 @@
-//! Serving connections, one after the other.
+//! Connections served one after the other.
 
 ghost use Rattle.std.specs.Prelude.{◌≡◌, ◌↔◌, ◌≤◌, ◌||◌, List, OnErr, OnOk, false, is_err, length};
 ghost use Rattle.lf_rules.specs.Legalizer.{Legalizer};
@@ -18,11 +18,12 @@ use std::net::Net;
 pub struct TcpServed {
     /// The connections that were accepted and served to their ends.
     pub connections: u32,
-    /// Whether a connection could not be accepted, or not be both read from and written to, which ended the service.
+    /// Whether the service ended early: a connection could not be accepted, or not be both read
+    /// from and written to.
     pub accept_fault: bool,
 }
 
-/// Serves a connection to its end, whatever that is, and gives it back.
+/// Serves a connection to its end and returns it.
 fn serve_connection<R: Source + Drop, W: Sink + Drop, K: Seeker + Drop>(
     alloc: Global,
     floor: &mut Floor<K>,
@@ -46,7 +47,8 @@ fn serve_connection<R: Source + Drop, W: Sink + Drop, K: Seeker + Drop>(
     Connection { reader, writer }
 }
 
-/// Accepts one connection, serves it to its end, and closes it; `Err` if none is accepted, and then no line is read.
+/// Accepts one connection, serves it to its end, and closes it. `Err` if no connection is accepted;
+/// then no line is read.
 fn serve_next<A: Acceptor, K: Seeker + Drop>(
     alloc: Global,
     floor: &mut Floor<K>,
@@ -66,14 +68,15 @@ fn serve_next<A: Acceptor, K: Seeker + Drop>(
     Ok(())
 }
 
-/// Accepts this many connections and serves each to its end before the next: sessions, places and commits of one remain
-/// for the next. How a connection ends plays no part; the first one that cannot be accepted, or not be both read from and
-/// written to, ends the service, and otherwise all are served.
+/// Accepts `connections` connections and serves each to its end before the next. Sessions, places
+/// and commits of one remain for the next. How a connection ends does not matter. If one cannot be
+/// accepted, or not be both read from and written to, the service ends; otherwise all are served.
 ///
-/// Each is served as `serve` does it, within the limits, over what its client sends, and its client is sent the replies. A connection
-/// ends at a fault of its reader or its writer only where that has failed, or the limit on reads is met. The acceptor has failed just
-/// if there is an accept fault, unless it had before. The frame and the positions of components are unchanged, and a fully legal committed design
-/// stays so.
+/// Each is served as by `serve`, within the limits, over what its client sends, and its client
+/// receives the replies. A connection ends at a fault of its reader or writer only if that has
+/// failed or the limit on reads is reached. If the acceptor had not failed before, it has failed
+/// exactly if there is an accept fault. The frame and the positions of components are unchanged,
+/// and a fully legal committed design stays fully legal.
 pub fn serve_connections<A: Acceptor, K: Seeker + Drop>(
     alloc: Global,
     floor: &mut Floor<K>,
@@ -106,8 +109,8 @@ pub fn serve_connections<A: Acceptor, K: Seeker + Drop>(
     }
 }
 
-/// Serves this many connections of the listener, as `serve_connections` does. A client that leaves its replies unread for 60
-/// seconds ends its connection.
+/// Serves `connections` connections of the listener, as `serve_connections` does. A client that
+/// leaves its replies unread for 60 seconds ends its connection.
 pub fn serve_tcp<T: Net + AllocGlobal, K: Seeker + Drop>(
     rt: &T,
     floor: &mut Floor<K>,

@@ -5,7 +5,7 @@ ghost use Rattle.std.specs.Prelude.{◌≡◌, false, true};
 use lf_io::{DeviceFault, FromRead, Sink, Source, ToWrite};
 use std::io::{Read, Write};
 
-/// What a client sends: a source over a stream, which it owns.
+/// A source over an owned stream: what a client sends.
 #[derive(Drop)]
 pub struct ClientReader<R> {
     stream: R,
@@ -14,7 +14,7 @@ pub struct ClientReader<R> {
 }
 
 impl<R: Read> ClientReader<R> {
-    /// A source over the stream, of which no read was made.
+    /// Makes a source over the stream. No read is made yet.
     pub fn new(stream: R) -> ClientReader<R>
         ensures remaining { ⟦<ClientReader<R> as Source>⟧.remaining result ≡ R.remaining stream }
         ensures reads { ⟦<ClientReader<R> as Source>⟧.reads result ≡ 0 }
@@ -43,7 +43,7 @@ impl<R: Read> Source for ClientReader<R> {
     }
 }
 
-/// What a client is sent: a sink over a stream, which it owns.
+/// A sink over an owned stream: what is sent to a client.
 #[derive(Drop)]
 pub struct ClientWriter<W> {
     stream: W,
@@ -52,7 +52,7 @@ pub struct ClientWriter<W> {
 }
 
 impl<W: Write> ClientWriter<W> {
-    /// A sink over the stream, to which nothing was written yet.
+    /// Makes a sink over the stream. Nothing is written yet.
     pub fn new(stream: W) -> ClientWriter<W>
         ensures contents { ⟦<ClientWriter<W> as Sink>⟧.contents result ≡ W.contents stream }
         ensures flushed { ⟦<ClientWriter<W> as Sink>⟧.is_flushed result ≡ true }

@@ -1,4 +1,5 @@
--- Designs of files, step by step: which fault a refusal becomes, and LEF files one after the other.
+-- Designs of files, step by step: the fault that a refusal becomes, and LEF files one after the
+-- other.
 use Rattle.std.proofs.Common.{◌≡◌, inl, inr, ℕ, ◌+◌, ◌<◌, List, ◌∷◌, Ok, length, map, drop, slice_index_or, ap, subst, ◌∙◌}
 use Rattle.std.specs.Borrow.{Bor}
 use Rattle.std.proofs.Math.Numerals.{suc-eq-add-one}
@@ -17,7 +18,7 @@ use Rattle.lf_task_designs.specs.declared.faults.TextKind.TheVariants.{Lef, Def}
 use Rattle.lf_task_designs.specs.Refusals.{IsReportedConflict}
 use Rattle.lf_task_designs.specs.Designs.{AddsFile, RefusalCause, ReadsFile, IsDefRefusal, IsFileFault, IsLefRefusal, IsLibraryFault, IsLibraryOf, IsLoadRefusal, IsRefused, ConflictsIn}
 
--- a refusal of one kind is one of another that takes them all in
+-- A refusal for one cause is a refusal for a cause that includes it.
 pub refused_as : (kind : TextKind) (path text : List ℕ) (P Q : RefusalCause) (fault : Fault) → IsRefused kind path text P fault
     → ((refusal : LoadFault) (met : Conflict) → P refusal met → Q refusal met) → IsRefused kind path text Q fault
 refused_as kind path text P Q (Refused file its) is gives = (is.0, (is.1.0, is.1.1, gives is.1.0 is.1.1 is.1.2, is.1.3))
@@ -37,26 +38,26 @@ refused_as kind path text P Q (Unlisted its_path why) is gives = absurd is
 refused_as kind path text P Q NoMemory is gives = absurd is
 refused_as kind path text P Q NoRoom is gives = absurd is
 
--- of a document that is not loaded one of its text
+-- A cause for which a document is not loaded is a cause to refuse its text.
 load_refused : (limits : Limits) (library : Contents) (text : List ℕ) (document : Document) (refusal : LoadFault) (met : Conflict) → document_of text ≡ Ok document
     → IsLoadRefusal limits library document refusal met → IsDefRefusal limits library text refusal met
 load_refused limits library text document refusal met is (inl memory, meets) = inl (inl memory, subst (λ (found : LoadFault). ConflictsIn document found met) memory meets)
 load_refused limits library text document refusal met is (inr found, meets) = inr (document, is, found, meets)
 
--- a refusal of loading a document is one of its text
+-- A refusal of loading a document is a refusal of its text.
 pub text_refused : (limits : Limits) (library : Contents) (path text : List ℕ) (document : Document) (fault : Fault) → document_of text ≡ Ok document
     → IsRefused Def path text (IsLoadRefusal limits library document) fault → IsRefused Def path text (IsDefRefusal limits library text) fault
 text_refused limits library path text document fault is refused =
     refused_as Def path text (IsLoadRefusal limits library document) (IsDefRefusal limits library text) fault refused
     (λ refusal met why. load_refused limits library text document refusal met is why)
 
--- what is told is the fault that was found with the fences that it meets, or that there was no memory to tell it
+-- The reported fault is the one that was found with its fences, or a failed allocation.
 told_of : (P : RefusalCause) (found told : LoadFault) (met fences : Conflict) → IsReportedConflict found met told fences → P found met → P (load_fault_of Memory) no_fence
     → P told fences
 told_of P found told met fences (inl same) holds memory = rw (same.0, same.1) holds
 told_of P found told met fences (inr same) holds memory = rw (same.0, same.1) memory
 
--- either is one of the refusals that take both in
+-- Both are refusals for a cause that includes them.
 pub told_as : (kind : TextKind) (path text : List ℕ) (P : RefusalCause) (found : LoadFault) (met : Conflict) (fault : Fault)
     → IsRefused kind path text (IsReportedConflict found met) fault → P found met → P (load_fault_of Memory) no_fence → IsRefused kind path text P fault
 told_as kind path text P found met fault is holds memory =
@@ -68,16 +69,16 @@ Path = Bor (List ℕ)
 abbrev written : List Path → List (List ℕ)
 written = map (λ path. path.now)
 
--- the paths that are left take the library to where all of them take the first one
+-- The remaining paths extend the present library to what all paths make of the first one.
 pub record GoesOn (gives : ReadsFile) (first now : Contents) (all left : List (List ℕ)) : Type 0 where
   pub library : (new : Contents) → IsLibraryOf gives now left new → IsLibraryOf gives first all new
   pub fault : (fault : Fault) → IsLibraryFault gives now left fault → IsLibraryFault gives first all fault
 
--- the paths from one on are that one and those after it
+-- The paths from a position on are that path and the later ones.
 ahead : (paths : List Path) (i : ℕ) (d : Path) → i < length paths → written (drop i paths) ≡ (slice_index_or paths i d).now ∷ written (drop (i + 1) paths)
 ahead paths i d lt = ap written (drop-cons paths i d lt ∙ ap (λ n. slice_index_or paths i d ∷ drop n paths) (suc-eq-add-one i))
 
--- and so they do after one more of them
+-- After one more path, the remaining ones still do.
 pub one_more : (gives : ReadsFile) (first now next : Contents) (paths : List Path) (i : ℕ) (d : Path) → i < length paths
     → GoesOn gives first now (written paths) (written (drop i paths)) → AddsFile gives (slice_index_or paths i d).now now next
     → GoesOn gives first next (written paths) (written (drop (i + 1) paths))
@@ -89,7 +90,7 @@ one_more gives first now next paths i d lt on adds =
       fault = λ fault rest. here.fault fault (inr (next, adds, rest));
     }
 
--- a fault of the next file is one of all
+-- A fault of the next file is a fault of all files.
 pub fails_here : (gives : ReadsFile) (first now : Contents) (paths : List Path) (i : ℕ) (d : Path) (fault : Fault) → i < length paths
     → GoesOn gives first now (written paths) (written (drop i paths)) → IsFileFault gives Lef (slice_index_or paths i d).now (IsLefRefusal now) fault
     → IsLibraryFault gives first (written paths) fault

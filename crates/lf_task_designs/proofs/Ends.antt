@@ -1,4 +1,4 @@
--- The lines of a text in what is left of it behind whole lines.
+-- The lines of a text in its rest after whole lines.
 use Rattle.std.proofs.Common.{◌≡◌, inl, inr, ℕ, suc, ◌+◌, ◌-◌, Bool, true, false, cond, List, [], ◌∷◌, ◌++◌, take, Option, None, Some, refl, sym, ap, subst, ◌∙◌, arith}
 use Rattle.std.specs.Prelude.{option_map}
 use Rattle.std.specs.List.{position_from}
@@ -60,7 +60,7 @@ behind-gone gone more k (inr (before, is)) =
     let counted : line_feeds (before ++ 10 ∷ []) + k ≡ suc (line_feeds before + k) = rw (feeds-append before (10 ∷ [])) (omega arith) in
     subst (λ (g : List ℕ). behind_lines (line_feeds g + k) (g ++ more) ≡ behind_lines k more) (sym is) (rw counted (lines_passed before more k))
 
--- the line of the fault begins alike in what is left
+-- The line of the fault begins alike in the rest of the text.
 pub shown-in-end : (text : List ℕ) (r : StateRefused) → HasEnd text r → line_front r.end.items (Some (r.fault.line - r.lines)) ≡ line_front text (Some r.fault.line)
 shown-in-end text r end =
     let lines_is = end.lines in

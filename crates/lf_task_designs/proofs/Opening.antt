@@ -1,4 +1,4 @@
--- What is kept of a text: what two clauses of a result say together.
+-- What is kept of a text: two clauses of a result combined.
 use Rattle.std.proofs.Common.{Err, Ok}
 use Rattle.std.specs.Prelude.{IfOk, Result}
 

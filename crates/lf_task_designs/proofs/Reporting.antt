@@ -1,4 +1,4 @@
--- What is reported of a design's cells, one by one, is what the report of their list says.
+-- Reporting a design's cells one by one gives the report of their list.
 use Rattle.std.proofs.Common.{◌≡◌, ◌∙◌, ℕ, ◌+◌, List, [], ◌∷◌, ◌++◌, length, map, Option, Some, None, refl, sym, ap, append_assoc}
 use Rattle.std.specs.Prelude.{All, filter_map, option_and_then, option_map, slice_get}
 use Rattle.std.specs.List.{range_with_len, cons_option}
@@ -23,14 +23,14 @@ found_alike g h alike [] = refl
 found_alike {Y = Y} g h alike (x ∷ xs) =
     ap (λ (o : Option Y). cons_option o (filter_map h xs)) (alike x) ∙ ap (cons_option (g x)) (found_alike g h alike xs)
 
--- the cells that the report lists are those of the design
+-- The cells that the report lists are those of the design.
 pub at_home : (cells : List Cell) → listed_at cells (def_places cells) ≡ map listed_of cells
 at_home [] = refl
 at_home (c ∷ cells) = ap (λ (listed : List (Listed (List ℕ))). listed_of c ∷ listed) (at_home cells)
 
 -- ---- names
 
--- the names of a design's cells are names of a text
+-- The names of a design's cells are names of a text.
 pub names_printed : (f : Frame) (cells : List Cell) → All (IsCell f) cells → All IsName (names_of cells)
 names_printed f cells known = All-map IsName (λ (c : Cell). c.name) cells (λ i c within. (known i c within).name_printed)
 
@@ -48,7 +48,7 @@ other_listed : (listed : List (Listed (List ℕ))) (other : Option ℕ) →
 other_listed listed None = refl
 other_listed listed (Some own) = slice_get-map (λ (c : Listed (List ℕ)). c.name) listed own
 
--- what the names and the verdict of a listed cell say is its violation
+-- The names and the verdict of a listed cell determine its violation.
 violation_listed : (l : Legalizer) (f : Frame) (padding : ℕ) (listed : List (Listed (List ℕ))) (own : ℕ) (verdict : Option Broken) →
     ((c : Listed (List ℕ)) → slice_get listed own ≡ Some c → verdict ≡ broken_among l f padding listed own c) →
     option_and_then (violation_in (listed_names listed) own) verdict ≡ violation_at l f padding listed own
@@ -71,25 +71,25 @@ violation_listed l f padding listed own verdict is =
     go None there = none verdict
     go (Some c) there = some c verdict ∙ ap (option_map (violation_of listed c)) (is c there)
 
--- the violation of the cell of that number by its verdict
+-- The violation of the cell of this number, by its verdict.
 abbrev pub told_by : List Cell → List (Option Broken) → ℕ → Option Violation
 told_by cells verdicts own = option_and_then (violation_in (names_of cells) own) (verdict_at verdicts own)
 
--- is that of the list
+-- It is the violation in the list.
 told_listed : (l : Legalizer) (f : Frame) (cells : List Cell) (verdicts : List (Option Broken)) → AreVerdicts l f 0 (map listed_of cells) verdicts → (own : ℕ) →
     told_by cells verdicts own ≡ violation_at l f 0 (map listed_of cells) own
 told_listed l f cells verdicts are own =
     ap (λ (names : List (List ℕ)). option_and_then (violation_in names own) (verdict_at verdicts own)) (names_listed cells)
     ∙ violation_listed l f 0 (map listed_of cells) own (verdict_at verdicts own) (are.each own)
 
--- so are those of all cells
+-- The same for all cells.
 pub all_told : (l : Legalizer) (f : Frame) (cells : List Cell) (verdicts : List (Option Broken)) → AreVerdicts l f 0 (map listed_of cells) verdicts →
     filter_map (told_by cells verdicts) (range_with_len 0 (length verdicts)) ≡ violations_in l f 0 (map listed_of cells)
 all_told l f cells verdicts are =
     found_alike (violation_at l f 0 (map listed_of cells)) (told_by cells verdicts) (told_listed l f cells verdicts are) (range_with_len 0 (length verdicts))
     ∙ ap (λ (n : ℕ). filter_map (violation_at l f 0 (map listed_of cells)) (range_with_len 0 n)) are.count
 
--- the violation of one more cell stands behind those of the cells before it
+-- The violation of one more cell follows those of the earlier cells.
 pub one_more_violation : {Y : Type 0} (g : ℕ → Option Y) (k : ℕ) (rest : List Y) →
     filter_map g (range_with_len 0 k) ++ cons_option (g k) rest ≡ filter_map g (range_with_len 0 (k + 1)) ++ rest
 one_more_violation {Y = Y} g k rest =

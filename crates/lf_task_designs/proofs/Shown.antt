@@ -1,4 +1,4 @@
--- Bytes that are shown, one after the other, fronts of those that are written, and lines that are passed over.
+-- Bytes that are shown one after the other, fronts of written bytes, and skipped lines.
 use Rattle.std.proofs.Common.{◌≡◌, ◌∙◌, ℕ, suc, ◌+◌, ◌-◌, ◌<◌, arith, ap, min, subst, sym, take, Err, List, ◌++◌, drop, length, Ok, Option, slice_index_or}
 use Rattle.std.specs.Prelude.{OnErr, OnOk, Result}
 use Rattle.std.proofs.Math.Numerals.{suc-eq-add-one}
@@ -9,27 +9,27 @@ use Rattle.lf_io.proofs.Known.{Appends-more}
 use Rattle.lf_task_designs.specs.Faults.{shown, shown_byte}
 use Rattle.lf_task_designs.specs.Refusals.{behind_line, behind_lines}
 
--- bytes that were appended come before those that are if all goes well
+-- Bytes that were appended come before those that are appended on success.
 pub before : {T E : Type 0} (r : Result T E) (a b c : Option (List ℕ)) (xs ys : List ℕ) → Appends a b xs → OnOk r (Appends b c ys)
     → OnOk r (Appends a c (xs ++ ys))
 before (Ok value) a b c xs ys first then = Appends-more a b c xs ys first then
 before (Err fault) a b c xs ys first then = tt
 
--- the bytes from one on are that one and those after it
+-- The bytes from a position on are that byte and the later ones.
 ahead : (bytes : List ℕ) (i d : ℕ) → i < length bytes → shown (drop i bytes) ≡ shown_byte (slice_index_or bytes i d) ++ shown (drop (i + 1) bytes)
 ahead bytes i d lt = ap shown (drop-cons bytes i d lt) ∙ ap (λ n. shown_byte (slice_index_or bytes i d) ++ shown (drop n bytes)) (suc-eq-add-one i)
 
--- what completes the bytes that are left completes all of them
+-- What completes the remaining bytes completes all of them.
 abbrev pub Completes : Option (List ℕ) → Option (List ℕ) → List ℕ → List ℕ → Type 0
 Completes start here left all = (end : Option (List ℕ)) → Appends here end (shown left) → Appends start end (shown all)
 
--- and so it does after one more of them
+-- After one more byte, it still does.
 pub one_more : (start here next : Option (List ℕ)) (bytes : List ℕ) (i d : ℕ) → i < length bytes → Completes start here (drop i bytes) bytes
     → Appends here next (shown_byte (slice_index_or bytes i d)) → Completes start next (drop (i + 1) bytes) bytes
 one_more start here next bytes i d lt completes put = λ end rest.
     completes end (subst (λ (t : List ℕ). Appends here end t) (sym (ahead bytes i d lt)) (Appends-more here next end _ _ put rest))
 
--- one line more is passed over
+-- One more line is skipped.
 pub passed : (lines i : ℕ) (text rest : List ℕ) → i < lines → behind_lines (lines - i) rest ≡ behind_lines lines text
     → behind_lines (lines - (i + 1)) (behind_line rest) ≡ behind_lines lines text
 passed lines i text rest lt same =
@@ -37,17 +37,17 @@ passed lines i text rest lt same =
 
 -- ---- fronts
 
--- a front of the bytes was written
+-- A front of the bytes was written.
 abbrev Front : Option (List ℕ) → Option (List ℕ) → List ℕ → Type 0
 Front a b bytes = (n : ℕ) × Appends a b (take n bytes)
 
--- a front of the first part is one of the whole
+-- A front of the first part is a front of the whole.
 pub front_first : {T E : Type 0} (r : Result T E) (a b : Option (List ℕ)) (x y : List ℕ) → Front a b x → OnErr r (Front a b (x ++ y))
 front_first (Ok t) a b x y front = tt
 front_first (Err e) a b x y (n, written) =
     (min n (length x), subst (Appends a b) (sym (take-append-le (min n (length x)) x y (omega arith) ∙ take_min n x)) written)
 
--- so are the first part and a front of the second
+-- The first part and a front of the second are a front of the whole.
 pub front_after : {T E : Type 0} (r : Result T E) (a b c : Option (List ℕ)) (x y : List ℕ) → Appends a b x → OnErr r (Front b c y)
     → OnErr r (Front a c (x ++ y))
 front_after (Ok t) a b c x y first front = tt

@@ -12,23 +12,23 @@ use Rattle.lf_proto.specs.ReportText.{report_text}
 use Rattle.lf_task_designs.specs.declared.faults.Fault.{Fault}
 use Rattle.lf_task_designs.specs.Faults.{IsReportFault}
 
--- the cells' places in the DEF text, in loading order; None if a cell is unplaced there
+-- The cells' places in the DEF text, in loading order; `None` if a cell is unplaced there.
 abbrev pub def_places : List Cell → List (Option Place)
 def_places cells = map (λ cell. cell.place) cells
 
--- the report of the cells of all teams, each at its place in the DEF text
+-- The report of the cells of all teams, each at its place in the DEF text.
 abbrev pub design_report : Legalizer → Loaded → Report
 design_report l loaded = report_of l loaded.frame 0 (listed_at loaded.cells (def_places loaded.cells))
 
--- what a check writes: the text of that report, and a line feed
+-- What a check writes: the text of the report, and a line feed.
 abbrev pub report_line : Legalizer → Loaded → List ℕ
 report_line l loaded = report_text (design_report l loaded) ++ 10 ∷ []
 
--- the design is fully legal at the places of its DEF text
+-- The design is fully legal at the places of its DEF text.
 abbrev pub IsLegalDesign : Loaded → Type 0
 IsLegalDesign loaded = IsFullyLegal loaded.frame (design_cells_at loaded.cells (def_places loaded.cells))
 
--- a report of the design is not written, or only a front of it
+-- A report of the design is not written, or only a front of it.
 pub record IsNotReported (loaded : Loaded) (before after : Option (List ℕ)) (fault : Fault) : Type 0 where
   pub why : IsReportFault fault
   pub front : (l : Legalizer) → ((n : ℕ) × Appends before after (take n (report_line l loaded)))

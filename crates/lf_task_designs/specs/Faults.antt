@@ -1,4 +1,4 @@
--- The message and the exit status of a task that was not done.
+-- The message and the exit status of a task that failed.
 use Rattle.std.specs.Prelude.{◌≡◌, ◌⊎◌, ◌&&◌, ◌/◌, ◌%◌, ℕ, Bool, true, false, List, [], ◌∷◌, ◌++◌, Option, Some, None, flat_map, option_map}
 use Rattle.std.specs.Prelude.{IsTrue, codes, decimal, if◌then◌else◌, nat_le}
 use Rattle.std.specs.Char.{digit_char}
@@ -28,7 +28,7 @@ use Rattle.lf_io_files.specs.declared.output_files.WriteFailureKind.TheVariants 
 use Rattle.lf_task_designs.specs.declared.input_files.ReadFailure.{ReadFailure}
 use Rattle.lf_task_designs.specs.declared.input_files.ReadFailure.TheVariants as unread
 
--- the number and the name of a refusal of reading or loading
+-- The number and the name of a refusal of reading or loading.
 abbrev pub numbered : FaultNumber → List ℕ
 numbered number.BadToken = codes "1 BadToken"
 numbered number.UnexpectedEnd = codes "2 UnexpectedEnd"
@@ -55,7 +55,7 @@ numbered number.TwoFences = codes "22 TwoFences"
 numbered number.TooMany = codes "23 TooMany"
 numbered number.OutOfMemory = codes "24 OutOfMemory"
 
--- the number and the name of a refusal of a state text
+-- The number and the name of a refusal of a state text.
 abbrev pub state_numbered : StateNumber → List ℕ
 state_numbered state.UnexpectedEnd = codes "2 UnexpectedEnd"
 state_numbered state.Unexpected = codes "3 Unexpected"
@@ -64,25 +64,25 @@ state_numbered state.OtherVersion = codes "25 OtherVersion"
 state_numbered state.OtherDesign = codes "26 OtherDesign"
 state_numbered state.OutOfRange = codes "27 OutOfRange"
 
--- the line that a refusal is about
+-- The line of a refusal.
 abbrev pub line_words : Option ℕ → List ℕ
 line_words None = []
 line_words (Some line) = codes " line " ++ decimal line
 
--- the name that a refusal is about
+-- The name in a refusal.
 abbrev pub name_words : Option (List ℕ) → List ℕ
 name_words None = []
 name_words (Some name) = codes " " ++ name
 
--- the text of a refusal: its number, its name, and what it is about
+-- The text of a refusal: its number, its name, and its line and name if it has them.
 abbrev pub refusal_text : TextRefusal → List ℕ
 refusal_text refusal = numbered refusal.number ++ line_words refusal.line ++ name_words (option_map (λ name. name.items) refusal.name)
 
--- the text of a refusal of a state text: its number, its name and its line
+-- The text of a refusal of a state text: its number, its name and its line.
 abbrev pub state_refusal_text : StateRefusal → List ℕ
 state_refusal_text refusal = state_numbered refusal.number ++ line_words (Some refusal.line)
 
--- the text of a fault: a refusal's own, or one word
+-- The text of a fault: a refusal's own, or one word.
 abbrev pub fault_text : Fault → List ℕ
 fault_text (Refused file refusal) = refusal_text refusal
 fault_text (File file why) = codes "File"
@@ -101,13 +101,13 @@ fault_text (Unlisted path why) = codes "File"
 fault_text NoMemory = codes "24 OutOfMemory"
 fault_text NoRoom = codes "24 OutOfMemory"
 
--- the line of a fault on standard error
+-- The line of a fault on standard error.
 abbrev pub fault_line : Fault → List ℕ
 fault_line fault = codes "lefence: " ++ fault_text fault ++ 10 ∷ []
 
--- ---- where the fault lies: the second line
+-- ---- the second line: what is at fault
 
--- a byte as it is shown: as it is if it is printable, else as '\x' and its two hex digits
+-- A byte as shown: unchanged if it is printable, otherwise '\x' and its two hex digits.
 abbrev pub shown_byte : ℕ → List ℕ
 shown_byte byte =
     if nat_le 32 byte && nat_le byte 126 then byte ∷ [] else 92 ∷ 120 ∷ digit_char (byte / 16) ∷ digit_char (byte % 16) ∷ []
@@ -120,11 +120,11 @@ kind_words Lef = codes "LEF file "
 kind_words Def = codes "DEF file "
 kind_words State = codes "state file "
 
--- what a file is read as, and its path
+-- The kind of a file, and its path.
 abbrev pub file_words : TextFile → List ℕ
 file_words file = kind_words file.kind ++ shown file.path.now
 
--- the line of an earlier entry of the same name
+-- The line of an earlier entry of the same name.
 abbrev pub first_words : ℕ → List ℕ
 first_words number = codes " (the first is in line " ++ decimal number ++ codes ")"
 
@@ -132,20 +132,20 @@ abbrev pub earlier_words : Option ℕ → List ℕ
 earlier_words None = []
 earlier_words (Some number) = first_words number
 
--- the line in which a fence stands
+-- The line of a fence.
 abbrev pub fence_line_words : Option ℕ → List ℕ
 fence_line_words None = []
 fence_line_words (Some number) = codes " of line " ++ decimal number
 
--- a fence and its line
+-- A fence and its line.
 abbrev pub fence_words : FenceLine → List ℕ
 fence_words fence = codes "fence " ++ shown fence.name.items ++ fence_line_words fence.line
 
--- the one fence that is met
+-- The fence that overlaps the refused one.
 abbrev pub overlapped_fence_words : FenceLine → List ℕ
 overlapped_fence_words fence = codes " (meets " ++ fence_words fence ++ codes ")"
 
--- the two fences that claim a component
+-- The two fences that claim a component.
 abbrev pub claiming_fences_words : FenceLine → FenceLine → List ℕ
 claiming_fences_words first second = codes " (claimed by " ++ fence_words first ++ codes " and " ++ fence_words second ++ codes ")"
 
@@ -154,56 +154,57 @@ conflict_words None second = []
 conflict_words (Some first) None = overlapped_fence_words first
 conflict_words (Some first) (Some second) = claiming_fences_words first second
 
--- the number of a line
+-- The number of a line.
 abbrev pub number_words : ℕ → List ℕ
 number_words number = codes ", line " ++ decimal number
 
--- the bytes of a line, behind its number
+-- The bytes of a line, after its number.
 abbrev pub bytes_words : List ℕ → List ℕ
 bytes_words bytes = codes ": " ++ shown bytes
 
--- the number of the line that a text is refused for, what is said of it, and its first bytes
+-- The number of the line for which a text is refused, the remark `beside`, and the line's first
+-- bytes.
 abbrev pub line_shown : Option ℕ → List ℕ → List ℕ → List ℕ
 line_shown None beside bytes = []
 line_shown (Some number) beside bytes = number_words number ++ beside ++ bytes_words bytes
 
--- what is said of that line: that of an earlier entry, and the fences that are met
+-- The remark about that line: the line of an earlier entry, and the fences in conflict.
 abbrev pub beside_words : TextRefusal → List ℕ
 beside_words refusal = earlier_words refusal.earlier ++ conflict_words refusal.first_met refusal.second_met
 
 abbrev pub shown_line : TextRefusal → List ℕ
 shown_line refusal = line_shown refusal.at (beside_words refusal) refusal.shown.items
 
--- the path of the exported text
+-- The path of the exported file.
 abbrev pub export_words : List ℕ → List ℕ
 export_words path = codes "export file " ++ shown path
 
--- the path of a saved state
+-- The path of a saved state.
 abbrev pub state_words : List ℕ → List ℕ
 state_words path = codes "state file " ++ shown path
 
--- the path of the lines of a repair
+-- The path of the file for the commands of a repair.
 abbrev pub lines_words : List ℕ → List ℕ
 lines_words path = codes "lines file " ++ shown path
 
--- the name of a team
+-- The name of a team.
 abbrev pub team_words : List ℕ → List ℕ
 team_words name = codes "team " ++ shown name
 
--- where a state text is refused
+-- The line of a refused state text.
 abbrev pub state_line : List ℕ → StateRefusal → List ℕ
 state_line path refusal = codes "lefence: " ++ state_words path ++ number_words refusal.line ++ bytes_words refusal.shown.items ++ 10 ∷ []
 
--- a port of this machine
+-- A port of this machine.
 abbrev pub port_words : ℕ → List ℕ
 port_words port = codes "port " ++ decimal port ++ codes " of 127.0.0.1"
 
--- the refusal is a failed allocation
+-- True if the refusal is a failed allocation.
 abbrev pub is_memory : FaultNumber → Bool
 is_memory number.OutOfMemory = true
 is_memory _ = false
 
--- what a refused text that was read as this rather seems to be
+-- The hint at what a refused text of this kind may be instead.
 abbrev pub hint_words : TextKind → Option Hint → List ℕ
 hint_words kind None = []
 hint_words kind (Some Compressed) = codes " (it looks compressed)"
@@ -211,12 +212,12 @@ hint_words Lef (Some OtherKind) = codes " (read as LEF: is the DEF text first?)"
 hint_words Def (Some OtherKind) = codes " (read as DEF: is the DEF text first?)"
 hint_words State (Some OtherKind) = []
 
--- where a text is refused: nowhere if only memory ran out
+-- The line of a refused text. It is empty if the refusal is a failed allocation.
 abbrev pub refusal_words : TextFile → TextRefusal → List ℕ
 refusal_words file refusal =
     if is_memory refusal.number then [] else codes "lefence: " ++ file_words file ++ hint_words file.kind refusal.hint ++ shown_line refusal ++ 10 ∷ []
 
--- the file, the path, the port or the team that is at fault
+-- The file, path, port or team at fault.
 abbrev pub subject_words : Fault → List ℕ
 subject_words (File file why) = file_words file
 subject_words (Unwritten path why) = export_words path.now
@@ -226,7 +227,7 @@ subject_words (NoTeam name) = team_words name.now
 subject_words (Bind port why) = port_words port
 subject_words _ = []
 
--- what is wrong with it
+-- What is wrong with it.
 abbrev pub complaint_words : Fault → List ℕ
 complaint_words (File file why) = codes " cannot be read"
 complaint_words (Unwritten path why) = codes " cannot be written"
@@ -236,20 +237,20 @@ complaint_words (NoTeam name) = codes " is not in the design"
 complaint_words (Bind port why) = codes " cannot be listened on"
 complaint_words _ = []
 
--- why a file cannot be read
+-- Why a file cannot be read.
 abbrev pub unreadable_words : ReadFailureKind → List ℕ
 unreadable_words unreadable.Missing = codes ": there is no such file"
 unreadable_words unreadable.Folder = codes ": it is a folder"
 unreadable_words unreadable.Denied = codes ": permission denied"
 unreadable_words unreadable.Other = []
 
--- why a port cannot be listened on
+-- Why the program cannot listen on a port.
 abbrev pub unbound_words : BindFailure → List ℕ
 unbound_words unbound.InUse = codes ": it is in use"
 unbound_words unbound.Denied = codes ": permission denied"
 unbound_words unbound.Other = []
 
--- why a file cannot be written
+-- Why a file cannot be written.
 abbrev pub unwritable_words : WriteFailureKind → List ℕ
 unwritable_words unwritable.NoFolder = codes ": there is no such folder"
 unwritable_words unwritable.Folder = codes ": it is a folder"
@@ -258,7 +259,7 @@ unwritable_words unwritable.ReadOnly = codes ": its file system is read-only"
 unwritable_words unwritable.Full = codes ": there is no room left"
 unwritable_words unwritable.Other = []
 
--- why that is so, where the system says it
+-- The reason of the fault, if the system reports it.
 abbrev pub reason_words : Fault → List ℕ
 reason_words (File file why) = unreadable_words why
 reason_words (Unwritten path why) = unwritable_words why
@@ -267,11 +268,12 @@ reason_words (Unlisted path why) = unwritable_words why
 reason_words (Bind port why) = unbound_words why
 reason_words _ = []
 
--- the line that says so
+-- The line of the subject, what is wrong with it, and the reason.
 abbrev pub complaint_line : Fault → List ℕ
 complaint_line fault = codes "lefence: " ++ subject_words fault ++ complaint_words fault ++ reason_words fault ++ 10 ∷ []
 
--- the second line on standard error: the line of a text, or the file, the path, the port or the team that is at fault; none for other faults
+-- The second line on standard error: the line of a text, or the file, path, port or team at fault.
+-- Empty for other faults.
 abbrev pub second_line : Fault → List ℕ
 second_line (Refused file refusal) = refusal_words file refusal
 second_line (File file why) = complaint_line (File file why)
@@ -283,13 +285,13 @@ second_line (NoTeam name) = complaint_line (NoTeam name)
 second_line (Bind port why) = complaint_line (Bind port why)
 second_line _ = []
 
--- all that is told of a fault
+-- Everything that is printed about a fault.
 abbrev pub fault_lines_text : Fault → List ℕ
 fault_lines_text fault = fault_line fault ++ second_line fault
 
 -- ---- the exit status
 
--- the exit status of a fault
+-- The exit status of a fault.
 abbrev pub status_of : Fault → ℕ
 status_of (Refused file refusal) = 1
 status_of (NoState path refusal) = 1
@@ -300,7 +302,8 @@ status_of _ = 3
 
 -- ---- how a task ends
 
--- a task ends with the fault: with its status, and what is told of it is appended to the faults, unless these have failed
+-- A task ends with the fault: it has the fault's status, and the fault's lines are appended to the
+-- faults unless writing them failed.
 pub record EndsWith (fault : Fault) (old new : Option (List ℕ)) (failed : Bool) (exit : TaskExit) : Type 0 where
   pub status : exit.status ≡ status_of fault
   pub told : IsTrue exit.is_told → Appends old new (fault_lines_text fault)
@@ -308,23 +311,23 @@ pub record EndsWith (fault : Fault) (old new : Option (List ℕ)) (failed : Bool
 
 -- ---- kinds of faults
 
--- the fault of a file whose text was not read
+-- The fault of a file that was not read.
 abbrev pub unread_fault : TextFile → ReadFailure → Fault
 unread_fault file (unread.File why) = File file why
 unread_fault file unread.OutOfMemory = NoMemory
 
--- the file is read as this, and has this path
+-- The file is read as this kind, and has this path.
 pub record IsFile (kind : TextKind) (path : List ℕ) (file : TextFile) : Type 0 where
   pub kind_is : file.kind ≡ kind
   pub path_is : file.path.now ≡ path
 
--- a report was not written: an allocation for its text failed, or the writer did
+-- A report was not written: an allocation for its text failed, or the writer failed.
 abbrev pub IsReportFault : Fault → Type 0
 IsReportFault fault = (fault ≡ NoMemory) ⊎ (fault ≡ Output)
 
--- ---- who is to blame
+-- ---- which device is to blame
 
--- the faults before anything is written
+-- The faults that occur before anything is written.
 abbrev pub IsEarly : Fault → Type 0
 IsEarly (Refused file refusal) = Unit {0}
 IsEarly (File file why) = Unit {0}
@@ -333,26 +336,26 @@ IsEarly (NoTeam name) = Unit {0}
 IsEarly NoMemory = Unit {0}
 IsEarly _ = ⊥
 
--- the faults of what is written to
+-- The faults of the writer.
 abbrev pub IsOfWriter : Fault → Type 0
 IsOfWriter WriteFault = Unit {0}
 IsOfWriter Output = Unit {0}
 IsOfWriter _ = ⊥
 
--- the faults of the file of the exported text, of that of the state and of that of the lines of a repair
+-- The faults of the exported file, of the state file, and of the file for the commands of a repair.
 abbrev pub IsOfExport : Fault → Type 0
 IsOfExport (Unwritten path why) = Unit {0}
 IsOfExport (Unsaved path why) = Unit {0}
 IsOfExport (Unlisted path why) = Unit {0}
 IsOfExport _ = ⊥
 
--- the faults of a service
+-- The faults of a service.
 abbrev pub IsOfService : Fault → Type 0
 IsOfService (Bind port why) = Unit {0}
 IsOfService Accept = Unit {0}
 IsOfService _ = ⊥
 
--- the faults of nothing that a task works on: of a text, of a team's name, of memory, or of too many lines
+-- The faults that are of no device: of a text, of a team's name, of memory, or of too many lines.
 abbrev pub IsOfNone : Fault → Type 0
 IsOfNone (Refused file refusal) = Unit {0}
 IsOfNone (File file why) = Unit {0}
@@ -364,9 +367,13 @@ IsOfNone NoMemory = Unit {0}
 IsOfNone NoRoom = Unit {0}
 IsOfNone _ = ⊥
 
--- what a fault says of what a task works on: the writer is kept if it is early, and has failed if it is the writer's own; the reader
--- has failed, or was read as often as is allowed, if it is the reader's; the file of the exported text, of the state or of the lines, or the service, has failed
--- if it is that one's; and if it is the fault of none of them, nothing has failed
+-- What a fault implies about the devices of a task.
+-- - At an early fault the writer is unchanged.
+-- - At a fault of the reader it has failed, or the limit on reads was reached.
+-- - At a fault of the writer it has failed.
+-- - At a fault of the exported file, the state file or the commands' file, that file has failed.
+-- - At a fault of the service, the service has failed.
+-- - At a fault of no device, no device has failed during the task.
 pub record BlamesDevices (fault : Fault) (kept reader writer export service sound : Type 0) : Type 0 where
   pub early : IsEarly fault → kept
   pub reading : fault ≡ ReadFault → reader
@@ -375,6 +382,7 @@ pub record BlamesDevices (fault : Fault) (kept reader writer export service soun
   pub serving : IsOfService fault → service
   pub sparing : IsOfNone fault → sound
 
--- the same where only a writer is worked on, which had failed before or not, and has now or not
+-- The same for a task with only a writer. The last arguments say whether it has failed, `before`
+-- and `now`.
 abbrev pub BlamesWriter : Fault → Type 0 → Bool → Bool → Type 0
 BlamesWriter fault kept before now = BlamesDevices fault kept ⊥ (now ≡ true) ⊥ ⊥ (now ≡ before)

@@ -1,4 +1,4 @@
--- What is told of a refused text.
+-- What is printed about a refused text.
 use Rattle.std.specs.Prelude.{◌≡◌, ◌⊎◌, ◌+◌, ◌-◌, ℕ, zero, suc, List, [], drop, position, take, Option, Some, None, option_map}
 use Rattle.lf_lex.specs.declared.fault.LoadFault.{LoadFault}
 use Rattle.lf_lex.specs.declared.fault.ReadError.TheVariants.{Memory}
@@ -12,58 +12,59 @@ use Rattle.lf_task_designs.specs.declared.text_refusal.TextRefusal.{TextRefusal}
 use Rattle.lf_task_designs.specs.declared.text_refusal.StateRefusal.{StateRefusal}
 use Rattle.lf_task_designs.specs.Hints.{earlier_line, hint_of, fault_line_number, nth_line}
 
--- what follows a line feed there; no byte if there is none
+-- What follows the line feed at this position. Empty if there is no line feed.
 abbrev pub behind_feed : List ℕ → Option ℕ → List ℕ
 behind_feed bytes None = []
 behind_feed bytes (Some at) = drop (at + 1) bytes
 
--- what follows the first line
+-- What follows the first line.
 abbrev pub behind_line : List ℕ → List ℕ
 behind_line bytes = behind_feed bytes (position is_line_feed bytes)
 
--- what follows that many lines
+-- What follows the first lines, given their number.
 abbrev pub behind_lines : ℕ → List ℕ → List ℕ
 behind_lines zero bytes = bytes
 behind_lines (suc lines) bytes = behind_lines lines (behind_line bytes)
 
--- what comes before a line feed there
+-- What comes before the line feed at this position.
 abbrev pub before_feed : List ℕ → Option ℕ → List ℕ
 before_feed bytes None = bytes
 before_feed bytes (Some at) = take at bytes
 
--- the first line, without its line feed
+-- The first line, without its line feed.
 abbrev pub first_line : List ℕ → List ℕ
 first_line bytes = before_feed bytes (position is_line_feed bytes)
 
--- the line of that number of a text, the first of which is 1; no byte if there is no such line
+-- The line of this number of a text, counted from 1. Empty if there is no such line.
 abbrev pub line_at : List ℕ → ℕ → List ℕ
 line_at text number = first_line (behind_lines (number - 1) text)
 
--- the first 80 bytes of the line of that number; no byte without a number
+-- The first 80 bytes of the line of this number. Empty without a number.
 abbrev pub line_front : List ℕ → Option ℕ → List ℕ
 line_front text None = []
 line_front text (Some number) = take 80 (line_at text number)
 
--- a fence: its name, and the line in which that stands first
+-- A fence: its name, and the first line that contains it.
 pub record FenceLineFact : Type 0 where
   pub name : List ℕ
   pub line : Option ℕ
 
--- the fence of that name in the text
+-- The fence of this name in the text.
 abbrev pub fence_line_in : List ℕ → List ℕ → FenceLineFact
 fence_line_in text name = record { name = name; line = nth_line name 0 (tokens_of text).tokens }
 
--- the fence that is told
+-- The name and the line of a printed fence.
 abbrev pub fence_line_of : FenceLine → FenceLineFact
 fence_line_of fence = record { name = fence.name.items; line = fence.line }
 
--- this fault is told with these fences for the one that was found with those: the same, or that memory ran out, with none
+-- The fault `told` with its fences is reported for the fault that was found. It is the same fault,
+-- or a failed allocation without fences.
 abbrev pub IsReportedConflict : LoadFault → Conflict → LoadFault → Conflict → Type 0
 IsReportedConflict found met told fences = ((told ≡ found) × (fences ≡ met)) ⊎ ((told ≡ load_fault_of Memory) × (fences ≡ no_fence))
 
--- this is told of the fault of the text that was read as this, which meets these fences: its number, line and name; the line that it
--- is about, with its first bytes; that of an earlier entry of its name; the fences with their lines; and what the text rather seems
--- to be
+-- What is reported about the fault of a text that was read as this kind, with these fences in
+-- conflict: its number, line and name; the line that it is about, with its first bytes; the line of
+-- an earlier entry of its name; the fences with their lines; and what the text may be instead.
 pub record ReportsFault (kind : TextKind) (text : List ℕ) (fault : LoadFault) (met : Conflict) (refusal : TextRefusal) : Type 0 where
   pub number : refusal.number ≡ fault.number
   pub line : refusal.line ≡ fault.line
@@ -75,7 +76,8 @@ pub record ReportsFault (kind : TextKind) (text : List ℕ) (fault : LoadFault) 
   pub second_met : option_map fence_line_of refusal.second_met ≡ option_map (fence_line_in text) met.second
   pub hint : refusal.hint ≡ hint_of kind text
 
--- this is told of the fault of a state text: its number and its line, with the first bytes of that
+-- What is reported about the fault of a state text: its number and its line, with the first bytes
+-- of that line.
 pub record ReportsStateFault (text : List ℕ) (fault : StateFault) (refusal : StateRefusal) : Type 0 where
   pub number : refusal.number ≡ fault.number
   pub line : refusal.line ≡ fault.line

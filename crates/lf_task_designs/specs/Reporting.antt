@@ -3,10 +3,10 @@ use Rattle.std.specs.Prelude.{ℕ, List, map}
 use Rattle.lf_floorplan.specs.declared.loaded.Cell.{Cell}
 use Rattle.lf_rules.specs.declared.report_types.Listed.{Listed}
 
--- the cell as the report lists it, at its place in the DEF text
+-- The cell as the report lists it, at its place in the DEF text.
 abbrev pub listed_of : Cell → Listed (List ℕ)
 listed_of c = record { name = c.name; team = c.team; mac = c.mac; place = c.place }
 
--- the names of a design's cells
+-- The names of a design's cells.
 abbrev pub names_of : List Cell → List (List ℕ)
 names_of cells = map (λ c. c.name) cells

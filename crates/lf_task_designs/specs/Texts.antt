@@ -5,12 +5,12 @@ use Rattle.lf_task_designs.specs.declared.input_files.ReadFailure.{ReadFailure}
 use Rattle.lf_task_designs.specs.declared.input_files.ReadFailure.TheVariants.{File, OutOfMemory}
 use Rattle.lf_task_designs.specs.declared.input_files.ReadFailureKind.TheVariants.{Missing, Folder, Denied, Other}
 
--- it is the file that cannot be read
+-- Holds if the file cannot be read.
 abbrev pub IsOfFile : ReadFailure → Type 0
 IsOfFile (File why) = Unit {0}
 IsOfFile OutOfMemory = ⊥
 
--- why a file was not read, by the kind of the error
+-- Why a file was not read, by the kind of the error.
 abbrev pub unread_of : ErrorKind → ReadFailure
 unread_of kind.OutOfMemory = OutOfMemory
 unread_of kind.NotFound = File Missing

@@ -27,7 +27,7 @@ struct DesignReport {
     legal: bool,
 }
 
-/// The cells' places in the DEF text, in loading order.
+/// Returns the cells' places in the DEF text, in loading order. `Err` if an allocation fails.
 fn def_places(alloc: Global, cells: &LoadedCells) -> Result<Vec<Option<Place>>, AllocError>
     ensures { IfOk result (λ places. places.items ≡ def_places cells.now) }
 {
@@ -39,21 +39,21 @@ fn def_places(alloc: Global, cells: &LoadedCells) -> Result<Vec<Option<Place>>, 
     Ok(places)
 }
 
-/// How many of the places are none.
+/// Counts the places that are `None`.
 fn unplaced_in(places: &[Option<Place>]) -> usize
     ensures { result ≡ count_by is_none places.now }
 {
     places.iter().filter(|place| place.is_none()).count()
 }
 
-/// How many of the verdicts say that a rule is broken.
+/// Counts the verdicts that name a broken rule.
 pub fn illegal_in(verdicts: &[Option<Broken>]) -> usize
     ensures { result ≡ count_by is_some verdicts.now }
 {
     verdicts.iter().filter(|verdict| verdict.is_some()).count()
 }
 
-/// Whether the count of unplaced cells is 0 and no verdict says that a rule is broken.
+/// Returns whether the count of unplaced cells is 0 and no verdict names a broken rule.
 fn is_faultless(unplaced: usize, verdicts: &[Option<Broken>]) -> bool
     ensures { (places : List (Option Place)) → unplaced ≡ count_by is_none places → IsTrue result ↔ IsFaultless places verdicts.now }
 {
@@ -74,7 +74,7 @@ impl<'a> Names for DesignNames<'a> {
     }
 }
 
-/// Puts the violations of the cells behind the text, in loading order, one at a time.
+/// Appends the violations of the cells to the text, in loading order. `Err` if an allocation fails.
 fn put_cells(
     alloc: Global,
     loaded: &Loaded,
@@ -96,7 +96,8 @@ fn put_cells(
     Ok(())
 }
 
-/// The text of the report of the design, of whose cells this many are unplaced, by the verdict of each.
+/// Returns the text of the design's report, given the count of unplaced cells and the verdict of
+/// each cell. `Err` if an allocation fails.
 fn text_by_verdicts(
     alloc: Global,
     loaded: &Loaded,
@@ -113,7 +114,8 @@ fn text_by_verdicts(
     report_closed(text)
 }
 
-/// The report of the design, each cell at its place in the DEF text.
+/// Makes the report of the design, each cell at its place in the DEF text. `Err` if an allocation
+/// fails.
 fn design_report(alloc: Global, loaded: &Loaded) -> Result<DesignReport, AllocError>
     ensures text { (l : Legalizer) → IfOk result (λ report. report.text ≡ report_text (design_report l loaded.now)) }
     ensures legal { IfOk result (λ report. IsTrue report.legal ↔ IsLegalDesign loaded.now) }
@@ -138,10 +140,10 @@ fn put_line<W: Sink>(writer: &mut W, text: &[u8]) -> Result<(), DeviceFault>
     send(writer, b"\n")
 }
 
-/// Writes the report of the design, each cell at its place in the DEF text, and a line feed; returns whether the design
-/// is fully legal.
+/// Writes the report of the design, each cell at its place in the DEF text, and a line feed.
+/// Returns whether the design is fully legal.
 ///
-/// `Err` if an allocation or the writer fails; a front of the text may then be written.
+/// `Err` if an allocation or the writer fails; then a front of the text may be written.
 pub fn report_design<'f, W: Sink>(
     alloc: Global,
     loaded: &Loaded,

@@ -1,4 +1,4 @@
-//! Where a fault lies: the file, the line of it with its text, the port, or the team.
+//! The second line of a fault: the file, its faulty line, the port, or the team.
 
 ghost use Rattle.std.specs.Prelude.{◌≡◌, ◌<◌, OnErr, OnOk, true};
 ghost use Rattle.std.specs.Io.KnownBytes.{Appends};
@@ -17,7 +17,7 @@ use lf_io::{DeviceFault, Sink, send};
 use lf_io_files::WriteFailureKind;
 use lf_lex::FaultNumber;
 
-/// The hex digit of a number below 16.
+/// Returns the hex digit of a number below 16.
 fn digit_of(number: u8) -> u8
     requires { number < 16 }
     ensures { result ≡ digit_char number }
@@ -28,7 +28,7 @@ fn digit_of(number: u8) -> u8
     b'a' + (number - 10)
 }
 
-/// Writes a byte as it is if it is printable, else as `\x` and its two hex digits.
+/// Writes a byte unchanged if it is printable, otherwise as `\x` and its two hex digits.
 fn put_byte<W: Sink>(sink: &mut W, byte: u8) -> Result<(), DeviceFault>
     ensures ok { OnOk result (Appends (W.contents sink.old) (W.contents sink.new) (shown_byte byte)) }
     ensures failed { OnErr result (W.has_failed sink.new ≡ true) }
@@ -45,7 +45,7 @@ fn put_byte<W: Sink>(sink: &mut W, byte: u8) -> Result<(), DeviceFault>
     )
 }
 
-/// Writes bytes of any kind so that they can be read.
+/// Writes bytes of any kind in readable form.
 fn put_shown<W: Sink>(sink: &mut W, bytes: &[u8]) -> Result<(), DeviceFault>
     ensures ok { OnOk result (Appends (W.contents sink.old) (W.contents sink.new) (shown bytes.now)) }
     ensures failed { OnErr result (W.has_failed sink.new ≡ true) }
@@ -57,7 +57,7 @@ fn put_shown<W: Sink>(sink: &mut W, bytes: &[u8]) -> Result<(), DeviceFault>
     Ok(())
 }
 
-/// Writes what a file is read as, and its path.
+/// Writes the kind of a file and its path.
 fn put_file<W: Sink>(sink: &mut W, file: &TextFile<'_>) -> Result<(), DeviceFault>
     ensures ok { OnOk result (Appends (W.contents sink.old) (W.contents sink.new) (file_words file.now)) }
     ensures failed { OnErr result (W.has_failed sink.new ≡ true) }
@@ -71,7 +71,7 @@ fn put_file<W: Sink>(sink: &mut W, file: &TextFile<'_>) -> Result<(), DeviceFaul
     put_shown(sink, file.path.as_bytes())
 }
 
-/// Writes the number of the line of the earlier entry.
+/// Writes the line number of the earlier entry.
 fn put_first<W: Sink>(sink: &mut W, number: usize) -> Result<(), DeviceFault>
     ensures ok { OnOk result (Appends (W.contents sink.old) (W.contents sink.new) (first_words number)) }
     ensures failed { OnErr result (W.has_failed sink.new ≡ true) }
@@ -82,7 +82,7 @@ fn put_first<W: Sink>(sink: &mut W, number: usize) -> Result<(), DeviceFault>
     send(sink, b")")
 }
 
-/// Writes the number of the line of an earlier entry of the same name, if there is one.
+/// Writes the line number of an earlier entry of the same name, if there is one.
 fn put_earlier<W: Sink>(sink: &mut W, earlier: Option<usize>) -> Result<(), DeviceFault>
     ensures ok { OnOk result (Appends (W.contents sink.old) (W.contents sink.new) (earlier_words earlier)) }
     ensures failed { OnErr result (W.has_failed sink.new ≡ true) }
@@ -94,7 +94,7 @@ fn put_earlier<W: Sink>(sink: &mut W, earlier: Option<usize>) -> Result<(), Devi
     }
 }
 
-/// Writes the line in which a fence stands, if there is one.
+/// Writes the line of a fence, if it is known.
 fn write_fence_line<W: Sink>(sink: &mut W, line: Option<usize>) -> Result<(), DeviceFault>
     ensures ok { OnOk result (Appends (W.contents sink.old) (W.contents sink.new) (fence_line_words line)) }
     ensures failed { OnErr result (W.has_failed sink.new ≡ true) }
@@ -118,7 +118,7 @@ fn put_fence<W: Sink>(sink: &mut W, fence: &FenceLine) -> Result<(), DeviceFault
     write_fence_line(sink, fence.line)
 }
 
-/// Writes the one fence that is met.
+/// Writes the fence that overlaps the refused one.
 fn write_overlapped_fence<W: Sink>(sink: &mut W, fence: &FenceLine) -> Result<(), DeviceFault>
     ensures ok { OnOk result (Appends (W.contents sink.old) (W.contents sink.new) (overlapped_fence_words fence.now)) }
     ensures failed { OnErr result (W.has_failed sink.new ≡ true) }
@@ -146,7 +146,7 @@ fn write_claiming_fences<W: Sink>(
     send(sink, b")")
 }
 
-/// Writes the fences that are met, if there are any.
+/// Writes the fences in conflict, if there are any.
 fn put_met<W: Sink>(
     sink: &mut W,
     first: &Option<FenceLine>,
@@ -175,7 +175,7 @@ fn put_number<W: Sink>(sink: &mut W, number: usize) -> Result<(), DeviceFault>
     send(sink, Buffer::new().format(number).as_bytes())
 }
 
-/// Writes the bytes of a line, behind its number.
+/// Writes the bytes of a line, after its number.
 fn put_line<W: Sink>(sink: &mut W, bytes: &[u8]) -> Result<(), DeviceFault>
     ensures ok { OnOk result (Appends (W.contents sink.old) (W.contents sink.new) (bytes_words bytes.now)) }
     ensures failed { OnErr result (W.has_failed sink.new ≡ true) }
@@ -185,7 +185,7 @@ fn put_line<W: Sink>(sink: &mut W, bytes: &[u8]) -> Result<(), DeviceFault>
     put_shown(sink, bytes)
 }
 
-/// Writes the number of the line that a text is refused for, and its first bytes.
+/// Writes the number of the line for which a text is refused, and its first bytes.
 fn put_shown_line<W: Sink>(sink: &mut W, refusal: &TextRefusal) -> Result<(), DeviceFault>
     ensures ok { OnOk result (Appends (W.contents sink.old) (W.contents sink.new) (shown_line refusal.now)) }
     ensures failed { OnErr result (W.has_failed sink.new ≡ true) }
@@ -200,7 +200,7 @@ fn put_shown_line<W: Sink>(sink: &mut W, refusal: &TextRefusal) -> Result<(), De
     put_line(sink, refusal.shown.as_slice())
 }
 
-/// What a refused text that was read as this rather seems to be.
+/// Returns the hint at what a refused text of this kind may be instead.
 fn hint_words(kind: TextKind, hint: Option<Hint>) -> &'static [u8]
     ensures { result.now ≡ hint_words kind hint }
 {
@@ -213,14 +213,14 @@ fn hint_words(kind: TextKind, hint: Option<Hint>) -> &'static [u8]
     }
 }
 
-/// Whether the refusal is a failed allocation.
+/// Returns whether the refusal is a failed allocation.
 fn is_memory(number: FaultNumber) -> bool
     ensures { result ≡ is_memory number }
 {
     matches!(number, FaultNumber::OutOfMemory)
 }
 
-/// Writes where a text is refused: nothing if only memory ran out.
+/// Writes where a text is refused. Writes nothing if the refusal is a failed allocation.
 fn put_refused<W: Sink>(
     sink: &mut W,
     file: &TextFile<'_>,
@@ -240,7 +240,7 @@ fn put_refused<W: Sink>(
     send(sink, b"\n")
 }
 
-/// Writes the path of the exported text.
+/// Writes the path of the exported file.
 fn put_export_path<W: Sink>(sink: &mut W, path: &str) -> Result<(), DeviceFault>
     ensures ok { OnOk result (Appends (W.contents sink.old) (W.contents sink.new) (export_words path.now)) }
     ensures failed { OnErr result (W.has_failed sink.new ≡ true) }
@@ -260,7 +260,7 @@ fn put_state_path<W: Sink>(sink: &mut W, path: &str) -> Result<(), DeviceFault>
     put_shown(sink, path.as_bytes())
 }
 
-/// Writes the path of the lines of a repair.
+/// Writes the path of the file for the commands of a repair.
 fn put_lines_path<W: Sink>(sink: &mut W, path: &str) -> Result<(), DeviceFault>
     ensures ok { OnOk result (Appends (W.contents sink.old) (W.contents sink.new) (lines_words path.now)) }
     ensures failed { OnErr result (W.has_failed sink.new ≡ true) }
@@ -280,7 +280,7 @@ fn put_team<W: Sink>(sink: &mut W, name: &str) -> Result<(), DeviceFault>
     put_shown(sink, name.as_bytes())
 }
 
-/// Writes where a state text is refused: the number of its line, and that line's first bytes.
+/// Writes where a state text is refused: the number of its line, and the line's first bytes.
 fn put_no_state<W: Sink>(
     sink: &mut W,
     path: &str,
@@ -308,7 +308,7 @@ fn put_port<W: Sink>(sink: &mut W, port: u16) -> Result<(), DeviceFault>
     send(sink, b" of 127.0.0.1")
 }
 
-/// Writes the file, the path, the port or the team that is at fault.
+/// Writes the file, path, port or team at fault.
 fn put_subject<W: Sink>(sink: &mut W, fault: &Fault<'_>) -> Result<(), DeviceFault>
     ensures ok { OnOk result (Appends (W.contents sink.old) (W.contents sink.new) (subject_words fault.now)) }
     ensures failed { OnErr result (W.has_failed sink.new ≡ true) }
@@ -325,7 +325,7 @@ fn put_subject<W: Sink>(sink: &mut W, fault: &Fault<'_>) -> Result<(), DeviceFau
     }
 }
 
-/// What is wrong with it.
+/// Returns what is wrong with the subject of the fault.
 fn complaint_of(fault: &Fault<'_>) -> &'static [u8]
     ensures { result.now ≡ complaint_words fault.now }
 {
@@ -340,7 +340,7 @@ fn complaint_of(fault: &Fault<'_>) -> &'static [u8]
     }
 }
 
-/// Why a file cannot be read.
+/// Returns the reason why a file cannot be read.
 fn unreadable_words(why: ReadFailureKind) -> &'static [u8]
     ensures { result.now ≡ unreadable_words why }
 {
@@ -352,7 +352,7 @@ fn unreadable_words(why: ReadFailureKind) -> &'static [u8]
     }
 }
 
-/// Why a file cannot be written.
+/// Returns the reason why a file cannot be written.
 fn unwritable_words(why: WriteFailureKind) -> &'static [u8]
     ensures { result.now ≡ unwritable_words why }
 {
@@ -366,7 +366,7 @@ fn unwritable_words(why: WriteFailureKind) -> &'static [u8]
     }
 }
 
-/// Why a port cannot be listened on.
+/// Returns the reason why the program cannot listen on a port.
 fn unbound_words(why: BindFailure) -> &'static [u8]
     ensures { result.now ≡ unbound_words why }
 {
@@ -377,7 +377,7 @@ fn unbound_words(why: BindFailure) -> &'static [u8]
     }
 }
 
-/// Why that is so, where the system says it.
+/// Returns the reason of the fault, if the system reports it.
 fn reason_of(fault: &Fault<'_>) -> &'static [u8]
     ensures { result.now ≡ reason_words fault.now }
 {
@@ -391,7 +391,7 @@ fn reason_of(fault: &Fault<'_>) -> &'static [u8]
     }
 }
 
-/// Writes the line that says so.
+/// Writes the line of the subject, what is wrong with it, and the reason.
 fn put_complaint<W: Sink>(sink: &mut W, fault: &Fault<'_>) -> Result<(), DeviceFault>
     ensures ok { OnOk result (Appends (W.contents sink.old) (W.contents sink.new) (complaint_line fault.now)) }
     ensures failed { OnErr result (W.has_failed sink.new ≡ true) }

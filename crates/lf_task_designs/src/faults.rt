@@ -1,4 +1,4 @@
-//! The message and the exit status of a task that was not done.
+//! The message and the exit status of a task that failed.
 
 ghost use Rattle.std.specs.Prelude.{◌≡◌, true, IsTrue, OnErr, OnOk, option_map};
 ghost use Rattle.std.specs.Io.KnownBytes.{Appends};
@@ -16,7 +16,7 @@ use lf_lex::FaultNumber;
 use lf_state_text::FaultNumber as StateNumber;
 use std::alloc::AllocError;
 
-/// What a file is read as.
+/// The kind of text that a file is read as.
 #[derive(Clone, Copy, Debug, PartialEq, Eq)]
 pub enum TextKind {
     /// A LEF text.
@@ -27,15 +27,15 @@ pub enum TextKind {
     State,
 }
 
-/// A file of the command line whose text is read.
+/// A file of the command line that is read.
 #[derive(Clone, Copy, Debug, PartialEq, Eq)]
 pub struct TextFile<'a> {
     pub kind: TextKind,
-    /// The path, as it was given.
+    /// The path, as given.
     pub path: &'a str,
 }
 
-/// Why a port cannot be listened on, where the system says it.
+/// Why the program cannot listen on a port, if the system reports it.
 #[derive(Clone, Copy, Debug, PartialEq, Eq)]
 pub enum BindFailure {
     /// Another program listens on it.
@@ -46,43 +46,45 @@ pub enum BindFailure {
     Other,
 }
 
-/// Why a task was not done, with all that is printed of it.
+/// Why a task failed, with all that is printed about it.
 #[derive(Drop)]
 pub enum Fault<'a> {
-    /// The text of this file, or the design that it makes with the LEF texts, was refused, or an allocation for it failed.
+    /// The text of this file was refused, or the design that it makes with the LEF texts, or an
+    /// allocation for it failed.
     Refused {
         file: TextFile<'a>,
         refusal: TextRefusal,
     },
     /// A file could not be read.
     File(TextFile<'a>, ReadFailureKind),
-    /// The text of the file of that path was refused: it tells no state of the design.
+    /// The text of the state file of this path was refused: it has no state of the design.
     NoState(&'a str, StateRefusal),
     /// No team of the design has this name.
     NoTeam(&'a str),
-    /// The reader of lines could not be read, or was read as often as it may be.
+    /// The reader of lines failed, or the limit on reads was reached.
     ReadFault,
     /// A reply could not be written.
     WriteFault,
-    /// A line followed the last one that is answered.
+    /// Another line followed the last one allowed.
     TooManyLines,
     /// An allocation for the lines failed.
     OutOfMemory,
-    /// A report, a description, or the line that the port is listened on, could not be written.
+    /// A report, a description, or the line `listening` could not be written.
     Output,
-    /// This port could not be listened on.
+    /// The program could not listen on this port.
     Bind(u16, BindFailure),
     /// A connection could not be accepted.
     Accept,
-    /// The file of that path could not be written; it was to get the exported text.
+    /// The exported file of this path could not be written.
     Unwritten(&'a str, WriteFailureKind),
-    /// The file of that path could not be written; it was to get the state.
+    /// The state file of this path could not be written.
     Unsaved(&'a str, WriteFailureKind),
-    /// The file of that path could not be written; it was to get the lines of a repair.
+    /// The file for the commands of a repair, of this path, could not be written.
     Unlisted(&'a str, WriteFailureKind),
     /// An allocation failed before the first line, for a report, or for a repair.
     NoMemory,
-    /// An allocation for the exported text, for the state, for a line of a description, or for the lines of a repair, failed.
+    /// An allocation failed for the exported text, the state, a line of a description, or the
+    /// commands of a repair.
     NoRoom,
 }
 
@@ -99,11 +101,11 @@ impl<'a> From<AllocError> for Fault<'a> {
 pub struct TaskExit {
     /// The exit status.
     pub status: u8,
-    /// Whether all that is to be printed of the fault was written; true if there was no fault.
+    /// Whether everything printed about the fault was written. True if there was no fault.
     pub is_told: bool,
 }
 
-/// The number and the name of a refusal of reading or loading.
+/// Returns the number and the name of a refusal of reading or loading.
 fn numbered(number: FaultNumber) -> &'static [u8]
     ensures { result.now ≡ numbered number }
 {
@@ -135,7 +137,7 @@ fn numbered(number: FaultNumber) -> &'static [u8]
     }
 }
 
-/// The number and the name of a refusal of a state text.
+/// Returns the number and the name of a refusal of a state text.
 fn state_numbered(number: StateNumber) -> &'static [u8]
     ensures { result.now ≡ state_numbered number }
 {
@@ -149,7 +151,7 @@ fn state_numbered(number: StateNumber) -> &'static [u8]
     }
 }
 
-/// Writes the number of the line that a refusal is about.
+/// Writes the line number of a refusal, if it has one.
 fn put_line<W: Sink>(sink: &mut W, line: Option<usize>) -> Result<(), DeviceFault>
     ensures ok { OnOk result (Appends (W.contents sink.old) (W.contents sink.new) (line_words line)) }
     ensures failed { OnErr result (W.has_failed sink.new ≡ true) }
@@ -162,7 +164,7 @@ fn put_line<W: Sink>(sink: &mut W, line: Option<usize>) -> Result<(), DeviceFaul
     send(sink, Buffer::new().format(line).as_bytes())
 }
 
-/// Writes the name that a refusal is about.
+/// Writes the name of a refusal, if it has one.
 fn put_name<W: Sink>(sink: &mut W, name: &Option<Vec<u8>>) -> Result<(), DeviceFault>
     ensures ok { OnOk result (Appends (W.contents sink.old) (W.contents sink.new) (name_words (option_map (λ bytes. bytes.items) name.now))) }
     ensures failed { OnErr result (W.has_failed sink.new ≡ true) }
@@ -233,7 +235,8 @@ pub fn write_fault<W: Sink>(sink: &mut W, fault: &Fault<'_>) -> Result<(), Devic
     send(sink, b"\n")
 }
 
-/// The exit status of a fault: 1 for `Refused`, `NoState`, `NoTeam`, `NoMemory` and `NoRoom`, else 3.
+/// Returns the exit status of a fault: 1 for `Refused`, `NoState`, `NoTeam`, `NoMemory` and
+/// `NoRoom`, otherwise 3.
 pub fn status_of(fault: &Fault<'_>) -> u8
     ensures { result ≡ status_of fault.now }
 {
@@ -247,7 +250,7 @@ pub fn status_of(fault: &Fault<'_>) -> u8
     }
 }
 
-/// The end of a task that is done, with this status.
+/// Returns the exit of a task that succeeded with this status.
 pub fn exit_with(status: u8) -> TaskExit
     ensures status { result.status ≡ status }
     ensures told { IsTrue result.is_told }
@@ -258,7 +261,8 @@ pub fn exit_with(status: u8) -> TaskExit
     }
 }
 
-/// Writes all that is printed of a fault: its line, and a second one where a file, a line of it, a port or a team is at fault.
+/// Writes everything printed about a fault: its line, and a second line if a file, a line of it, a
+/// port or a team is at fault.
 fn write_fault_lines<W: Sink>(sink: &mut W, fault: &Fault<'_>) -> Result<(), DeviceFault>
     ensures ok { OnOk result (Appends (W.contents sink.old) (W.contents sink.new) (fault_lines_text fault.now)) }
     ensures failed { OnErr result (W.has_failed sink.new ≡ true) }
@@ -268,7 +272,7 @@ fn write_fault_lines<W: Sink>(sink: &mut W, fault: &Fault<'_>) -> Result<(), Dev
     write_detail_line(sink, fault)
 }
 
-/// Tells a fault, and returns how the task ends; a failure to tell it is no further fault.
+/// Reports a fault, and returns how the task ends. Failing to report it is no further fault.
 pub fn report_fault<F: Sink>(faults: &mut F, fault: &Fault<'_>) -> TaskExit
     ensures ends { EndsWith fault.now (F.contents faults.old) (F.contents faults.new) (F.has_failed faults.new) result }
     ensures faults_held { F.holds faults.new ≡ F.holds faults.old }
@@ -280,7 +284,7 @@ pub fn report_fault<F: Sink>(faults: &mut F, fault: &Fault<'_>) -> TaskExit
     }
 }
 
-/// The fault of a file whose text was not read.
+/// Returns the fault of a file that was not read.
 pub(crate) fn unread_fault<'a>(file: TextFile<'a>, unread: ReadFailure) -> Fault<'a>
     ensures { result ≡ unread_fault file.entry unread }
 {

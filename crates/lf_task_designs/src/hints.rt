@@ -1,4 +1,4 @@
-//! Where a name stands in a text, and what a refused text rather seems to be.
+//! The line of a name in a text, and hints at what a refused text may be instead.
 
 ghost use Rattle.std.specs.Prelude.{◌≡◌};
 ghost use Rattle.lf_lex.specs.Tokens.{tokens_of};
@@ -7,16 +7,17 @@ ghost use Rattle.lf_task_designs.specs.Hints.{earlier_line, has_word, hint_of, i
 use crate::faults::TextKind;
 use lf_lex::{FaultNumber, Lexer, LoadFault};
 
-/// What a refused text rather seems to be.
+/// What a refused text may be instead.
 #[derive(Clone, Copy, Debug, PartialEq, Eq)]
 pub enum Hint {
     /// A compressed file.
     Compressed,
-    /// A text of the other kind.
+    /// A text of the other kind: DEF for LEF, or LEF for DEF.
     OtherKind,
 }
 
-/// The line of the word in the text, where it stands once more than it is passed over; none if it does not stand there.
+/// Returns the line of the word in the text, after `passed` earlier occurrences. `None` if it does
+/// not occur again.
 pub(crate) fn nth_line(text: &[u8], word: &[u8], passed: usize) -> Option<usize>
     ensures { result ≡ nth_line word.now passed (tokens_of text.now).tokens }
 {
@@ -33,14 +34,14 @@ pub(crate) fn nth_line(text: &[u8], word: &[u8], passed: usize) -> Option<usize>
     None
 }
 
-/// Whether the word stands in the text.
+/// Returns whether the word occurs in the text.
 fn has_word(text: &[u8], word: &[u8]) -> bool
     ensures { result ≡ has_word text.now word.now }
 {
     nth_line(text, word, 0).is_some()
 }
 
-/// Whether the text begins as a file of gzip, bzip2, xz, zstd or zip.
+/// Returns whether the text begins as a file of gzip, bzip2, xz, zstd or zip.
 fn is_compressed(text: &[u8]) -> bool
     ensures { result ≡ is_compressed text.now }
 {
@@ -51,7 +52,7 @@ fn is_compressed(text: &[u8]) -> bool
         || text.starts_with(b"PK\x03\x04")
 }
 
-/// Whether a text that is read as this has a word that only the other kind has.
+/// Returns whether the text has a word that only the other kind of text has.
 fn is_of_other_kind(kind: TextKind, text: &[u8]) -> bool
     ensures { result ≡ is_of_other_kind kind text.now }
 {
@@ -62,7 +63,7 @@ fn is_of_other_kind(kind: TextKind, text: &[u8]) -> bool
     }
 }
 
-/// What the text that was read as this, and refused, rather seems to be.
+/// Returns a hint at what a refused text of this kind may be instead.
 pub(crate) fn hint_of(kind: TextKind, text: &[u8]) -> Option<Hint>
     ensures { result ≡ hint_of kind text.now }
 {
@@ -75,7 +76,7 @@ pub(crate) fn hint_of(kind: TextKind, text: &[u8]) -> Option<Hint>
     None
 }
 
-/// Whether the refusal is of the second of two entries of one name.
+/// Returns whether the refusal concerns the second of two entries of one name.
 fn is_second(number: FaultNumber) -> bool
     ensures { result ≡ is_second number }
 {
@@ -86,7 +87,7 @@ fn is_second(number: FaultNumber) -> bool
     }
 }
 
-/// The line of the name that is refused so.
+/// Returns the line of the refused name.
 fn name_line(text: &[u8], number: FaultNumber, name: &[u8]) -> Option<usize>
     ensures { result ≡ name_line text.now number name.now }
 {
@@ -97,7 +98,7 @@ fn name_line(text: &[u8], number: FaultNumber, name: &[u8]) -> Option<usize>
     }
 }
 
-/// The line that the fault is about: its own, or the one in which its name stands.
+/// Returns the line of the fault: its own, or the one that contains its name.
 pub(crate) fn fault_line(text: &[u8], fault: &LoadFault<'_>) -> Option<usize>
     ensures { result ≡ fault_line_number text.now fault.now }
 {
@@ -110,7 +111,7 @@ pub(crate) fn fault_line(text: &[u8], fault: &LoadFault<'_>) -> Option<usize>
     }
 }
 
-/// The line of the earlier of two entries of one name, if the later one is refused.
+/// Returns the line of the earlier of two entries of one name, if the later one is refused.
 pub(crate) fn earlier_line(text: &[u8], fault: &LoadFault<'_>) -> Option<usize>
     ensures { result ≡ earlier_line text.now fault.now }
 {

@@ -1,4 +1,4 @@
-//! Where the texts of a design are read from.
+//! The files from which the texts of a design are read.
 
 ghost use Rattle.std.specs.Prelude.{◌≡◌, ℕ, List, Option, Some, None, ⊤, IfOk, IfErr};
 ghost use Rattle.std.specs.IoError.{error_kind};
@@ -12,15 +12,15 @@ use std::io;
 use std::io::Read;
 use std::rt::Files;
 
-/// How many bytes a piece of a file has, but for the last.
+/// The number of bytes of each chunk of a file, except the last.
 const PIECE: usize = 1_048_576;
 
-/// Why a file cannot be read, where the system says it.
+/// Why a file cannot be read, if the system reports it.
 #[derive(Clone, Copy, Debug, PartialEq, Eq)]
 pub enum ReadFailureKind {
-    /// No file has that path.
+    /// The file does not exist.
     Missing,
-    /// A folder has it.
+    /// The path is that of a folder.
     Folder,
     /// This user may not read the file.
     Denied,
@@ -37,26 +37,28 @@ pub enum ReadFailure {
     OutOfMemory,
 }
 
-/// Where texts are read from, by the paths of their files.
+/// Reads texts, by the paths of their files.
 pub trait InputFiles {
     ghost use Rattle.lf_state_text.specs.Pieces.{joined};
     ghost use Rattle.lf_task_designs.specs.Texts.{IsOfFile};
 
-    // What reading the file of a path may return: its text, or None if it cannot be read.
+    // What reading the file of a path may return: its text, or `None` if it cannot be read.
     ghost gives: { Self → List ℕ → Option (List ℕ) → Type 0 } = { λ _ _ _. ⊤ };
 
-    /// The whole text of the file of that path.
+    /// Reads the whole text of the file of this path. `Err` if the file cannot be read, or an
+    /// allocation fails.
     fn text(&self, path: &str) -> Result<Vec<u8>, ReadFailure>
         ensures ok { IfOk result (λ text. gives self.now path.now (Some text.items)) }
         ensures err { IfErr result (λ unread. IsOfFile unread → gives self.now path.now None) };
 
-    /// The same in pieces, of which each can be let go by itself.
+    /// Reads the text of the file of this path in chunks, which can be dropped separately. `Err` if
+    /// the file cannot be read, or an allocation fails.
     fn pieces(&self, alloc: Global, path: &str) -> Result<VecDeque<Vec<u8>>, ReadFailure>
         ensures ok { IfOk result (λ pieces. gives self.now path.now (Some (joined pieces.items))) }
         ensures err { IfErr result (λ unread. IsOfFile unread → gives self.now path.now None) };
 }
 
-/// The text as one piece, for texts that are in memory.
+/// Makes one chunk of a text that is in memory. `Err` if an allocation fails.
 pub fn single_chunk(alloc: Global, text: Vec<u8>) -> Result<VecDeque<Vec<u8>>, ReadFailure>
     ensures { IfOk result (λ pieces. joined pieces.items ≡ text.items) }
 {
@@ -67,20 +69,20 @@ pub fn single_chunk(alloc: Global, text: Vec<u8>) -> Result<VecDeque<Vec<u8>>, R
     }
 }
 
-/// The files of a runtime. Contracts know nothing of what they hold.
+/// The files of a runtime. Contracts know nothing of their contents.
 #[derive(Clone, Copy)]
 pub struct FsInputFiles<'a, T> {
     files: &'a T,
 }
 
 impl<'a, T> FsInputFiles<'a, T> {
-    /// The texts of these files.
+    /// Takes the files of this runtime.
     pub fn new(files: &'a T) -> Self {
         FsInputFiles { files }
     }
 }
 
-/// Why a file was not read, by what the system says.
+/// Returns why a file was not read, by the system's error.
 fn unread_of(error: &io::Error) -> ReadFailure
     ensures { result ≡ unread_of (error_kind error.now) }
 {
@@ -93,7 +95,8 @@ fn unread_of(error: &io::Error) -> ReadFailure
     }
 }
 
-/// The whole text of the file, in a list that has room for no more, where the system tells its length.
+/// Reads the whole text of the file. If the system reports the file's length, the list has exactly
+/// that capacity.
 fn whole_text<T: Files>(files: &T, alloc: Global, path: &str) -> io::Result<Vec<u8>> {
     let mut file = File::open(files, path)?;
     let length = match file.metadata() {
@@ -105,14 +108,14 @@ fn whole_text<T: Files>(files: &T, alloc: Global, path: &str) -> io::Result<Vec<
     Ok(text)
 }
 
-/// The next piece; no byte at the end.
+/// Reads the next chunk. It is empty at the end of the file.
 fn next_piece<R: Read>(alloc: Global, file: &mut R) -> io::Result<Vec<u8>> {
     let mut piece = Vec::with_capacity(alloc, PIECE)?;
     io::copy(&mut file.by_ref().take(PIECE as u64), &mut piece)?;
     Ok(piece)
 }
 
-/// All pieces of the file.
+/// Reads all chunks of the file.
 fn all_pieces<T: Files>(files: &T, alloc: Global, path: &str) -> io::Result<VecDeque<Vec<u8>>> {
     let mut file = File::open(files, path)?;
     let mut pieces = VecDeque::new(alloc);

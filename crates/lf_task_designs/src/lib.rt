@@ -1,18 +1,35 @@
-//! Designs of files: their texts are read and loaded, or the first fault, with all that is printed of it.
+//! Reads and loads designs from files, and reports the first fault if that fails.
 //!
-//! `load_files` reads the LEF texts in the order of their paths, then the DEF text, and loads the design, up to the first fault;
-//! `open_design` also keeps the DEF text and where the placement clauses of its components are, and `report_design` writes what a
-//! check of the design finds. Texts are read from any files (`InputFiles`); of those of a runtime (`FsInputFiles`) contracts know nothing.
+//! `load_files` reads the LEF files in the order of their paths, then the DEF file, and loads the
+//! design, up to the first fault. `open_design` also keeps the DEF text and the positions of its
+//! components' placement clauses. `report_design` writes the report of a check. Texts are read
+//! through the trait `InputFiles`. Contracts know nothing of the files of a runtime
+//! (`FsInputFiles`).
 //!
-//! A `Fault` is why a task was not done, those of lines, services and written files among them, so that all of them are told in one
-//! place: `status_of` has the exit status, `report_fault` writes the line that names the fault, and where a file, a line of it, a port or a
-//! team is at fault a second one that says which. What is told of a refused text is taken from it at once (`TextRefusal`,
-//! `StateRefusal`), so the text may then go.
+//! A `Fault` is the reason why a task failed. It includes the faults of lines, services and written
+//! files, so that all messages are in one place. `status_of` returns the exit status.
+//! `report_fault` writes the line that names the fault. If a file, a line of it, a port or a team
+//! is at fault, a second line names it. Everything printed about a refused text is copied from it
+//! at once (`TextRefusal`, `StateRefusal`), so the text can be dropped.
+//!
+//! Used by `lf_task_files`, `lf_task_serve`, `lf_task_repair` and `lf_app`.
+//!
+//! Modules, in reading order:
+//!
+//! - `input_files`: the files from which texts are read
+//! - `hints`: the line of a name in a text, and what a refused text may be instead
+//! - `text_refusal`: what is printed about a refused text
+//! - `faults`: why a task failed, its message and its exit status
+//! - `fault_detail`: the second line of a fault
+//! - `loading`: the design of files, read and loaded
+//! - `opening`: the design of files, with what an export needs
+//! - `check_report`: the report of a loaded design
+//!
+//! From `crates/lf_task_files/src/check_task.rt`:
 //!
 //! ```
-//! let limits = limits_for(Slots::standard());
-//! let loaded = load_files(alloc, limits, &FsInputFiles::new(rt), "chip.def", &["cells.lef"])?;
-//! let is_legal = report_design(alloc, &loaded, &mut writer)?;
+//! let loaded = load_files(alloc, inputs.limits, texts, inputs.def, inputs.lefs)?;
+//! viewed_design(alloc, texts, loaded, inputs.state)
 //! ```
 #![tactic(auto)]
 

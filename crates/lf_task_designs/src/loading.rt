@@ -1,7 +1,7 @@
-//! The design of files: their texts are read, and the design is loaded.
+//! The design of files: the files are read, and the design is loaded.
 //!
-//! No function owns more than one of a library, a text, a document and a design: what it drops at each of its ends is proved end
-//! by end.
+//! No function owns more than one of a library, a text, a document and a design: the proof handles
+//! every drop at every return separately.
 
 ghost use Rattle.std.specs.Prelude.{◌≡◌, Ok, Some, map, IfErr, IfOk, OnOk};
 ghost use Rattle.lf_state_text.specs.Pieces.{joined};
@@ -27,10 +27,10 @@ use lf_lex::LoadFault;
 use std::alloc::Global;
 use std::collections::VecDeque;
 
-/// What the built-in texts are called in place of a path.
+/// The name of the built-in texts in place of a path.
 pub(crate) const BUILT_IN: &str = "(built in)";
 
-/// The limits of a design whose teams have these session slots.
+/// Returns the standard limits of a design, except that its teams have `slots` session slots.
 pub fn limits_for(slots: Slots) -> Limits
     ensures { AreWithSlots slots.number result }
 {
@@ -45,7 +45,8 @@ pub fn limits_for(slots: Slots) -> Limits
     }
 }
 
-/// The text of a file; the fault has the reason of the system, where it gives one.
+/// Reads the text of a file. `Err` if it cannot be read, with the system's reason if there is one,
+/// or if an allocation fails.
 pub fn read_text<'a, T: InputFiles>(texts: &T, file: TextFile<'a>) -> Result<Vec<u8>, Fault<'a>>
     ensures ok { IfOk result (λ text. T.gives texts.now file.entry.path.now (Some text.items)) }
     ensures err { IfErr result (IsUnread (T.gives texts.now) file.entry.kind file.entry.path.now) }
@@ -56,7 +57,7 @@ pub fn read_text<'a, T: InputFiles>(texts: &T, file: TextFile<'a>) -> Result<Vec
     }
 }
 
-/// The same in pieces.
+/// Reads the text of a file in chunks. Errors are those of `read_text`.
 pub fn read_chunks<'a, T: InputFiles>(
     alloc: Global,
     texts: &T,
@@ -71,7 +72,7 @@ pub fn read_chunks<'a, T: InputFiles>(
     }
 }
 
-/// The file of a LEF text.
+/// Makes the description of a LEF file.
 fn lef_file(path: &str) -> TextFile<'_>
     ensures kind { result.kind ≡ Lef }
     ensures path { result.path.now ≡ path.now }
@@ -82,7 +83,7 @@ fn lef_file(path: &str) -> TextFile<'_>
     }
 }
 
-/// The file of the DEF text.
+/// Makes the description of the DEF file.
 pub fn def_file(path: &str) -> TextFile<'_>
     ensures kind { result.kind ≡ Def }
     ensures path { result.path.now ≡ path.now }
@@ -93,7 +94,8 @@ pub fn def_file(path: &str) -> TextFile<'_>
     }
 }
 
-/// The fault of a text that is refused so: want of memory, if there is none to say more.
+/// Makes the fault of a refused text. If memory for its details runs out, the fault is a failed
+/// allocation.
 pub(crate) fn refused<'a>(
     alloc: Global,
     file: TextFile<'a>,
@@ -108,7 +110,7 @@ pub(crate) fn refused<'a>(
     }
 }
 
-/// The fault of the DEF text of the path, whose document is not loaded.
+/// Makes the fault of the DEF text of this path, whose document cannot be loaded.
 fn load_fault<'a>(
     alloc: Global,
     path: &'a str,
@@ -126,7 +128,7 @@ fn load_fault<'a>(
     }
 }
 
-/// Reads one more LEF text, that of the path, into the library.
+/// Reads one more LEF text, of the file `path`, into the library.
 fn add_text<'a>(
     alloc: Global,
     library: &mut Library,
@@ -156,7 +158,7 @@ fn add_file<'a, T: InputFiles>(
     add_text(alloc, library, path, &text)
 }
 
-/// Reads the LEF texts of the files in order, each whole before the next file is opened.
+/// Reads the LEF texts of the files in order, each completely before the next file is opened.
 fn add_files<'a, T: InputFiles>(
     alloc: Global,
     texts: &T,
@@ -172,7 +174,8 @@ fn add_files<'a, T: InputFiles>(
     Ok(())
 }
 
-/// The library of LEF files, given by their paths; each is read whole before the next one is opened.
+/// Reads the library of LEF files, given by their paths. Each is read completely before the next
+/// one is opened.
 pub fn library_of<'a, T: InputFiles>(
     alloc: Global,
     texts: &T,
@@ -186,7 +189,7 @@ pub fn library_of<'a, T: InputFiles>(
     Ok(library)
 }
 
-/// What a DEF text, that of the path, says.
+/// Reads the document of a DEF text, of the file `path`.
 pub fn read_document<'t, 'a>(
     alloc: Global,
     path: &'a str,
@@ -202,7 +205,8 @@ pub fn read_document<'t, 'a>(
     }
 }
 
-/// The design of a document, that of the text of the path, over the library, within these limits.
+/// Loads the design of a document, read from the text of the file `path`, over the library and
+/// within these limits.
 pub fn load_document<'a>(
     alloc: Global,
     limits: Limits,
@@ -220,7 +224,7 @@ pub fn load_document<'a>(
     }
 }
 
-/// The design of a DEF text, that of the path, over the library.
+/// Loads the design of a DEF text, of the file `path`, over the library.
 fn load_text<'a>(
     alloc: Global,
     limits: Limits,
@@ -235,7 +239,7 @@ fn load_text<'a>(
     load_document(alloc, limits, library, path, text, &document)
 }
 
-/// The design of the DEF text of a file over the library.
+/// Loads the design of a DEF file over the library.
 fn load_file<'a, T: InputFiles>(
     alloc: Global,
     limits: Limits,
@@ -250,7 +254,8 @@ fn load_file<'a, T: InputFiles>(
     load_text(alloc, limits, library, path, &text)
 }
 
-/// The design of a DEF file over LEF files, given by their paths; the DEF file is opened behind all others.
+/// Loads the design of a DEF file over LEF files, given by their paths. The DEF file is opened
+/// after all LEF files.
 pub fn load_files<'a, T: InputFiles>(
     alloc: Global,
     limits: Limits,
@@ -265,7 +270,7 @@ pub fn load_files<'a, T: InputFiles>(
     load_file(alloc, limits, texts, &library, def)
 }
 
-/// The design of a DEF text over a LEF text, both built in.
+/// Loads the design of a DEF text over a LEF text, both built in.
 pub fn load_texts<'a>(
     alloc: Global,
     limits: Limits,

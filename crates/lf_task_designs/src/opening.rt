@@ -1,7 +1,7 @@
-//! The design of a DEF file that is worked on, with what an exported text is made of.
+//! The design of a DEF file, with what an export needs.
 //!
-//! No function owns more than one of a library, a text, a document and a design: what it drops at each of its ends is proved end
-//! by end.
+//! No function owns more than one of a library, a text, a document and a design: the proof handles
+//! every drop at every return separately.
 
 ghost use Rattle.std.specs.Prelude.{◌≡◌, Some, map, IfErr, IfOk};
 ghost use Rattle.lf_task_designs.specs.declared.faults.TextKind.TheVariants.{Def};
@@ -20,14 +20,15 @@ use lf_lex::ReadError;
 use lf_write::{KeptClauses, clauses_of};
 use std::alloc::Global;
 
-/// What is kept of a document: its design, and where the placement clauses of its components are.
+/// The parts of a document that are kept: its design, and the placement clauses of its components.
 #[derive(Drop)]
 struct LoadedDocument {
     loaded: Loaded,
     clauses: KeptClauses,
 }
 
-/// What is kept of a document, that of the text of the path, over the library.
+/// Loads a document, read from the text of the file `path`, over the library, and keeps the parts
+/// needed.
 fn open_document<'a>(
     alloc: Global,
     limits: Limits,
@@ -50,7 +51,7 @@ fn open_document<'a>(
     }
 }
 
-/// What is kept of the document of a DEF text, that of the path, over the library.
+/// Reads and loads a DEF text, of the file `path`, over the library, and keeps the parts needed.
 fn open_text<'a>(
     alloc: Global,
     limits: Limits,
@@ -65,12 +66,12 @@ fn open_text<'a>(
     open_document(alloc, limits, library, path, text, &document)
 }
 
-/// A DEF text, of which its committed places make an exported text.
+/// A DEF text, from which an exported text is made with committed places.
 #[derive(Drop)]
 pub struct SourceText {
     /// All bytes of its file.
     pub text: Vec<u8>,
-    /// Where the placement clauses of its components are.
+    /// The placement clauses of its components.
     pub clauses: KeptClauses,
 }
 
@@ -79,11 +80,11 @@ pub struct SourceText {
 pub struct OpenedDesign {
     /// The design, each cell at its place in the text.
     pub loaded: Loaded,
-    /// The text, which stands apart, so that a floor may take the design.
+    /// The text. It is a separate field, so that a floor can take the design.
     pub original: SourceText,
 }
 
-/// The text of a DEF file, that of the path, and its design over the library.
+/// Loads the design of a DEF text, of the file `path`, over the library, and keeps the text.
 fn open_kept<'a>(
     alloc: Global,
     limits: Limits,
@@ -100,7 +101,7 @@ fn open_kept<'a>(
     Ok(OpenedDesign { loaded, original })
 }
 
-/// The design of a DEF file over the library, and the text of the file.
+/// Opens a DEF file over the library: loads its design, and keeps the text.
 fn open_file<'a, T: InputFiles>(
     alloc: Global,
     limits: Limits,
@@ -117,7 +118,8 @@ fn open_file<'a, T: InputFiles>(
     open_kept(alloc, limits, library, path, text)
 }
 
-/// The design of a DEF file over LEF files, given by their paths, and the text of the DEF file, which is opened behind all others.
+/// Opens a DEF file over LEF files, given by their paths: loads the design, and keeps the DEF text.
+/// The DEF file is opened after all LEF files.
 pub fn open_design<'a, T: InputFiles>(
     alloc: Global,
     limits: Limits,

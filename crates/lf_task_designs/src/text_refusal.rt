@@ -1,4 +1,4 @@
-//! What is printed of a refused text: it is taken from the text, which may then go.
+//! What is printed about a refused text. It is copied from the text, which can then be dropped.
 
 ghost use Rattle.std.specs.Prelude.{◌≡◌, ◌<◌, List, ℕ, IfOk, IfSome, length, option_map, position, take};
 ghost use Rattle.std.specs.Option.{option_copied};
@@ -17,39 +17,40 @@ use lf_lex::{FaultNumber, LoadFault};
 use lf_state_text::{FaultNumber as StateNumber, StateRefused};
 use std::alloc::{AllocError, Global};
 
-/// How many bytes of a line are shown.
+/// The number of bytes of a line that are shown.
 const SHOWN: usize = 80;
 
-/// A fence, with the line in which its name stands first.
+/// A fence, with the first line that contains its name.
 #[derive(Drop)]
 pub struct FenceLine {
     pub name: Vec<u8>,
     pub line: Option<usize>,
 }
 
-/// What is printed of a refused text.
+/// What is printed about a refused text.
 #[derive(Drop)]
 pub struct TextRefusal {
     pub number: FaultNumber,
-    /// The line that a reader gives.
+    /// The line, if the fault has one.
     pub line: Option<usize>,
-    /// The name that loading gives.
+    /// The name, if the fault has one.
     pub name: Option<Vec<u8>>,
-    /// The line that is shown: the reader's, or the one in which the name stands.
+    /// The line to show: that of the fault, or the one that contains the name.
     pub at: Option<usize>,
     /// The first bytes of that line.
     pub shown: Vec<u8>,
     /// The line of an earlier entry of the same name.
     pub earlier: Option<usize>,
-    /// The fence that the refused one meets, or the first that claims the refused component.
+    /// The fence that overlaps the refused one, or the first fence that claims the refused
+    /// component.
     pub first_met: Option<FenceLine>,
-    /// The other fence that claims it.
+    /// The other fence that claims the component.
     pub second_met: Option<FenceLine>,
-    /// What the text rather seems to be.
+    /// What the text may be instead.
     pub hint: Option<Hint>,
 }
 
-/// Where the first line feed is.
+/// Returns the position of the first line feed.
 fn feed_in(bytes: &[u8]) -> Option<usize>
     ensures found { result ≡ position is_line_feed bytes.now }
     ensures within { IfSome result (λ at. at < length bytes.now) }
@@ -57,7 +58,7 @@ fn feed_in(bytes: &[u8]) -> Option<usize>
     bytes.iter().position(|byte| *byte == b'\n')
 }
 
-/// What follows the first line; no byte if there is only one.
+/// Returns what follows the first line. Empty if there is only one line.
 fn behind_line(bytes: &[u8]) -> &[u8]
     ensures { result.now ≡ behind_line bytes.now }
 {
@@ -67,7 +68,7 @@ fn behind_line(bytes: &[u8]) -> &[u8]
     }
 }
 
-/// What follows that many lines.
+/// Returns what follows the first `lines` lines.
 fn behind_lines(text: &[u8], lines: usize) -> &[u8]
     ensures { result.now ≡ behind_lines lines text.now }
 {
@@ -78,7 +79,7 @@ fn behind_lines(text: &[u8], lines: usize) -> &[u8]
     rest
 }
 
-/// The first line, without its line feed.
+/// Returns the first line, without its line feed.
 fn first_line(bytes: &[u8]) -> &[u8]
     ensures { result.now ≡ first_line bytes.now }
 {
@@ -88,14 +89,14 @@ fn first_line(bytes: &[u8]) -> &[u8]
     }
 }
 
-/// The line of that number of a text, the first of which is 1; no byte if there is no such line.
+/// Returns the line of this number of a text, counted from 1. Empty if there is no such line.
 fn line_at(text: &[u8], number: usize) -> &[u8]
     ensures { result.now ≡ line_at text.now number }
 {
     first_line(behind_lines(text, number.saturating_sub(1)))
 }
 
-/// The first bytes of a line, as many as are shown.
+/// Returns the first bytes of a line, at most 80.
 fn front_of(line: &[u8]) -> &[u8]
     ensures { result.now ≡ take 80 line.now }
 {
@@ -106,7 +107,7 @@ fn front_of(line: &[u8]) -> &[u8]
     }
 }
 
-/// The first bytes of the line of that number; no byte without a number.
+/// Returns the first bytes of the line of this number. Empty without a number.
 fn line_front(text: &[u8], line: Option<usize>) -> &[u8]
     ensures { result.now ≡ line_front text.now line }
 {
@@ -116,7 +117,7 @@ fn line_front(text: &[u8], line: Option<usize>) -> &[u8]
     }
 }
 
-/// A copy of the name, if there is one.
+/// Copies the name, if there is one. `Err` if an allocation fails.
 fn copied(alloc: Global, name: Option<&[u8]>) -> Result<Option<Vec<u8>>, AllocError>
     ensures { IfOk result (λ copy. option_map (λ bytes. bytes.items) copy ≡ option_map (λ bytes. bytes.now) name.entry) }
 {
@@ -126,7 +127,7 @@ fn copied(alloc: Global, name: Option<&[u8]>) -> Result<Option<Vec<u8>>, AllocEr
     }
 }
 
-/// The fence of that name in the text, if there is one.
+/// Returns the fence of this name in the text, if there is a name. `Err` if an allocation fails.
 fn fence_line(
     alloc: Global,
     text: &[u8],
@@ -143,7 +144,7 @@ fn fence_line(
     }))
 }
 
-/// What is printed of the text that is refused so.
+/// Collects what is printed about the refused text. `Err` if an allocation fails.
 fn refusal_of(
     alloc: Global,
     kind: TextKind,
@@ -171,7 +172,7 @@ fn refusal_of(
     })
 }
 
-/// What is printed of a failed allocation.
+/// Returns what is printed about a failed allocation.
 fn refusal_of_memory(alloc: Global, kind: TextKind, text: &[u8]) -> TextRefusal
     ensures { ReportsFault kind text.now (load_fault_of Memory) no_fence result }
 {
@@ -188,18 +189,18 @@ fn refusal_of_memory(alloc: Global, kind: TextKind, text: &[u8]) -> TextRefusal
     }
 }
 
-/// What is told of a refused state text.
+/// What is printed about a refused state text.
 #[derive(Drop)]
 pub struct StateRefusal {
     pub number: StateNumber,
-    /// The line on which the fault is, the first of which is 1.
+    /// The line of the fault, counted from 1.
     pub line: usize,
     /// The first bytes of that line.
     pub shown: Vec<u8>,
 }
 
 impl StateRefusal {
-    /// What is told of the text that is refused so; `Err` if an allocation fails.
+    /// Collects what is printed about the refused text. `Err` if an allocation fails.
     pub fn new(alloc: Global, refused: &StateRefused) -> Result<StateRefusal, AllocError>
         ensures { (text : List ℕ) → HasEnd text refused.now → IfOk result (ReportsStateFault text refused.now.fault) }
     {
@@ -217,7 +218,8 @@ impl StateRefusal {
 }
 
 impl TextRefusal {
-    /// What is printed of the text, read as this, that is refused so: that an allocation failed, if there is no memory for more.
+    /// Collects what is printed about the refused text, which was read as this kind. If memory runs
+    /// out, it describes a failed allocation.
     pub fn new(alloc: Global, kind: TextKind, text: &[u8], fault: &LoadFault<'_>) -> TextRefusal
         ensures { (told : LoadFault) × (met : Conflict) × IsReportedConflict fault.now no_fence told met × ReportsFault kind text.now told met result }
     {
@@ -228,7 +230,7 @@ impl TextRefusal {
         TextRefusal::with_conflict(alloc, kind, text, fault, &none)
     }
 
-    /// The same with the fences that the fault meets.
+    /// Does the same, with the fences in conflict.
     pub(crate) fn with_conflict(
         alloc: Global,
         kind: TextKind,

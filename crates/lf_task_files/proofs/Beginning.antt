@@ -1,4 +1,4 @@
--- The state that a text tells of a floor is the one that it tells of each floor of the design.
+-- A state of a floor in a text is a state of each floor of the design.
 use Rattle.std.proofs.Common.{◌∙◌, inl, inr, ℕ, List, ap, sym}
 use Rattle.lf_state_text.specs.Designs.{NamedDesign}
 use Rattle.lf_state_text.specs.Reading.{state_of}

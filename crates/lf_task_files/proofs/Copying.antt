@@ -1,4 +1,4 @@
--- Copies of designs: cells where a table has them.
+-- Copies of designs, with the cells at their places in a table.
 use Rattle.std.proofs.Common.{◌≡◌, List, [], ◌∷◌, map, Option, None, Some, refl, ap}
 use Rattle.std.specs.Borrow.{Bor}
 use Rattle.lf_floorplan.specs.declared.loaded.Cell.{Cell}
@@ -6,7 +6,7 @@ use Rattle.lf_cells.specs.Cells.{Cells}
 use Rattle.lf_repair_bounds.proofs.Copying.{AreOneCell}
 use Rattle.lf_task_files.specs.Twins.{placed_by_table}
 
--- a table moves cells, and no table moves none
+-- A table changes the places of cells; without a table they are unchanged.
 pub moved_one : (table : Option (Bor Cells)) (c : Cell) → AreOneCell c (placed_by_table table c)
 moved_one None c = record { name = refl; team = refl; mac = refl; component = refl }
 moved_one (Some table) c = record { name = refl; team = refl; mac = refl; component = refl }

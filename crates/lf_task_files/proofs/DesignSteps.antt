@@ -1,16 +1,16 @@
--- Tasks over a design that is loaded.
+-- Tasks over a loaded design.
 use Rattle.std.proofs.Common.{◌⊎◌, inr, ℕ}
 use Rattle.std.specs.Prelude.{IfErr, IfOk, Result}
 use Rattle.std.proofs.lemmas.Result.{IfErr-weaker, IfOk-weaker}
 use Rattle.lf_floorplan.specs.declared.loaded.Loaded.{Loaded}
 use Rattle.lf_task_designs.specs.declared.faults.Fault.{Fault}
 
--- what follows loading is the outcome of a task over a design
+-- The outcome after loading is the outcome of a task over a design.
 module _ (IsDesign : Loaded → Type 0) (loaded : Loaded) (design : IsDesign loaded) (r : Result ℕ Fault) where
   pub comes_of : (Comes : Loaded → ℕ → Type 0) → IfOk r (Comes loaded) → IfOk r (λ status. (l : Loaded) × IsDesign l × Comes l status)
   comes_of Comes = IfOk-weaker r (Comes loaded) (λ status. (l : Loaded) × IsDesign l × Comes l status) (λ status is. (loaded, design, is))
 
-  -- and a fault after loading is one of the whole task
+  -- A fault after loading is a fault of the whole task.
   pub fails : (no_design also : Fault → Type 0) (why : Loaded → Fault → Type 0) → IfErr r (λ fault. why loaded fault × also fault)
       → IfErr r (λ fault. (no_design fault ⊎ ((l : Loaded) × IsDesign l × why l fault)) × also fault)
   fails no_design also why = IfErr-weaker r (λ fault. why loaded fault × also fault)

@@ -1,4 +1,4 @@
--- Whether the committed places of each team are legal, by what is found of its listed cells.
+-- Whether the committed places of each team are legal, by the verdicts of its listed cells.
 use Rattle.std.proofs.Common.{◌≡◌, ◌⊎◌, inl, inr, ℕ, zero, suc, ◌+◌, ◌<◌, List, [], ◌∷◌, length, map, Option, Some, refl, ap, sym, ◌∙◌, subst, arith}
 use Rattle.std.specs.Prelude.{◌↔◌, All, Bool, IfOk, IsTrue, Result, count_by, is_none, is_some, slice_get}
 use Rattle.std.specs.declared.alloc.AllocError.{AllocError}
@@ -31,7 +31,8 @@ length_none : {Y : Type 0} (ys : List Y) → length ys ≡ 0 → ys ≡ []
 length_none [] e = refl
 length_none (y ∷ ys) e = absurd cc
 
--- the listed cells make a fully legal design if and only if none is unplaced and no verdict says that a rule is broken
+-- The listed cells make a fully legal design if and only if no cell is unplaced and no verdict
+-- names a broken rule.
 pub legal_list : (l : Legalizer) (f : Frame) (cells : List (Listed (Bor (List ℕ)))) (verdicts : List (Option Broken))
     → All (λ c. IsListed f (named c)) cells → AreVerdicts l f 0 (map named cells) verdicts
     → ((count_by (λ c. is_none c.place) (map named cells) ≡ 0) × (count_by is_some verdicts ≡ 0)) ↔ IsFullyLegal f (map design_cell_of (map named cells))
@@ -48,7 +49,7 @@ legal_list l f cells verdicts known are =
 
 -- ---- one team alone
 
--- a team with that many teams without cells before it
+-- A team after this number of teams without cells.
 abbrev padded : ℕ → List Member → List (List Member)
 padded zero members = members ∷ []
 padded (suc before) members = [] ∷ padded before members
@@ -77,7 +78,7 @@ is_padded (suc before) members (suc k) cells e = elim (is_padded before members 
 none_stands : (f : Frame) (team own : ℕ) → IsLegalCell f team 0 [] own
 none_stands f team own m there = absurd cc
 
--- a team's cells make a fully legal design by themselves if and only if each stands legally
+-- A team's cells make a fully legal design by themselves if and only if each is legal at its place.
 team_alone : (f : Frame) (number : ℕ) (members : List Member)
     → IsFullyLegal f (with_team number members []) ↔ ((own : ℕ) → IsLegalCell f number 0 members own)
 team_alone f number members =
@@ -98,7 +99,8 @@ standing_committed : (number : ℕ) (cells : List Cell) → map design_cell_of (
 standing_committed number [] = refl
 standing_committed number (c ∷ cells) = ap (λ (rest : List DesignCell). design_cell_of (committed_listed number c) ∷ rest) (standing_committed number cells)
 
--- the cells of a team that are listed at their committed places make a fully legal design if and only if these are legal
+-- A team's cells, listed at their committed places, make a fully legal design if and only if these
+-- places are legal.
 pub team_judged : (f : Frame) (number : ℕ) (s : TeamState)
     → IsFullyLegal f (map design_cell_of (map (committed_listed number) s.cells)) ↔ AreCommittedLegal f number s
 team_judged f number s =
@@ -110,7 +112,7 @@ team_judged f number s =
 
 -- ---- cells that are listed
 
--- the cells of a team of the frame are listed as reports want them
+-- The cells of a team of the frame are listed as reports need them.
 pub committed_known : (f : Frame) (number : ℕ) (cells : List Cell) → All (λ c. IsSizedCell f c) cells → All (λ c. IsName c.name) cells
     → All (IsListed f) (map (committed_listed number) cells)
 committed_known f number [] sized printed = All-nil (IsListed f)
@@ -121,7 +123,7 @@ committed_known f number (c ∷ cells) sized printed =
     (record { known = size.known; sized = size.sized; printed = name })
     (committed_known f number cells (All-tail (λ (x : Cell). IsSizedCell f x) c cells sized) (All-tail (λ (x : Cell). IsName x.name) c cells printed))
 
--- what is found of the listed cells of a team is so of its committed places
+-- The result for the listed cells of a team holds for its committed places.
 pub judged_as : (f g : Frame) (number : ℕ) (s : TeamState) (cells : List (Listed (List ℕ))) (r : Result Bool AllocError) → g ≡ f
     → cells ≡ map (committed_listed number) s.cells → IfOk r (λ legal. IsTrue legal ↔ IsFullyLegal g (map design_cell_of cells))
     → IfOk r (λ legal. IsTrue legal ↔ AreCommittedLegal f number s)

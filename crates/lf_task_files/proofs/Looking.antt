@@ -1,4 +1,5 @@
--- A saved state of a copy of a design is one of the design, and the cells of either stand where it tells.
+-- A saved state of a copy of a design is a saved state of the design, and gives the cells the same
+-- places.
 use Rattle.std.proofs.Common.{◌≡◌, ◌⊎◌, ◌∙◌, inl, inr, ℕ, zero, suc, ◌+◌, ◌<◌, List, [], ◌∷◌, ◌++◌, length, map, Option, None, Some, refl, ap, ap₂, sym, arith}
 use Rattle.std.specs.Prelude.{All, replicate, slice_get}
 use Rattle.std.specs.Option.{option_and_then}
@@ -42,7 +43,7 @@ opened_alike a b limits cells number (suc more) =
     ap₂ (λ (s : TeamState) (ss : List TeamState). s ∷ ss) (ap₂ (λ (l : Limits) (cs : List LoadedCell). fresh l cs number) limits cells)
     (opened_alike a b limits cells (number + 1) more)
 
--- their floors begin with the same teams
+-- Their floors begin with the same teams.
 teams_alike : (design twin : Loaded) → IsCopyWithCells design.frame design.cells twin → (initial_floor twin).teams ≡ (initial_floor design).teams
 teams_alike design twin is =
     opened_alike twin design is.frame.limits is.cells 0 (length twin.frame.teams + 1)
@@ -57,7 +58,7 @@ named_alike design twin is =
     ap (λ (ts : List Team). by_parts ts (initial_floor twin).teams twin.frame.limits) is.frame.teams
     ∙ ap₂ (λ (ts : List TeamState) (l : Limits). by_parts design.frame.teams ts l) (teams_alike design twin is) is.frame.limits
 
--- what a state tells of the copy it tells of the design
+-- A state of the copy is a state of the design.
 pub state_alike : (gives : ReadsFile) (path : List ℕ) (design twin : Loaded) (floor : FloorState) → IsCopyWithCells design.frame design.cells twin
     → IsFileState gives path (initial_floor twin) floor
     → (other : FloorState) × IsFileState gives path (initial_floor design) other × (other.teams ≡ floor.teams)
@@ -67,7 +68,7 @@ state_alike gives path design twin floor is (text, given, (saved, read, same)) =
   ap (λ (ts : List TeamState). map_two restored_team ts saved) (sym (teams_alike design twin is)) ∙ sym (ap (λ (f : FloorState). f.teams) same),
 )
 
--- and why it tells none of the copy is why it tells none of the design
+-- Why a file has no state of the copy is why it has no state of the design.
 fault_alike : (gives : ReadsFile) (path : List ℕ) (design twin : Loaded) (fault : Fault) → IsCopyWithCells design.frame design.cells twin
     → IsStateFileFault gives path (initial_floor twin) fault → IsStateFileFault gives path (initial_floor design) fault
 fault_alike gives path design twin fault is (inl unread) = inl unread
@@ -75,26 +76,26 @@ fault_alike gives path design twin fault is (inr (text, given, inl memory)) = in
 fault_alike gives path design twin fault is (inr (text, given, inr (why, read, refused))) =
     inr (text, given, inr (why, ap (λ (n : NamedDesign). state_of n text) (sym (named_alike design twin is)) ∙ read, refused))
 
--- so is why there is no floor of it
+-- The same for why there is no floor.
 pub floor_fails : (gives : ReadsFile) (path : List ℕ) (design twin : Loaded) (fault : Fault) → IsCopyWithCells design.frame design.cells twin
     → (fault ≡ NoMemory) ⊎ IsStateFileFault gives path (initial_floor twin) fault → (fault ≡ NoMemory) ⊎ IsStateFileFault gives path (initial_floor design) fault
 floor_fails gives path design twin fault is (inl memory) = inl memory
 floor_fails gives path design twin fault is (inr state) = inr (fault_alike gives path design twin fault is state)
 
--- a floor of a design has a team for each fence, and one more
+-- A floor of a design has a team for each fence, and one more.
 pub teams_many : (design : Loaded) (floor : FloorState) → ShareDesign (initial_floor design) floor → length floor.teams ≡ length design.frame.teams + 1
 teams_many design floor same =
     sym (length-map floor.teams fixed_cells) ∙ ap (λ (cells : List (List (List ℕ × ℕ))). length cells) same.cells
     ∙ length-map (initial_floor design).teams fixed_cells ∙ (opening_whole design).0
 
--- ---- cells where they stand
+-- ---- cells at their working places
 
 some_at : {X : Type 0} (xs : List X) (k : ℕ) → k < length xs → (x : X) × (slice_get xs k ≡ Some x)
 some_at [] k within = absurd (omega (arith, within))
 some_at (x ∷ xs) zero within = (x, refl)
 some_at (x ∷ xs) (suc k) within = some_at xs k (omega (arith, within))
 
--- what the cells of a floor are in a table of them
+-- The table lists the cells of each team of the floor.
 abbrev pub AreTabled : Cells → FloorState → Type 0
 AreTabled table floor = (number : ℕ) (s : TeamState) → slice_get floor.teams number ≡ Some s → cells_of table number ≡ s.cells
 
@@ -106,7 +107,7 @@ place_alike f table floor other c tabled many same is =
     ap (λ (cs : List Cell). place_named c.name cs) (tabled c.team team.0 team.1)
     ∙ sym (ap (λ (ts : List TeamState). option_and_then found (slice_get ts c.team)) same ∙ ap (λ (o : Option TeamState). option_and_then found o) team.1)
 
--- cells that a table of the floor moves stand on the floor
+-- Cells with their places in a table of the floor have their working places on the floor.
 pub places_alike : (f : Frame) (table : Bor Cells) (floor other : FloorState) (cells : List LoadedCell) → AreTabled table.now floor
     → length floor.teams ≡ length f.teams + 1 → other.teams ≡ floor.teams → All (IsCell f) cells → map (placed_by_table (Some table)) cells ≡ map (placed_on_floor other) cells
 places_alike f table floor other [] tabled many same known = refl
@@ -118,6 +119,6 @@ places_alike f table floor other (c ∷ cells) tabled many same known =
 stood_one : (floor : FloorState) (c : LoadedCell) → AreOneCell c (placed_on_floor floor c)
 stood_one floor c = record { name = refl; team = refl; mac = refl; component = refl }
 
--- cells that make a design make one as they stand
+-- Cells that make a design also make one at their working places.
 pub design_stood : (f : Frame) (floor : FloorState) (cells : List LoadedCell) → MakeDesign f cells → MakeDesign f (map (placed_on_floor floor) cells)
 design_stood f floor cells is = design_moved f (placed_on_floor floor) (stood_one floor) cells is

@@ -1,4 +1,4 @@
--- Work on a design, step by step: what the steps after one give is what the whole gives.
+-- Work on a design, step by step: the result of the steps after one is the result of the whole.
 use Rattle.std.proofs.Common.{◌≡◌, ◌⊎◌, inl, inr, subst, sym, true, Bool, ℕ, List, [], ◌∷◌, None, Ok, Option, Some}
 use Rattle.std.specs.Prelude.{Err, IfErr, IfOk, OnErr, Result}
 use Rattle.std.proofs.lemmas.Result.{IfErr-weaker, IfOk-weaker}
@@ -21,11 +21,11 @@ use Rattle.lf_state_text.specs.declared.fault.StateFault.{StateFault}
 use Rattle.lf_floor_model.specs.States.{FloorState}
 use Rattle.lf_floor_model.specs.Designs.{initial_floor}
 
--- what holds of a status gives what is asked of it
+-- What holds of a status implies a weaker claim.
 pub weaker_ok : (r : Result ℕ Fault) (P Q : ℕ → Type 0) → IfOk r P → ((status : ℕ) → P status → Q status) → IfOk r Q
 weaker_ok r P Q is gives = IfOk-weaker r P Q gives is
 
--- a fault of a step is one of the whole
+-- A fault of a step is a fault of the whole.
 pub step_fails : (r : Result ℕ Fault) (why all also : Fault → Type 0) → IfErr r (λ fault. why fault × also fault)
     → ((fault : Fault) → why fault → all fault) → IfErr r (λ fault. all fault × also fault)
 step_fails r why all also is gives =
@@ -41,13 +41,13 @@ IsPath (Unsaved path why) = Unit {0}
 IsPath (Unlisted path why) = Unit {0}
 IsPath _ = ⊥
 
--- what more is said of the same fault
+-- A further claim about the same fault.
 pub also_fails : (r : Result ℕ Fault) (why also more : Fault → Type 0) → IfErr r (λ fault. why fault × also fault)
     → ((fault : Fault) → also fault → more fault) → IfErr r (λ fault. why fault × more fault)
 also_fails r why also more is gives =
     IfErr-weaker r (λ fault. why fault × also fault) (λ fault. why fault × more fault) (λ fault both. (both.0, gives fault both.1)) is
 
--- what is blamed, said in other words
+-- The devices that are blamed, with equivalent conditions.
 pub blames_as : (fault : Fault) (kept kept' reader reader' writer writer' export export' service service' sound sound' : Type 0)
     → BlamesDevices fault kept reader writer export service sound
     → (kept → kept') → (reader → reader') → (writer → writer') → (export → export') → (service → service') → (sound → sound')
@@ -61,13 +61,13 @@ blames_as fault kept kept' reader reader' writer writer' export export' service 
   sparing = λ is. n (blames.sparing is);
 }
 
--- where a writer alone is worked on, a fault of anything else would say anything
+-- If a task has only a writer, any claim holds of a fault of another device.
 pub writer_blames : (fault : Fault) (kept kept' reader export service sound : Type 0) (before now : Bool) → BlamesWriter fault kept before now
     → (kept → kept') → (now ≡ before → sound) → BlamesDevices fault kept' reader (now ≡ true) export service sound
 writer_blames fault kept kept' reader export service sound before now blames keeps sounds =
     blames_as fault _ _ _ _ _ _ _ _ _ _ _ _ blames keeps (λ none. absurd none) (λ is. is) (λ none. absurd none) (λ none. absurd none) sounds
 
--- an early fault blames nothing
+-- An early fault blames no device.
 pub early_blames : (kept reader writer export service sound : Type 0) (fault : Fault) → kept → sound → IsEarly fault
     → BlamesDevices fault kept reader writer export service sound
 early_blames kept reader writer export service sound (Refused file its) keeps sounds early =
@@ -92,7 +92,7 @@ early_blames kept reader writer export service sound NoMemory keeps sounds early
     record { early = λ _. keeps; reading = λ same. absurd (subst IsEarly same tt); writing = λ of. absurd of; exporting = λ of. absurd of; serving = λ of. absurd of; sparing = λ _. sounds }
 early_blames kept reader writer export service sound NoRoom keeps sounds early = absurd early
 
--- a fault of the export blames its file, or nothing
+-- A fault of the export blames its file, or no device.
 pub export_blames : (kept reader writer export service sound : Type 0) (fault : Fault) (before now : Bool) → ExportFails fault before now
     → (now ≡ true → export) → (now ≡ before → sound) → BlamesDevices fault kept reader writer export service sound
 export_blames kept reader writer export service sound (Refused file its) before now is fails sounds = absurd is
@@ -116,7 +116,7 @@ export_blames kept reader writer export service sound NoMemory before now is fai
 export_blames kept reader writer export service sound NoRoom before now is fails sounds =
     record { early = λ of. absurd of; reading = λ same. absurd (subst IsRoom same tt); writing = λ of. absurd of; exporting = λ of. absurd of; serving = λ of. absurd of; sparing = λ _. sounds is }
 
--- a refusal of a text is early
+-- A refusal of a text is early.
 pub refused_early : (kind : TextKind) (path text : List ℕ) (why : RefusalCause) (fault : Fault) → IsRefused kind path text why fault → IsEarly fault
 refused_early kind path text why (Refused file its) is = tt
 refused_early kind path text why (File file cause) is = absurd is
@@ -135,7 +135,7 @@ refused_early kind path text why (Unlisted its_path its_why) is = absurd is
 refused_early kind path text why NoMemory is = absurd is
 refused_early kind path text why NoRoom is = absurd is
 
--- so is a text that was not read
+-- A text that was not read is early too.
 pub unread_early : (gives : ReadsFile) (kind : TextKind) (path : List ℕ) (fault : Fault) → IsUnread gives kind path fault → IsEarly fault
 unread_early gives kind path (Refused file its) is = absurd is
 unread_early gives kind path (File file why) is = tt
@@ -154,31 +154,31 @@ unread_early gives kind path (Unlisted its_path its_why) is = absurd is
 unread_early gives kind path NoMemory is = tt
 unread_early gives kind path NoRoom is = absurd is
 
--- so is each fault of a file
+-- Each fault of a file is early too.
 pub file_early : (gives : ReadsFile) (kind : TextKind) (path : List ℕ) (why : List ℕ → RefusalCause) (fault : Fault) → IsFileFault gives kind path why fault
     → IsEarly fault
 file_early gives kind path why fault (inl unread) = unread_early gives kind path fault unread
 file_early gives kind path why fault (inr refused) = refused_early kind path refused.0 (why refused.0) fault refused.2
 
--- of LEF files
+-- The same for LEF files.
 pub library_early : (gives : ReadsFile) (old : Contents) (lefs : List (List ℕ)) (fault : Fault) → IsLibraryFault gives old lefs fault → IsEarly fault
 library_early gives old [] fault is = absurd is
 library_early gives old (path ∷ paths) fault (inl file) = file_early gives Lef path (IsLefRefusal old) fault file
 library_early gives old (path ∷ paths) fault (inr later) = library_early gives later.0 paths fault later.2
 
--- of a design
+-- The same for a design.
 pub design_early : (limits : Limits) (gives : ReadsFile) (path : List ℕ) (lefs : List (List ℕ)) (fault : Fault) → IsDesignFault limits gives path lefs fault → IsEarly fault
 design_early limits gives path lefs fault (inl library) = library_early gives no_library lefs fault library
 design_early limits gives path lefs fault (inr file) = file_early gives Def path (IsDefRefusal limits file.0) fault file.2
 
--- a fault before anything is written is one of the whole
+-- A fault before anything is written is a fault of the whole.
 pub first_fails : (why all : Fault → Type 0) (kept reader writer export service sound : Type 0) (fault : Fault) → kept → sound → why fault
     → ((fault : Fault) → why fault → IsEarly fault) → ((fault : Fault) → why fault → all fault)
     → all fault × BlamesDevices fault kept reader writer export service sound
 first_fails why all kept reader writer export service sound fault keeps sounds is early gives =
     (gives fault is, early_blames kept reader writer export service sound fault keeps sounds (early fault is))
 
--- why the design of a text is not described is why that of a file with this text is not
+-- Why the design of a text is not described is why that of a file with this text is not.
 pub file_fails : (limits : Limits) (gives : ReadsFile) (path : List ℕ) (library : Contents) (text : List ℕ) (why : Document → Loaded → Type 0) (fault : Fault) → gives path (Some text)
     → IsRefused Def path text (IsDefRefusal limits library text) fault
     ⊎ ((d : Document) × (document_of text ≡ Ok d) × ((loaded : Loaded) × IsLoadedIn limits library d loaded × why d loaded))
@@ -187,7 +187,7 @@ pub file_fails : (limits : Limits) (gives : ReadsFile) (path : List ℕ) (librar
 file_fails limits gives path library text why fault given (inl refused) = inl (inr (text, given, refused))
 file_fails limits gives path library text why fault given (inr work) = inr (text, given, work)
 
--- and of a file over LEF files that make this library
+-- The same for a file over LEF files that make this library.
 pub files_fail : (limits : Limits) (gives : ReadsFile) (path : List ℕ) (lefs : List (List ℕ)) (state : Option (List ℕ)) (library : Contents) (before after : Option (List ℕ))
     (fault : Fault) → IsLibraryOf gives no_library lefs library
     → IsFileFault gives Def path (IsDefRefusal limits library) fault
@@ -203,18 +203,18 @@ files_fail limits gives path lefs state library before after fault is (inr work)
   unshown = work.2.2.2;
 }
 
--- what is said of a fault, and what holds where there is one, give what is asked of it
+-- What holds of a fault, together with what holds if there is one, implies the claim.
 pub fails_and : {A : Type 0} (r : Result A Fault) (P R : Fault → Type 0) (Q : Type 0) → IfErr r P → OnErr r Q → ((fault : Fault) → P fault → Q → R fault)
     → IfErr r R
 fails_and (Ok value) P R Q is also gives = tt
 fails_and (Err fault) P R Q is also gives = gives fault is also
 
--- where no fault can be there is none
+-- If no fault is possible, there is no fault.
 pub never_fails : {A : Type 0} (r : Result A Fault) (P : Fault → Type 0) (Q : Type 0) → IfErr r P → ((fault : Fault) → P fault → ⊥) → OnErr r Q
 never_fails (Ok value) P Q is none = tt
 never_fails (Err fault) P Q is none = absurd (none fault is)
 
--- a text that tells no state is refused before anything is written
+-- A text without a state is refused before anything is written.
 refused_state_early : (path text : List ℕ) (why : StateFault) (fault : Fault) → IsStateRefused path text why fault → IsEarly fault
 refused_state_early path text why (Refused file its) is = absurd is
 refused_state_early path text why (File file cause) is = absurd is
@@ -233,36 +233,36 @@ refused_state_early path text why (Unlisted its_path its_why) is = absurd is
 refused_state_early path text why NoMemory is = tt
 refused_state_early path text why NoRoom is = absurd is
 
--- so is each fault of its text
+-- The same for each fault of its text.
 state_text_early : (opened : FloorState) (path text : List ℕ) (fault : Fault) → IsStateTextFault opened path text fault → IsEarly fault
 state_text_early opened path text fault (inl memory) = subst IsEarly (sym memory) tt
 state_text_early opened path text fault (inr refused) = refused_state_early path text refused.0 fault refused.2
 
--- and of its file
+-- The same for each fault of its file.
 state_early : (gives : ReadsFile) (state : Option (List ℕ)) (opened : FloorState) (fault : Fault) → IsStateFault gives state opened fault → IsEarly fault
 state_early gives None opened fault is = absurd is
 state_early gives (Some path) opened fault (inl unread) = unread_early gives State path fault unread
 state_early gives (Some path) opened fault (inr refused) = state_text_early opened path refused.0 fault refused.2
 
--- and of the floor with which work begins
+-- The same for each fault of the floor with which work begins.
 pub unbegun_early : (gives : ReadsFile) (state : Option (List ℕ)) (loaded : Loaded) (fault : Fault) → IsNotOpened gives state loaded fault → IsEarly fault
 unbegun_early gives state loaded fault (inl memory) = subst IsEarly (sym memory) tt
 unbegun_early gives state loaded fault (inr state_fault) = state_early gives state (initial_floor loaded) fault state_fault
 
--- a design that is opened is that of its files
+-- An opened design is that of its files.
 pub design_opened : (limits : Limits) (gives : ReadsFile) (def : List ℕ) (lefs : List (List ℕ)) (text : List ℕ) (document : Document) (loaded : Loaded)
     → IsOpened limits gives def lefs text document loaded → IsDesignOf limits gives def lefs loaded
 design_opened limits gives def lefs text document loaded is =
     (is.library, is.lefs_are, record { text = text; given = is.given; design = (document, is.read, is.loads) })
 
--- a design that is not brought into the state that was asked for is not looked at: that is told before anything is written
+-- A design that cannot be brought into the requested state is reported before anything is written.
 pub unseen_early : (limits : Limits) (gives : ReadsFile) (path : List ℕ) (library : Contents) (text : List ℕ) (document : Document) (state : Option (List ℕ)) (fault : Fault)
     → IsRefused Def path text (IsLoadRefusal limits library document) fault
     ⊎ ((loaded : Loaded) × IsLoadedIn limits library document loaded × IsNotOpened gives state loaded fault) → IsEarly fault
 unseen_early limits gives path library text document state fault (inl refused) = refused_early Def path text (IsLoadRefusal limits library document) fault refused
 unseen_early limits gives path library text document state fault (inr (loaded, loads, unbegun)) = unbegun_early gives state loaded fault unbegun
 
--- and it is why its document is not described
+-- It is also why its document is not described.
 pub unseen_fails : (limits : Limits) (gives : ReadsFile) (path : List ℕ) (library : Contents) (text : List ℕ) (document : Document) (state before after : Option (List ℕ))
     (fault : Fault) → document_of text ≡ Ok document
     → IsRefused Def path text (IsLoadRefusal limits library document) fault
@@ -272,7 +272,7 @@ pub unseen_fails : (limits : Limits) (gives : ReadsFile) (path : List ℕ) (libr
 unseen_fails limits gives path library text document state before after fault is (inl refused) = inl (text_refused limits library path text document fault is refused)
 unseen_fails limits gives path library text document state before after fault is (inr (loaded, loads, unbegun)) = inr (document, is, (loaded, loads, inl unbegun))
 
--- why there is no floor with which work begins is told before anything is written
+-- Why there is no floor with which work begins is reported before anything is written.
 pub floor_early : (limits : Limits) (gives : ReadsFile) (def : List ℕ) (lefs : List (List ℕ)) (state : Option (List ℕ)) (fault : Fault) → IsFloorFault limits gives def lefs state fault
     → IsEarly fault
 floor_early limits gives def lefs state fault (inl design) = design_early limits gives def lefs fault design

@@ -1,7 +1,7 @@
--- What work is given.
+-- The inputs of a task.
 use Rattle.std.specs.Prelude.{ℕ, List, Option, option_map}
 use Rattle.std.specs.Borrow.{Bor}
 
--- the path that is given, if one is
+-- The given path, if any.
 abbrev pub path_of : Option (Bor (List ℕ)) → Option (List ℕ)
 path_of path = option_map (λ path. path.now) path

@@ -10,16 +10,16 @@ use Rattle.lf_cells.specs.Cells.{Cells, cells_of}
 use Rattle.lf_repair_bounds.specs.Copies.{AreCopies}
 use Rattle.lf_task_files.specs.Standing.{place_named}
 
--- the cells, each with its name
+-- The cells, each with its name.
 abbrev pub cells_in : CellParts → List LoadedCell
 cells_in parts = with_names parts.names parts.cells.items
 
--- a design of such a frame with these cells
+-- A design with a copy of this frame and with these cells.
 pub record IsCopyWithCells (f : Frame) (all : List LoadedCell) (twin : Loaded) : Type 0 where
   pub frame : AreCopies f twin.frame
   pub cells : twin.cells ≡ all
 
--- the cell where the table has it, if there is a table
+-- The cell with its place in the table, if there is a table.
 abbrev pub placed_by_table : Option (Bor Cells) → LoadedCell → LoadedCell
 placed_by_table None c = c
 placed_by_table (Some table) c = record c { place = place_named c.name (cells_of table.now c.team) }

@@ -34,7 +34,7 @@ fn check_design<'a, W: Sink>(
     }
 }
 
-/// The design of these files as it is looked at.
+/// Loads the design of these files with the places to check.
 fn viewed_files<'a, T: InputFiles>(
     alloc: Global,
     texts: &T,
@@ -49,9 +49,12 @@ fn viewed_files<'a, T: InputFiles>(
     viewed_design(alloc, texts, loaded, inputs.state)
 }
 
-/// Writes the report of the design of these files, at the places of its DEF text, or at the working places of the state where one is
-/// given, and returns the exit status: 0, or 4 if the design is not fully legal. `Err` is the first fault of: the files, LEF before DEF;
-/// the design; the state; memory for the report; the writer, to which at most a front of the report then went.
+/// Writes the report of the design of these files. The cells are at the places of the DEF text, or
+/// at the working places of the state if one is given. Returns the exit status: 0, or 4 if the
+/// design is not fully legal.
+///
+/// `Err` is the first fault, in this order: the LEF files, the DEF file, the design, the state,
+/// memory for the report, the writer. At most a front of the report is then written.
 pub fn check<'a, T: InputFiles, W: Sink>(
     alloc: Global,
     texts: &T,

@@ -1,4 +1,4 @@
-//! Whether the committed design of a floor is fully legal.
+//! The check whether the committed design of a floor is fully legal.
 
 ghost use Rattle.std.specs.Prelude.{◌≡◌, ◌↔◌, ◌+◌, ◌++◌, ◌≤◌, [], ◌∷◌, All, IfOk, IsTrue, OnOk, Some, count_by, is_none, length, map, option_map, slice_get};
 ghost use Rattle.lf_cells.specs.declared.cell.Cell.{Cell};
@@ -18,7 +18,7 @@ use lf_segments::IndexedFrame;
 use lf_task_designs::illegal_in;
 use std::alloc::{AllocError, Global};
 
-/// The cell at its committed place; none if there is no such cell.
+/// Returns the cell at its committed place, or `None` if there is no such cell.
 fn listed_cell<'a>(cells: &'a CellTable, id: CellId) -> Option<Listed<&'a [u8]>>
     ensures { option_map named result ≡ option_map (committed_listed id.team) (cell_at cells.now id) }
 {
@@ -31,7 +31,7 @@ fn listed_cell<'a>(cells: &'a CellTable, id: CellId) -> Option<Listed<&'a [u8]>>
     })
 }
 
-/// Appends the cell at its committed place, if there is such a cell.
+/// Appends the cell at its committed place, if it exists. `Err` if an allocation fails.
 fn push_cell<'a>(
     cells: &'a CellTable,
     id: CellId,
@@ -46,7 +46,7 @@ fn push_cell<'a>(
     Ok(())
 }
 
-/// The team's cells at their committed places.
+/// Lists the team's cells at their committed places. `Err` if an allocation fails.
 fn listed_team(
     alloc: Global,
     cells: &CellTable,
@@ -62,21 +62,22 @@ fn listed_team(
     Ok(listed)
 }
 
-/// How many of the cells are unplaced.
+/// Counts the unplaced cells.
 fn unplaced_in(cells: &[Listed<&[u8]>]) -> usize
     ensures { result ≡ count_by (λ c. is_none c.place) (map named cells.now) }
 {
     cells.iter().filter(|cell| cell.place.is_none()).count()
 }
 
-/// Whether both numbers are 0.
+/// Returns whether both numbers are 0.
 fn are_none(unplaced: usize, illegal: usize) -> bool
     ensures { IsTrue result ↔ ((unplaced ≡ 0) × (illegal ≡ 0)) }
 {
     unplaced == 0 && illegal == 0
 }
 
-/// Whether the cells, with no padding, make a fully legal design.
+/// Returns whether the cells, without padding, make a fully legal design. `Err` if an allocation
+/// fails.
 fn are_legal(
     alloc: Global,
     plan: &IndexedFrame<'_>,
@@ -91,7 +92,8 @@ fn are_legal(
     Ok(are_none(unplaced_in(cells), illegal_in(&verdicts)))
 }
 
-/// Whether each cell of the team of that number has a committed place that is team-legal.
+/// Returns whether each cell of the team of this number has a committed place that is team-legal.
+/// `Err` if an allocation fails.
 fn is_team_legal(
     alloc: Global,
     floor: &Floor<IndexSeeker>,
@@ -107,7 +109,7 @@ fn is_team_legal(
     are_legal(alloc, &placement.indexed_frame(), &cells)
 }
 
-/// Whether the committed design is fully legal.
+/// Returns whether the committed design is fully legal.
 ///
 /// `Err` if an allocation fails.
 pub fn is_committed_legal(alloc: Global, floor: &Floor<IndexSeeker>) -> Result<bool, AllocError>

@@ -1,4 +1,5 @@
-//! Copies of designs and of their cells.
+//! Copies of designs and of their cells. Each function that allocates returns `Err` if an
+//! allocation fails.
 
 ghost use Rattle.std.specs.Prelude.{◌≡◌, IfOk, length, map, slice_get};
 ghost use Rattle.lf_cells.specs.Cells.{cells_of};
@@ -12,7 +13,8 @@ use lf_floorplan::{CellParts, Frame, Loaded, LoadedCells, PackedPlace, Place, Un
 use lf_repair_bounds::clone_frame;
 use std::alloc::{AllocError, Global};
 
-/// The working place of the team's cell of that name; none if it is unplaced, or there is no such cell.
+/// Returns the working place of the team's cell of this name. `None` if it is unplaced, or there is
+/// no such cell.
 fn place_named(table: &CellTable, team: usize, name: &[u8]) -> Option<Place>
     ensures { result ≡ place_named name.now (cells_of table.now team) }
 {
@@ -20,7 +22,8 @@ fn place_named(table: &CellTable, team: usize, name: &[u8]) -> Option<Place>
     table.working(id)
 }
 
-/// The cell of that name where the table has it, if there is a table.
+/// Returns the cell of this name with its place in the table. If there is no table, returns the
+/// cell unchanged.
 fn moved_by(table: Option<&CellTable>, name: &[u8], cell: UnnamedCell) -> UnnamedCell
     ensures { with_name name.now result ≡ placed_by_table table.entry (with_name name.now cell) }
 {
@@ -33,7 +36,7 @@ fn moved_by(table: Option<&CellTable>, name: &[u8], cell: UnnamedCell) -> Unname
     }
 }
 
-/// The cell of this position without its name; none if there is none.
+/// Returns the cell of this position without its name, or `None` if there are fewer cells.
 fn plain_at(parts: &CellParts, at: usize) -> Option<UnnamedCell>
     ensures { result ≡ slice_get parts.now.cells.items at }
 {
@@ -43,7 +46,7 @@ fn plain_at(parts: &CellParts, at: usize) -> Option<UnnamedCell>
     }
 }
 
-/// Copies of the cells, each where the table has it, if there is a table.
+/// Copies the cells, each with its place in the table if there is a table.
 pub(crate) fn copy_cells(
     alloc: Global,
     parts: &CellParts,
@@ -62,7 +65,7 @@ pub(crate) fn copy_cells(
     Ok(copies)
 }
 
-/// The design of this frame and these cells.
+/// Makes a design of this frame and these cells.
 pub(crate) fn design_of(frame: Frame, cells: LoadedCells) -> Loaded
     requires { MakeDesign frame cells }
     ensures frame { result.frame ≡ frame }
@@ -71,7 +74,7 @@ pub(crate) fn design_of(frame: Frame, cells: LoadedCells) -> Loaded
     Loaded { frame, cells }
 }
 
-/// A copy of the design of this frame and these cells.
+/// Copies the design of this frame and these cells.
 pub(crate) fn copy_of_design(
     alloc: Global,
     frame: &Frame,

@@ -45,7 +45,7 @@ fn describe_loaded<'a, W: Sink>(
     }
 }
 
-/// The design of the document, that of the DEF text, over the library, as it is looked at.
+/// Loads the design of the DEF text's document over the library, with the places to describe.
 fn seen_of_document<'a, T: InputFiles>(
     alloc: Global,
     texts: &T,
@@ -110,8 +110,9 @@ fn describe_file<'a, T: InputFiles, W: Sink>(
     describe_text(alloc, texts, library, inputs, &text, writer)
 }
 
-/// Writes the description of the design of these files, at the places of its DEF text, or at the working places of the state where one
-/// is given, and returns the exit status: 0, or 4 if the design is not fully legal. `Err` as of `check`.
+/// Writes the description of the design of these files. The cells are at the places of the DEF
+/// text, or at the working places of the state if one is given. Returns the exit status: 0, or 4 if
+/// the design is not fully legal. Errors are those of `check`.
 pub fn describe_files<'a, T: InputFiles, W: Sink>(
     alloc: Global,
     texts: &T,

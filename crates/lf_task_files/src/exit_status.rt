@@ -1,7 +1,8 @@
-//! The exit statuses of work that is done.
+//! The exit statuses of tasks that succeeded.
 
-/// The exit status of a task that was done.
+/// The exit status of a task that succeeded.
 pub const LEGAL_STATUS: u8 = 0;
 
-/// The exit status of a check, a description or a repair that was done where the design is not fully legal.
+/// The exit status of a check, a description or a repair that succeeded, if the design is not fully
+/// legal.
 pub const ILLEGAL_STATUS: u8 = 4;

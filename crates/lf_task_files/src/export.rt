@@ -1,4 +1,4 @@
-//! The text that is exported: that of the design, with the committed places of a floor in it.
+//! The exported text: that of the design, with the committed places of a floor.
 
 ghost use Rattle.std.specs.Prelude.{◌≡◌, ◌||◌, ℕ, Bool, List, None, Option, Some, IfErr, OnErr, OnOk, map, option_map};
 ghost use Rattle.lf_io_files.specs.Shelf.{is_file};
@@ -19,9 +19,9 @@ use std::io;
 use std::io::Write;
 use std::marker::Model;
 
-/// The text, which is written from what it was read from; places are looked up one by one.
+/// The exported text, made from the original text while it is written. Places are found one by one.
 ///
-/// Contracts see what it was read from, its clauses and the places.
+/// Contracts see the original text, its clauses and the places.
 #[derive(Drop)]
 struct ExportedText<'a> {
     text: &'a [u8],
@@ -61,7 +61,8 @@ impl<'a> TextSource for ExportedText<'a> {
     }
 }
 
-/// The text with these clauses, and the committed places of the floor in it.
+/// Makes the exported text from the original with these clauses and the committed places of the
+/// floor.
 fn exported_text<'a>(
     floor: &'a Floor<IndexSeeker>,
     text: &'a [u8],
@@ -78,7 +79,7 @@ fn exported_text<'a>(
     }
 }
 
-/// The fault of a text that is not put into its file.
+/// Makes the fault of an exported text that is not written to its file.
 fn export_fault<'f>(path: &'f str, unwritten: WriteFailure) -> Fault<'f>
     ensures told { result ≡ export_fault path.entry unwritten }
     ensures fault { IsExportFault (Some path.now) result }
@@ -90,7 +91,8 @@ fn export_fault<'f>(path: &'f str, unwritten: WriteFailure) -> Fault<'f>
     }
 }
 
-/// Makes sure, as far as that shows beforehand, that a text can be written to the file of that path, if one is given.
+/// Checks that a text can be written to the file of this path, if one is given, as far as this can
+/// be known in advance.
 pub fn check_export_path<'a, E: OutputFiles>(
     path: Option<&'a str>,
     exports: &mut E,
@@ -110,7 +112,7 @@ pub fn check_export_path<'a, E: OutputFiles>(
     }
 }
 
-/// Writes the exported text to the file of that path, if one is given.
+/// Writes the exported text to the file of this path, if one is given.
 pub fn save_export<'a, E: OutputFiles>(
     floor: &Floor<IndexSeeker>,
     original: &SourceText,

@@ -1,4 +1,4 @@
-//! What work is done over, and the floor with which it begins.
+//! The files that a task reads, and the floor with which its work begins.
 
 ghost use Rattle.std.specs.Prelude.{◌≡◌, IfErr, IfOk};
 ghost use Rattle.lf_floor_model.specs.Designs.{initial_floor};
@@ -12,7 +12,7 @@ use lf_legalize::IndexSeeker;
 use lf_task_designs::{Fault, InputFiles};
 use std::alloc::{AllocError, Global};
 
-/// What work is done over: the files of the command line, those of its design and that of the state with which it begins, and
+/// The files that a task reads: those of its design and the state with which it begins. It also has
 /// the limits of the design.
 #[derive(Clone, Copy)]
 pub struct DesignInput<'a> {
@@ -25,7 +25,7 @@ pub struct DesignInput<'a> {
     pub limits: Limits,
 }
 
-/// The floor of the design, with an index of its rows for the search for best places.
+/// Makes the floor of the design, with an index of its rows for the search for best places.
 ///
 /// `Err` if an allocation fails.
 pub fn start_floor(alloc: Global, loaded: Loaded) -> Result<Floor<IndexSeeker>, AllocError>
@@ -35,9 +35,10 @@ pub fn start_floor(alloc: Global, loaded: Loaded) -> Result<Floor<IndexSeeker>, 
     Floor::start(alloc, loaded, seeker)
 }
 
-/// The floor of the design with which work begins: in the state that the file of that path tells, if one is given.
+/// Makes the floor with which work on the design begins. If a path is given, the floor is in the
+/// state of that file.
 ///
-/// `Err` is want of memory, or why the file tells no state of it.
+/// `Err` if an allocation fails, or the file has no state of the design.
 pub fn open_floor<'a, T: InputFiles>(
     alloc: Global,
     texts: &T,

@@ -1,14 +1,38 @@
-//! Work on designs of files: they are brought into states, checked and described, and texts are put into files.
+//! Works on designs of files: restores a saved state, checks, describes, and writes the exported
+//! text and the state.
 //!
-//! A design is opened (`lf_task_designs`), and its floor brought into the state of a state text where one is given (`open_floor`). `check`
-//! writes the report of the design, `describe_files` its description; `is_committed_legal` judges the committed places of a floor. The
-//! exported text and the state are put into files, each where it is asked for (`write_outputs`), and their paths are tried before anything
-//! is done. Calls that are a whole task return the exit status, 0, or 4 where the design is not fully legal, or the fault, of which
-//! nothing is written here.
+//! `open_floor` makes the floor of a loaded design (`lf_task_designs`), in the state of a state
+//! file if one is given. `check` writes the report of the design, and `describe_files` its
+//! description. `is_committed_legal` checks the committed places of a floor. `write_outputs` writes
+//! the exported text and the state, each if requested. `check_outputs` tries their paths before any
+//! work begins.
+//!
+//! Functions that are a whole task return the exit status: 0, or 4 if the design is not fully
+//! legal. Otherwise they return the fault, which is not printed here.
+//!
+//! Used by `lf_task_serve`, `lf_task_repair` and `lf_app`.
+//!
+//! Modules, in reading order:
+//!
+//! - `exit_status`: the exit statuses of tasks that succeeded
+//! - `inputs`: the files that a task reads, and the floor with which its work begins
+//! - `restore`: a floor in the state of a file
+//! - `copies`: copies of designs and of their cells
+//! - `viewed`: the design with the places to show, of the DEF text or of a state
+//! - `check_task`: the check of a design
+//! - `describe_task`: the description of a design
+//! - `committed_legality`: whether the committed design of a floor is fully legal
+//! - `export`: the exported text
+//! - `save`: the saved state
+//! - `outputs`: the exported text and the state, written after the work
+//!
+//! From `crates/lf_task_serve/src/serve_task.rt`:
 //!
 //! ```
-//! let inputs = DesignInput { def: "chip.def", lefs, state: None, limits };
-//! let status = check(alloc, &texts, inputs, &mut writer)?; // 0, or 4
+//! check_outputs(outputs, &mut around.exports)?;
+//! serve_source(alloc, around, floor, lines)?;
+//! write_outputs(floor, original, outputs, &mut around.exports)?;
+//! Ok(0)
 //! ```
 #![tactic(auto)]
 

@@ -1,4 +1,4 @@
-//! The files that work on a design writes once its lines are answered: the exported text, and then the state.
+//! The files that are written after the lines were answered: the exported text, and then the state.
 
 ghost use Rattle.std.specs.Prelude.{◌≡◌, ◌⊎◌, ℕ, List, None, Option, IfErr, OnErr, OnOk, option_copied};
 ghost use Rattle.lf_def.specs.Document.{Document};
@@ -17,16 +17,16 @@ use lf_io_files::OutputFiles;
 use lf_legalize::IndexSeeker;
 use lf_task_designs::{Fault, SourceText};
 
-/// The paths of what is written, each if it is asked for.
+/// The paths of the files to write, each if requested.
 #[derive(Clone, Copy)]
 pub struct OutputPaths<'a> {
-    /// That of the exported text.
+    /// The path of the exported text.
     pub export: Option<&'a str>,
-    /// That of the state.
+    /// The path of the state.
     pub save: Option<&'a str>,
 }
 
-/// Makes sure, as far as that shows beforehand, that what is asked for can be written.
+/// Checks that the requested files can be written, as far as this can be known in advance.
 pub fn check_outputs<'a, E: OutputFiles>(
     outputs: OutputPaths<'a>,
     exports: &mut E,
@@ -41,7 +41,8 @@ pub fn check_outputs<'a, E: OutputFiles>(
     try_save(outputs.save, exports)
 }
 
-/// Writes what is asked for: the exported text and then the state of the floor. The DEF text is kept where it is to be exported.
+/// Writes the requested files: the exported text, and then the state of the floor. `original` is
+/// the DEF text, which is needed to export.
 pub fn write_outputs<'a, E: OutputFiles>(
     floor: &Floor<IndexSeeker>,
     original: Option<&SourceText>,

@@ -1,4 +1,4 @@
-//! The state that a floor is brought into before work on it begins: the one that the text of a file tells.
+//! Restores a floor to the state of a file, before work on it begins.
 
 ghost use Rattle.std.specs.Prelude.{◌≡◌, ◌⊎◌, ◌+◌, IfErr, IfOk, List, Ok, ℕ, length};
 ghost use Rattle.lf_state_text.specs.Pieces.{joined};
@@ -19,7 +19,7 @@ use lf_task_designs::{Fault, InputFiles, StateRefusal, TextFile, TextKind, read_
 use std::alloc::{AllocError, Global};
 use std::collections::VecDeque;
 
-/// The file of a saved state.
+/// Makes the description of a state file.
 fn state_file(path: &str) -> TextFile<'_>
     ensures kind { result.kind ≡ State }
     ensures path { result.path.now ≡ path.now }
@@ -30,7 +30,8 @@ fn state_file(path: &str) -> TextFile<'_>
     }
 }
 
-/// The fault of the text of the file of that path, which is refused so: that an allocation failed, if there is no memory to tell more.
+/// Makes the fault of the refused text of the file of this path. If memory for its details runs
+/// out, the fault is a failed allocation.
 fn refused_state<'a>(alloc: Global, path: &'a str, refused: &StateRefused) -> Fault<'a>
     ensures { (text : List ℕ) → HasEnd text refused.now → IsStateRefused path.now text refused.now.fault result }
 {
@@ -40,7 +41,7 @@ fn refused_state<'a>(alloc: Global, path: &'a str, refused: &StateRefused) -> Fa
     }
 }
 
-/// What the text of the file of that path, of which these are the pieces, tells of the teams of the floor's design.
+/// Parses the state text of the file of this path, given in chunks, for the design of the floor.
 fn read_rows<'a>(
     alloc: Global,
     floor: &Floor<IndexSeeker>,
@@ -58,7 +59,8 @@ fn read_rows<'a>(
     }
 }
 
-/// The same of the file of that path: each piece of its text is let go once it was read.
+/// Reads and parses the state file of this path. Each chunk of its text is dropped as soon as it
+/// has been read.
 fn rows_of_file<'a, T: InputFiles>(
     alloc: Global,
     texts: &T,
@@ -73,7 +75,8 @@ fn rows_of_file<'a, T: InputFiles>(
     read_rows(alloc, floor, path, pieces)
 }
 
-/// The floor in the state that the file of that path tells of its design: the text is let go before anything is built of it.
+/// Returns the floor in the state of the file of this path. The text is dropped before the state is
+/// built.
 fn restore_file<'a, T: InputFiles>(
     alloc: Global,
     texts: &T,
@@ -91,7 +94,8 @@ fn restore_file<'a, T: InputFiles>(
     }
 }
 
-/// The floor of the design of which no cell is placed yet, with an index of its rows for the search for best places.
+/// Makes the floor of the design with no cell placed, with an index of its rows for the search for
+/// best places.
 fn start_unplaced(alloc: Global, loaded: Loaded) -> Result<Floor<IndexSeeker>, AllocError>
     ensures { IfOk result (ShareDesign (initial_floor loaded)) }
 {
@@ -99,8 +103,8 @@ fn start_unplaced(alloc: Global, loaded: Loaded) -> Result<Floor<IndexSeeker>, A
     Floor::start_unplaced(alloc, loaded, seeker)
 }
 
-/// The floor of the design in the state that the file of that path tells. It begins with no cell placed: the places of the DEF text
-/// are not those of the state.
+/// Makes the floor of the design in the state of the file of this path. It begins with no cell
+/// placed, because the state's places differ from those of the DEF text.
 pub(crate) fn floor_in_state<'a, T: InputFiles>(
     alloc: Global,
     texts: &T,

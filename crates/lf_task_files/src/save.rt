@@ -1,4 +1,4 @@
-//! The state that is saved: a text from which a floor is restored as it stands.
+//! The saved state: a text from which the floor is restored.
 
 ghost use Rattle.std.specs.Prelude.{◌≡◌, ◌||◌, Bool, None, Some, IfErr, OnErr, OnOk};
 ghost use Rattle.std.specs.Io.KnownBytes.{Appends};
@@ -17,11 +17,11 @@ use std::io;
 use std::io::Write;
 use std::marker::Model;
 
-/// A text on its way to a writer. Once a write has failed, no other is made.
+/// An output into a writer. After a write has failed, no other is made.
 #[derive(Drop)]
 struct WriterOutput<'a, W> {
     writer: &'a mut W,
-    /// The first write that failed.
+    /// The error of the first write that failed.
     fault: Option<io::Error>,
 }
 
@@ -37,7 +37,7 @@ impl<'a, W: Write> Output for WriterOutput<'a, W> {
     }
 }
 
-/// Puts the text of the state on its way.
+/// Writes the text of the state to the output.
 fn write_snapshot_to<W: Write>(writing: &mut WriterOutput<'_, W>, state: &StateSnapshot<'_>)
     requires { writing.old.fault ≡ None }
     ensures same { writing.new.writer.ghost_name ≡ writing.old.writer.ghost_name }
@@ -47,7 +47,7 @@ fn write_snapshot_to<W: Write>(writing: &mut WriterOutput<'_, W>, state: &StateS
     state.write_text(writing);
 }
 
-/// Writes the text of the state, piece by piece.
+/// Writes the text of the state, in chunks.
 fn write_snapshot<W: Write>(writer: &mut W, state: &StateSnapshot<'_>) -> io::Result<()>
     ensures { OnOk result (Appends (W.contents writer.old) (W.contents writer.new) (state_text_of state.now)) }
 {
@@ -62,9 +62,9 @@ fn write_snapshot<W: Write>(writer: &mut W, state: &StateSnapshot<'_>) -> io::Re
     }
 }
 
-/// The text of a state, which is written from the floor.
+/// The text of a state, written from the floor.
 ///
-/// Contracts see what the state tells.
+/// Contracts see the state.
 #[derive(Drop)]
 struct StateText<'a> {
     state: StateSnapshot<'a>,
@@ -78,7 +78,7 @@ impl<'a> TextSource for StateText<'a> {
     }
 }
 
-/// The fault of a state that is not put into its file.
+/// Makes the fault of a state that is not written to its file.
 fn save_fault<'f>(path: &'f str, unwritten: WriteFailure) -> Fault<'f>
     ensures told { result ≡ save_fault path.entry unwritten }
     ensures fault { IsSaveFault (Some path.now) result }
@@ -90,7 +90,8 @@ fn save_fault<'f>(path: &'f str, unwritten: WriteFailure) -> Fault<'f>
     }
 }
 
-/// Makes sure, as far as that shows beforehand, that a state can be written to the file of that path, if one is given.
+/// Checks that a state can be written to the file of this path, if one is given, as far as this can
+/// be known in advance.
 pub fn try_save<'a, E: OutputFiles>(path: Option<&'a str>, exports: &mut E) -> Result<(), Fault<'a>>
     ensures err { IfErr result (IsSaveFault (path_of path.entry)) }
     ensures fails { IfErr result (λ fault. ExportFails fault (E.has_failed exports.old) (E.has_failed exports.new)) }
@@ -107,7 +108,7 @@ pub fn try_save<'a, E: OutputFiles>(path: Option<&'a str>, exports: &mut E) -> R
     }
 }
 
-/// Writes the state of the floor to the file of that path, if one is given.
+/// Writes the state of the floor to the file of this path, if one is given.
 pub fn save_to<'a, E: OutputFiles>(
     floor: &Floor<IndexSeeker>,
     path: Option<&'a str>,

@@ -1,6 +1,8 @@
-//! The design that is looked at: as it was loaded, or as its cells stand in a saved state.
+//! The design that `check` and `describe` show: as loaded, or with the working places of a saved
+//! state.
 //!
-//! A floor keeps the design that it began with, so it begins with a copy of this one; its cells are then looked up by their names.
+//! A floor takes ownership of its design, so it is made from a copy. The places are then found by
+//! the cells' names.
 
 ghost use Rattle.std.specs.Prelude.{◌≡◌, ◌⊎◌, IfErr, IfOk, length, map};
 ghost use Rattle.lf_floorplan.specs.declared.loaded.Loaded.{Loaded};
@@ -19,7 +21,8 @@ use lf_floorplan::{CellParts, Frame, Loaded, LoadedCells};
 use lf_task_designs::{Fault, InputFiles};
 use std::alloc::Global;
 
-/// The cells of a design of this frame, each where it stands in the state that the file of that path tells.
+/// Returns the cells of a design of this frame, with their working places in the state of the file
+/// of this path.
 fn cells_in_state<'a, T: InputFiles>(
     alloc: Global,
     texts: &T,
@@ -40,7 +43,7 @@ fn cells_in_state<'a, T: InputFiles>(
     Ok(cells)
 }
 
-/// The design as it stands in the state that the file of that path tells.
+/// Returns the design with the working places in the state of the file of this path.
 fn design_in_state<'a, T: InputFiles>(
     alloc: Global,
     texts: &T,
@@ -56,7 +59,8 @@ fn design_in_state<'a, T: InputFiles>(
     Ok(design_of(frame, stood))
 }
 
-/// The design as it is looked at: as it was loaded, or in the state that the file of that path tells, if one is given.
+/// Returns the design to show: as loaded, or with the working places in the state of the file of
+/// this path, if one is given.
 pub(crate) fn viewed_design<'a, T: InputFiles>(
     alloc: Global,
     texts: &T,

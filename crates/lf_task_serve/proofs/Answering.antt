@@ -1,4 +1,4 @@
--- Lines that break off.
+-- Lines that end early.
 use Rattle.std.proofs.Common.{◌≡◌, ◌∙◌, ◌<◌, ◌≤◌, ℕ, zero, suc, arith, sym, true, ap, is_some, Bool, None, Some, false, refl, subst}
 use Rattle.std.proofs.lemmas.Bool.{false≢true}
 use Rattle.std.specs.Prelude.{◌↔◌, unwrap_or}
@@ -37,7 +37,7 @@ IsByeEnd _ = ⊥
 own : (is fault : Fault) → Some is ≡ Some fault → is ≡ fault
 own is fault same = ap (λ o. unwrap_or o is) same
 
--- lines that break off blame the reader or the writer, as serving them tells of it
+-- Lines that end early blame the reader or the writer, as serving them reports.
 pub breaks_blame : (end : Ending) (fault : Fault) (kept reader writer export service : Type 0) (read_failed write_failed : Bool)
     → ending_fault end ≡ Some fault
     → (end ≡ ending.ReadFault → reader) → ((end ≡ ending.ReadFault → ⊥) → read_failed ≡ false)
@@ -58,7 +58,7 @@ breaks_blame ending.OutOfMemory fault kept reader writer export service read_fai
     subst (λ (f : Fault). BlamesDevices f kept reader writer export service ((read_failed ≡ false) × (write_failed ≡ false))) (own OutOfMemory fault same)
     record { early = λ of. absurd of; reading = λ other. absurd (subst IsFull other tt); writing = λ of. absurd of; exporting = λ of. absurd of; serving = λ of. absurd of; sparing = λ _. (readable (λ e. absurd (subst IsFullEnd e tt)), writable (λ e. absurd (subst IsFullEnd e tt))) }
 
--- lines that were answered to their end leave a reader and a writer that have not failed
+-- After lines that were answered to their end, neither the reader nor the writer has failed.
 pub ends_well : (end : Ending) (read_failed write_failed : Bool) → None ≡ ending_fault end
     → ((end ≡ ending.ReadFault → ⊥) → read_failed ≡ false) → ((end ≡ ending.WriteFault → ⊥) → write_failed ≡ false)
     → (read_failed ≡ false) × (write_failed ≡ false)
@@ -69,7 +69,7 @@ ends_well ending.WriteFault read_failed write_failed same readable writable = ab
 ends_well ending.TooManyLines read_failed write_failed same readable writable = absurd (false≢true (ap is_some same))
 ends_well ending.OutOfMemory read_failed write_failed same readable writable = absurd (false≢true (ap is_some same))
 
--- what is blamed where lines are answered, said in other words
+-- The devices that are blamed for lines, with equivalent conditions.
 pub streams_blame : (limit : ℕ) (fault : Fault) (kept : Type 0) (read_failed : Bool) (old_reads new_reads : ℕ) (write_failed : Bool) (export service sound : Type 0)
     → BlamesStreams limit fault kept read_failed old_reads new_reads write_failed → ((read_failed ≡ false) × (write_failed ≡ false) → sound)
     → BlamesDevices fault kept (ReadsFail limit read_failed old_reads new_reads) (write_failed ≡ true) export service sound
@@ -82,7 +82,7 @@ streams_blame limit fault kept read_failed old_reads new_reads write_failed expo
   sparing = λ is. sounds (blames.sparing is);
 }
 
--- and where a service is offered
+-- The same for a service.
 pub service_blames : (fault : Fault) (kept reader writer export service sound : Type 0) → BlamesDevices fault kept ⊥ writer ⊥ service ⊥
     → BlamesDevices fault kept reader writer export service sound
 service_blames fault kept reader writer export service sound blames = record {
@@ -101,6 +101,6 @@ less (suc a) zero most differs = absurd (omega (arith, most))
 less (suc a) (suc b) most differs =
     let before : a < b = less a b (omega (arith, most)) (λ e. differs (ap suc e)) in omega (arith, before)
 
--- after a fault there are fewer than all
+-- After a fault, fewer than all are served.
 pub fewer : (count all : ℕ) (fault : Bool) → count ≤ all → ((count ≡ all) ↔ (fault ≡ false)) → fault ≡ true → count < all
 fewer count all fault most same fails = less count all most (λ e. false≢true (sym (same.0 e) ∙ fails))

@@ -23,7 +23,7 @@ use Rattle.lf_task_serve.specs.declared.environment.Environment.{Environment}
 use Rattle.lf_task_serve.specs.declared.line_source.LineSource.{LineSource}
 use Rattle.lf_task_serve.specs.declared.line_source.LineSource.TheVariants.{Stream, Port}
 
--- lines are done whatever is put into files beside them
+-- Lines are done whatever is written to files besides.
 pub done_beside : (lines : LineSource) (begin floor : FloorState) (input left before after : Option (List ℕ))
     (old_puts new_puts other_old other_new : Option (List Put)) (old_accepted new_accepted : Option Accepted)
     → AreAnswered lines begin floor (streams input left before after old_puts new_puts old_accepted new_accepted)
@@ -31,7 +31,7 @@ pub done_beside : (lines : LineSource) (begin floor : FloorState) (input left be
 done_beside (Stream limit) begin floor input left before after old_puts new_puts other_old other_new old_accepted new_accepted is = is
 done_beside (Port port connections) begin floor input left before after old_puts new_puts other_old other_new old_accepted new_accepted is = is
 
--- and so is a fault of them one
+-- The same for a fault of the lines.
 pub fault_beside : (lines : LineSource) (begin : FloorState) (fault : Fault) (input left before after : Option (List ℕ))
     (old_puts new_puts other_old other_new : Option (List Put)) (old_accepted new_accepted : Option Accepted)
     → IsFault lines begin fault (streams input left before after old_puts new_puts old_accepted new_accepted)
@@ -39,7 +39,7 @@ pub fault_beside : (lines : LineSource) (begin : FloorState) (fault : Fault) (in
 fault_beside (Stream limit) begin fault input left before after old_puts new_puts other_old other_new old_accepted new_accepted is = is
 fault_beside (Port port connections) begin fault input left before after old_puts new_puts other_old other_new old_accepted new_accepted is = is
 
--- why the work on the design of a text is not done is why the work on that of its files is not
+-- Why the work on the design of a text fails is why the work on that of its files fails.
 pub undone : (limits : Limits) (gives : ReadsFile) (def : List ℕ) (lefs : List (List ℕ)) (state save export : Option (List ℕ)) (lines : LineSource) (text : List ℕ)
     (document : Document) (loaded : Loaded) (fault : Fault) (io : Streams) → IsOpened limits gives def lefs text document loaded
     → IsNotServedDesign gives state save export lines loaded text document fault io
@@ -51,7 +51,7 @@ undone limits gives def lefs state save export lines text document loaded fault 
 undone limits gives def lefs state save export lines text document loaded fault io is (inr (begin, begins, inr unsaved)) =
     inr (unsaved.0, record { text = text; document = document; loaded = loaded; opened = is; begin = begin; begins = begins; finished = unsaved.1 })
 
--- a fault of what is written once the lines are done leaves the work unfinished
+-- A fault of the files written after the lines leaves the work unfinished.
 pub outputs_unfinished : (save export : Option (List ℕ)) (lines : LineSource) (begin floor : FloorState) (text : List ℕ) (document : Document) (fault : Fault) (io : Streams)
     → AreAnswered lines begin floor io
     → (IsExportFault export fault × (io.new_puts ≡ io.old_puts)) ⊎ (IsSaveFault save fault × IsExported export text document floor io.old_puts io.new_puts)
@@ -61,13 +61,14 @@ outputs_unfinished save export lines begin floor text document fault io done (in
 outputs_unfinished save export lines begin floor text document fault io done (inr unsaved) =
     inr (unsaved.0, record { floor = floor; work = done; between = io.new_puts; exports = unsaved.1; saves = refl })
 
--- the cells of a floor with which work begins are those of its design
+-- The cells of a floor with which work begins are those of its design.
 pub begun_components : (gives : ReadsFile) (state : Option (List ℕ)) (opened begin : FloorState) → IsOpenedFloor gives state opened begin
     → begin.components ≡ opened.components
 begun_components gives None opened begin is = ap (λ (f : FloorState). f.components) is
 begun_components gives (Some path) opened begin is = ap (λ (f : FloorState). f.components) is.2.2
 
--- places can be written into the DEF text that is kept where they can be into any of which the design was loaded
+-- Places can be written into the kept DEF text if they can be written into any text from which the
+-- design was loaded.
 pub can_be_put : (original : Option SourceText) (loaded : Loaded) (places : List (ℕ × Option Place)) → IsOfOriginal original loaded
     → ((text : List ℕ) (limits : Limits) (library : Contents) (document : Document) → document_of text ≡ Ok document
     → IsLoadedIn limits library document loaded → CanBeRenewed text (map (clause_of text) document.components) places)
@@ -77,7 +78,7 @@ can_be_put (Some original) loaded places (limits, library, document, kept) can =
     subst (λ (clauses : List ClauseFacts). CanBeRenewed original.text.items clauses places) (sym kept.clauses_are)
     (can original.text.items limits library document kept.read kept.loads)
 
--- nothing fails where nothing is changed
+-- If nothing changes, nothing fails.
 pub still_sound : {T E V R W F P : Type 0} (e : E → Bool) (v : V → Bool) (r : R → Bool) (w : W → Bool) (around : Environment T E V R W F P)
     → IsSound e v r w around around
 still_sound e v r w around = record { exports = refl; services = refl; reader = refl; writer = refl }

@@ -19,10 +19,10 @@ use Rattle.lf_task_files.specs.Exits.{IsExported}
 use Rattle.lf_task_serve.specs.Faults.{ending_fault}
 use Rattle.lf_task_serve.specs.Lines.{IsServed, most_lines, reads_for}
 
--- ---- what a task leaves
+-- ---- inputs and outputs of a task
 
--- what a task was given and what it left: the input and the output, each before and after, the texts that were put into files, and
--- the connections that were accepted and closed
+-- The inputs and outputs of a task: the input and the output, each before and after, the texts
+-- written to files, and the connections that were accepted and closed.
 pub record Streams : Type 0 where
   pub input : Option (List ℕ)
   pub left : Option (List ℕ)
@@ -47,27 +47,28 @@ streams input left before after old_puts new_puts old_accepted new_accepted =
       new_accepted = new_accepted;
     }
 
--- the input and the output alone, where nothing is known of files and connections
+-- The input and the output alone, if nothing is known of files and connections.
 abbrev pub alone : Option (List ℕ) → Option (List ℕ) → Option (List ℕ) → Option (List ℕ) → Streams
 alone input left before after = streams input left before after None None None None
 
--- the lines of the input, at most this many, were served on the floor, up to their end or to a bye
+-- The lines of the input, at most `limit`, were served on the floor, up to their end or to a bye.
 pub record IsAnswered (limit : ℕ) (begin floor : FloorState) (input left before after : Option (List ℕ)) : Type 0 where
   pub ending : Ending
   pub well : ending_fault ending ≡ None
   pub served : (l : Legalizer) → IsServed l limit begin floor input left before after ending
 
--- what is written once a port is listened on
+-- The line that is written once the service listens on its port.
 abbrev pub listening : List ℕ
 listening = codes "listening" ++ 10 ∷ []
 
--- this many connections were accepted and served on the floor, after 'listening' was written
+-- `connections` connections were accepted and served on the floor, after `listening` was written.
 pub record IsOffered (begin floor : FloorState) (connections : ℕ) (before after : Option (List ℕ))
     (old_accepted new_accepted : Option Accepted) : Type 0 where
   pub told : Appends before after listening
   pub served : AreServed most_lines (reads_for most_lines) connections old_accepted new_accepted begin floor
 
--- this work led to the state of the floor; then the exported text of the document was put where one was asked for, and then the state
+-- This work led to the state of the floor. Then the exported text of the document was written if
+-- requested, and then the state.
 pub record IsFinished (Work : FloorState → Streams → Type 0) (save export : Option (List ℕ)) (text : List ℕ) (document : Document) (io : Streams) : Type 0 where
   pub floor : FloorState
   pub work : Work floor io
@@ -75,7 +76,8 @@ pub record IsFinished (Work : FloorState → Streams → Type 0) (save export : 
   pub exports : IsExported export text document floor io.old_puts between
   pub saves : IsSaved save floor between io.new_puts
 
--- the design was opened, its floor was brought into the state that was asked for, and this work on it finished
+-- The design was opened, its floor was brought into the requested state, and this work on it
+-- finished.
 pub record IsServedDesign (limits : Limits) (gives : ReadsFile) (def : List ℕ) (lefs : List (List ℕ)) (state save export : Option (List ℕ))
     (Work : FloorState → FloorState → Streams → Type 0) (io : Streams) : Type 0 where
   pub text : List ℕ
@@ -88,19 +90,21 @@ pub record IsServedDesign (limits : Limits) (gives : ReadsFile) (def : List ℕ)
 
 -- ---- faults
 
--- the lines of the input were served on the floor, up to an end that is this fault
+-- The lines of the input were served on the floor, up to an end that is this fault.
 pub record EndsWithFault (limit : ℕ) (begin : FloorState) (fault : Fault) (input left before after : Option (List ℕ)) : Type 0 where
   pub floor : FloorState
   pub ending : Ending
   pub is : ending_fault ending ≡ Some fault
   pub served : (l : Legalizer) → IsServed l limit begin floor input left before after ending
 
--- why the lines of a demo are not answered up to their end: an allocation for the floor failed, or serving them ended so
+-- Why the lines of a demo are not answered up to their end: an allocation for the floor failed, or
+-- serving them ended with a fault.
 abbrev pub IsLinesFault : ℕ → FloorState → Fault → Option (List ℕ) → Option (List ℕ) → Option (List ℕ) → Option (List ℕ) → Type 0
 IsLinesFault limit begin fault input left before after = (fault ≡ NoMemory) ⊎ EndsWithFault limit begin fault input left before after
 
--- why a service ends early: the port cannot be listened on, and nothing is written; or the line of that is not written, or only a
--- front of it; or a connection is not accepted, and those before it were served
+-- Why a service ends early. If it cannot listen on the port, nothing is written. If the line
+-- `listening` is not written, a front of it may be. If a connection is not accepted, the earlier
+-- ones were served.
 abbrev pub IsServiceFault : ℕ → ℕ → FloorState → Fault → Option (List ℕ) → Option (List ℕ) → Option Accepted → Option Accepted → Type 0
 IsServiceFault port connections begin (Bind its why) before after old_accepted new_accepted =
     (its ≡ port) × (after ≡ before) × (new_accepted ≡ old_accepted)
@@ -110,25 +114,26 @@ IsServiceFault port connections begin Accept before after old_accepted new_accep
     (floor : FloorState) × ((count : ℕ) × (count < connections) × IsOffered begin floor count before after old_accepted new_accepted)
 IsServiceFault port connections begin _ before after old_accepted new_accepted = ⊥
 
--- nothing was read, written, put or accepted
+-- Nothing was read, written or accepted.
 pub record IsUntouched (io : Streams) : Type 0 where
   pub unread : io.left ≡ io.input
   pub unwritten : io.after ≡ io.before
   pub unput : io.new_puts ≡ io.old_puts
   pub unaccepted : io.new_accepted ≡ io.old_accepted
 
--- why the work on a floor is not done: it fails itself; or a text that was asked for cannot be put, which is told before anything
--- is done; or the exported text is not put after the work
+-- Why the work on a floor fails: for its own reason; or a requested file cannot be written, which
+-- is reported before anything is done; or the exported text is not written after the work.
 abbrev pub IsServeFault : Option (List ℕ) → Option (List ℕ) → (Fault → Streams → Type 0) → (FloorState → Streams → Type 0) → Fault → Streams → Type 0
 IsServeFault save export why Work fault io =
     why fault io
     ⊎ (((IsExportFault export fault ⊎ IsSaveFault save fault) × IsUntouched io) ⊎ (IsExportFault export fault × ((floor : FloorState) × Work floor io)))
 
--- there is nothing to work on for this reason, or there is, and this is why the work on it is not done
+-- There is nothing to work on for this reason; or there is, and this is why the work on it fails.
 abbrev pub IsJobStop : {A : Type 0} → (Fault → Type 0) → (A → Type 0) → (A → Fault → Streams → Type 0) → Fault → Streams → Type 0
 IsJobStop {A} nothing IsWorkedOn why fault io = nothing fault ⊎ ((on : A) × IsWorkedOn on × why on fault io)
 
--- why a job on lines is not done: it is stopped, and no text is put; or all is done but that the state is not saved
+-- Why a job on lines fails: it stopped, and no file is written; or everything is done except that
+-- the state is not saved.
 abbrev pub IsUndone : Limits → ReadsFile → List ℕ → List (List ℕ) → Option (List ℕ) → Option (List ℕ) → Option (List ℕ)
     → (FloorState → Fault → Streams → Type 0) → (FloorState → FloorState → Streams → Type 0) → Fault → Streams → Type 0
 IsUndone limits gives def lefs state save export why Work fault io =

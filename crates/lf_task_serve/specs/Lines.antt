@@ -7,7 +7,7 @@ use Rattle.lf_server.specs.Endings.{ServesLines}
 use Rattle.lf_server.specs.declared.serve_loop.Ending.{Ending}
 use Rattle.lf_server.specs.declared.serve_loop.Served.{Served}
 
--- the lines of the input were served on the floor, up to that end; at most this many
+-- The lines of the input were served on the floor, at most `limit`, up to this ending.
 pub record IsServed (l : Legalizer) (limit : ℕ) (old new : FloorState) (input left before after : Option (List ℕ)) (ending : Ending) : Type 0 where
   pub served : Served
   pub ends : served.ending ≡ ending
@@ -16,14 +16,14 @@ pub record IsServed (l : Legalizer) (limit : ℕ) (old new : FloorState) (input 
   pub failed : Bool
   pub serves : ServesLines l limit old input left (writer before begun false) (writer after flushed failed) served new
 
--- the lines of a session if no other bound is given, and those of a connection
+-- The limit on the lines of a connection, and of a session if no other limit is given.
 abbrev pub most_lines : ℕ
 most_lines = 1000000
 
--- how often a reader may be read for this many lines
+-- The limit on reads for this number of lines.
 abbrev pub reads_for : ℕ → ℕ
 reads_for lines = lines * 4200
 
--- the reader has failed, or was read as often as it may be for this many lines
+-- The reader has failed, or the limit on reads was reached.
 abbrev pub ReadsFail : ℕ → Bool → ℕ → ℕ → Type 0
 ReadsFail limit failed old new = (failed ≡ true) ⊎ (new ≡ old + reads_for limit)

@@ -24,22 +24,22 @@ use Rattle.lf_task_serve.specs.Lines.{ReadsFail}
 use Rattle.lf_task_serve.specs.Services.{OffersLocal}
 use Rattle.lf_task_serve.specs.Surroundings.{IsSound}
 
--- the lines were answered to their end, on the floor that they began with
+-- The lines were answered to their end, on the floor with which they began.
 abbrev pub AreAnswered : LineSource → FloorState → FloorState → Streams → Type 0
 AreAnswered (Stream limit) begin floor io = IsAnswered limit begin floor io.input io.left io.before io.after
 AreAnswered (Port port connections) begin floor io = IsOffered begin floor connections io.before io.after io.old_accepted io.new_accepted
 
--- why they were not
+-- Why the lines were not answered to their end.
 abbrev pub IsFault : LineSource → FloorState → Fault → Streams → Type 0
 IsFault (Stream limit) begin fault io = EndsWithFault limit begin fault io.input io.left io.before io.after
 IsFault (Port port connections) begin fault io = IsServiceFault port connections begin fault io.before io.after io.old_accepted io.new_accepted
 
--- the design was loaded of the DEF text that is kept, if one is
+-- If a DEF text is kept, the design was loaded from it.
 abbrev pub IsOfOriginal : Option SourceText → Loaded → Type 0
 IsOfOriginal original loaded = IfSome original (λ original. (limits : Limits) × (library : Contents) × (document : Document)
     × IsKept limits original.text.items library document original.clauses loaded)
 
--- what is worked on is the design of the files, with its DEF text if that is exported to a path
+-- The design to work on is that of the files, with its DEF text if an export is requested.
 pub record IsDesignFor (limits : Limits) (gives : ReadsFile) (def : List ℕ) (lefs : List (List ℕ)) (export : Option (List ℕ)) (design : OpenDesign) : Type 0 where
   pub text : List ℕ
   pub document : Document
@@ -48,42 +48,44 @@ pub record IsDesignFor (limits : Limits) (gives : ReadsFile) (def : List ℕ) (l
   pub of : IsOfOriginal design.original design.loaded
   pub kept : design.original ≡ None → export ≡ None
 
--- why the work on a floor is not finished: it is stopped, and no text is put; or all is done but that the state is not saved
+-- Why the work on a floor is not finished: it stopped, and no file is written; or everything is
+-- done except that the state is not saved.
 abbrev pub IsUnfinished : Option (List ℕ) → Option (List ℕ) → LineSource → FloorState → List ℕ → Document → Fault → Streams → Type 0
 IsUnfinished save export lines begin text document fault io =
     (IsServeFault save export (IsFault lines begin) (AreAnswered lines begin) fault io × (io.new_puts ≡ io.old_puts))
     ⊎ (IsSaveFault save fault × IsFinished (AreAnswered lines begin) None export text document io)
 
--- why the work on the design of a text is not finished: there is no floor with which it begins, and no text is put; or there is
+-- Why the work on the design of a text is not finished: there is no floor with which to begin, and
+-- no file is written; or the work on its floor is not finished.
 abbrev pub IsNotServedDesign : ReadsFile → Option (List ℕ) → Option (List ℕ) → Option (List ℕ) → LineSource → Loaded → List ℕ → Document → Fault → Streams → Type 0
 IsNotServedDesign gives state save export lines loaded text document fault io =
     (IsNotOpened gives state loaded fault × (io.new_puts ≡ io.old_puts))
     ⊎ ((begin : FloorState) × IsOpenedFloor gives state (initial_floor loaded) begin × IsUnfinished save export lines begin text document fault io)
 
--- the reader has failed, or was read as often as is allowed; no other lines read from it
+-- The reader has failed, or the limit on reads was reached. A service does not read from it.
 abbrev pub IsReaderSpent : LineSource → Bool → ℕ → ℕ → Type 0
 IsReaderSpent (Stream limit) failed old new = ReadsFail limit failed old new
 IsReaderSpent (Port port connections) failed old new = ⊥
 
--- who is to blame for a fault of the lines
+-- Which device is to blame for a fault of the lines.
 abbrev pub BlamesIn : {T E V R W F P : Type 0} → (E → Bool) → (V → Bool) → (R → Bool) → (R → ℕ) → (W → Bool) → LineSource
     → Environment T E V R W F P → Environment T E V R W F P → Fault → Type 0
 BlamesIn export_failed service_failed read_failed reads write_failed lines old new fault =
     BlamesDevices fault (new.writer ≡ old.writer) (IsReaderSpent lines (read_failed new.reader) (reads old.reader) (reads new.reader)) (write_failed new.writer ≡ true)
     (export_failed new.exports ≡ true) (service_failed new.services ≡ true) (IsSound export_failed service_failed read_failed write_failed old new)
 
--- what was offered for the lines: a service, and nothing for those of the reader
+-- What was offered for the lines: a service, or nothing for lines of the reader.
 abbrev pub IsOfferFor : LineSource → Option (List ServiceConfig) → Option (List ServiceConfig) → Type 0
 IsOfferFor (Stream limit) old new = new ≡ old
 IsOfferFor (Port port connections) old new = OffersLocal port connections old new
 
--- what is left of the reader: nothing is read from it for a service
+-- The reader is unchanged by a service.
 abbrev pub LeavesReader : {R : Type 0} → LineSource → R → R → Type 0
 LeavesReader (Stream limit) old new = Unit {0}
 LeavesReader (Port port connections) old new = new ≡ old
 
--- what the work on a design leaves beside its lines: texts are put, services offered and the reader read only as was asked for, and
--- after a fault no text is put where no state was asked for
+-- What the work on a design changes besides its lines. Files are written, services offered and the
+-- reader read only as requested. After a fault, no file is written if no state was requested.
 pub record LeavesDevices {T E V R W F P : Type 0} (puts : E → Option (List Put)) (offers : V → Option (List ServiceConfig)) (lines : LineSource) (save export : Option (List ℕ))
     (result : Result ℕ Fault) (old new : Environment T E V R W F P) : Type 0 where
   pub unput : save ≡ None → OnErr result (puts new.exports ≡ puts old.exports)

@@ -1,20 +1,20 @@
-//! What a task works on.
+//! The devices of a task.
 
-/// Where a task's texts are read from and put, where its services are offered, and what it reads, writes and tells.
+/// The devices of a task: its input and output files, its services, its reader and writers.
 #[derive(Drop)]
 pub struct Environment<T, E, V, R, W, F, P> {
-    /// Where the texts of files are read from.
+    /// The files from which texts are read.
     pub texts: T,
-    /// Where exported texts go.
+    /// The files that are written.
     pub exports: E,
-    /// Where services are offered.
+    /// The ports of services.
     pub services: V,
-    /// Where lines come from.
+    /// The source of lines.
     pub reader: R,
-    /// Where replies, reports and descriptions go.
+    /// The sink of replies, reports and descriptions.
     pub writer: W,
-    /// Where a fault is told.
+    /// The sink of fault messages.
     pub faults: F,
-    /// Who is told how far a repair is.
+    /// The receiver of the progress of a repair.
     pub progress: P,
 }

@@ -1,14 +1,30 @@
-//! Lines over designs of files: those of a reader or of connections are answered, and then texts are put into files.
+//! Answers lines over designs of files, from a reader or from connections, and then writes the
+//! requested files.
 //!
-//! `serve_files` opens a design, brings its floor into the state of a state text where one is given (`lf_task_files`), and answers the lines
-//! of a reader, or serves connections (`LineSource`); the exported text and the state are put at the end, each where it is asked for.
-//! `Environment` is all that a task reads, writes and offers. Each call returns the exit status 0, or the fault, of which nothing is
-//! written here.
+//! `serve_files` opens a design, brings its floor into the state of a state file if one is given
+//! (`lf_task_files`), and answers lines or serves connections (`LineSource`). At the end it writes
+//! the exported text and the state, each if requested. `Environment` has all devices of a task.
+//! Each function returns the exit status 0, or the fault, which is not printed here.
+//!
+//! Used by `lf_app`.
+//!
+//! Modules, in reading order:
+//!
+//! - `environment`: the devices of a task
+//! - `serve_lines`: the lines of a source, answered within a limit
+//! - `listener`: the trait of what listens on ports, and its implementation for a network
+//! - `line_source`: the lines of the reader or of connections
+//! - `serve_task`: the whole task, from the files of a design to the written files
+//!
+//! From `crates/lf_app/src/tasks.rt`:
 //!
 //! ```
-//! let inputs = DesignInput { def: "chip.def", lefs, state: None, limits };
-//! let lines = LineSource::Stream { most: 1_000_000 };
-//! let status = serve_files(alloc, &mut around, inputs, lines, OutputPaths { export: None, save: None })?; // 0
+//! let lines = LineSource::Stream { most: *lines };
+//! let outputs = OutputPaths {
+//!     export: *export,
+//!     save: *save,
+//! };
+//! serve_files(alloc, around, inputs, lines, outputs)
 //! ```
 #![tactic(auto)]
 

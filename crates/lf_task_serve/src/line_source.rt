@@ -1,4 +1,5 @@
-//! Where the lines of a design come from, and how they are answered: those of the reader, or of connections to a port.
+//! The source of a design's lines, the reader or connections to a port, and how the lines are
+//! answered.
 
 ghost use Rattle.std.specs.Prelude.{◌≡◌, IfErr, OnOk, false, true};
 ghost use Rattle.lf_task_designs.specs.Faults.{BlamesDevices};
@@ -20,16 +21,17 @@ use lf_server::{ServiceConfig, serve_connections};
 use lf_task_designs::Fault;
 use std::alloc::Global;
 
-/// Where the lines of a design come from.
+/// The source of a design's lines.
 #[derive(Clone, Copy, Debug, PartialEq, Eq)]
 pub enum LineSource {
-    /// From the reader, and the replies go to the writer; this many lines at most.
+    /// The reader, with replies to the writer. At most `most` lines are answered.
     Stream { most: u32 },
-    /// From this many connections to this port, one after the other.
+    /// Connections to this port, one after the other.
     Port { port: u16, connections: u32 },
 }
 
-/// Answers the lines of the reader on the floor, this many at most.
+/// Answers the lines of the reader on the floor, at most `lines` lines. `Err` if they end neither
+/// with the input nor with a bye.
 pub(crate) fn serve_reader<'a, R: Source, W: Sink>(
     alloc: Global,
     floor: &mut Floor<IndexSeeker>,
@@ -54,7 +56,9 @@ pub(crate) fn serve_reader<'a, R: Source, W: Sink>(
     }
 }
 
-/// Listens on the port of the service, says so, and serves its connections, one after the other.
+/// Listens on the port of the service, writes `listening`, and serves its connections, one after
+/// the other. `Err` if it cannot listen, the line cannot be written, or a connection cannot be
+/// accepted.
 fn serve_port<'a, V: PortListener, W: Sink>(
     alloc: Global,
     services: &mut V,
@@ -88,7 +92,7 @@ fn serve_port<'a, V: PortListener, W: Sink>(
     Ok(())
 }
 
-/// Answers the lines on the floor, wherever they come from.
+/// Answers the lines of the source on the floor.
 pub(crate) fn serve_source<'a, T, E: OutputFiles, V: PortListener, R: Source, W: Sink, F, P>(
     alloc: Global,
     around: &mut Environment<T, E, V, R, W, F, P>,

@@ -1,4 +1,4 @@
-//! Where connections come from.
+//! The ports of services.
 
 ghost use Rattle.std.specs.Prelude.{◌≡◌, ◌||◌, IfOk, false, is_err};
 ghost use Rattle.lf_server.specs.Connections.{IsUnused};
@@ -12,16 +12,17 @@ use std::io;
 use std::io::ErrorKind;
 use std::net::{Ipv4Addr, Net, SocketAddr};
 
-/// Where services are offered: ports are listened on, and connections accepted there.
+/// Offers services: listens on ports and accepts connections there.
 pub trait PortListener: Acceptor {
-    /// Listens on the port of the service, of which connections are accepted from then on; `Err` if it cannot be listened on.
+    /// Listens on the port of the service. Further connections are accepted there. `Err` if it
+    /// cannot listen on the port.
     fn listen(&mut self, offer: &ServiceConfig) -> Result<(), BindFailure>
         ensures offered { Offers (Self.offers self.old) (Self.offers self.new) offer.now }
         ensures unaccepted { Self.accepted self.new ≡ Self.accepted self.old }
         ensures failed { Self.has_failed self.new ≡ (is_err result || Self.has_failed self.old) };
 }
 
-/// The service of this machine's own port, to this many connections.
+/// Returns the service at this port of this machine, for `connections` connections.
 pub(crate) fn local_service(port: u16, connections: u32) -> ServiceConfig
     ensures { IsLocal port connections result }
 {
@@ -33,7 +34,8 @@ pub(crate) fn local_service(port: u16, connections: u32) -> ServiceConfig
     }
 }
 
-/// The network of a runtime, and the port of it that is listened on. Contracts know nothing of who connects.
+/// The network of a runtime, and the port on which it listens. Contracts know nothing of who
+/// connects.
 #[derive(Drop)]
 pub struct NetListener<'a, T: Net> {
     net: &'a T,
@@ -42,7 +44,7 @@ pub struct NetListener<'a, T: Net> {
 }
 
 impl<'a, T: Net> NetListener<'a, T> {
-    /// Services over this network; no port is listened on yet.
+    /// Makes a listener over this network. It listens on no port yet.
     pub fn new(net: &'a T) -> Self
         ensures fresh { ⟦<NetListener<'a, T> as Acceptor>⟧.has_failed result ≡ false }
     {
@@ -54,7 +56,7 @@ impl<'a, T: Net> NetListener<'a, T> {
     }
 }
 
-/// Why a port was not listened on, by what the system says.
+/// Returns why the program could not listen on a port, by the system's error.
 fn unbound_of(error: &io::Error) -> BindFailure {
     match error.kind() {
         ErrorKind::AddrInUse => BindFailure::InUse,
@@ -63,7 +65,8 @@ fn unbound_of(error: &io::Error) -> BindFailure {
     }
 }
 
-/// The next connection of the listener; `Err` if there is no listener, or nothing can be accepted there.
+/// Accepts the next connection of the listener. `Err` if there is no listener, or no connection can
+/// be accepted.
 fn accepted<T: Net>(
     listener: &Option<T::Listener>,
 ) -> Result<Connection<ClientReader<T::Stream>, ClientWriter<T::Stream>>, DeviceFault>

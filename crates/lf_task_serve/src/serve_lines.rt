@@ -1,4 +1,4 @@
-//! Answering the lines of a source.
+//! The lines of a source, answered within a limit.
 
 ghost use Rattle.std.specs.Prelude.{◌≡◌, ◌≢◌, false, true};
 ghost use Rattle.lf_rules.specs.Legalizer.{Legalizer};
@@ -12,13 +12,13 @@ use lf_server::{Ending, ServeLimits, serve};
 use lf_task_designs::Fault;
 use std::alloc::Global;
 
-/// The most lines that are answered on a connection, and in a session over a reader for which no other bound is given.
+/// The most lines answered on a connection, and from a reader if no other limit is given.
 pub(crate) const MOST_LINES: u32 = 1_000_000;
 
-/// How many reads there may be for each line: some more than the longest line has bytes.
+/// The most reads for each line: some more than the longest line has bytes.
 const READS: u64 = 4_200;
 
-/// The limits on a session of this many lines.
+/// Returns the limits on a session of `lines` lines.
 pub(crate) fn limits_of(lines: u32) -> ServeLimits
     ensures lines { result.lines ≡ lines }
     ensures reads { result.reads ≡ reads_for lines }
@@ -29,8 +29,8 @@ pub(crate) fn limits_of(lines: u32) -> ServeLimits
     }
 }
 
-/// Answers the lines of the source on the floor, one reply to each, as `serve` does, and returns how that ended. At most this
-/// many lines are answered.
+/// Answers the lines of the source on the floor, one reply to each, as `serve` does, and returns
+/// how that ended. At most `lines` lines are answered.
 pub fn serve_lines_within<S: Seeker + Drop, I: Source, O: Sink>(
     alloc: Global,
     floor: &mut Floor<S>,
@@ -55,7 +55,8 @@ pub fn serve_lines_within<S: Seeker + Drop, I: Source, O: Sink>(
     served.ending
 }
 
-/// The fault of lines that ended neither with the input nor with a bye; none if they did.
+/// Returns the fault of lines that ended neither with the input nor with a bye, or `None` if they
+/// did.
 pub(crate) fn ending_fault<'a>(ending: Ending) -> Option<Fault<'a>>
     ensures { result ≡ ending_fault ending }
 {

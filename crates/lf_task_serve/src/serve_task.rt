@@ -1,5 +1,5 @@
-//! Work on a design: its lines are answered or its connections served, and then the text with its committed places and the state of
-//! the floor are written, if they are asked for.
+//! Work on a design: its lines are answered or its connections served. Then the requested files are
+//! written: the text with the committed places, and the state of the floor.
 
 ghost use Rattle.std.specs.Prelude.{◌≡◌, ℕ, List, None, Option, IfErr, IfOk, map, option_copied};
 ghost use Rattle.lf_def.specs.Document.{Document};
@@ -35,15 +35,15 @@ use lf_task_files::{
 use lf_write::kept_clauses_suffice;
 use std::alloc::Global;
 
-/// The design that is worked on.
+/// The design to work on.
 #[derive(Drop)]
 struct OpenDesign {
     loaded: Loaded,
-    /// Its DEF text, where that is exported again.
+    /// Its DEF text, if it is to be exported.
     original: Option<SourceText>,
 }
 
-/// The design of the files. Its DEF text is kept if it is exported to the file of a path.
+/// Loads the design of the files. Its DEF text is kept if an export is requested.
 fn design_for<'a, T: InputFiles>(
     alloc: Global,
     texts: &T,
@@ -75,8 +75,9 @@ fn design_for<'a, T: InputFiles>(
     }
 }
 
-/// Works on a floor of the design: its lines are answered, and then what is asked for is written. Where that cannot be, as far as it
-/// shows beforehand, no line is read. The DEF text is kept where it is exported again.
+/// Works on a floor of the design: answers its lines, and then writes the requested files. No line
+/// is read if the files cannot be written, as far as this can be known in advance. `original` is
+/// the DEF text, which is needed to export.
 fn serve_floor<'a, T, E: OutputFiles, V: PortListener, R: Source, W: Sink, F, P>(
     alloc: Global,
     around: &mut Environment<T, E, V, R, W, F, P>,
@@ -106,7 +107,7 @@ fn serve_floor<'a, T, E: OutputFiles, V: PortListener, R: Source, W: Sink, F, P>
     Ok(0)
 }
 
-/// Works on the design in the state of the file of that path, if one is given.
+/// Works on the design, in the state of the file of this path if one is given.
 fn serve_design<'a, T: InputFiles, E: OutputFiles, V: PortListener, R: Source, W: Sink, F, P>(
     alloc: Global,
     around: &mut Environment<T, E, V, R, W, F, P>,
@@ -138,10 +139,13 @@ fn serve_design<'a, T: InputFiles, E: OutputFiles, V: PortListener, R: Source, W
     serve_floor(alloc, around, original.as_ref(), &mut floor, lines, outputs)
 }
 
-/// Works on the design of a DEF file over LEF files, in the state of a third file if one is given: its lines are answered or its
-/// connections served, and then the exported text and the state are written, where they are asked for. Returns the exit status 0. `Err`
-/// is the first fault of: the files, LEF before DEF; the design; the state; the paths of what is asked for; the port; the lines; the
-/// exported text; the state. No file is written if another than the state's is at fault.
+/// Works on the design of a DEF file over LEF files, in the state of a state file if one is given.
+/// Answers its lines or serves its connections, and then writes the exported text and the state, if
+/// requested. Returns the exit status 0.
+///
+/// `Err` is the first fault, in this order: the LEF files, the DEF file, the design, the state, the
+/// paths of the requested files, the port, the lines, the exported text, the state. If the fault is
+/// not that of writing the state, no file is written.
 pub fn serve_files<'a, T: InputFiles, E: OutputFiles, V: PortListener, R: Source, W: Sink, F, P>(
     alloc: Global,
     around: &mut Environment<T, E, V, R, W, F, P>,
@@ -167,8 +171,9 @@ pub fn serve_files<'a, T: InputFiles, E: OutputFiles, V: PortListener, R: Source
     serve_design(alloc, around, design, inputs.state, lines, outputs)
 }
 
-/// Answers the lines of the reader over the design, 1,000,000 at most; no text is exported. Returns the exit status 0. `Err` is want of
-/// memory for the floor, or how the lines broke off.
+/// Answers the lines of the reader over the design, at most 1,000,000, and exports nothing. Returns
+/// the exit status 0. `Err` if an allocation for the floor fails, or the lines end neither with the
+/// input nor with a bye.
 pub fn serve_loaded<'a, R: Source, W: Sink>(
     alloc: Global,
     loaded: Loaded,

@@ -1,4 +1,13 @@
-//! Tests of tasks over files: what no clause says of them.
+//! Tests of tasks over files in memory, for behavior that no clause specifies.
+//!
+//! The tests cover `lf_app` and, through it, `lf_task_designs`, `lf_task_files`, `lf_task_serve`
+//! and `lf_server`.
+//!
+//! Modules, in reading order:
+//!
+//! - `shelf`: a runtime whose files are in memory
+//! - `tasks`: the tasks, and helpers that run them
+//! - `states`: states that are saved and continued from
 #![tactic(auto)]
 
 #[cfg(test)]

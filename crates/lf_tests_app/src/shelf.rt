@@ -1,4 +1,4 @@
-//! A runtime for tests, whose files stand in memory.
+//! A runtime for tests, whose files are in memory.
 
 ghost use Rattle.std.specs.Prelude.{IsErr};
 
@@ -8,20 +8,21 @@ use std::io;
 use std::io::{Read, Seek, SeekFrom, Write};
 use std::rt::Files;
 
-/// The files, each a path and its bytes; a file without bytes can be opened and not read, as a folder can.
+/// The files, each a path and its bytes. A file without bytes can be opened but not read, like a
+/// folder.
 #[derive(Drop)]
 pub struct Shelf<'a> {
     pub alloc: Global,
     pub files: &'a [(&'a str, Option<&'a [u8]>)],
 }
 
-/// An opened file: the bytes that are still to be read.
+/// An opened file: the bytes still to be read.
 #[derive(Drop)]
 pub struct Opened<'a> {
     bytes: Option<&'a [u8]>,
 }
 
-/// What every call but reading answers.
+/// Returns the error of every call except reading.
 fn refused<T>() -> io::Result<T>
     ensures { IsErr result }
 {

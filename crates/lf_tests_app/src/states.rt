@@ -1,4 +1,4 @@
-//! States that are saved and gone on from, over files in memory.
+//! States that are saved and continued from, over files in memory.
 
 use crate::tasks::{Kept, Run, done, exporting, files_of, only_lef, with_entries};
 use lf_app::{Slots, Task};
@@ -10,7 +10,7 @@ use std::test::Fail;
 /// The path of each state.
 const STATE: &str = "w.state";
 
-/// Lines before a state is saved, and behind it.
+/// Lines before a state is saved, and lines after it.
 const BEFORE: &str = "open A\nplace A 0 a1 0 0 N\ncommit A 0\nplace A 0 a1 400 0 N\nopen B\n\
     place B 0 b1 6000 0 N\npad B 0 2\n";
 
@@ -18,7 +18,8 @@ const BEHIND: &str =
     "where A 0 a1\nundo A 0\nwhere A 0 a1\nundo A 0\nwhere A 0 a1\nrevert A 0\nopen A\n\
     undo A 0\nplace A 1 a2 400 0 N\nsync A 1\nplace A 1 a2 400 0 N\nwhere B 0 b1\ncommit B 0\ncheck B 0\n";
 
-/// The replay of `w.def` over `w.lef` with these session slots, which begins in this state and saves to this path.
+/// The replay of `w.def` over `w.lef` with these session slots, which begins in this state and
+/// saves to this path.
 fn replay_with<'a>(
     alloc: Global,
     slots: Slots,
@@ -36,7 +37,7 @@ fn replay_with<'a>(
     })
 }
 
-/// The same with the usual number of session slots.
+/// The same with the default number of session slots.
 fn replay_of<'a>(
     alloc: Global,
     state: Option<&'a str>,
@@ -54,7 +55,7 @@ fn files_with<'a>(state: &'a [u8]) -> [(&'a str, Option<&'a [u8]>); 3] {
     ]
 }
 
-/// What is saved of the floor behind these lines.
+/// Returns the saved state of the floor after these lines.
 fn saved_behind(rt: &HostRuntime, lines: &str) -> Result<Vec<u8>, AllocError> {
     let task = replay_of(rt.alloc(), None, Some(STATE))?;
     let mut exports = Kept::at(rt.alloc(), Some(STATE));
@@ -67,14 +68,14 @@ fn saved_behind(rt: &HostRuntime, lines: &str) -> Result<Vec<u8>, AllocError> {
     }
 }
 
-/// The replay of these lines that begins in this state.
+/// Replays these lines, beginning in this state.
 fn gone_on(rt: &HostRuntime, state: &[u8], lines: &str) -> Result<Run, AllocError> {
     let task = replay_of(rt.alloc(), Some(STATE), None)?;
     let files = files_with(state);
     Ok(done(rt, files.as_slice(), &task, lines))
 }
 
-/// The replay of these lines that begins in no state.
+/// Replays these lines, beginning without a state.
 fn begun(rt: &HostRuntime, lines: &str) -> Result<Run, AllocError> {
     let task = replay_of(rt.alloc(), None, None)?;
     let files = files_of(DEMO_DEF);
@@ -111,10 +112,10 @@ fn what_is_restored_is_saved_as_it_was(rt: HostRuntime) -> Result<(), Fail> {
     Ok(())
 }
 
-/// Nine sessions of a team are opened.
+/// The commands that open nine sessions of a team.
 const NINE: &str = "open A\nopen A\nopen A\nopen A\nopen A\nopen A\nopen A\nopen A\nopen A\n";
 
-/// The replay of the nine lines with these session slots, and what is saved behind them.
+/// Replays the nine lines with these session slots, and returns the run and the saved state.
 fn nine_opened(rt: &HostRuntime, slots: Slots) -> Result<(Run, Vec<u8>), AllocError> {
     let task = replay_with(rt.alloc(), slots, None, Some(STATE))?;
     let mut exports = Kept::at(rt.alloc(), Some(STATE));
@@ -144,7 +145,7 @@ fn a_team_has_as_many_sessions_as_slots(rt: HostRuntime) -> Result<(), Fail> {
     Ok(())
 }
 
-/// The check of `w.def` over `w.lef`, as its cells stand in this state.
+/// Checks `w.def` over `w.lef`, with the working places of this state.
 fn checked(rt: &HostRuntime, state: &[u8]) -> Result<Run, AllocError> {
     let task = Task::Check {
         def: "w.def",
@@ -165,7 +166,7 @@ fn a_check_sees_the_working_places_of_a_state(rt: HostRuntime) -> Result<(), Fai
     Ok(())
 }
 
-/// The description of `w.def` over `w.lef`, as its cells stand in this state if there is one.
+/// The description of `w.def` over `w.lef`, with the working places of this state if one is given.
 fn describe_of<'a>(alloc: Global, state: Option<&'a str>) -> Result<Task<'a>, AllocError> {
     Ok(Task::Describe {
         def: "w.def",
@@ -193,7 +194,7 @@ fn a_description_sees_the_working_places_of_a_state(rt: HostRuntime) -> Result<(
     Ok(())
 }
 
-/// Whether a replay in this state is refused with these lines of faults, and answers nothing.
+/// Returns whether a replay in this state is refused with these fault lines, and writes no reply.
 fn is_refused(rt: &HostRuntime, state: &[u8], faults: &str) -> Result<bool, AllocError> {
     Ok(gone_on(rt, state, "open A\n")?.is(1, "", faults))
 }

@@ -23,22 +23,22 @@ use std::io::{Read, Write};
 use std::net::{Ipv4Addr, Net, OpenListener, SocketAddr};
 use std::test::Fail;
 
-/// Exported texts: the last one, with its path. Without a path, none can be put.
+/// Exported texts: the last one, with its path. Without a path, every text is refused.
 #[derive(Drop)]
 pub(crate) struct Kept<'a> {
     path: Option<&'a str>,
     pub(crate) text: Option<Vec<u8>>,
-    /// How often a text was to be put, whatever the path and whether it was taken.
+    /// The number of texts that were to be written, to any path, accepted or not.
     asked: u32,
-    /// Whether no text is taken, though the path is.
+    /// Whether texts are refused, though the path is accepted.
     is_full: bool,
-    /// Whether a text or its path was not taken.
+    /// Whether a text or its path was refused.
     failed: bool,
     alloc: Global,
 }
 
 impl<'a> Kept<'a> {
-    /// Takes texts for this path.
+    /// Accepts texts for this path.
     pub(crate) fn at(alloc: Global, path: Option<&'a str>) -> Self {
         Kept {
             path,
@@ -50,7 +50,7 @@ impl<'a> Kept<'a> {
         }
     }
 
-    /// Whether a text was put, and the last one is this.
+    /// Returns whether a text was written, and the last one is this.
     pub(crate) fn holds(&self, text: &[u8]) -> bool {
         match &self.text {
             Some(kept) => kept.as_slice() == text,
@@ -87,7 +87,7 @@ impl<'a> OutputFiles for Kept<'a> {
     }
 }
 
-/// Services that are noted, and none of which can be offered.
+/// Services that are recorded. No service can be offered.
 #[derive(Clone, Copy, Debug, PartialEq, Eq)]
 struct Noted {
     /// The last one.
@@ -96,7 +96,7 @@ struct Noted {
 }
 
 impl Noted {
-    /// No service yet.
+    /// Makes a record without services.
     fn new() -> Self {
         Noted {
             offer: None,
@@ -134,7 +134,7 @@ impl PortListener for Noted {
     }
 }
 
-/// Exported texts that are kept elsewhere.
+/// Exported texts that are kept in a borrowed record.
 #[derive(Drop)]
 struct KeptThere<'a, 'b> {
     kept: &'a mut Kept<'b>,
@@ -152,7 +152,7 @@ impl<'a, 'b> OutputFiles for KeptThere<'a, 'b> {
     }
 }
 
-/// Services that are offered elsewhere.
+/// Services of a borrowed listener.
 #[derive(Drop)]
 struct OfferedThere<'a, V> {
     services: &'a mut V,
@@ -190,7 +190,7 @@ impl<'a, V: PortListener> PortListener for OfferedThere<'a, V> {
     }
 }
 
-/// How a task ends, and how often a text was to be put into a file.
+/// How a task ends, and the number of texts that were to be written to a file.
 #[derive(Clone, Copy, Debug, PartialEq, Eq)]
 struct End {
     exit: TaskExit,
@@ -218,7 +218,8 @@ fn demo<R: Read, W: Write, F: Write>(
     )
 }
 
-/// The end of a task with this status, of which all was told, and that was to put no text.
+/// The end of a task with this status, whose faults were all reported and that was to write no
+/// file.
 fn told(status: u8) -> End {
     End {
         exit: TaskExit {
@@ -229,7 +230,7 @@ fn told(status: u8) -> End {
     }
 }
 
-/// What a task does: how it ends, what it writes and what it tells of faults.
+/// The run of a task: how it ends, what it writes, and its fault lines.
 #[derive(Drop)]
 pub(crate) struct Run {
     end: End,
@@ -238,19 +239,20 @@ pub(crate) struct Run {
 }
 
 impl Run {
-    /// Whether it ends so, writes this and tells this of faults.
+    /// Returns whether the run has this end, output and fault lines.
     fn ends(&self, end: End, written: &str, faults: &str) -> bool {
         self.end == end
             && self.written.as_slice() == written.as_bytes()
             && self.faults.as_slice() == faults.as_bytes()
     }
 
-    /// Whether it ends with this status, of which all was told, without a text to put, writes this and tells this of faults.
+    /// Returns whether the run has this status, output and fault lines, reported all its faults,
+    /// and was to write no file.
     pub(crate) fn is(&self, status: u8, written: &str, faults: &str) -> bool {
         self.ends(told(status), written, faults)
     }
 
-    /// The same of a task that was to put one text.
+    /// The same for a task that was to write one file.
     pub(crate) fn is_put(&self, status: u8, written: &str, faults: &str) -> bool {
         let end = End {
             asked: 1,
@@ -272,7 +274,7 @@ fn demo_of<R: Read>(rt: &HostRuntime, reader: &mut R) -> Run {
     }
 }
 
-/// The bytes of these parts, one behind the other.
+/// Joins the bytes of these parts.
 fn joined(alloc: Global, parts: &[&[u8]]) -> Result<Vec<u8>, AllocError> {
     let mut bytes = Vec::new(alloc);
     for part in parts {
@@ -281,7 +283,8 @@ fn joined(alloc: Global, parts: &[&[u8]]) -> Result<Vec<u8>, AllocError> {
     Ok(bytes)
 }
 
-/// Of the last two lines, one is a byte longer than the longest that is read, and one as long as this.
+/// One of the last two lines is a byte longer than the longest line that is read, and the other is
+/// as long as that.
 #[test]
 fn a_line_that_is_no_request_is_refused(rt: HostRuntime) -> Result<(), Fail> {
     let parts: [&[u8]; 6] = [
@@ -299,7 +302,7 @@ fn a_line_that_is_no_request_is_refused(rt: HostRuntime) -> Result<(), Fail> {
     Ok(())
 }
 
-/// A device of which every call fails.
+/// A device whose calls all fail.
 #[derive(Drop)]
 struct Failing;
 
@@ -319,7 +322,7 @@ impl Write for Failing {
     }
 }
 
-/// Whether the demo over these ends with status 3 and this line of a fault.
+/// Returns whether the demo over these devices ends with status 3 and this fault line.
 fn fails<R: Read, W: Write>(rt: &HostRuntime, reader: &mut R, writer: &mut W, fault: &str) -> bool {
     let mut faults = Vec::new(rt.alloc());
     let end = demo(rt, reader, writer, &mut faults);
@@ -348,7 +351,8 @@ fn a_fault_that_cannot_be_told_is_no_further_fault(rt: HostRuntime) {
     assert_eq!(rt; end, untold);
 }
 
-/// Does the task over the files on the shelf, with these services and devices, and exported texts kept in memory.
+/// Does the task over the files on the shelf, with these services and devices, and exported texts
+/// kept in memory.
 fn with_devices<V: PortListener, R: Read, W: Write, F: Write>(
     rt: &HostRuntime,
     files: &[(&str, Option<&[u8]>)],
@@ -379,7 +383,8 @@ fn with_devices<V: PortListener, R: Read, W: Write, F: Write>(
     }
 }
 
-/// Does the task over the files on the shelf, with these services, and exported texts kept in memory.
+/// Does the task over the files on the shelf, with these services, and exported texts kept in
+/// memory.
 fn offering<V: PortListener, R: Read>(
     rt: &HostRuntime,
     files: &[(&str, Option<&[u8]>)],
@@ -407,7 +412,8 @@ fn offering<V: PortListener, R: Read>(
     }
 }
 
-/// Does the task over the files on the shelf, with exported texts kept in memory, where no service can be offered.
+/// Does the task over the files on the shelf, with exported texts kept in memory. No service can be
+/// offered.
 pub(crate) fn exporting<R: Read>(
     rt: &HostRuntime,
     files: &[(&str, Option<&[u8]>)],
@@ -419,7 +425,7 @@ pub(crate) fn exporting<R: Read>(
     offering(rt, files, exports, &mut services, task, reader)
 }
 
-/// Does the task over the files on the shelf, where no text can be exported.
+/// Does the task over the files on the shelf. No text can be exported.
 pub(crate) fn done(
     rt: &HostRuntime,
     files: &[(&str, Option<&[u8]>)],
@@ -430,10 +436,10 @@ pub(crate) fn done(
     exporting(rt, files, &mut exports, task, &mut input.as_bytes())
 }
 
-/// The path of the LEF file that the sample is loaded over, as the only one.
+/// The path of the only LEF file of the sample.
 const LEFS: &[&str] = &["w.lef"];
 
-/// Replays `w.def` over the LEF files of these paths, of the files on the shelf.
+/// Replays `w.def` over the LEF files of these paths, with the files on the shelf.
 fn replayed(
     rt: &HostRuntime,
     files: &[(&str, Option<&[u8]>)],
@@ -452,7 +458,7 @@ fn replayed(
     Ok(done(rt, files, &task, input))
 }
 
-/// The path of the only LEF file, as a task holds it.
+/// Makes the list of the only LEF file's path, for a task.
 pub(crate) fn only_lef<'a>(alloc: Global) -> Result<Sequence<&'a str>, AllocError> {
     let paths: &'a [&'a str] = LEFS;
     match Vec::from_slice(alloc, paths) {
@@ -476,7 +482,7 @@ pub(crate) fn files_of<'a>(def: &'a [u8]) -> [(&'a str, Option<&'a [u8]>); 2] {
     [("w.lef", Some(DEMO_LEF)), ("w.def", Some(def))]
 }
 
-/// Whether the check over these files ends with this status, writes this report and tells this of faults.
+/// Returns whether the check over these files has this status, report and fault lines.
 fn checks(
     rt: &HostRuntime,
     files: &[(&str, Option<&[u8]>)],
@@ -488,7 +494,7 @@ fn checks(
     Ok(done(rt, files, &task, "open A\n").is(status, report, faults))
 }
 
-/// Whether a replay over these files ends with this status and this line of a fault, and writes nothing.
+/// Returns whether a replay over these files has this status and fault lines, and writes nothing.
 fn ends(
     rt: &HostRuntime,
     files: &[(&str, Option<&[u8]>)],
@@ -508,7 +514,8 @@ fn a_design_of_files_is_replayed(rt: HostRuntime) -> Result<(), Fail> {
     Ok(())
 }
 
-/// Whether a replay that answers this many of three lines at most ends with this status, these replies and this fault.
+/// Returns whether a replay of three lines, with this limit on lines, has this status, these
+/// replies and this fault.
 fn answers_at_most(
     rt: &HostRuntime,
     lines: u32,
@@ -538,7 +545,7 @@ fn a_replay_answers_as_many_lines_as_it_says(rt: HostRuntime) -> Result<(), Fail
     Ok(())
 }
 
-/// The fence of B is a unit too wide, for a replay as for a check.
+/// The fence of B is one unit too wide, for a replay and for a check.
 #[test]
 fn fences_that_overlap_are_refused(rt: HostRuntime) -> Result<(), Fail> {
     let fence = b"- B ( 3999 0 ) ( 10000 8000 ) + TYPE FENCE ;";
@@ -597,7 +604,7 @@ fn a_file_that_cannot_be_read_is_a_fault(rt: HostRuntime) -> Result<(), Fail> {
     Ok(())
 }
 
-/// The sample DEF text, whose first components have these entries; the first of all stands in line 15.
+/// The sample DEF text, with these entries as its first components. The first one is in line 15.
 pub(crate) fn with_entries(alloc: Global, entries: &[&[u8]]) -> Result<Vec<u8>, AllocError> {
     let mut text = Vec::from_slice(alloc, DEMO_DEF)?;
     for (i, entry) in entries.iter().enumerate() {
@@ -606,7 +613,8 @@ pub(crate) fn with_entries(alloc: Global, entries: &[&[u8]]) -> Result<Vec<u8>, 
     Ok(text)
 }
 
-/// Whether the check of the sample with a place for each cell, for the second this entry, ends so.
+/// Returns whether the check of the sample with a place for each cell has this status and report.
+/// The second cell has this entry.
 fn checks_placed(
     rt: &HostRuntime,
     second: &[u8],
@@ -636,7 +644,7 @@ fn a_design_is_checked(rt: HostRuntime) -> Result<(), Fail> {
     Ok(())
 }
 
-/// What describes the sample, in which no cell is placed.
+/// The description of the sample, in which no cell is placed.
 const DESCRIPTION: &str = "\
     {\"kind\":\"design\",\"name\":\"w\",\"site\":\"core\",\"site_height\":2000,\"site_width\":200,\"units\":1000}\n\
     {\"box\":[0,0,10000,2000],\"kind\":\"row\",\"name\":\"r0\",\"orient\":\"N\",\"sites\":50}\n\
@@ -673,7 +681,7 @@ fn a_check_without_its_file_is_a_fault(rt: HostRuntime) -> Result<(), Fail> {
     Ok(())
 }
 
-/// A device that takes every byte and cannot be flushed.
+/// A device that accepts every byte and cannot be flushed.
 #[derive(Drop)]
 struct Unflushed;
 
@@ -687,7 +695,7 @@ impl Write for Unflushed {
     }
 }
 
-/// A device that keeps what it takes, with a bar for each time that it is flushed.
+/// A device that keeps the bytes written, with a bar for each flush.
 #[derive(Drop)]
 struct Log {
     taken: Vec<u8>,
@@ -705,7 +713,7 @@ impl Write for Log {
     }
 }
 
-/// A device that gives these bytes and then fails.
+/// A device that returns these bytes and then fails.
 #[derive(Drop)]
 struct Cut<'a> {
     bytes: &'a [u8],
@@ -720,7 +728,8 @@ impl<'a> Read for Cut<'a> {
     }
 }
 
-/// Whether the demo over this reader ends with this status, and writes these bytes, with a bar for each flush.
+/// Returns whether the demo over this reader has this status, and writes these bytes, with a bar
+/// for each flush.
 fn logs<R: Read>(rt: &HostRuntime, reader: &mut R, status: u8, taken: &str) -> bool {
     let mut faults = Vec::new(rt.alloc());
     let mut log = Log {
@@ -740,7 +749,8 @@ fn each_reply_is_flushed(rt: HostRuntime) {
     assert!(rt; logs(&rt, &mut reader, 3, "ok 0 0\n|"));
 }
 
-/// Whether the task over the sample, which reads nothing and writes to this, ends with a fault of its output.
+/// Returns whether the task over the sample, which reads nothing and writes to this device, ends
+/// with a fault of its output.
 fn is_output_fault<W: Write>(rt: &HostRuntime, task: &Task<'_>, writer: &mut W) -> bool {
     let files = files_of(DEMO_DEF);
     let mut exports = Kept::at(rt.alloc(), None);
@@ -780,11 +790,12 @@ fn exporting_replay<'a>(alloc: Global) -> Result<Task<'a>, AllocError> {
     })
 }
 
-/// Lines after which the three cells of A are committed.
+/// Lines that commit the three cells of A.
 const COMMITTED: &str =
     "open A\nplace A 0 a1 0 0 N\nplace A 0 a2 400 0 N\nplace A 0 a3 800 0 N\ncommit A 0\n";
 
-/// Whether the replay of these lines that exports to `new.def` writes these replies, and exports this text.
+/// Returns whether the replay of these lines that exports to `new.def` writes these replies, and
+/// exports this text.
 fn exports_text(
     rt: &HostRuntime,
     lines: &str,
@@ -843,7 +854,8 @@ fn a_path_that_takes_no_export_is_a_fault_before_the_first_line(
     Ok(())
 }
 
-/// Whether the task over the sample, whose reader fails behind the committed lines, tells that and exports nothing.
+/// Returns whether the task over the sample, whose reader fails after the committed lines, reports
+/// that and exports nothing.
 fn exports_nothing(rt: &HostRuntime, task: &Task<'_>) -> bool {
     let mut exports = Kept::at(rt.alloc(), Some("new.def"));
     let mut reader = Cut {
@@ -862,7 +874,7 @@ fn nothing_is_exported_after_a_fault(rt: HostRuntime) -> Result<(), Fail> {
     Ok(())
 }
 
-/// The service of `w.def` over `w.lef` to this port, for one connection.
+/// The service of `w.def` over `w.lef` at this port, for one connection.
 fn service<'a>(alloc: Global, port: u16) -> Result<Task<'a>, AllocError> {
     Ok(Task::Serve {
         def: "w.def",
@@ -876,10 +888,11 @@ fn service<'a>(alloc: Global, port: u16) -> Result<Task<'a>, AllocError> {
     })
 }
 
-/// What is told of a port that cannot be listened on, up to its number.
+/// The lines that report that the program cannot listen on a port, up to its number.
 const BIND: &[u8] = b"lefence: Bind\nlefence: port ";
 
-/// Whether the service of the sample to this port ends with the fault that it cannot be listened on.
+/// Returns whether the service of the sample at this port ends with the fault that the port is in
+/// use.
 fn is_taken(rt: &HostRuntime, port: u16) -> Result<bool, AllocError> {
     let task = service(rt.alloc(), port)?;
     let mut exports = Kept::at(rt.alloc(), None);
@@ -896,7 +909,8 @@ fn is_taken(rt: &HostRuntime, port: u16) -> Result<bool, AllocError> {
     Ok(run.end == told(3) && run.written.is_empty() && run.faults.as_slice().starts_with(BIND))
 }
 
-/// What is offered for the service of the sample to port 5800, where none can be.
+/// Returns the service that is offered for the sample at port 5800, though no service can be
+/// offered.
 fn offered(rt: &HostRuntime) -> Result<Option<ServiceConfig>, AllocError> {
     let task = service(rt.alloc(), 5800)?;
     let mut exports = Kept::at(rt.alloc(), None);

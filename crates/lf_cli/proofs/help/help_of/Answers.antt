@@ -3,7 +3,7 @@ use Rattle.std.specs.Borrow.{Bor}
 use Rattle.lf_cli.specs.Help.{help_asked}
 use Rattle.lf_cli.proofs.help.help_of.Goals as goal
 
--- neither two nor three words ask for nothing
+-- Words that are neither two nor three request nothing.
 nothing_asked : (words : List (Bor (List ℕ))) → (length words ≡ 2 → ⊥) → (length words ≡ 3 → ⊥) → None ≡ help_asked (map (λ word. word.now) words)
 nothing_asked [] two three = refl
 nothing_asked (a ∷ []) two three = refl

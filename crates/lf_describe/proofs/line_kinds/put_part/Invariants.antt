@@ -5,7 +5,7 @@ use Rattle.lf_describe.specs.Parts.{part_lines}
 use Rattle.lf_describe.specs.Written.{WritesFrontOf}
 use Rattle.lf_describe.proofs.line_kinds.put_part.Given as goal
 
--- of what waited and the lines so far, this waits
+-- After the lines so far, these bytes are in the buffer.
 abbrev pub invariant-loop-number : goal.invariant-loop-number
 invariant-loop-number g l = record {
   left : WritesFrontOf (g.W.Sink.contents l.fn.writer) (g.W.Sink.contents l.writer) (l.fn.waiting.items ++ flat_map line_text (take l.number (part_lines l.told l.part))) l.waiting.items;

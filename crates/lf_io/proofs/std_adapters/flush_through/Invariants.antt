@@ -1,6 +1,6 @@
 use Rattle.std.specs.Io.KnownBytes.{Keeps}
 use Rattle.lf_io.proofs.std_adapters.flush_through.Given as goal
 
--- flushing puts nothing
+-- Interrupted flushes write nothing.
 abbrev pub invariant-loop : goal.invariant-loop
 invariant-loop g l = Keeps (g.W.Write.contents l.fn.writer) (g.W.Write.contents l.writer)

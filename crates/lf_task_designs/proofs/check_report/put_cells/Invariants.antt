@@ -6,7 +6,8 @@ use Rattle.lf_proto.specs.ReportText.{violations_text}
 use Rattle.lf_task_designs.proofs.Reporting.{told_by}
 use Rattle.lf_task_designs.proofs.check_report.put_cells.Given as goal
 
--- what is written, and then the text of any others, is the text of the violations of the cells so far, and then of the others
+-- The text so far, followed by the text of any other violations, is the text of the violations of
+-- the cells so far and of the others.
 abbrev pub invariant-loop-own : goal.invariant-loop-own
 invariant-loop-own l =
     (rest : List Violation) → l.text.items ++ violations_text l.later rest

@@ -3,7 +3,7 @@ use Rattle.lf_lex.specs.Tokens.{tokens_of}
 use Rattle.lf_task_designs.specs.Hints.{nth_line}
 use Rattle.lf_task_designs.proofs.hints.nth_line.Given as goal
 
--- the word is still looked for among the tokens that are left
+-- The search for the word continues among the remaining tokens.
 abbrev pub invariant-loop-token : goal.invariant-loop-token
 invariant-loop-token l = record {
   looked_for : nth_line l.word l.left l.lexer.tokens ≡ nth_line l.word l.passed (tokens_of l.text).tokens;

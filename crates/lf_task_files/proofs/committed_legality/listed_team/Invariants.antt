@@ -4,6 +4,6 @@ use Rattle.lf_reports.specs.Reports.{named}
 use Rattle.lf_task_files.specs.Judged.{committed_listed}
 use Rattle.lf_task_files.proofs.committed_legality.listed_team.Given as goal
 
--- the cells so far are listed
+-- The cells so far are listed.
 abbrev pub invariant-loop-id : goal.invariant-loop-id
 invariant-loop-id l = map named l.listed.items ≡ map (committed_listed l.team) (take l.id-index (cells_of l.cells l.team))
